@@ -1,6 +1,7 @@
 -- What a cluster that was opened and closed leaves.
 use Rattle.std.proofs.Common.{◌≡◌, ◌≢◌, refl, sym, ap, ◌∙◌, subst, inl, ℕ, zero, suc, ◌+◌, ◌<◌, ◌≤◌, ◌^◌, Bool, true, false, not, ◌&&◌, cond, nat_lt, List, [], ◌∷◌, ◌++◌, append_assoc, length, map, get_or, Option, Some, None, Ok, Err, IfSome, arith}
 use Rattle.std.specs.Prelude.{slice_get}
+use Rattle.std.specs.List.{AllByRecursion}
 use Rattle.std.proofs.lemmas.Bool.{and_parts, and_from, ltb-true, ltb-false, eq-eqb, ne_eqb}
 use Rattle.std.proofs.lemmas.List.{map-append}
 use Rattle.clv_base.specs.declared.logs.LogRecord.{LogRecord}
@@ -11,8 +12,8 @@ use Rattle.clv_base.specs.Shards.{shard_count}
 use Rattle.clv_base.specs.LogRules.{log_of}
 use Rattle.clv_base.specs.FileRules.{may_open}
 use Rattle.clv_base.specs.State.{Shard}
-use Rattle.clv_base.specs.Restarts.{run_after, log_left}
-use Rattle.clv_base.specs.Journals.{journal_of, start_of, logs_left_from}
+use Rattle.clv_base.specs.Restarts.{run_after, log_left, opened}
+use Rattle.clv_base.specs.Journals.{own, journal_of, start_of, logs_left_from}
 use Rattle.clv_base.specs.Machines.{Runs}
 use Rattle.io_model.specs.Story.{Story, reads}
 use Rattle.io_model.specs.Disk.{Rose}
@@ -36,7 +37,8 @@ use Rattle.journal_laws.proofs.Laws.{notes_are_seen}
 use Rattle.cluster_turns.specs.declared.home.Home.{Home}
 use Rattle.cluster_turns.specs.declared.shards.Shards.{Shards}
 use Rattle.cluster_turns.specs.declared.shards.Walker.{Walker}
-use Rattle.cluster_turns.specs.Walkers.{own_lists, founds_of}
+use Rattle.machine_calls.specs.Settled.{is_settled}
+use Rattle.cluster_turns.specs.Walkers.{IsWalker, own_lists, kept as kept_by, founds_of}
 use Rattle.cluster_closing.specs.declared.fetching.Fetched.{Fetched}
 use Rattle.cluster_closing.specs.Held.{never_restarts}
 use Rattle.cluster_closing.specs.Legal.{views_of}
@@ -56,8 +58,9 @@ use Rattle.cluster_runs.proofs.Down.{failed_are_down, down_stays, lowest_down_is
 use Rattle.command_line.specs.Running.{End, IsOk, status_by}
 use Rattle.cluster_runs.specs.Ends.{end_of, walked_by, IsClosedRun}
 use Rattle.cluster_runs.specs.Statuses.{StatusTold, FlushesTold}
+use Rattle.cluster_runs.specs.Drained.{WasSettled}
 use Rattle.cluster_runs.specs.Laws.{ClustersEnd, OthersStand, AllAreIn, RunsKeep, SessionsHaveGone, StatusesTell, FlushesTell, DownsTell}
-use Rattle.law_base.proofs.Lists.{elem_at}
+use Rattle.law_base.proofs.Lists.{elem_at, all_mono}
 use Rattle.law_base.proofs.Restarts.{left_length as length_left}
 use Rattle.cluster_closing.proofs.Laws.{map_at, state_here}
 
@@ -106,6 +109,29 @@ within (y ∷ xs) (suc n) x is = let l = within xs n x is in omega arith
 
 same_origin : {o p : Origin} → ◌≡◌ {A = Option Origin} (Some o) (Some p) → o ≡ p
 same_origin is = cc
+
+same_pass : {T : Type 0} {p q : Pass T Note Origin} → ◌≡◌ {A = Option (Pass T Note Origin)} (Some p) (Some q) → p ≡ q
+same_pass is = cc
+
+-- stamps rise along a journal
+stamps_rise : (s t : Shard) (es : List Entry) → Runs s es t → (s.last ≤ t.last) × AllByRecursion (λ e. e.stamp ≤ t.last) es
+stamps_rise s t [] same = ((let e : s.last ≡ t.last = ap (λ u. u.last) same in omega arith), tt)
+stamps_rise s t (e ∷ es) (u, m, more) =
+    let later = stamps_rise u t es more in
+    let up = later.0 in
+    let entered : u.last ≡ e.stamp = ap (λ v. v.last) m.entered in
+    let rises = m.rises in
+    ((omega arith), ((omega arith), later.1))
+
+-- the shard was settled after these first entries of its journal, none of which has a stamp past the clock
+pub record DrainedBy (clock n : ℕ) (kept : Kept) : Type 0 where
+  pub front : List Entry
+  pub behind : List Entry
+  pub journal_is : journal_of n (entries_of kept.journals) ≡ front ++ behind
+  pub state : Shard
+  pub runs : Runs (start_of kept.found n) front state
+  pub settled : is_settled state ≡ true
+  pub early : AllByRecursion (λ e. e.stamp ≤ clock) front
 
 -- ---- the end of a cluster
 
@@ -260,6 +286,38 @@ module _
       (subst (λ x. (state_of x first).is_up ≡ false) (sym same) down) in
       (l, failed_at n l ∙ ap not (ap (λ t. t.is_up) (state_is n (home n l) l) ∙ fell))
 
+  -- ---- drained shards
+
+  begins_there : (n : ℕ) (d : Walker M S G) (w : Walker M S G) (p : Pass (Home M S G) Note Origin) (o : Origin) → n < count → IsWalker sh w → ((e : Option (Pass (Home M S G) Note Origin)) → get_or w.passes.items n e ≡ Some p) → pass_origin p ≡ Some o
+      → start o ≡ start_of kept.found n
+  begins_there n d w p o l walks had origin =
+      let at = walks.walks.are_passes.each n None (locked n l) in
+      let one : at.0 ≡ p = same_pass (sym at.1 ∙ had None) in
+      let same : at.2.origin ≡ o = same_origin (sym at.2.has_origin ∙ (ap pass_origin one ∙ origin)) in
+      let is = at.2.origin_is in
+      ap start (sym same) ∙ ap (λ k. opened k (at.2.origin).run (at.2.origin).found.value.items) is.shard ∙ ap (λ k. opened n k (at.2.origin).found.value.items) is.run ∙ ap (opened n (run_after (founds_of sh))) is.found
+      ∙ ap (λ f. start_of f n) (sym r.closed.founds_are)
+
+  pub was_drained : (k n clock : ℕ) (d : Walker M S G) → k < length walkers → n < count → IsWalker sh (get_or walkers k d) → WasSettled n clock (get_or walkers k d).passes.items → DrainedBy clock n kept
+  was_drained k n clock d few l walks (p, had, q) =
+      let h = get_or homes n (home n l) in
+      let s = made h in
+      let closed = r.closed.seen n (home n l) (low n l) in
+      let noted = r.closed.noted n (home n l) (low n l) in
+      let begins = subst (λ z. StartsWith (notes_of s.journal h.marks.items) (seen_of z)) (had None) (closed.seen_is k d few) in
+      let whole : notes_of s.journal h.marks.items ≡ q.first ++ (q.later ++ begins.0) = begins.1 ∙ ap (λ x. x ++ begins.0) q.seen_is ∙ append_assoc q.first q.later begins.0 in
+      let runs : Runs (start q.origin) (entries_in q.first) q.s = subst (Runs (start q.origin) (entries_in q.first)) (sym q.s_is.is) (notes_are_runs (start q.origin) None (map told q.first) q.s_is.may) in
+      let at : Runs (start_of kept.found n) (entries_in q.first) q.s = subst (λ z. Runs z (entries_in q.first) q.s) (begins_there n d (get_or walkers k d) p q.origin l walks had q.has_origin) runs in
+      record {
+        front = entries_in q.first;
+        behind = entries_in (q.later ++ begins.0);
+        journal_is = history.same_journals n l ∙ journal_is n (home n l) l ∙ noted.entries ∙ ap entries_in whole ∙ entries_append q.first (q.later ++ begins.0);
+        state = q.s;
+        runs = at;
+        settled = q.settled;
+        early = all_mono (λ e. e.stamp ≤ (q.s).last) (λ e. e.stamp ≤ clock) (λ e m. (let f = q.early in omega arith)) (entries_in q.first) (stamps_rise (start_of kept.found n) q.s (entries_in q.first) at).1;
+      }
+
 pub clusters_end : {M S G D : Type 0} → ClustersEnd M S G D
 clusters_end shard sh walkers homes kept down counts counts_now out out_now before now r = ended shard sh walkers homes kept down counts counts_now out out_now before now r
 
@@ -325,3 +383,12 @@ module _ {M S G : Type 0} where
       one k bodies is l =
           let d = elem_at walkers (suc k) l in
           subst (λ v. SessionWent splits run (suc k) most bodies (went k) (entries_of v)) (sym (view_at walkers (suc k) (suc k) d l (numbers (suc k) d l) (λ j e low same. (let n = numbers j e (omega arith) in omega arith)))) (each k bodies d is)
+
+-- the entries of a walker in the history are those that it kept
+pub own_is_kept :
+    {M S G D : Type 0} (shard : M → Shard) (sh : Shards M S G) (walkers : List (Walker M S G)) (homes : List (Home M S G)) (kept : Kept) (down : Option ℕ) (counts counts_now : ℕ → ℕ) (out out_now : ℕ → Bool) (before now : ℕ → Option Story)
+    → IsClosedRun D shard sh walkers homes kept down counts counts_now out out_now before now → ((k : ℕ) (d : Walker M S G) → k < length walkers → (get_or walkers k d).number ≡ k)
+    → (k : ℕ) (d : Walker M S G) → k < length walkers → own k (entries_of kept.journals) ≡ kept_by (get_or walkers k d).passes.items
+own_is_kept {D = D} shard sh walkers homes kept down counts counts_now out out_now before now r numbers k d l =
+    (history {D = D} shard sh walkers homes kept down counts counts_now out out_now before now r).same_own k
+    ∙ ap entries_of (view_at walkers k k d l (numbers k d l) (λ j e low same. (let n = numbers j e (omega arith) in omega arith)))

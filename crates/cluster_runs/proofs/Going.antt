@@ -71,7 +71,7 @@ into_cond x y true ys f m = m
 into_cond x y false ys f (inl e) = absurd (both_ways false refl (f e))
 into_cond x y false ys f (inr m) = m
 
-in_session : (x : ℕ × Entry) (es : History) → is_of_session (x.1).event ≡ true → Among x es → Among x (session_entries es)
+pub in_session : (x : ℕ × Entry) (es : History) → is_of_session (x.1).event ≡ true → Among x es → Among x (session_entries es)
 in_session x [] s m = m
 in_session x (e ∷ es) s m =
     into_cond x e (is_of_session (e.1).event) (session_entries es) (λ same. ap (λ z. is_of_session (z.1).event) same ∙ s) (⊎_elim (λ same. inl same) (λ i. inr (in_session x es s i)) m)

@@ -1,5 +1,6 @@
 mod Promised
 mod Drained
+mod Settled
 mod Gone
 pub mod Sending
 mod Sitting
@@ -19,5 +20,7 @@ mod Entries
 mod Completing
 mod Telling
 mod Going
+mod Before
+mod Alone
 mod Replaying
 pub mod Laws

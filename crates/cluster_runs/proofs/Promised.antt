@@ -1,5 +1,6 @@
 -- The promise of a run, from what its cluster's beginning, its sessions and its end told.
 use Rattle.std.proofs.Common.{◌≡◌, ◌∙◌, sym, ap, subst, arith, ℕ, suc, ◌<◌, Bool, true, false, List, ◌∷◌, ◌++◌, length, get_or, Option, Some, None}
+use Rattle.std.specs.List.{AllByRecursion}
 use Rattle.std.proofs.lemmas.List.{length-map}
 use Rattle.std.proofs.lemmas.Option.{slice_get_within}
 use Rattle.clv_base.specs.State.{Shard}
@@ -29,7 +30,16 @@ use Rattle.command_line.specs.declared.status.Status.TheVariants.{Fine, Usage, S
 use Rattle.command_line.specs.Running.{End, status_by}
 use Rattle.cluster_runs.specs.Ends.{walked_by, IsClosedRun}
 use Rattle.cluster_runs.specs.Statuses.{StatusTold, FlushesTold}
-use Rattle.cluster_runs.proofs.Ending.{others_stand, runs_keep, sessions_have_gone, statuses_tell, flushes_tell, downs_tell}
+use Rattle.cluster_turns.specs.Walkers.{IsWalker}
+use Rattle.script_runs.specs.Sessions.{session_entries}
+use Rattle.clv_base.specs.Restarts.{run_after}
+use Rattle.script_runs.specs.declared.threads.Start.{Start}
+use Rattle.script_runs.specs.declared.threads.Start.TheVariants.{FirstAlone}
+use Rattle.cluster_runs.specs.Drained.{AreDrained}
+use Rattle.cluster_runs.specs.Alone.{BeginsWith, AreAlone, RanAlone}
+use Rattle.cluster_runs.proofs.Alone.{ran_alone}
+use Rattle.cluster_runs.proofs.Ending.{others_stand, runs_keep, sessions_have_gone, statuses_tell, flushes_tell, downs_tell, was_drained, own_is_kept}
+use Rattle.cluster_runs.proofs.Before.{before_sessions}
 use Rattle.cluster_runs.specs.Sessions.{HasGrounds, SessionsGone, HasWornLast}
 use Rattle.cluster_runs.specs.Ran.{AllEnded, StopTold, RanAll}
 use Rattle.law_base.proofs.Lists.{elem_at as some_elem}
@@ -66,10 +76,10 @@ module _ {M S G : Type 0} (shards : ℕ) (failed : ℕ → Bool) (w : Walker M S
   stop_told (Begun (Some stop.Memory)) h = tt
 
 pub ran_all : {M S G : Type 0} → SessionsHaveEnded → (D : Type 0) (shard : M → Shard) (sh : Shards M S G) (walkers : List (Walker M S G)) (homes : List (Home M S G)) (kept : Kept) (down : Option ℕ) (counts counts_now : ℕ → ℕ) (out out_now : ℕ → Bool)
-    (before now : ℕ → Option Story) (most : Option ℕ) (script : List (List Body)) (went : ℕ → Went) (end : End) (status : Status)
+    (before now : ℕ → Option Story) (most : Option ℕ) (start : Start) (script : List (List Body)) (went : ℕ → Went) (end : End) (status : Status)
     → IsClosedRun D shard sh walkers homes kept down counts counts_now out out_now before now → ((k : ℕ) (d : Walker M S G) → k < length walkers → (get_or walkers k d).number ≡ k) → length walkers ≡ suc (length script)
-    → SessionsGone sh most script walkers went end → HasWornLast end → status ≡ status_by down end → RanAll before now counts counts_now most script kept status
-ran_all ends D shard sh walkers homes kept down counts counts_now out out_now before now most script went end status ended numbers many gone worn is =
+    → SessionsGone sh most script walkers went end → AreDrained sh (length script) walkers went → ((d : Walker M S G) → IsWalker sh (get_or walkers 0 d)) → (start ≡ FirstAlone → AreAlone sh most script (λ k d. get_or walkers (suc k) d)) → HasWornLast end → status ≡ status_by down end → RanAll before now counts counts_now most start script kept status
+ran_all ends D shard sh walkers homes kept down counts counts_now out out_now before now most start script went end status ended numbers many gone drains walks apart worn is =
     let each = subst (λ r. SessionsWent sh.splits r most script went (walked_by walkers)) ended.begun.run (sessions_have_gone sh.splits sh.run most script went walkers numbers many gone.each) in
     let promised = runs_keep {D = D} shard sh walkers homes kept down counts counts_now out out_now before now most script went ended each in
     let told = subst (λ z. StatusTold (shard_count sh.splits) counts counts_now (length script) went z) (sym is) (statuses_tell {D = D} shard sh walkers homes kept down counts counts_now out out_now before now (length script) went end ended gone.fine worn) in
@@ -84,6 +94,21 @@ ran_all ends D shard sh walkers homes kept down counts counts_now out out_now be
       stops = λ k l. (let few : suc k < length walkers = omega arith in let w = some_elem walkers (suc k) few in
           stop_told (shard_count sh.splits) (λ n. has_failed (journal_of n (entries kept))) (get_or walkers (suc k) w)
           (λ n p o first later has origin is fell. downs_tell {D = D} shard sh walkers homes kept down counts counts_now out out_now before now (suc k) n w p o first later ended few has origin is fell) (went k) (gone.grounds k w l));
+      alone = λ first bodies at. (let a = apart first in let some = slice_get_within script 0 bodies at in let w = some_elem walkers 1 (omega arith) in
+          subst (λ run. RanAlone sh.splits run most bodies (entries kept)) (ended.begun.run ∙ ap run_after (sym ended.closed.founds_are))
+          (ran_alone (length script) a.clock sh.splits sh.run most bodies (entries kept) (promised.sessions).others
+          (λ k pos below. (let e = some_elem walkers (suc k) (omega arith) in
+          subst (λ es. AllByRecursion (λ x. a.clock < (x.1).stamp) (session_entries es))
+          (sym (own_is_kept {D = D} shard sh walkers homes kept down counts counts_now out out_now before now ended numbers (suc k) e (omega arith))) (a.others k e pos below)))
+          (subst (λ es. BeginsWith sh.splits sh.run most bodies a.clock (session_entries es))
+          (sym (own_is_kept {D = D} shard sh walkers homes kept down counts counts_now out out_now before now ended numbers 1 w (omega arith))) (a.first bodies w at))));
+      drained = λ k cause l begun n low. (let w = some_elem walkers 0 (omega arith) in
+          before_sessions (length script) drains.clock n kept (promised.sessions).others
+          (λ j below. (let e = some_elem walkers (suc j) (omega arith) in
+          subst (λ es. AllByRecursion (λ x. drains.clock < (x.1).stamp) (session_entries es))
+          (sym (own_is_kept {D = D} shard sh walkers homes kept down counts counts_now out out_now before now ended numbers (suc j) e (omega arith))) (drains.later j e below)))
+          (was_drained {D = D} shard sh walkers homes kept down counts counts_now out out_now before now ended 0 n drains.clock w (omega arith) low (walks w)
+          (drains.settled k cause l begun n w (let c = ended.begun.count in omega arith))));
       ended = all_ended ends sh.splits before now counts counts_now most script went kept promised (shard_count sh.splits) status told;
       shards = ap length ended.closed.journals_are ∙ (length-map homes (λ h. (shard h.machine).journal) ∙ (ended.closed.len ∙ (let ok = sh.locks.ok in let count = ended.begun.count in omega arith)));
       others = others_stand {D = D} shard sh walkers homes kept down counts counts_now out out_now before now ended;

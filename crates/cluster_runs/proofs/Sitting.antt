@@ -1,6 +1,6 @@
 -- What a session of a seat leaves.
-use Rattle.std.proofs.Common.{◌≡◌, refl, ◌∙◌, sym, subst, arith, true, false, ◌&&◌, ℕ, zero, suc, ◌<◌, List, [], ◌∷◌, ◌++◌, length, Option, Some, IfErr, slice_get}
-use Rattle.std.specs.List.{list_all}
+use Rattle.std.proofs.Common.{◌≡◌, refl, ◌∙◌, sym, ap, subst, arith, true, false, ◌&&◌, ℕ, zero, suc, ◌<◌, List, [], ◌∷◌, ◌++◌, length, Option, Some, IfErr, slice_get}
+use Rattle.std.specs.List.{AllByRecursion, list_all}
 use Rattle.cluster_turns.specs.declared.shards.Shards.{Shards}
 use Rattle.cluster_turns.specs.declared.shards.Walker.{Walker}
 use Rattle.script_lang.specs.Bodies.{Body}
@@ -10,7 +10,9 @@ use Rattle.command_line.specs.Running.{End}
 use Rattle.session_api.specs.declared.progress.Progress.{Progress}
 use Rattle.session_api.specs.Standing.{Holds, seen_in, standing_of}
 use Rattle.session_api.specs.Grounds.{Grounds, HasMissed}
-use Rattle.session_api.proofs.Laws.{sessions_rest, scripts_follow}
+use Rattle.script_runs.specs.Sessions.{session_entries}
+use Rattle.script_runs.proofs.Laws.{all_past}
+use Rattle.session_api.proofs.Laws.{sessions_rest, scripts_follow, new_walkers_keep_none}
 use Rattle.cluster_runs.specs.Sessions.{IsSeated, HasSat, HasWornLast}
 use Rattle.law_base.proofs.Bools.{and_first, and_second}
 
@@ -18,18 +20,20 @@ module _ {M S G : Type 0} where
   worn_last : (w : Walker M S G) (end : End) → IfErr end (Grounds w) → HasWornLast end
   worn_last w end grounds at is = (subst (λ e. IfErr e (Grounds w)) is grounds).0
 
-  pub sat : (sh old new : Shards M S G) (w v : Walker M S G) (s t : Progress) (bodies : List Body) (most : Option ℕ) (script : List (List Body)) (k : ℕ) (end : End)
-      → IsSeated sh script k old w s bodies → Holds new v t → new ≡ old → Follows (HasMissed v) bodies most (stop_in end) (seen_in old w s) (seen_in new v t) → IfErr end (Grounds v) → HasSat sh most script k v end
-  sat sh old new w v s t bodies most script k end seat holds stays follows grounds =
+  pub sat : (sh old new : Shards M S G) (clock : ℕ) (w v : Walker M S G) (s t : Progress) (bodies : List Body) (most : Option ℕ) (script : List (List Body)) (k : ℕ) (end : End)
+      → IsSeated sh clock script k old w s bodies → Holds new v t → new ≡ old → Follows (HasMissed v) bodies most (stop_in end) (seen_in old w s) (seen_in new v t) → IfErr end (Grounds v) → HasSat sh clock most script k v end
+  sat sh old new clock w v s t bodies most script k end seat holds stays follows grounds =
       let is : new ≡ sh = stays ∙ seat.on in
       let f = subst (λ z. Follows (HasMissed v) bodies most (stop_in end) (seen_in sh w s) (seen_in z v t)) is (subst (λ z. Follows (HasMissed v) bodies most (stop_in end) (seen_in z w s) (seen_in new v t)) seat.on follows) in
-      let told = scripts_follow M S G sh (suc k) 0 w v (standing_of s) (standing_of t) bodies most (stop_in end) seat.new f in
+      let told = scripts_follow M S G sh (suc k) clock w v (standing_of s) (standing_of t) bodies most (stop_in end) seat.new f in
       let r = sessions_rest M S G sh v t (subst (λ z. Holds z v t) is holds) in
       record {
         rest = record { walker = r.walker; number_is = told.0; landed = r.landed; fetched = r.fetched; disks = r.disks };
-        went = λ wanted at. (scripts_follow M S G sh (suc k) 0 w v (standing_of s) (standing_of t) wanted most (stop_in end) seat.new (subst (λ z. Follows (HasMissed v) z most (stop_in end) (seen_in sh w s) (seen_in sh v t)) (seat.bodies wanted at) f)).1.0;
+        went = λ wanted at. (scripts_follow M S G sh (suc k) clock w v (standing_of s) (standing_of t) wanted most (stop_in end) seat.new (subst (λ z. Follows (HasMissed v) z most (stop_in end) (seen_in sh w s) (seen_in sh v t)) (seat.bodies wanted at) f)).1.0;
         worn = worn_last v end grounds;
         grounds = grounds;
+        later = subst (AllByRecursion (λ e. clock < (e.1).stamp)) (sym ((f.2).entries_are ∙ ap (λ l. session_entries l ++ f.0) (new_walkers_keep_none M S G sh (suc k) clock w seat.new)))
+            (all_past clock w.clock v.clock f.0 (let c = (seat.new).clock_is in omega arith) (f.2).stamped);
       }
 
 -- each session of a script that has it is narrow

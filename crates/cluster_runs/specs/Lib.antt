@@ -1,5 +1,7 @@
 pub mod Ran
 pub mod Sessions
+pub mod Drained
+pub mod Alone
 pub mod Ends
 pub mod Statuses
 pub mod ClusterLaws

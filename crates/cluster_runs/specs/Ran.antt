@@ -3,6 +3,7 @@ use Rattle.std.specs.Prelude.{◌≡◌, ℕ, suc, ◌<◌, ◌≤◌, ◌^◌, 
 use Rattle.clv_base.specs.Shards.{shard_count}
 use Rattle.clv_base.specs.FileRules.{may_open}
 use Rattle.clv_base.specs.Journals.{journal_of}
+use Rattle.clv_base.specs.Restarts.{run_after}
 use Rattle.io_model.specs.Story.{Story}
 use Rattle.cluster_opening.specs.Logs.{LogsOfAll}
 use Rattle.history_replay.specs.Entries.{Kept}
@@ -11,8 +12,13 @@ use Rattle.cluster_runs.specs.Histories.{entries}
 use Rattle.command_line.specs.declared.status.Status.{Status}
 use Rattle.command_line.specs.declared.status.Status.TheVariants.{Fine}
 use Rattle.script_lang.specs.Bodies.{Body}
+use Rattle.script_runs.specs.declared.ends.StopCause.{StopCause}
 use Rattle.script_runs.specs.declared.ends.StopCause.TheVariants.{Down, Unsettled, Worn}
 use Rattle.cluster_runs.specs.Completing.{IsWanted, SessionEnded}
+use Rattle.script_runs.specs.declared.threads.Start.{Start}
+use Rattle.script_runs.specs.declared.threads.Start.TheVariants.{FirstAlone}
+use Rattle.cluster_runs.specs.Drained.{WasDrained}
+use Rattle.cluster_runs.specs.Alone.{RanAlone}
 use Rattle.cluster_runs.specs.Promises.{RunPromised}
 use Rattle.cluster_runs.specs.PromisedSessions.{Went, Begun}
 use Rattle.cluster_runs.specs.Statuses.{StatusTold, FlushesTold}
@@ -30,7 +36,7 @@ StopTold shards failed (Begun (Some (Unsettled n))) = (n < shards) × (failed n 
 StopTold shards failed (Begun (Some (Worn at))) = at ≡ 2 ^ 48
 StopTold shards failed went = Unit {0}
 
-pub record RanAll (before now : ℕ → Option Story) (counts counts_now : ℕ → ℕ) (most : Option ℕ) (script : List (List Body)) (kept : Kept) (status : Status) : Type 0 where
+pub record RanAll (before now : ℕ → Option Story) (counts counts_now : ℕ → ℕ) (most : Option ℕ) (start : Start) (script : List (List Body)) (kept : Kept) (status : Status) : Type 0 where
   pub splits : List ℕ
   pub went : ℕ → Went
   -- the logs found are those that the disks held, under these splits, and may be opened together
@@ -42,6 +48,10 @@ pub record RanAll (before now : ℕ → Option Story) (counts counts_now : ℕ �
   pub told : StatusTold (shard_count splits) counts counts_now (length script) went status
   pub flushes : FlushesTold (shard_count splits) (λ n. has_failed (journal_of n (entries kept))) status
   pub ended : AllEnded splits most script kept status
+  -- where the first session's first transaction was to run alone, all that other sessions made has stamps past those of its entries
+  pub alone : start ≡ FirstAlone → (bodies : List Body) → slice_get script 0 ≡ Some bodies → RanAlone splits (run_after kept.found) most bodies (entries kept)
+  -- before a session was begun, each shard was settled, and had no entry of a session so far
+  pub drained : (k : ℕ) (cause : Option StopCause) → k < length script → went k ≡ Begun cause → (n : ℕ) → n < shard_count splits → WasDrained n kept
   pub stops : (k : ℕ) → k < length script → StopTold (shard_count splits) (λ n. has_failed (journal_of n (entries kept))) (went k)
   -- each shard has its journal, and disks of no shard are as before
   pub shards : length kept.journals ≡ shard_count splits

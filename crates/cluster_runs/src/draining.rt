@@ -1,17 +1,24 @@
 // The drains of a run.
-ghost use Rattle.std.specs.Prelude.{◌≡◌, ◌^◌, ℕ};
+ghost use Rattle.std.specs.Prelude.{◌≡◌, ◌<◌, ◌^◌, ℕ, IfOk, IfSome, length};
+ghost use Rattle.turn_lock.specs.Passes.{number, IsPassOf};
+ghost use Rattle.cluster_turns.specs.Turns.{Turned};
+ghost use Rattle.cluster_turns.specs.Walkers.{IsWalker, IsSameWalker, Walked};
+ghost use Rattle.cluster_turns.specs.Rounds.{Rounds, SettledAt};
 ghost use Rattle.script_runs.specs.declared.ends.StopCause.TheVariants.{Worn};
 ghost use Rattle.session_api.specs.Standing.{IsAtRest};
 ghost use Rattle.cluster_runs.specs.Sessions.{HasWornLast};
+ghost use Rattle.cluster_runs.specs.Drained.{LookTold, WasSettled};
 
 use cluster_closing::end_promises::drains_land;
 use cluster_closing::promises::{drains_fetch_none, drains_hold_none};
 use cluster_turns::{DrainError, Home, Shards, Walker, drain};
 use io_model::Pace;
-use machine_calls::Flier;
+use machine_calls::{Flier, Machine};
+use machine_laws::{Note, Origin};
 use script_runs::StopCause;
 use std::alloc::Global;
 use std::sync::Wait;
+use turn_lock::{Pass, TurnLock};
 
 // The last stamp is below it.
 const WORN: u64 = 1 << 48;
@@ -27,7 +34,65 @@ fn stop_of(error: DrainError) -> StopCause
     }
 }
 
-// Drains all shards by walker 0.
+// Whether nothing is left to do on a shard but for active parts, and its last stamp, by a turn that makes no entry.
+fn survey<M: Machine, R: Wait>(
+    rt: &R,
+    lock: &TurnLock<Home<M>>,
+    pass: Pass<Home<M>, Note, Origin>,
+    walker: u32,
+) -> (Pass<Home<M>, Note, Origin>, bool, u64)
+    requires pass { IsPassOf lock.now pass × (number pass ≡ walker) }
+    ensures pass { IsPassOf lock.now result.0 }
+    ensures turned { Turned (LookTold result.1 result.2) walker pass result.0 }
+{
+    let (turn, home) = lock.enter(rt, pass);
+    let settled = home.machine.is_settled();
+    let last = home.machine.last();
+    (lock.leave(turn, home), settled, last)
+}
+
+// The same of a shard of a cluster.
+fn look<M: Machine, R: Wait>(
+    rt: &R,
+    shards: &Shards<M>,
+    walker: &mut Walker<M>,
+    shard: u32,
+) -> (bool, u64)
+    requires walker { IsWalker shards.now walker.old }
+    requires shard { shard < length shards.now.locks.items }
+    ensures walker { IsWalker shards.now walker.new × IsSameWalker walker.old walker.new × (walker.new.clock ≡ walker.old.clock) }
+    ensures looked { Walked (LookTold result.0 result.1) shard walker.old.number walker.old.passes.items walker.new.passes.items }
+{
+    let place = shard as usize;
+    let pass = walker.passes[place].take().unwrap();
+    let (pass, settled, last) = survey(rt, &shards.locks[place], pass, walker.number);
+    walker.passes[place] = Some(pass);
+    (settled, last)
+}
+
+// Where each shard is settled, as the walker sees it now, a stamp that no shard's last one is past.
+fn last_if_settled<M: Machine, R: Wait>(
+    rt: &R,
+    shards: &Shards<M>,
+    walker: &mut Walker<M>,
+) -> Option<u64>
+    requires walker { IsWalker shards.now walker.old }
+    ensures walker { IsWalker shards.now walker.new × IsSameWalker walker.old walker.new }
+    ensures looked { Rounds (length shards.now.locks.items) walker.old.number walker.old.clock walker.old.passes.items walker.new.clock walker.new.passes.items }
+    ensures settled { IfSome result (λ last. (n : ℕ) → n < length shards.now.locks.items → SettledAt n walker.new.passes.items × WasSettled n last walker.new.passes.items) }
+{
+    let mut most: u64 = 0;
+    for shard in 0..shards.splits.shards() {
+        let (settled, last) = look(rt, shards, walker, shard);
+        if !settled {
+            return None;
+        }
+        most = most.max(last);
+    }
+    Some(most)
+}
+
+// Drains all shards by walker 0, until it has seen each settled; what it makes from then on has stamps past those that it has seen, as its clock tells.
 pub(crate) fn drain_all<M: Flier, P: Pace, R: Wait>(
     rt: &R,
     alloc: Global,
@@ -37,13 +102,21 @@ pub(crate) fn drain_all<M: Flier, P: Pace, R: Wait>(
 ) -> Result<(), StopCause>
     requires rest { IsAtRest shards.now 0 walker.old }
     ensures rest { IsAtRest shards.now 0 walker.new }
+    ensures settled { IfOk result (λ u. (n : ℕ) → n < length shards.now.locks.items → WasSettled n walker.new.clock walker.new.passes.items) }
+    ensures stays { (n clock : ℕ) → WasSettled n clock walker.old.passes.items → WasSettled n clock walker.new.passes.items }
     ensures worn { HasWornLast result }
 {
     drains_land::<Home<M>>();
     drains_hold_none::<Home<M>>();
     drains_fetch_none::<Home<M>>();
-    match drain(rt, alloc, shards, walker, pace) {
-        Ok(()) => Ok(()),
-        Err(error) => Err(stop_of(error)),
+    for _ in rt.forever() {
+        if let Err(error) = drain(rt, alloc, shards, walker, pace) {
+            return Err(stop_of(error));
+        }
+        if let Some(last) = last_if_settled(rt, shards, walker) {
+            walker.clock = walker.clock.max(last);
+            return Ok(());
+        }
     }
+    unreachable!()
 }

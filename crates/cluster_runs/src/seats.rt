@@ -14,7 +14,7 @@ use script_runs::{Seat, StopCause};
 use session_api::ScriptSession;
 use std::sync::Wait;
 
-// A seat for each session, with its walker, which leaves the list of walkers; walker 0 stays.
+// A seat for each session, with its walker, which leaves the list of walkers, and has this clock from then on; walker 0 stays.
 pub(crate) fn take_seats<'a, M: Flier, P: Pace, R: Wait>(
     rt: &'a R,
     shards: &'a Shards<M>,
@@ -22,6 +22,7 @@ pub(crate) fn take_seats<'a, M: Flier, P: Pace, R: Wait>(
     walkers: &mut Vec<Walker<M>>,
     sessions: &'a [Session],
     mut seats: Vec<Seat<'a, ScriptSession<'a, M, P, R>>>,
+    clock: u64,
 ) -> Vec<Seat<'a, ScriptSession<'a, M, P, R>>>
     requires count { vec_len walkers.old ≡ length sessions.now + 1 }
     requires few { length sessions.now ≤ 64 }
@@ -30,12 +31,13 @@ pub(crate) fn take_seats<'a, M: Flier, P: Pace, R: Wait>(
     requires room { (vec_len seats ≡ 0) × (length sessions.now ≤ vec_capacity seats) }
     ensures len { (vec_len walkers.new ≡ 1) × (vec_capacity walkers.new ≡ vec_capacity walkers.old) × (vec_len result ≡ length sessions.now) }
     ensures first { (d : _) → slice_index_or walkers.new.items 0 d ≡ slice_index_or walkers.old.items 0 d }
-    ensures seated { (k : ℕ) (d : _) → k < length sessions.now → IsSeated shards.now sessions.now k (slice_index_or result.items k d).session.session.shards.now (slice_index_or result.items k d).session.session.walker (slice_index_or result.items k d).session.session.progress (slice_index_or result.items k d).transactions.now }
+    ensures seated { (k : ℕ) (d : _) → k < length sessions.now → IsSeated shards.now clock sessions.now k (slice_index_or result.items k d).session.session.shards.now (slice_index_or result.items k d).session.session.walker (slice_index_or result.items k d).session.session.progress (slice_index_or result.items k d).transactions.now }
 {
     let count = sessions.len();
     for taken in 0..count {
         let place = count - 1 - taken;
-        let walker = walkers.pop().unwrap();
+        let mut walker = walkers.pop().unwrap();
+        walker.clock = clock;
         seats.push_reserved(Seat {
             session: ScriptSession::new(rt, shards, pace, walker),
             transactions: sessions[place].transactions(),

@@ -1,10 +1,14 @@
 // The sessions of a script, beside each other.
 ghost use Rattle.std.specs.Prelude.{◌≡◌, ◌<◌, ◌≤◌, ◌+◌, ℕ, suc, true, List, length, slice_index_or, vec_len};
-ghost use Rattle.std.specs.List.{list_all};
+ghost use Rattle.std.specs.List.{AllByRecursion, list_all};
 ghost use Rattle.clv_base.specs.Shards.{are_splits};
 ghost use Rattle.cluster_opening.specs.Made.{IsNewWalker};
 ghost use Rattle.script_lang.specs.Laws.{is_narrow_body};
+ghost use Rattle.cluster_turns.specs.Walkers.{kept};
+ghost use Rattle.script_runs.specs.Sessions.{session_entries};
+ghost use Rattle.script_runs.specs.declared.threads.Start.TheVariants.{FirstAlone};
 ghost use Rattle.session_api.specs.Standing.{IsAtRest};
+ghost use Rattle.cluster_runs.specs.Alone.{AreAlone};
 ghost use Rattle.cluster_runs.specs.PromisedSessions.{Went};
 ghost use Rattle.cluster_runs.specs.Sessions.{IsSeated, HasSat, SessionsGone, HasWornLast};
 
@@ -19,7 +23,7 @@ use std::alloc::Global;
 use std::sync::Wait;
 use std::thread::Threads;
 
-// Runs the sessions of all seats.
+// Runs the sessions of all seats, whose walkers have this clock.
 fn run_seats<M: Flier + Send, P: Pace + Sync, R: Threads + Wait + Sync>(
     rt: &R,
     alloc: Global,
@@ -28,20 +32,23 @@ fn run_seats<M: Flier + Send, P: Pace + Sync, R: Threads + Wait + Sync>(
     seats: &mut Vec<Seat<'_, ScriptSession<'_, M, P, R>>>,
     most: Option<u32>,
     start: Start,
+    clock: u64,
 )
 where
     M::Store: Send,
     M::Gate: Send,
     requires count { vec_len seats.old ≡ length sessions.now }
     requires narrow { list_all (list_all is_narrow_body) sessions.now ≡ true }
-    requires seated { (k : ℕ) (d : _) → k < length sessions.now → IsSeated shards.now sessions.now k (slice_index_or seats.old.items k d).session.session.shards.now (slice_index_or seats.old.items k d).session.session.walker (slice_index_or seats.old.items k d).session.session.progress (slice_index_or seats.old.items k d).transactions.now }
+    requires seated { (k : ℕ) (d : _) → k < length sessions.now → IsSeated shards.now clock sessions.now k (slice_index_or seats.old.items k d).session.session.shards.now (slice_index_or seats.old.items k d).session.session.walker (slice_index_or seats.old.items k d).session.session.progress (slice_index_or seats.old.items k d).transactions.now }
     ensures len { vec_len seats.new ≡ vec_len seats.old }
-    ensures sat { (k : ℕ) (d : _) → k < length sessions.now → HasSat shards.now most sessions.now k (slice_index_or seats.new.items k d).session.session.walker (slice_index_or seats.new.items k d).ended }
+    ensures alone { start ≡ FirstAlone → AreAlone shards.now most sessions.now (λ k d. (slice_index_or seats.new.items k d).session.session.walker) }
+    ensures sat { (k : ℕ) (d : _) → k < length sessions.now → HasSat shards.now clock most sessions.now k (slice_index_or seats.new.items k d).session.session.walker (slice_index_or seats.new.items k d).ended }
 {
     run_all(rt, alloc, seats.as_mut_slice(), most, start);
 }
 
-// Runs each session with a walker of its own on a thread of its own, behind walker 0. Where there is no memory for their seats none is begun.
+// Runs each session with a walker of its own on a thread of its own, behind walker 0; what they make has stamps past the clock. Where there is no memory for
+// their seats none is begun.
 pub(crate) fn run_sessions<M: Flier + Send, P: Pace + Sync, R: Threads + Wait + Sync>(
     rt: &R,
     alloc: Global,
@@ -51,6 +58,7 @@ pub(crate) fn run_sessions<M: Flier + Send, P: Pace + Sync, R: Threads + Wait + 
     sessions: &[Session],
     most: Option<u32>,
     start: Start,
+    clock: u64,
 ) -> Result<(), StopCause>
 where
     M::Store: Send,
@@ -64,13 +72,15 @@ where
     ensures first { (d : _) → slice_index_or walkers.new.items 0 d ≡ slice_index_or walkers.old.items 0 d }
     ensures rest { (k : ℕ) (d : _) → k < length sessions.now → IsAtRest shards.now (suc k) (slice_index_or walkers.new.items (suc k) d) }
     ensures went { (went : ℕ → Went) × SessionsGone shards.now most sessions.now walkers.new.items went result }
+    ensures later { (k : ℕ) (d : _) → k < length sessions.now → AllByRecursion (λ e. clock < (e.1).stamp) (session_entries (kept (slice_index_or walkers.new.items (suc k) d).passes.items)) }
+    ensures alone { start ≡ FirstAlone → AreAlone shards.now most sessions.now (λ k d. slice_index_or walkers.new.items (suc k) d) }
     ensures worn { HasWornLast result }
 {
     let Ok(room) = Vec::with_capacity(alloc, sessions.len()) else {
         return Err(StopCause::Memory);
     };
-    let mut seats = take_seats(rt, shards, pace, walkers, sessions, room);
-    run_seats(rt, alloc, shards, sessions, &mut seats, most, start);
+    let mut seats = take_seats(rt, shards, pace, walkers, sessions, room, clock);
+    run_seats(rt, alloc, shards, sessions, &mut seats, most, start, clock);
     let end = gravest(seats.as_slice());
     leave_seats(walkers, seats);
     end

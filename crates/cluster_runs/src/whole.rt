@@ -31,6 +31,8 @@ use std::thread::Threads;
 ///
 /// What all shards did is a legal history that keeps the promise of a run. The status is fine only where no shard's flush failed and each session went
 /// through, and then each transaction has ended; a disk's fault is of the lowest shard whose flush failed; at worn stamps and at want of memory none failed.
+/// Before a session begins each shard was settled, with no entry of a session in its journal so far; and where the first session's first transaction is to run
+/// alone, all that other sessions make has stamps past those of its entries.
 /// An `Err` is the first refusal of the opening, as `open_all` tells it; then there is no history.
 pub fn run_script<
     S: Store + Drop + Send,
@@ -52,7 +54,7 @@ where
     requires inside { (n : ℕ) → n < 16 → H.is_out house.old n ≡ false }
     requires few { length sessions.now ≤ 64 }
     requires narrow { list_all (list_all is_narrow_body) sessions.now ≡ true }
-    ensures ran { IfOk result (λ r. RanAll (H.story house.old) (H.story house.new) (H.faults house.old) (H.faults house.new) most sessions.now r.history r.status) }
+    ensures ran { IfOk result (λ r. RanAll (H.story house.old) (H.story house.new) (H.faults house.old) (H.faults house.new) most start sessions.now r.history r.status) }
     ensures pairs { IfOk result (λ r. r.pairs ≡ stands r.history.found) }
     ensures back { (n : ℕ) → n < 16 → H.is_out house.new n ≡ false }
     ensures refused { IfErr result (Refuses (H.story house.old)) }

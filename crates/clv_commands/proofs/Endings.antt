@@ -11,6 +11,7 @@ use Rattle.cluster_runs.specs.Statuses.{StatusTold}
 use Rattle.command_line.specs.Running.{with_text}
 use Rattle.cluster_runs.specs.PromisedSessions.{Went}
 use Rattle.script_lang.specs.Bodies.{Body}
+use Rattle.script_runs.specs.declared.threads.Start.{Start}
 use Rattle.command_line.specs.declared.status.Status.{Status}
 use Rattle.command_line.specs.declared.status.Status.TheVariants.{Fine, Usage, Script, ReadFault, WriteFault, DiskFault, NotLog, Memory, Worn, Exists, Apart}
 use Rattle.clv_commands.specs.Kinds.{IsOfRun, IsOfShow, IsOfShards}
@@ -57,9 +58,9 @@ module _ (counts counts_now : ℕ → ℕ) (stories : ℕ → Option Story) (kep
   tells (Exists shard len) written told above e = absurd told
   tells (Apart tx) written told above e = absurd told
 
-pub ended_so : (before now : ℕ → Option Story) (counts counts_now : ℕ → ℕ) (most : Option ℕ) (script : List (List Body)) (kept : Kept) (left : Option (List ℕ)) (faults faults' : ℕ) (running status : Status)
-    → RanAll before now counts counts_now most script kept running → EndsAs running status → faults' ≡ faults → Tells counts counts_now before kept left faults faults' status
-ended_so before now counts counts_now most script kept left faults faults' running status r (written, is) e =
+pub ended_so : (before now : ℕ → Option Story) (counts counts_now : ℕ → ℕ) (most : Option ℕ) (start : Start) (script : List (List Body)) (kept : Kept) (left : Option (List ℕ)) (faults faults' : ℕ) (running status : Status)
+    → RanAll before now counts counts_now most start script kept running → EndsAs running status → faults' ≡ faults → Tells counts counts_now before kept left faults faults' status
+ended_so before now counts counts_now most start script kept left faults faults' running status r (written, is) e =
     subst (Tells counts counts_now before kept left faults faults') (sym is)
     (tells counts counts_now before kept left faults faults' (shard_count r.splits) (length script) r.went running written r.told (λ n l. (r.others n l).1) e)
 

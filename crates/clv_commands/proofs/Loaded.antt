@@ -8,10 +8,11 @@ use Rattle.cluster_runs.specs.Replays.{RunsReplay}
 use Rattle.cluster_runs.specs.Statuses.{StatusTold}
 use Rattle.command_line.specs.declared.status.Status.{Status}
 use Rattle.script_lang.specs.Bodies.{Body}
+use Rattle.script_runs.specs.declared.threads.Start.TheVariants.{FirstAlone}
 use Rattle.clv_commands.specs.Runs.{EndsAs, HasLoaded}
 
 pub loaded : RunsReplay → (script : List (List Body)) (before now : ℕ → Option Story) (counts counts_now : ℕ → ℕ) (kept : Kept) (running status : Status)
-    → RanAll before now counts counts_now None script kept running → EndsAs running status → HasLoaded script before now counts counts_now kept status
+    → RanAll before now counts counts_now None FirstAlone script kept running → EndsAs running status → HasLoaded script before now counts counts_now kept status
 loaded replay script before now counts counts_now kept running status r ends = (
   running,
   r,

@@ -10,6 +10,7 @@ use Rattle.report_text.specs.declared.texts.ReportError.{ReportError}
 use Rattle.script_lang.specs.Bodies.{Body}
 use Rattle.script_lang.specs.Grammar.{IsScript}
 use Rattle.script_lang.specs.Loads.{load}
+use Rattle.script_runs.specs.declared.threads.Start.TheVariants.{Together, FirstAlone}
 use Rattle.command_line.specs.Running.{with_text}
 use Rattle.command_line.specs.declared.status.Status.{Status}
 use Rattle.command_line.specs.declared.status.Status.TheVariants.{Fine, WriteFault}
@@ -25,12 +26,13 @@ EndsAs running status = (written : Result (Unit {0}) ReportError) × (status ≡
 -- the history keeps the promise of a run of the script, and the status is the one that this run came to
 abbrev pub HasRun : Option ℕ → List (List Body) → (ℕ → Option Story) → (ℕ → Option Story) → (ℕ → ℕ) → (ℕ → ℕ) → Kept → Status → Type 0
 HasRun most script before now counts counts_now kept status =
-    (running : Status) × RanAll before now counts counts_now most script kept running × EndsAs running status
+    (running : Status) × RanAll before now counts counts_now most Together script kept running × EndsAs running status
 
--- so does a workload's, each transaction tried without limit; and where all was fine, what stands is the map after the acknowledged transactions
+-- so does a workload's, each transaction tried without limit, and the first one of the first session, which fills the accounts, alone: before all of other
+-- sessions; and where all was fine, what stands is the map after the acknowledged transactions
 abbrev pub HasLoaded : List (List Body) → (ℕ → Option Story) → (ℕ → Option Story) → (ℕ → ℕ) → (ℕ → ℕ) → Kept → Status → Type 0
 HasLoaded script before now counts counts_now kept status =
-    (running : Status) × (r : RanAll before now counts counts_now None script kept running) × EndsAs running status
+    (running : Status) × (r : RanAll before now counts counts_now None FirstAlone script kept running) × EndsAs running status
     × (running ≡ Fine → LeavesReplayed r.splits kept ((r.promised).keeps).left)
 
 -- of `run` the script is the source's; `show` runs none; of `load` it is the workload's

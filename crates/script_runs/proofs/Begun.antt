@@ -1,14 +1,17 @@
 -- Seats of which the first has begun.
-use Rattle.std.proofs.Common.{◌≡◌, refl, sym, ap, subst, ◌∙◌, ℕ, zero, suc, ◌-◌, ◌<◌, true, false, List, [], ◌∷◌, ◌++◌, take, drop, length, slice_index_or, slice_set, Option, None, Some, Result, Ok, Err, IfErr, arith}
+use Rattle.std.proofs.Common.{◌≡◌, refl, sym, ap, subst, ◌∙◌, ℕ, zero, suc, ◌-◌, ◌<◌, true, false, List, [], ◌∷◌, ◌++◌, take, drop, length, slice_index_or, slice_set, Option, None, Some, Result, Ok, Err, IfErr, append-nil, arith}
 use Rattle.std.specs.Result.{is_ok}
 use Rattle.std.proofs.lemmas.List.{take_all, get_or_append_left}
 use borrow.Rule.Slice.PartMut.{put_mid}
+use Rattle.clv_base.specs.Journals.{History}
 use Rattle.script_runs.specs.declared.ends.StopCause.{StopCause}
 use Rattle.script_runs.specs.Seen.{Seen, Misses, Keeps}
 use Rattle.script_runs.specs.Ran.{stop_in, IsIdle, IdleAfter, Follows}
 use Rattle.script_runs.specs.Laws.{SessionsGoOn, SessionsStop}
 use Rattle.script_runs.specs.declared.seats.Seat.{Seat}
 use Rattle.script_runs.specs.Begun.{HasBegun}
+use Rattle.script_runs.specs.Alone.{BeginsBy, BeginsPast, BeganAlone}
+use Rattle.script_runs.proofs.Alone.{begins_by}
 
 -- ---- lists with another first element
 
@@ -32,6 +35,30 @@ module _ {X : Type 0} (P : X → Type 0) where
   behind_first (x ∷ xs) y all k d l =
       let whole : take (length (y ∷ xs) - 1) xs ≡ xs = take_all (length (y ∷ xs) - 1) xs (omega arith) in
       subst (λ zs. P (slice_index_or zs k d)) (sym whole) (all (suc k) d (let m : k < length xs = subst (λ zs. k < length zs) whole l in omega arith))
+
+-- ---- seats that were run, and the first of them again
+
+module _ {X : Type 0} (P : X → X → Type 0) where
+  pub others_joined : (xs : List X) (s : X) (ys : List X) (z : X) → length ys ≡ length (slice_set xs 0 s) → ((k : ℕ) (d : X) → k < length (slice_set xs 0 s) → P (slice_index_or (slice_set xs 0 s) k d) (slice_index_or ys k d))
+      → (k : ℕ) (d : X) → 0 < k → k < length xs → P (slice_index_or xs k d) (slice_index_or (slice_set ys 0 z) k d)
+  others_joined [] s ys z len all k d pos l = absurd (omega arith)
+  others_joined (x ∷ xs) s [] z len all k d pos l = absurd (omega arith)
+  others_joined (x ∷ xs) s (y ∷ ys) z len all zero d pos l = absurd (omega arith)
+  others_joined (x ∷ xs) s (y ∷ ys) z len all (suc k) d pos l = all (suc k) d l
+
+  pub others_behind : (xs : List X) (s : X) (ys zs : List X) (z : X) → zs ≡ put_mid 1 (length (slice_set xs 0 s) - 1) (slice_set xs 0 s) ys → length ys ≡ length (take (length (slice_set xs 0 s) - 1) (drop 1 (slice_set xs 0 s)))
+      → ((k : ℕ) (d : X) → k < length (take (length (slice_set xs 0 s) - 1) (drop 1 (slice_set xs 0 s))) → P (slice_index_or (take (length (slice_set xs 0 s) - 1) (drop 1 (slice_set xs 0 s))) k d) (slice_index_or ys k d))
+      → (k : ℕ) (d : X) → 0 < k → k < length xs → P (slice_index_or xs k d) (slice_index_or (slice_set zs 0 z) k d)
+  others_behind [] s ys zs z is len all k d pos l = absurd (omega arith)
+  others_behind (x ∷ xs) s ys zs z is len all zero d pos l = absurd (omega arith)
+  others_behind (x ∷ xs) s ys zs z is len all (suc k) d pos l =
+      let whole : take (length (s ∷ xs) - 1) xs ≡ xs = take_all (length (s ∷ xs) - 1) xs (omega arith) in
+      let rest = drop (length (s ∷ xs) - 1) xs in
+      let same : zs ≡ s ∷ (ys ++ rest) = is in
+      let many : length ys ≡ length xs = len ∙ ap length whole in
+      subst (λ w. P (slice_index_or xs k d) (slice_index_or (slice_set w 0 z) (suc k) d)) (sym same)
+      (subst (P (slice_index_or xs k d)) (sym (get_or_append_left ys rest d k (omega arith)))
+      (subst (λ w. P (slice_index_or w k d) (slice_index_or ys k d)) whole (all k d (subst (λ w. k < length w) (sym whole) (omega arith)))))
 
 -- ---- seats
 
@@ -109,3 +136,39 @@ module _ {S B : Type 0} (holds : S → Type 0) (base : S → B) (seen : S → Se
       subst (λ z. Sat (slice_index_or (x ∷ xs) k d) (slice_index_or (slice_set z 0 (given_back x (slice_index_or z 0 r))) k d)) (sym same)
       (behind stop x s xs ys rest r (len ∙ ap length whole) b off
       (λ j e m. subst (λ w. Sat (slice_index_or w j e) (slice_index_or ys j e)) whole (all j e (subst (λ w. j < length w) (sym whole) m))) k d l)
+
+  -- ---- the first transaction of the first
+
+  alone_at : (clock : ℕ) (x s : Seat S) (w : Seen) (more : History) → Begun x s → clock ≡ (seen s.session).clock → w.entries ≡ (seen s.session).entries ++ more → BeginsBy clock x.transactions.now most (seen x.session) w
+  alone_at clock x s w more b is grows =
+      subst (λ k. BeginsBy k x.transactions.now most (seen x.session) w) (sym is)
+      (begins_by (missed s.session) x.transactions.now s.transactions.now most (stop_in s.ended) (seen x.session) (seen s.session) w more b.begun grows)
+
+  abbrev Past : ℕ → Seat S → Seat S → Type 0
+  Past clock x y = BeginsPast clock (seen x.session) (seen y.session)
+
+  pub alone_joined : (clock : ℕ) (xs : List (Seat S)) (s : Seat S) (ys : List (Seat S)) (p q r : Seat S) → length ys ≡ length (slice_set xs 0 s) → Begun (slice_index_or xs 0 p) s → clock ≡ (seen s.session).clock
+      → ((k : ℕ) (d : Seat S) → k < length (slice_set xs 0 s) → Past clock (slice_index_or (slice_set xs 0 s) k d) (slice_index_or ys k d))
+      → BeganAlone seen most xs (slice_set ys 0 (given_back (slice_index_or xs 0 q) (slice_index_or ys 0 r)))
+  alone_joined clock [] s ys p q r len b is all = record { clock = clock; first = λ d l. absurd (omega arith); others = λ k d pos l. absurd (omega arith) }
+  alone_joined clock (x ∷ xs) s [] p q r len b is all = absurd (omega arith)
+  alone_joined clock (x ∷ xs) s (y ∷ ys) p q r len b is all =
+      let past : Past clock s y = all 0 s (omega arith) in
+      record {
+        clock = clock;
+        first = λ d l. alone_at clock x s (seen y.session) past.more b is past.entries_are;
+        others = λ k d pos l. others_joined (Past clock) (x ∷ xs) s (y ∷ ys) (given_back x y) len all k d pos l;
+      }
+
+  pub alone_behind : (clock : ℕ) (xs : List (Seat S)) (s : Seat S) (ys zs : List (Seat S)) (p q r : Seat S) → zs ≡ put_mid 1 (length (slice_set xs 0 s) - 1) (slice_set xs 0 s) ys
+      → length ys ≡ length (take (length (slice_set xs 0 s) - 1) (drop 1 (slice_set xs 0 s))) → Begun (slice_index_or xs 0 p) s → clock ≡ (seen s.session).clock
+      → ((k : ℕ) (d : Seat S) → k < length (take (length (slice_set xs 0 s) - 1) (drop 1 (slice_set xs 0 s))) → Past clock (slice_index_or (take (length (slice_set xs 0 s) - 1) (drop 1 (slice_set xs 0 s))) k d) (slice_index_or ys k d))
+      → BeganAlone seen most xs (slice_set zs 0 (given_back (slice_index_or xs 0 q) (slice_index_or zs 0 r)))
+  alone_behind clock [] s ys zs p q r is len b at all = record { clock = clock; first = λ d l. absurd (omega arith); others = λ k d pos l. absurd (omega arith) }
+  alone_behind clock (x ∷ xs) s ys zs p q r is len b at all = record {
+    clock = clock;
+    first = λ d l.
+        subst (λ z. BeginsBy clock x.transactions.now most (seen x.session) (seen (slice_index_or (slice_set z 0 (given_back x (slice_index_or z 0 r))) 0 d).session)) (sym is)
+        (alone_at clock x s (seen s.session) [] b at (sym (append-nil (seen s.session).entries)));
+    others = λ k d pos l. others_behind (Past clock) (x ∷ xs) s ys zs (given_back x (slice_index_or zs 0 r)) is len all k d pos l;
+  }

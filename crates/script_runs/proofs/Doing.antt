@@ -1,5 +1,5 @@
 -- The operations of a try, one after another.
-use Rattle.std.proofs.Common.{◌≡◌, refl, sym, ap, subst, ◌∙◌, ◌⊎◌, inl, inr, ℕ, zero, suc, ◌+◌, ◌-◌, Bool, true, false, ◌||◌, ◌&&◌, ◌==◌, nat_le, cond, List, [], ◌∷◌, ◌++◌, take, drop, length, slice_get, append_assoc, append-nil, length-append, Option, Some, None, arith}
+use Rattle.std.proofs.Common.{◌≡◌, refl, sym, ap, subst, ◌∙◌, ◌⊎◌, inl, inr, ℕ, zero, suc, ◌+◌, ◌-◌, ◌<◌, ◌≤◌, Bool, true, false, ◌||◌, ◌&&◌, ◌==◌, nat_le, cond, List, [], ◌∷◌, ◌++◌, take, drop, length, slice_get, append_assoc, append-nil, length-append, Option, Some, None, arith}
 use Rattle.std.specs.List.{list_all}
 use Rattle.std.proofs.lemmas.Bool.{both_ways, and_parts}
 use Rattle.std.proofs.lemmas.List.{take_at}
@@ -21,11 +21,16 @@ use Rattle.script_lang.specs.declared.following.Stage.{Stage}
 use Rattle.script_lang.specs.declared.following.Stage.TheVariants.{AtLine, Second, Puts, LastPut}
 use Rattle.script_runs.specs.Operations.{IsOperation, AreOperations, no_operation, operation}
 use Rattle.script_runs.specs.Tries.{is_touched, ops_so_far}
-use Rattle.script_runs.specs.Seen.{Active, Seen, Grows, untouched}
+use Rattle.script_runs.specs.Seen.{Active, Seen, AreStamped, Grows, untouched}
 use Rattle.script_runs.specs.Told.{has_range, TouchesBy, TouchesJust}
 use Rattle.script_runs.specs.Lines.{HasDone}
 
 -- ---- growing
+
+pub stamped_on : (a b : History) (k l m : ℕ) → k ≤ l → l ≤ m → AreStamped k l a → AreStamped l m b → AreStamped k m (a ++ b)
+stamped_on [] [] k l m up more first later = tt
+stamped_on [] (e ∷ es) k l m up more first later = ((let x = later.0.0 in omega arith, later.0.1), stamped_on [] es k l m up more tt later.1)
+stamped_on (e ∷ es) b k l m up more first later = ((first.0.0, (let x = first.0.1 in omega arith)), stamped_on es b k l m up more first.1 later)
 
 pub grows_on : (a b : History) (u v w : Seen) → Grows a u v → Grows b v w → Grows (a ++ b) u w
 grows_on a b u v w g h =
@@ -36,10 +41,11 @@ grows_on a b u v w g h =
       entries_are = h.entries_are ∙ ap (λ es. es ++ b) g.entries_are ∙ append_assoc u.entries a b;
       clock_rises = let x = g.clock_rises in let y = h.clock_rises in omega arith;
       serial_rises = let x = g.serial_rises in let y = h.serial_rises in omega arith;
+      stamped = stamped_on a b u.clock v.clock w.clock g.clock_rises h.clock_rises g.stamped h.stamped;
     }
 
 pub grows_none : (u : Seen) → Grows [] u u
-grows_none u = record { splits_are = refl; run_is = refl; walker_is = refl; entries_are = sym (append-nil u.entries); clock_rises = omega arith; serial_rises = omega arith }
+grows_none u = record { splits_are = refl; run_is = refl; walker_is = refl; entries_are = sym (append-nil u.entries); clock_rises = omega arith; serial_rises = omega arith; stamped = tt }
 
 -- ---- lines
 

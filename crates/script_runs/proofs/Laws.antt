@@ -6,3 +6,5 @@ pub use Rattle.script_runs.proofs.Sessions.{tries_more}
 pub use Rattle.script_runs.proofs.Tries.{entries_more}
 pub use Rattle.script_runs.proofs.Doing.{one_more}
 pub use Rattle.script_runs.proofs.Doing.{grows_none, grows_on}
+pub use Rattle.script_runs.proofs.Doing.{stamped_on}
+pub use Rattle.script_runs.proofs.Alone.{all_past}

@@ -6,5 +6,6 @@ mod Sessions
 mod Retried
 pub mod TriesListed
 pub mod TriesSessions
+mod Alone
 mod Begun
 pub mod Laws

@@ -10,4 +10,5 @@ pub mod Sessions
 pub mod TriesLaws
 pub mod Examples
 pub mod Begun
+pub mod Alone
 pub mod Laws

@@ -1,5 +1,6 @@
 -- What whoever runs a script knows of a session.
-use Rattle.std.specs.Prelude.{◌≡◌, ℕ, ◌≤◌, ◌^◌, ◌-◌, Bool, false, List, ◌++◌, Option}
+use Rattle.std.specs.Prelude.{◌≡◌, ℕ, ◌<◌, ◌≤◌, ◌^◌, ◌-◌, max, Bool, false, List, ◌++◌, Option}
+use Rattle.std.specs.List.{AllByRecursion}
 use Rattle.clv_base.specs.declared.names.TxId.{TxId}
 use Rattle.clv_base.specs.declared.names.Birth.{Birth}
 use Rattle.clv_base.specs.Journals.{History}
@@ -25,6 +26,10 @@ pub record Seen : Type 0 where
   pub serial : ℕ
   pub standing : Standing
 
+-- it with a clock that is up to this one at least
+abbrev pub raised : ℕ → Seen → Seen
+raised clock u = record u { clock = max u.clock clock }
+
 -- its clock is at its end
 abbrev pub IsWornOut : Seen → Type 0
 IsWornOut u = 2 ^ 48 - 1 ≤ u.clock
@@ -36,7 +41,11 @@ Misses = TxId → ℕ → History → Type 0
 abbrev pub Keeps : Misses → Misses → Type 0
 Keeps before after = (tx : TxId) (n : ℕ) (es : History) → before tx n es → after tx n es
 
--- the same session, with these entries more
+-- each has a stamp past the first clock, and up to the second
+abbrev pub AreStamped : ℕ → ℕ → History → Type 0
+AreStamped clock clock' es = AllByRecursion (λ e. (clock < (e.1).stamp) × ((e.1).stamp ≤ clock')) es
+
+-- the same session, with these entries more, which were made between its two clocks
 pub record Grows (es : History) (u v : Seen) : Type 0 where
   pub splits_are : v.splits ≡ u.splits
   pub run_is : v.run ≡ u.run
@@ -44,3 +53,4 @@ pub record Grows (es : History) (u v : Seen) : Type 0 where
   pub entries_are : v.entries ≡ u.entries ++ es
   pub clock_rises : u.clock ≤ v.clock
   pub serial_rises : u.serial ≤ v.serial
+  pub stamped : AreStamped u.clock v.clock es

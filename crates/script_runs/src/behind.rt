@@ -5,6 +5,7 @@ ghost use Rattle.script_lang.specs.Laws.{is_narrow_body};
 ghost use Rattle.script_runs.specs.Ran.{stop_in, IsIdle, IdleAfter, Follows};
 ghost use Rattle.script_runs.specs.Begun.{HasBegun};
 ghost use Rattle.script_runs.specs.Seen.{Keeps};
+ghost use Rattle.script_runs.specs.Alone.{BeganAlone};
 
 use crate::seats::{Seat, run_together};
 use crate::statements::{sessions_go_on, sessions_stop};
@@ -36,8 +37,8 @@ fn run_first<R: Wait, C: SessionCalls>(
     seat.transactions = behind;
 }
 
-// Runs the first transaction of the first seat, and then the sessions of all seats beside each other. Where that transaction is stopped, the first seat's
-// session has ended, and the others run.
+// Runs the first transaction of the first seat, and then the sessions of all seats beside each other, with clocks that are up to the first one's. Where that
+// transaction is stopped, the first seat's session has ended, and the others run.
 pub(crate) fn run_behind_first<R: Threads + Wait + Sync, C: SessionCalls + Send>(
     rt: &R,
     alloc: Global,
@@ -53,6 +54,7 @@ pub(crate) fn run_behind_first<R: Threads + Wait + Sync, C: SessionCalls + Send>
     ensures transactions { (k : ℕ) (d : _) → k < length seats.old → (slice_index_or seats.new k d).transactions.now ≡ (slice_index_or seats.old k d).transactions.now }
     ensures follows { (k : ℕ) (d : _) → k < length seats.old → Follows (C.missed (slice_index_or seats.new k d).session) (slice_index_or seats.old k d).transactions.now most (stop_in (slice_index_or seats.new k d).ended) (C.seen (slice_index_or seats.old k d).session) (C.seen (slice_index_or seats.new k d).session) }
     ensures grounds { (k : ℕ) (d : _) → k < length seats.old → IfErr (slice_index_or seats.new k d).ended (C.grounds (slice_index_or seats.new k d).session) }
+    ensures alone { BeganAlone C.seen most seats.old seats.new }
 {
     sessions_go_on::<C>();
     sessions_stop::<C>();
@@ -61,10 +63,11 @@ pub(crate) fn run_behind_first<R: Threads + Wait + Sync, C: SessionCalls + Send>
     }
     let whole = seats[0].transactions;
     run_first(rt, alloc, &mut seats[0], most);
+    let clock = seats[0].session.clock();
     if seats[0].ended.is_ok() {
-        run_together(rt, alloc, seats, most);
+        run_together(rt, alloc, seats, most, clock);
     } else {
-        run_together(rt, alloc, &mut seats[1..], most);
+        run_together(rt, alloc, &mut seats[1..], most, clock);
     }
     seats[0].transactions = whole;
 }

@@ -4,7 +4,7 @@ ghost use Rattle.clv_base.specs.declared.names.TxId.{TxId};
 ghost use Rattle.clv_base.specs.declared.names.Birth.{Birth as BirthIs};
 ghost use Rattle.clv_base.specs.Journals.{History};
 ghost use Rattle.script_runs.specs.declared.ends.StopCause.{StopCause as CauseIs};
-ghost use Rattle.script_runs.specs.Seen.{Standing, Idle, Active, Seen as SeenIs, Keeps};
+ghost use Rattle.script_runs.specs.Seen.{Standing, Idle, Active, Seen as SeenIs, Keeps, raised};
 ghost use Rattle.script_runs.specs.Told.{has_range, BeginTold, RetryTold, OperateTold, CommitTold, AbortTold};
 ghost use Rattle.script_runs.specs.Tried.{OnStop, OnRefusal};
 
@@ -29,6 +29,19 @@ pub trait SessionCalls {
 
     /// What tells that behind these entries of the session a drop of this transaction came to nothing on this shard: it was down, or had nothing of it.
     ghost missed: { Self → TxId → ℕ → History → Type 0 };
+
+    /// The session's clock: what it makes from then on has stamps past it.
+    fn clock(&self) -> u64
+        ensures { result ≡ (seen self.now).clock };
+
+    /// Raises the session's clock to this one, if it is lower, while no transaction is active. Nothing else changes.
+    fn raise(&mut self, clock: u64)
+        requires session { holds self.old }
+        requires idle { (again : Option BirthIs) × ((seen self.old).standing ≡ Idle again) }
+        ensures session { holds self.new }
+        ensures base { base self.new ≡ base self.old }
+        ensures raised { seen self.new ≡ raised clock (seen self.old) }
+        ensures misses { Keeps (missed self.old) (missed self.new) };
 
     /// Begins a transaction; the stamp of its birth is past all earlier ones.
     fn begin(&mut self) -> Result<(), StopCause>

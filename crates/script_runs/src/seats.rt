@@ -4,6 +4,7 @@ ghost use Rattle.std.specs.List.{list_all};
 ghost use Rattle.script_lang.specs.Laws.{is_narrow_body};
 ghost use Rattle.script_runs.specs.Ran.{stop_in, IsIdle, Follows};
 ghost use Rattle.script_runs.specs.Seen.{Keeps};
+ghost use Rattle.script_runs.specs.Alone.{BeginsPast};
 
 use crate::{SessionCalls, StopCause, run_session};
 use script_lang::Transaction;
@@ -20,12 +21,13 @@ pub struct Seat<'a, C> {
     pub ended: Result<(), StopCause>,
 }
 
-// Runs the session of a seat.
+// Runs the session of a seat, whose entries have stamps past the clock.
 fn run_one<R: Wait, C: SessionCalls>(
     rt: &R,
     alloc: Global,
     seat: &mut Seat<'_, C>,
     most: Option<u32>,
+    clock: u64,
 )
     requires session { C.holds seat.old.session }
     requires idle { IsIdle (C.seen seat.old.session) }
@@ -36,16 +38,19 @@ fn run_one<R: Wait, C: SessionCalls>(
     ensures transactions { seat.new.transactions.now ≡ seat.old.transactions.now }
     ensures follows { Follows (C.missed seat.new.session) seat.old.transactions.now most (stop_in seat.new.ended) (C.seen seat.old.session) (C.seen seat.new.session) }
     ensures grounds { IfErr seat.new.ended (C.grounds seat.new.session) }
+    ensures past { BeginsPast clock (C.seen seat.old.session) (C.seen seat.new.session) }
 {
+    seat.session.raise(clock);
     seat.ended = run_session(rt, alloc, &mut seat.session, seat.transactions, most);
 }
 
-// Runs the session of each seat on a thread of its own.
+// Runs the session of each seat on a thread of its own. Their entries have stamps past the clock.
 pub(crate) fn run_together<R: Threads + Wait + Sync, C: SessionCalls + Send>(
     rt: &R,
     alloc: Global,
     seats: &mut [Seat<'_, C>],
     most: Option<u32>,
+    clock: u64,
 )
     requires session { (k : ℕ) (d : _) → k < length seats.old → C.holds (slice_index_or seats.old k d).session }
     requires idle { (k : ℕ) (d : _) → k < length seats.old → IsIdle (C.seen (slice_index_or seats.old k d).session) }
@@ -56,6 +61,7 @@ pub(crate) fn run_together<R: Threads + Wait + Sync, C: SessionCalls + Send>(
     ensures transactions { (k : ℕ) (d : _) → k < length seats.old → (slice_index_or seats.new k d).transactions.now ≡ (slice_index_or seats.old k d).transactions.now }
     ensures follows { (k : ℕ) (d : _) → k < length seats.old → Follows (C.missed (slice_index_or seats.new k d).session) (slice_index_or seats.old k d).transactions.now most (stop_in (slice_index_or seats.new k d).ended) (C.seen (slice_index_or seats.old k d).session) (C.seen (slice_index_or seats.new k d).session) }
     ensures grounds { (k : ℕ) (d : _) → k < length seats.old → IfErr (slice_index_or seats.new k d).ended (C.grounds (slice_index_or seats.new k d).session) }
+    ensures past { (k : ℕ) (d : _) → k < length seats.old → BeginsPast clock (C.seen (slice_index_or seats.old k d).session) (C.seen (slice_index_or seats.new k d).session) }
 {
     if seats.is_empty() {
         return;
@@ -71,6 +77,7 @@ pub(crate) fn run_together<R: Threads + Wait + Sync, C: SessionCalls + Send>(
         ensures transactions { seat.exit.now.transactions.now ≡ seat.entry.now.transactions.now }
         ensures follows { Follows (C.missed seat.exit.now.session) seat.entry.now.transactions.now most (stop_in seat.exit.now.ended) (C.seen seat.entry.now.session) (C.seen seat.exit.now.session) }
         ensures grounds { IfErr seat.exit.now.ended (C.grounds seat.exit.now.session) }
-    { run_one(rt, alloc, seat, most) };
+        ensures past { BeginsPast clock (C.seen seat.entry.now.session) (C.seen seat.exit.now.session) }
+    { run_one(rt, alloc, seat, most, clock) };
     thread::for_each_mut(rt, seats, count, &body);
 }

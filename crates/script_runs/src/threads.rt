@@ -4,6 +4,8 @@ ghost use Rattle.std.specs.List.{list_all};
 ghost use Rattle.script_lang.specs.Laws.{is_narrow_body};
 ghost use Rattle.script_runs.specs.Ran.{stop_in, IsIdle, Follows};
 ghost use Rattle.script_runs.specs.Seen.{Keeps};
+ghost use Rattle.script_runs.specs.Alone.{BeganAlone};
+ghost use Rattle.script_runs.specs.declared.threads.Start.TheVariants.{FirstAlone};
 
 use crate::SessionCalls;
 use crate::behind::run_behind_first;
@@ -22,8 +24,8 @@ pub enum Start {
 }
 
 /// Runs the session of each seat on a thread of its own, each transaction in at most so many tries, or without a number until it is
-/// done. What a session adds to its entries is as if it ran alone, and what stopped it has its grounds. Where no thread can be made a
-/// session runs behind another one.
+/// done. What a session adds to its entries is as if it ran alone, and what stopped it has its grounds. Where the first transaction is to run alone, each
+/// entry of another session has a stamp past all of its. Where no thread can be made a session runs behind another one.
 pub fn run_all<R: Threads + Wait + Sync, C: SessionCalls + Send>(
     rt: &R,
     alloc: Global,
@@ -40,9 +42,10 @@ pub fn run_all<R: Threads + Wait + Sync, C: SessionCalls + Send>(
     ensures transactions { (k : ℕ) (d : _) → k < length seats.old → (slice_index_or seats.new k d).transactions.now ≡ (slice_index_or seats.old k d).transactions.now }
     ensures follows { (k : ℕ) (d : _) → k < length seats.old → Follows (C.missed (slice_index_or seats.new k d).session) (slice_index_or seats.old k d).transactions.now most (stop_in (slice_index_or seats.new k d).ended) (C.seen (slice_index_or seats.old k d).session) (C.seen (slice_index_or seats.new k d).session) }
     ensures grounds { (k : ℕ) (d : _) → k < length seats.old → IfErr (slice_index_or seats.new k d).ended (C.grounds (slice_index_or seats.new k d).session) }
+    ensures alone { start ≡ FirstAlone → BeganAlone C.seen most seats.old seats.new }
 {
     match start {
-        Start::Together => run_together(rt, alloc, seats, most),
+        Start::Together => run_together(rt, alloc, seats, most, 0),
         Start::FirstAlone => run_behind_first(rt, alloc, seats, most),
     }
 }

@@ -142,6 +142,7 @@ begun_begins M S G sh w v p birth st place walker_is =
             entries_are = ap (λ z. session_entries (kept z.passes.items)) walker_is ∙ sym (append-nil _);
             clock_rises = (omega arith);
             serial_rises = (omega arith);
+            stamped = tt;
           };
       active = ap (λ z. Active p.tx birth z.nth (touched_in z.touched)) place;
     }

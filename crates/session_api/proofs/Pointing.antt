@@ -43,6 +43,7 @@ use Rattle.session_api.specs.Seeing.{seen_as, touched_in, is_active, unless_dead
 use Rattle.session_api.specs.ToldLaws.{IsAt, gets, puts, dels, PointsTell}
 use Rattle.session_api.proofs.Following.{IsPlain, are_plain, all_before, all_behind, made_in, made_in_more, made_of, between, turns_lead}
 use Rattle.session_api.proofs.ToldOperating.{IsLastOn, EntriesBy, GoesUnless, entries_by}
+use Rattle.session_api.proofs.Stamping.{made_stamped}
 use Rattle.law_base.proofs.Shards.{some_session as some_same}
 
 -- ---- touched shards
@@ -161,6 +162,7 @@ module _ {M S G : Type 0} (sh : Shards M S G) where
     entries_are = sessions_grow w.number w.clock v.clock w.passes.items v.passes.items ts took;
     clock_rises = clock_rises w.number w.clock v.clock w.passes.items v.passes.items ts took;
     serial_rises = (let k = same.1 in omega arith);
+    stamped = made_stamped w.number w.clock v.clock w.passes.items v.passes.items ts took;
   }
 
   pub grows_by : (w v : Walker M S G) (st en : Standing) (ts : List Turn) (es : History) → IsSameWalker w v → Took w.number w.clock w.passes.items ts v.clock v.passes.items → made_in ts ≡ es → Grows es (seen_as sh w st) (seen_as sh v en)

@@ -31,7 +31,8 @@ use Rattle.session_ops.specs.Stepped.{all_pairs, PartMade, PartsMade, no_shard, 
 use Rattle.script_runs.specs.Operations.{scan_within, part_at, scan_parts, pairs_of, IsPart, ArePartsAnswered, no_part, part, IsBegun}
 use Rattle.script_runs.specs.Sessions.{session_entries}
 use Rattle.script_runs.specs.Tries.{is_touched}
-use Rattle.script_runs.specs.Seen.{Standing, Idle, Active, Grows}
+use Rattle.script_runs.specs.Seen.{Standing, Idle, Active, AreStamped, Grows}
+use Rattle.script_runs.proofs.Laws.{stamped_on}
 use Rattle.script_runs.specs.Told.{AreDropsOf, TouchesBy, TouchesJust, IsUnanswered, OperateTold}
 use Rattle.session_api.specs.Seeing.{seen_as, touched_in, is_active, unless_dead, pairs_end}
 use Rattle.session_api.specs.ToldLaws.{ScansTell}
@@ -168,6 +169,7 @@ module _ {M S G : Type 0} (sh : Shards M S G) (birth : Birth) (lo hi : ℕ) (w :
     pub entries : session_entries (kept u.passes.items) ≡ session_entries (kept w.passes.items) ++ es
     pub same : IsSameWalker w u
     pub clock : w.clock ≤ u.clock
+    pub stamped : AreStamped w.clock u.clock es
     pub parts : ArePartsAnswered p.tx birth (suc p.nth) (scan_parts sh.splits lo hi 0 n) answers es
     pub touches : TouchesJust (touched_in p.touched) es (touched_in m.touched)
     pub tx : m.tx ≡ p.tx
@@ -207,6 +209,7 @@ module _ {M S G : Type 0} (sh : Shards M S G) (birth : Birth) (lo hi : ℕ) (w :
               ∙ ap (λ l. session_entries (kept w.passes.items) ++ (s.es ++ l)) is;
           clock_rises = (omega arith);
           serial_rises = (omega arith);
+          stamped = stamped_on s.es fs w.clock u.clock v.clock s.clock g.clock_rises s.stamped (subst (AreStamped u.clock v.clock) is g.stamped);
         }
 
     quiet_makes : (answer : Result Answer OpError) (made : PartMade sh birth (p.nth + 1) n x u m answer v q) (fs : History) → has_died answer ≡ false → made_in made.turns.asking ≡ fs → made_in (made.turns.asking ++ made.turns.leaving) ≡ fs
@@ -223,6 +226,7 @@ module _ {M S G : Type 0} (sh : Shards M S G) (birth : Birth) (lo hi : ℕ) (w :
               entries = g.entries_are;
               same = (made.same.0 ∙ s.same.0, made.same.1 ∙ s.same.1);
               clock = g.clock_rises;
+              stamped = g.stamped;
               parts =
                   subst (λ l. ArePartsAnswered p.tx birth (suc p.nth) l (answers ++ answer ∷ []) (s.es ++ (n, y) ∷ [])) (sym (parts_upto sh.splits lo hi n ∙ ap (λ l. scan_parts sh.splits lo hi 0 n ++ l) (part_is sh.splits n lo hi x meets)))
                   (parts_push p.tx birth (suc p.nth) (scan_parts sh.splits lo hi 0 n) answers s.es (n, Scan x.0 x.1) answer epoch (n, y) s.parts (its_part y (Answered answer epoch) event outcome));
@@ -239,6 +243,7 @@ module _ {M S G : Type 0} (sh : Shards M S G) (birth : Birth) (lo hi : ℕ) (w :
         entries = sym (append-nil (session_entries (kept w.passes.items)));
         same = (refl, refl);
         clock = (omega arith);
+        stamped = tt;
         parts = no_part;
         touches = touches_just_none (touched_in p.touched);
         tx = refl;
@@ -252,6 +257,7 @@ module _ {M S G : Type 0} (sh : Shards M S G) (birth : Birth) (lo hi : ℕ) (w :
         entries = s.entries;
         same = s.same;
         clock = s.clock;
+        stamped = s.stamped;
         parts =
             subst (λ l. ArePartsAnswered p.tx birth (suc p.nth) l answers s.es)
             (sym (parts_upto sh.splits lo hi n ∙ ap (λ l. scan_parts sh.splits lo hi 0 n ++ l) (part_none sh.splits n lo hi none) ∙ append-nil (scan_parts sh.splits lo hi 0 n))) s.parts;
@@ -281,7 +287,7 @@ module _ {M S G : Type 0} (sh : Shards M S G) (birth : Birth) (lo hi : ℕ) (w :
       last (inr k) = k
 
       whole_grows : (s : SoFar (shard_count sh.splits) answers v q) (en : Standing) → Grows s.es (seen_as sh w (is_active p birth)) (seen_as sh v en)
-      whole_grows s en = let k = s.same.1 in record { splits_are = refl; run_is = refl; walker_is = s.same.0; entries_are = s.entries; clock_rises = s.clock; serial_rises = (omega arith) }
+      whole_grows s en = let k = s.same.1 in record { splits_are = refl; run_is = refl; walker_is = s.same.0; entries_are = s.entries; clock_rises = s.clock; serial_rises = (omega arith); stamped = s.stamped }
 
   -- one part failed
   module _ (v : Walker M S G) (q : SessionState) (n : ℕ) (x : ℕ × ℕ) (answers : List Answer) (u : Walker M S G) (m : SessionState) (s : SoFar n answers u m) (meets : part_on sh.splits n lo hi ≡ Some x)
@@ -346,7 +352,7 @@ module _ {M S G : Type 0} (sh : Shards M S G) (birth : Birth) (lo hi : ℕ) (w :
     forgotten answer made t = (t.es, at (scan_parts sh.splits lo hi (suc n) (shard_count sh.splits - suc n)) refl, whole)
       where
         whole : Grows t.es (seen_as sh w (is_active p birth)) (seen_as sh v (is_active q birth))
-        whole = let k = t.same.1 in record { splits_are = refl; run_is = refl; walker_is = t.same.0; entries_are = t.entries; clock_rises = t.clock; serial_rises = (omega arith) }
+        whole = let k = t.same.1 in record { splits_are = refl; run_is = refl; walker_is = t.same.0; entries_are = t.entries; clock_rises = t.clock; serial_rises = (omega arith); stamped = t.stamped }
 
         at : (l : List (ℕ × Operation)) → scan_parts sh.splits lo hi (suc n) (shard_count sh.splits - suc n) ≡ l
             → IsBegun sh.splits p.tx birth (suc p.nth) (Scan lo hi) t.es ⊎ IsUnanswered sh.splits p.tx birth (suc p.nth) (Scan lo hi) t.es

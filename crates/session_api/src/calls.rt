@@ -34,6 +34,14 @@ impl<'a, M: Flier, P: Pace, R: Wait> SessionCalls for ScriptSession<'a, M, P, R>
 
     ghost missed = { λ s tx n es. HasMissed s.session.walker tx n es };
 
+    fn clock(&self) -> u64 {
+        self.session.walker.clock
+    }
+
+    fn raise(&mut self, clock: u64) {
+        self.session.walker.clock = self.session.walker.clock.max(clock);
+    }
+
     fn begin(&mut self) -> Result<(), StopCause> {
         begun(self.session.begin())
     }

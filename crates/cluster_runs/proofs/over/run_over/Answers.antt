@@ -1,10 +1,16 @@
-use Rattle.std.proofs.Common.{arith, ◌≡◌, ◌∙◌, suc, true, sym, subst, Ok, Err}
+use Rattle.std.proofs.Common.{arith, ◌≡◌, ◌∙◌, suc, ◌<◌, true, false, sym, subst, get_or, set, Ok, Err}
+use Rattle.std.specs.Prelude.{IfOk}
 use Rattle.std.specs.Result.{is_err}
+use Rattle.std.specs.List.{AllByRecursion}
+use Rattle.cluster_turns.specs.Walkers.{kept}
+use Rattle.script_runs.specs.Sessions.{session_entries}
 use Rattle.command_line.specs.Running.{End, IsOk}
 use Rattle.session_api.specs.Standing.{IsAtRest}
 use Rattle.cluster_runs.specs.PromisedSessions.{NotBegun}
+use Rattle.cluster_runs.specs.Drained.{WasSettled}
 use Rattle.script_runs.specs.declared.ends.StopCause.TheVariants.{Memory}
-use Rattle.cluster_runs.proofs.Gone.{none_gone, new_rest, all_rest, goes_on}
+use Rattle.cluster_runs.proofs.Gone.{none_gone, new_rest, all_rest, goes_on, none_drained, here_first, all_drained}
+use Rattle.cluster_runs.proofs.Alone.{none_alone, same_alone, behind_first}
 use Rattle.cluster_runs.proofs.over.run_over.Goals as goal
 
 pub drain_all-first-requires : goal.drain_all-first-requires
@@ -28,12 +34,38 @@ returns-then-is_err-clause-went g c = (
   goes_on c.args.shards.now c.args.most c.args.sessions.now c.args.walkers.now.items c.drain_all-first.new.walker (λ k. NotBegun) (Err Memory) c.drain_all-first.result
       (refused c.drain_all-first.result (sym c.if-is_err.true ∙ c.is_err.ensures.value))
       (none_gone c.args.shards.now c.args.most c.args.sessions.now c.args.walkers.now.items Memory (λ k d l. c.requires.new (suc k) d (omega arith))),
+  none_drained c.args.shards.now c.args.most c.args.sessions.now c.args.walkers.now.items c.drain_all-first.new.walker (λ k d l. c.requires.new (suc k) d (omega arith)),
 )
 
 pub returns-clause-rest : goal.returns-clause-rest
 returns-clause-rest g c = let count = c.requires.count in let many = c.run_sessions-ran.ensures.len in let ok = c.run_sessions-ran.new.walkers.ok in let ok0 = c.args.walkers.now.ok in
     all_rest c.args.shards.now c.args.most c.args.sessions.now c.run_sessions-ran.new.walkers.items c.drain_all-last.new.walker (omega arith) c.drain_all-last.ensures.rest c.run_sessions-ran.ensures.rest
 
+-- an end that is no error is well
+well : {P : Type 0} (end : End) → false ≡ is_err end → IfOk end (λ u. P) → P
+well (Ok u) is h = h
+well (Err cause) is h = absurd cc
+
 pub returns-clause-went : goal.returns-clause-went
-returns-clause-went g c = let w = c.run_sessions-ran.ensures.went in
-    (w.0, goes_on c.args.shards.now c.args.most c.args.sessions.now c.run_sessions-ran.new.walkers.items c.drain_all-last.new.walker w.0 c.run_sessions-ran.result c.graver.result (λ ok. (c.graver.ensures.fine ok).0) w.1)
+returns-clause-went g c =
+    let w = c.run_sessions-ran.ensures.went in let sh = c.args.shards.now in let most = c.args.most in let script = c.args.sessions.now in let ws = c.args.walkers.now.items in let v = c.drain_all-first.new.walker in
+    let count = c.requires.count in let many = c.run_sessions-ran.ensures.len in let ok = c.run_sessions-ran.new.walkers.ok in let ok0 = c.args.walkers.now.ok in
+    let here : (d : _) → get_or (set ws 0 v) 0 d ≡ v = λ d. here_first sh most script ws v d (omega arith) in
+    let first : c.index.result.now ≡ v = c.index.ensures ∙ here c.index.result.now in
+    let last : c.index_mut-2.result.now ≡ v = c.index_mut-2.ensures.value ∙ (c.run_sessions-ran.ensures.first c.index_mut-2.result.now ∙ here c.index_mut-2.result.now) in (
+      w.0,
+      goes_on sh most script c.run_sessions-ran.new.walkers.items c.drain_all-last.new.walker w.0 c.run_sessions-ran.result c.graver.result (λ ok. (c.graver.ensures.fine ok).0) w.1,
+      all_drained sh most script v.clock w.0 c.run_sessions-ran.new.walkers.items v c.drain_all-last.new.walker (omega arith)
+          (well c.drain_all-first.result (sym c.if-is_err.false ∙ c.is_err.ensures.value) c.drain_all-first.ensures.settled)
+          (λ n k. c.drain_all-last.ensures.stays n v.clock (subst (λ z. WasSettled n v.clock z.passes.items) (sym last) k))
+          (λ k d l. subst (λ z. AllByRecursion (λ e. z.clock < (e.1).stamp) (session_entries (kept (get_or c.run_sessions-ran.new.walkers.items (suc k) d).passes.items))) first (c.run_sessions-ran.ensures.later k d l)),
+    )
+
+pub returns-then-is_err-clause-alone : goal.returns-then-is_err-clause-alone
+returns-then-is_err-clause-alone g c = let sh = c.args.shards.now in let script = c.args.sessions.now in let ws = c.args.walkers.now.items in
+    λ is. same_alone sh c.args.most script (λ k d. get_or ws (suc k) d) (λ k d. get_or (set ws 0 c.drain_all-first.new.walker) (suc k) d) (behind_first ws c.drain_all-first.new.walker)
+    (none_alone sh c.args.most script (λ k d. get_or ws (suc k) d) (λ k d l. c.requires.new (suc k) d (omega arith)))
+
+pub returns-clause-alone : goal.returns-clause-alone
+returns-clause-alone g c = let sh = c.args.shards.now in let script = c.args.sessions.now in let ws = c.run_sessions-ran.new.walkers.items in
+    λ is. same_alone sh c.args.most script (λ k d. get_or ws (suc k) d) (λ k d. get_or (set ws 0 c.drain_all-last.new.walker) (suc k) d) (behind_first ws c.drain_all-last.new.walker) (c.run_sessions-ran.ensures.alone is)

@@ -3,9 +3,14 @@ use denote.Ref.{NamedLft}
 use denote.Param.{param}
 use denote.Param.Send.{param_send}
 use Rattle.std.proofs.Common.{arith, ◌≡◌, ◌<◌, true, sym, subst, length, get_or}
-use Rattle.std.specs.List.{list_all}
+use Rattle.std.specs.List.{AllByRecursion, list_all}
+use Rattle.std.proofs.lemmas.Option.{slice_get_within}
+use Rattle.cluster_turns.specs.Walkers.{kept}
+use Rattle.script_runs.specs.Sessions.{session_entries}
 use Rattle.script_lang.specs.Laws.{is_narrow_body}
 use Rattle.cluster_runs.specs.Sessions.{IsSeated, HasSat}
+use Rattle.cluster_runs.specs.Alone.{BeginsWith}
+use Rattle.cluster_runs.proofs.Alone.{sat_first, sat_past}
 use Rattle.cluster_runs.proofs.Sending.{script_row_send}
 use Rattle.cluster_runs.proofs.Sitting.{sat, narrow_at}
 use Rattle.cluster_runs.proofs.sessions.run_seats.Goals as goal
@@ -29,7 +34,26 @@ returns-clause-sat g c =
     let E = c.run_all.ensures in let many = c.run_all.auto.seats in let a = c.as_mut_slice.ensures.len in let n = c.requires.count in let value = c.as_mut_slice.ensures.value in
     λ k d l. (let low : k < length c.run_all.new.seats = omega arith in let was : k < length c.as_mut_slice.result.now = omega arith in
     let v = get_or c.run_all.new.seats k d in let o = get_or c.as_mut_slice.result.now k d in
-    let seat = subst (λ z. IsSeated c.args.shards.now c.args.sessions.now k (get_or z k d).session.session.shards.now (get_or z k d).session.session.walker (get_or z k d).session.session.progress (get_or z k d).transactions.now) (sym value) (c.requires.seated k d l) in
-    subst (λ z. HasSat c.args.shards.now c.args.most c.args.sessions.now k z.session.session.walker z.ended) (sym (written c.run_all.new.seats _ c.args.seats.now.len k d (omega arith) low))
-    (sat c.args.shards.now o.session.session.shards.now v.session.session.shards.now o.session.session.walker v.session.session.walker o.session.session.progress v.session.session.progress o.transactions.now c.args.most c.args.sessions.now k v.ended seat
+    let seat = subst (λ z. IsSeated c.args.shards.now c.args.clock c.args.sessions.now k (get_or z k d).session.session.shards.now (get_or z k d).session.session.walker (get_or z k d).session.session.progress (get_or z k d).transactions.now) (sym value) (c.requires.seated k d l) in
+    subst (λ z. HasSat c.args.shards.now c.args.clock c.args.most c.args.sessions.now k z.session.session.walker z.ended) (sym (written c.run_all.new.seats _ c.args.seats.now.len k d (omega arith) low))
+    (sat c.args.shards.now o.session.session.shards.now v.session.session.shards.now c.args.clock o.session.session.walker v.session.session.walker o.session.session.progress v.session.session.progress o.transactions.now c.args.most c.args.sessions.now k v.ended seat
     (E.session k d was) (E.base k d was) (E.follows k d was) (E.grounds k d was)))
+
+pub returns-clause-alone : goal.returns-clause-alone
+returns-clause-alone g c =
+    let E = c.run_all.ensures in let many = c.run_all.auto.seats in let a = c.as_mut_slice.ensures.len in let n = c.requires.count in let value = c.as_mut_slice.ensures.value in let sh = c.args.shards.now in
+    λ is. (let r = E.alone is in record {
+      clock = r.clock;
+      first = λ bodies d at. (let some = slice_get_within c.args.sessions.now 0 bodies at in let low : 0 < length c.run_all.new.seats = omega arith in
+          let v = get_or c.run_all.new.seats 0 d in let o = get_or c.as_mut_slice.result.now 0 d in
+          let seat = subst (λ z. IsSeated sh c.args.clock c.args.sessions.now 0 (get_or z 0 d).session.session.shards.now (get_or z 0 d).session.session.walker (get_or z 0 d).session.session.progress (get_or z 0 d).transactions.now) (sym value) (c.requires.seated 0 d some) in
+          subst (λ z. BeginsWith sh.splits sh.run c.args.most bodies r.clock (session_entries (kept z.session.session.walker.passes.items))) (sym (written c.run_all.new.seats _ c.args.seats.now.len 0 d (omega arith) low))
+          (sat_first sh c.args.most c.args.sessions.now c.args.clock r.clock o.session.session.shards.now v.session.session.shards.now o.session.session.walker v.session.session.walker o.session.session.progress v.session.session.progress o.transactions.now bodies seat at
+          (r.first d (omega arith))));
+      others = λ k d pos l. (let low : k < length c.run_all.new.seats = omega arith in
+          let v = get_or c.run_all.new.seats k d in let o = get_or c.as_mut_slice.result.now k d in
+          let seat = subst (λ z. IsSeated sh c.args.clock c.args.sessions.now k (get_or z k d).session.session.shards.now (get_or z k d).session.session.walker (get_or z k d).session.session.progress (get_or z k d).transactions.now) (sym value) (c.requires.seated k d l) in
+          subst (λ z. AllByRecursion (λ e. r.clock < (e.1).stamp) (session_entries (kept z.session.session.walker.passes.items))) (sym (written c.run_all.new.seats _ c.args.seats.now.len k d (omega arith) low))
+          (sat_past sh c.args.most c.args.sessions.now c.args.clock r.clock k o.session.session.shards.now v.session.session.shards.now o.session.session.walker v.session.session.walker o.session.session.progress v.session.session.progress o.transactions.now seat
+          (r.others k d pos (omega arith))));
+    })

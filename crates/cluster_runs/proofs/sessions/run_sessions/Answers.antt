@@ -1,10 +1,17 @@
-use Rattle.std.proofs.Common.{arith, ◌∙◌, suc, get_or, map, sym, subst}
+use Rattle.std.proofs.Common.{arith, ◌∙◌, suc, ◌<◌, get_or, map, sym, subst}
+use Rattle.std.specs.List.{AllByRecursion}
 use Rattle.std.proofs.lemmas.List.{get_or-map, length-map}
+use Rattle.std.proofs.lemmas.Option.{slice_get_within}
 use Rattle.script_runs.specs.declared.ends.StopCause.TheVariants.{Memory}
 use Rattle.command_line.specs.Running.{IsOk}
+use Rattle.cluster_turns.specs.Walkers.{kept}
+use Rattle.script_runs.specs.Sessions.{session_entries}
 use Rattle.session_api.specs.Standing.{IsAtRest}
+use Rattle.session_api.proofs.Laws.{new_walkers_keep_none}
 use Rattle.cluster_runs.specs.PromisedSessions.{NotBegun}
 use Rattle.cluster_runs.specs.Sessions.{HasSat, went_by}
+use Rattle.cluster_runs.specs.Alone.{BeginsWith}
+use Rattle.cluster_runs.proofs.Alone.{none_alone}
 use Rattle.cluster_runs.proofs.Gone.{gone, none_gone, new_rest}
 use Rattle.cluster_runs.proofs.sessions.run_sessions.Goals as goal
 use Rattle.law_base.proofs.Lists.{elem_at as some_elem}
@@ -25,9 +32,32 @@ returns-clause-went g c =
     let S = c.run_seats.new.seats in let okS = S.ok in let many = c.run_seats.ensures.len in let took = c.take_seats-seats.ensures.len.2 in
     let ends = map (λ s. s.ended) S.items in (
       went_by ends,
-      gone c.args.shards.now c.args.most c.args.sessions.now c.leave_seats.new.walkers.items ends c.gravest-end.result (length-map S.items (λ s. s.ended) ∙ (omega arith))
+      gone c.args.shards.now c.args.most c.args.sessions.now c.args.clock c.leave_seats.new.walkers.items ends c.gravest-end.result (length-map S.items (λ s. s.ended) ∙ (omega arith))
           (λ k d e l. (let x = some_elem S.items k (omega arith) in
-          subst (λ w. HasSat c.args.shards.now c.args.most c.args.sessions.now k w (get_or ends k e)) (sym (c.leave_seats.ensures.walkers k d x (omega arith)))
-          (subst (λ z. HasSat c.args.shards.now c.args.most c.args.sessions.now k (get_or S.items k x).session.session.walker z) (sym (get_or-map (λ s. s.ended) S.items k x e (omega arith))) (c.run_seats.ensures.sat k x l))))
+          subst (λ w. HasSat c.args.shards.now c.args.clock c.args.most c.args.sessions.now k w (get_or ends k e)) (sym (c.leave_seats.ensures.walkers k d x (omega arith)))
+          (subst (λ z. HasSat c.args.shards.now c.args.clock c.args.most c.args.sessions.now k (get_or S.items k x).session.session.walker z) (sym (get_or-map (λ s. s.ended) S.items k x e (omega arith))) (c.run_seats.ensures.sat k x l))))
           (λ ok k e l. (let x = some_elem S.items k (omega arith) in subst IsOk (sym (get_or-map (λ s. s.ended) S.items k x e (omega arith))) (subst (λ z. IsOk (get_or z k x).ended) c.as_slice.ensures.value (c.gravest-end.ensures.fine ok k x (let a = c.as_slice.ensures.len in omega arith))))),
     )
+
+pub returns-in_default-clause-later : goal.returns-in_default-clause-later
+returns-in_default-clause-later g c = λ k d l. subst (λ h. AllByRecursion (λ e. c.args.clock < (e.1).stamp) (session_entries h)) (sym (new_walkers_keep_none _ _ _ c.args.shards.now (suc k) 0 _ (c.requires.new k d l))) tt
+
+pub returns-clause-later : goal.returns-clause-later
+returns-clause-later g c =
+    let S = c.run_seats.new.seats in let okS = S.ok in let many = c.run_seats.ensures.len in let took = c.take_seats-seats.ensures.len.2 in
+    λ k d l. (let e = some_elem S.items k (omega arith) in
+    subst (λ w. AllByRecursion (λ e. c.args.clock < (e.1).stamp) (session_entries (kept w.passes.items))) (sym (c.leave_seats.ensures.walkers k d e (omega arith))) (c.run_seats.ensures.sat k e l).later)
+
+pub returns-in_default-clause-alone : goal.returns-in_default-clause-alone
+returns-in_default-clause-alone g c = λ is. none_alone c.args.shards.now c.args.most c.args.sessions.now (λ k d. get_or c.args.walkers.now.items (suc k) d) c.requires.new
+
+pub returns-clause-alone : goal.returns-clause-alone
+returns-clause-alone g c =
+    let S = c.run_seats.new.seats in let okS = S.ok in let many = c.run_seats.ensures.len in let took = c.take_seats-seats.ensures.len.2 in let sh = c.args.shards.now in
+    λ is. (let a = c.run_seats.ensures.alone is in record {
+      clock = a.clock;
+      first = λ bodies d at. (let some = slice_get_within c.args.sessions.now 0 bodies at in let e = some_elem S.items 0 (omega arith) in
+          subst (λ w. BeginsWith sh.splits sh.run c.args.most bodies a.clock (session_entries (kept w.passes.items))) (sym (c.leave_seats.ensures.walkers 0 d e (omega arith))) (a.first bodies e at));
+      others = λ k d pos l. (let e = some_elem S.items k (omega arith) in
+          subst (λ w. AllByRecursion (λ x. a.clock < (x.1).stamp) (session_entries (kept w.passes.items))) (sym (c.leave_seats.ensures.walkers k d e (omega arith))) (a.others k e pos l));
+    })

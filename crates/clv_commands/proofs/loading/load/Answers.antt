@@ -1,6 +1,7 @@
 use Rattle.std.proofs.Common.{rules, ◌≡◌, None, subst}
 use Rattle.cluster_runs.specs.Ran.{RanAll}
 use Rattle.script_lang.specs.Loads.{load as script_by}
+use Rattle.script_runs.specs.declared.threads.Start.TheVariants.{FirstAlone}
 use Rattle.clv_commands.proofs.Loaded.{loaded}
 use Rattle.clv_commands.proofs.loading.load.Goals as goal
 
@@ -10,4 +11,4 @@ returns-in-Ok-ran-clause-promised g c =
     let story = g.H.House.story in let faults = g.H.House.faults in let h0 = c.args.house.now in let h1 = c.run_script-ran.new.house in
     let same : c.sessions.result.now ≡ script = search rules in
     loaded c.runs_replay.ensures script (story h0) (story h1) (faults h0) (faults h1) c.in-Ok-ran.ran.history c.in-Ok-ran.ran.status c.write_line.result
-    (subst (λ s. RanAll (story h0) (story h1) (faults h0) (faults h1) None s c.in-Ok-ran.ran.history c.in-Ok-ran.ran.status) same c.in-Ok-ran.ensures.ran) c.write_line.ensures.ends
+    (subst (λ s. RanAll (story h0) (story h1) (faults h0) (faults h1) None FirstAlone s c.in-Ok-ran.ran.history c.in-Ok-ran.ran.status) same c.in-Ok-ran.ensures.ran) c.write_line.ensures.ends

@@ -3,6 +3,7 @@ use Rattle.std.specs.List.{list_all}
 use Rattle.script_lang.specs.Laws.{is_narrow_body}
 use Rattle.script_runs.specs.Ran.{stop_in, IsIdle, Follows}
 use Rattle.script_runs.specs.Seen.{Keeps}
+use Rattle.script_runs.specs.Alone.{BeginsPast}
 use Rattle.script_runs.proofs.seats.run_together.Goals as goal
 
 -- each seat may be run
@@ -40,3 +41,11 @@ returns-clause-misses g c =
     let e = (c.for_each_mut.ensures k d l).1 in
     subst (λ y. Keeps (missed (slice_index_or c.args.seats.now k d).session) (missed y.session)) e.left
     (subst (λ x. Keeps (missed x.session) (missed e.after_call.now.session)) e.argument_is e.call.1.1.0)
+
+pub returns-clause-past : goal.returns-clause-past
+returns-clause-past g c =
+    λ k d l.
+    let seen = g.C.SessionCalls.seen in
+    let e = (c.for_each_mut.ensures k d l).1 in
+    subst (λ y. BeginsPast c.args.clock (seen (slice_index_or c.args.seats.now k d).session) (seen y.session)) e.left
+    (subst (λ x. BeginsPast c.args.clock (seen x.session) (seen e.after_call.now.session)) e.argument_is e.call.1.1.1.1.1.1)

@@ -1,0 +1,41 @@
+use Rattle.std.proofs.Common.{◌≡◌, ◌∙◌, ◌<◌, ℕ, true, length, sym, subst, refl, arith}
+use mathlib.Core.Logic.{dite}
+use native.Mathlib.Decide.{ℕ_discrete}
+use Rattle.cluster_turns.specs.Walkers.{Walked}
+use Rattle.cluster_turns.specs.Rounds.{Rounds, no_turn, looks, SettledAt}
+use Rattle.cluster_turns.proofs.Going.{settled_still, settled_here}
+use Rattle.cluster_runs.specs.Drained.{LookTold, WasSettled}
+use Rattle.cluster_runs.proofs.Settled.{walked_settled, as_look, seen_settled, settled_later}
+use Rattle.cluster_runs.proofs.draining.last_if_settled.Goals as goal
+
+pub loop-shard-init : goal.loop-shard-init
+loop-shard-init g c = record { walker = c.requires.walker; same = (refl, refl); rounds = no_turn; settled = λ n l. absurd (omega arith) }
+
+pub look-settled-requires-clause-shard : goal.look-settled-requires-clause-shard
+look-settled-requires-clause-shard g c = let h = c.loop-shard-test.true in let e = c.shards-shard-end.ensures.shards in let k = c.requires.walker.count in omega arith
+
+pub returns-then-not-settled-clause-looked : goal.returns-then-not-settled-clause-looked
+returns-then-not-settled-clause-looked g c = let w = c.args.walker.now in let u = c.loop-shard.walker in let v = c.look-settled.new.walker in let inv = c.loop-shard.invariant in let e = c.look-settled.ensures in let r = c.look-settled.result in
+    let low : c.loop-shard.shard < length c.args.shards.now.locks.items = (let h = c.loop-shard-test.true in let s = c.shards-shard-end.ensures.shards in let k = c.requires.walker.count in omega arith) in
+    let told = subst (λ n. Walked (LookTold r.0 r.1) c.loop-shard.shard n u.passes.items v.passes.items) inv.same.0 e.looked in
+    subst (λ clock. Rounds (length c.args.shards.now.locks.items) w.number w.clock w.passes.items clock v.passes.items) (sym e.walker.2) (looks c.loop-shard.shard r.0 v.passes.items inv.rounds low (as_look r.0 r.1 told))
+
+pub loop-shard-preserved : goal.loop-shard-preserved
+loop-shard-preserved g c = let w = c.args.walker.now in let u = c.loop-shard.walker in let v = c.look-settled.new.walker in let inv = c.loop-shard.invariant in let e = c.look-settled.ensures in let r = c.look-settled.result in
+    let low : c.loop-shard.shard < length c.args.shards.now.locks.items = (let h = c.loop-shard-test.true in let s = c.shards-shard-end.ensures.shards in let k = c.requires.walker.count in omega arith) in
+    let told = subst (λ n. Walked (LookTold r.0 r.1) c.loop-shard.shard n u.passes.items v.passes.items) inv.same.0 e.looked in
+    let yes : r.0 ≡ true = c.if-not-settled.false in
+    let most = c.max-most.ensures in
+    record {
+      walker = e.walker.0;
+      same = (e.walker.1.0 ∙ inv.same.0, e.walker.1.1 ∙ inv.same.1);
+      rounds = subst (λ clock. Rounds (length c.args.shards.now.locks.items) w.number w.clock w.passes.items clock v.passes.items) (sym e.walker.2) (looks c.loop-shard.shard r.0 v.passes.items inv.rounds low (as_look r.0 r.1 told));
+      settled = λ n l. dite (ℕ_discrete n c.loop-shard.shard)
+          (λ same. subst (λ (m : ℕ). SettledAt m v.passes.items × WasSettled m c.max-most.result v.passes.items) (sym same)
+          (settled_here r.0 (as_look r.0 r.1 told) (let k = inv.walker.walks.are_passes.count in omega arith) yes, seen_settled r.0 r.1 c.max-most.result told yes (omega arith)))
+          (λ other. (let before = inv.settled n (omega arith) in
+          (settled_still told n other before.0, settled_later n c.loop-shard.most c.max-most.result v.passes.items (omega arith) (walked_settled n c.loop-shard.most told before.1))));
+    }
+
+pub returns-clause-settled : goal.returns-clause-settled
+returns-clause-settled g c = let inv = c.loop-shard.invariant in let h = c.loop-shard-test.false in let e = c.shards-shard-end.ensures.shards in let k = c.requires.walker.count in λ n l. inv.settled n (omega arith)

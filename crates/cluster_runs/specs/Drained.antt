@@ -1,0 +1,67 @@
+-- What the drain before a run's sessions leaves.
+use Rattle.std.specs.Prelude.{◌≡◌, ℕ, suc, ◌<◌, ◌≤◌, Bool, true, not, List, ◌++◌, Option, Some, length, slice_index_or}
+use Rattle.std.specs.List.{AllByRecursion, list_all}
+use Rattle.clv_base.specs.declared.events.Entry.{Entry}
+use Rattle.clv_base.specs.State.{Shard}
+use Rattle.clv_base.specs.Sessions.{is_of_session}
+use Rattle.clv_base.specs.Journals.{journal_of, start_of}
+use Rattle.clv_base.specs.Machines.{Runs}
+use Rattle.turn_lock.specs.declared.pass.Pass.{Pass}
+use Rattle.turn_lock.specs.Passes.{seen, pass_origin}
+use Rattle.machine_calls.specs.Settled.{is_settled}
+use Rattle.machine_laws.specs.declared.notes.Note.{Note}
+use Rattle.machine_laws.specs.declared.notes.Origin.{Origin}
+use Rattle.machine_laws.specs.Homes.{IsLegal}
+use Rattle.history_replay.specs.Entries.{Kept}
+use Rattle.cluster_turns.specs.declared.shards.Shards.{Shards}
+use Rattle.cluster_turns.specs.declared.shards.Walker.{Walker}
+use Rattle.cluster_turns.specs.Turns.{SettledTold}
+use Rattle.cluster_turns.specs.Walkers.{kept}
+use Rattle.script_runs.specs.declared.ends.StopCause.{StopCause}
+use Rattle.script_runs.specs.Sessions.{session_entries}
+use Rattle.cluster_runs.specs.Histories.{entries}
+use Rattle.cluster_runs.specs.PromisedSessions.{Went, Begun}
+
+-- ---- in the history
+
+-- after some first entries of its journal, of which only sessions make none, the shard was settled: nothing was buffered or in flight, no message was to be
+-- sent, no closed part was undecided, and no request was undecided or unacknowledged
+pub record WasDrained (n : ℕ) (run : Kept) : Type 0 where
+  pub front : List Entry
+  pub behind : List Entry
+  pub journal_is : journal_of n (entries run) ≡ front ++ behind
+  pub state : Shard
+  pub runs : Runs (start_of run.found n) front state
+  pub settled : is_settled state ≡ true
+  pub no_session : list_all (λ e. not (is_of_session e.event)) front ≡ true
+
+-- ---- as walker 0 has seen it
+
+-- a look at the state, which makes no entry: whether it is settled, and a stamp that its last one isn't past
+pub record LookTold (answer : Bool) (last : ℕ) (s t : Shard) (added : List Note) : Type 0 where
+  pub settled : SettledTold answer s t added
+  pub last_is : t.last ≤ last
+
+module _ {T : Type 0} where
+  -- after the first of the notes that the pass has seen, the shard was settled, and its last stamp was not past the clock
+  pub record HasSeenSettled (clock : ℕ) (p : Pass T Note Origin) : Type 0 where
+    pub origin : Origin
+    pub has_origin : pass_origin p ≡ Some origin
+    pub first : List Note
+    pub later : List Note
+    pub seen_is : seen p ≡ first ++ later
+    pub s : Shard
+    pub s_is : IsLegal origin first s
+    pub settled : is_settled s ≡ true
+    pub early : s.last ≤ clock
+
+  -- the pass of shard n has seen it so
+  abbrev pub WasSettled : ℕ → ℕ → List (Option (Pass T Note Origin)) → Type 0
+  WasSettled n clock passes = (p : Pass T Note Origin) × ((d : Option (Pass T Note Origin)) → slice_index_or passes n d ≡ Some p) × HasSeenSettled clock p
+
+module _ {M S G : Type 0} where
+  -- where one of so many sessions was begun, walker 0 has seen each shard settled; and what the sessions' walkers made of them has stamps past that
+  pub record AreDrained (sh : Shards M S G) (sessions : ℕ) (walkers : List (Walker M S G)) (went : ℕ → Went) : Type 0 where
+    pub clock : ℕ
+    pub settled : (k : ℕ) (cause : Option StopCause) → k < sessions → went k ≡ Begun cause → (n : ℕ) (d : Walker M S G) → n < length sh.locks.items → WasSettled n clock (slice_index_or walkers 0 d).passes.items
+    pub later : (k : ℕ) (d : Walker M S G) → k < sessions → AllByRecursion (λ e. clock < (e.1).stamp) (session_entries (kept (slice_index_or walkers (suc k) d).passes.items))
