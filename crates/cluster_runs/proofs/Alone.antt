@@ -4,7 +4,6 @@ use Rattle.std.specs.Prelude.{◌⊎◌}
 use Rattle.std.specs.List.{AllByRecursion}
 use Rattle.std.proofs.lemmas.Bool.{ltb-true, ltb-false}
 use Rattle.std.proofs.lemmas.Option.{slice_get_within}
-use Rattle.clv_base.specs.declared.events.Entry.{Entry}
 use Rattle.clv_base.specs.Journals.{History, own}
 use Rattle.cluster_turns.specs.declared.shards.Shards.{Shards}
 use Rattle.cluster_turns.specs.declared.shards.Walker.{Walker}
@@ -12,7 +11,7 @@ use Rattle.cluster_turns.specs.Walkers.{kept}
 use Rattle.cluster_opening.specs.Made.{IsNewWalker}
 use Rattle.script_lang.specs.Bodies.{Body}
 use Rattle.script_runs.specs.declared.ends.StopCause.TheVariants as stop
-use Rattle.script_runs.specs.Sessions.{FollowsScript, AreTransactions, all_done, not_begun, session_entries}
+use Rattle.script_runs.specs.Sessions.{FollowsScript, all_done, not_begun, session_entries}
 use Rattle.script_runs.specs.Alone.{BeginsBy, BeginsPast}
 use Rattle.session_api.specs.declared.progress.Progress.{Progress}
 use Rattle.session_api.specs.Standing.{seen_in}

@@ -1,5 +1,5 @@
 -- What a walker has seen settled stays seen.
-use Rattle.std.proofs.Common.{◌≡◌, ◌≢◌, ◌∙◌, refl, sym, ap, subst, ℕ, ◌<◌, ◌≤◌, Bool, true, List, [], ◌++◌, set, get_or, length, append_assoc, append-nil, get_or-set_same, get_or-set_other, Option, Some, None, Result, Ok, Err, arith}
+use Rattle.std.proofs.Common.{◌≡◌, ◌∙◌, sym, ap, subst, ℕ, ◌≤◌, Bool, true, List, [], ◌++◌, set, get_or, append_assoc, append-nil, get_or-set_same, get_or-set_other, Option, Some, None, Result, Ok, Err, arith}
 use mathlib.Core.Logic.{dite}
 use native.Mathlib.Decide.{ℕ_discrete}
 use Rattle.clv_base.specs.State.{Shard}
@@ -8,7 +8,6 @@ use Rattle.turn_lock.specs.Passes.{seen}
 use Rattle.machine_calls.specs.Settled.{is_settled}
 use Rattle.machine_laws.specs.declared.notes.Note.{Note}
 use Rattle.machine_laws.specs.declared.notes.Origin.{Origin}
-use Rattle.machine_laws.specs.Homes.{IsLegal}
 use Rattle.cluster_turns.specs.Turns.{Turned, SettledTold}
 use Rattle.cluster_turns.specs.Walkers.{Walked}
 use Rattle.cluster_turns.specs.declared.flushing.Flushed.{Flushed}
