@@ -9,7 +9,7 @@ use Rattle.cluster_turns.specs.declared.shards.Walker.{Walker}
 use Rattle.cluster_turns.specs.Walkers.{IsWalker, IsSameWalker, kept}
 use Rattle.cluster_turns.specs.declared.tending.DrainError.{DrainError}
 use Rattle.cluster_turns.specs.Rounds.{Rounds, DrainTold}
-use Rattle.cluster_turns.proofs.Going.{then_rounds, then_refused}
+use Rattle.cluster_turns.proofs.Laws.{then_rounds, then_refused}
 use Rattle.cluster_closing.specs.Landed.{HasLanded}
 use Rattle.cluster_closing.specs.EndLaws.{DrainsLand}
 use Rattle.cluster_closing.specs.Held.{HoldsNone}

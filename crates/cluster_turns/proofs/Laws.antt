@@ -13,3 +13,4 @@ pub use Rattle.law_base.proofs.Lists.{some_inside as past}
 pub use Rattle.law_base.proofs.Options.{some_inj as some_same}
 pub use Rattle.cluster_turns.proofs.Replying.{quiet_so, ok_same, enters_so}
 pub use Rattle.cluster_turns.proofs.Keeping.{by_append, by_notes}
+pub use Rattle.cluster_turns.proofs.Going.{then_rounds, then_refused, settled_still, settled_here}

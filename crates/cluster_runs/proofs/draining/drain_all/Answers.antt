@@ -1,6 +1,6 @@
 use Rattle.std.proofs.Common.{◌∙◌, length, subst, refl, Ok, Err, arith}
 use Rattle.cluster_turns.specs.Rounds.{Rounds, no_turn, DrainTold}
-use Rattle.cluster_turns.proofs.Going.{then_rounds}
+use Rattle.cluster_turns.proofs.Laws.{then_rounds}
 use Rattle.cluster_runs.proofs.Drained.{drained, drains_on, drain_ok, rest_up}
 use Rattle.cluster_runs.proofs.Settled.{drain_settled, settled_later}
 use Rattle.cluster_runs.proofs.draining.drain_all.Goals as goal

@@ -3,7 +3,7 @@ use mathlib.Core.Logic.{dite}
 use native.Mathlib.Decide.{ℕ_discrete}
 use Rattle.cluster_turns.specs.Walkers.{Walked}
 use Rattle.cluster_turns.specs.Rounds.{Rounds, no_turn, looks, SettledAt}
-use Rattle.cluster_turns.proofs.Going.{settled_still, settled_here}
+use Rattle.cluster_turns.proofs.Laws.{settled_still, settled_here}
 use Rattle.cluster_runs.specs.Drained.{LookTold, WasSettled}
 use Rattle.cluster_runs.proofs.Settled.{walked_settled, as_look, seen_settled, settled_later}
 use Rattle.cluster_runs.proofs.draining.last_if_settled.Goals as goal
