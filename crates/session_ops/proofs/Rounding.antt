@@ -1,5 +1,6 @@
 -- From what the parts of a round tell to its turns.
 use Rattle.std.proofs.Common.{◌≡◌, refl, sym, subst, ℕ, Bool, true, false, List, [], ◌∷◌, ◌++◌, Option, Some, Result, Ok, Err, inl, inr}
+use Rattle.std.specs.Prelude.{⊤}
 use Rattle.std.proofs.lemmas.Bool.{both_ways}
 use Rattle.clv_base.specs.declared.messages.Message.{Message}
 use Rattle.clv_base.specs.declared.events.Event.{Event}
@@ -16,20 +17,22 @@ use Rattle.machine_laws.specs.declared.notes.Origin.{Origin}
 use Rattle.cluster_turns.specs.Turns.{EventTold}
 use Rattle.cluster_turns.specs.Walkers.{Walked}
 use Rattle.cluster_turns.specs.declared.flushing.Flushed.{Flushed}
+use Rattle.cluster_turns.specs.declared.flushing.Flushed.TheVariants.{Nothing as FlushedNothing}
 use Rattle.cluster_turns.specs.declared.flushing.FlushError.{FlushError}
 use Rattle.cluster_turns.specs.declared.flushing.FlushError.TheVariants.{Failed as FlushFailed, Down as FlushDown, Worn as FlushWorn, Memory as FlushMemory}
 use Rattle.cluster_turns.specs.Flights.{LandTold, KnownAt, landed_as}
 use Rattle.cluster_turns.specs.Told.{FlushTold, one_turn, two_turns, stayed, has_no_flight, flown}
 use Rattle.cluster_turns.specs.declared.carrying.Carry.{Carry}
+use Rattle.cluster_turns.specs.declared.carrying.Carry.TheVariants.{Nothing as CarryNothing}
 use Rattle.cluster_turns.specs.declared.carrying.CarryError.{CarryError}
 use Rattle.cluster_turns.specs.declared.reminding.Reminding.{Reminding}
 use Rattle.cluster_turns.specs.Carried.{message_of, not_taken, brought_by, BringTold, is_lost, is_brought, CarryTold, none_sent, one_sent}
 use Rattle.cluster_turns.specs.Reminded.{reminded_by}
-use Rattle.cluster_turns.specs.CallTurns.{Turn, no_turn, event_turn, flush_turns, takes_no_flight, AreOthers}
+use Rattle.cluster_turns.specs.CallTurns.{Turn, no_turn, event_turn, flush_turns, takes_no_flight, AreOthers, AnyTurn}
 use Rattle.cluster_turns.proofs.Laws.{turns_follow}
 use Rattle.session_ops.specs.declared.parts.RoundError.{RoundError}
 use Rattle.session_ops.specs.declared.parts.RoundError.TheVariants.{Down as RoundDown, Worn as RoundWorn, Memory as RoundMemory}
-use Rattle.session_ops.specs.Rounds.{EndedBy, Rounded, refusal_of}
+use Rattle.session_ops.specs.Rounds.{EndedBy, Rounded, refusal_of, FindsFlushed, FindsCarried}
 use Rattle.session_ops.proofs.Outcomes.{fits_by, fits_flush, fits_send, fits_remind, flush_fits, send_fits, remind_fits}
 use Rattle.session_ops.proofs.Parting.{any_after}
 
@@ -91,6 +94,22 @@ stayed_ended a n (Ok o) t f fits s h = absurd (both_ways false refl (fits o refl
 stayed_ended a n (Err NoMemory) t f fits s h = tt
 stayed_ended a n (Err (IsWorn at)) t f fits s h = inl h
 
+abbrev pub BufferedBy : ℕ → Result Flushed FlushError → List Turn → Type 0
+BufferedBy n (Ok FlushedNothing) ts = AnyTurn (FindsFlushed n) ts
+BufferedBy n (Ok f) ts = ⊤
+BufferedBy n (Err e) ts = ⊤
+
+stayed_finds : (n : ℕ) (x : Result Outcome StepError) (t : Turn) → t.shard ≡ n → t.event ≡ FlushOut → t.answer ≡ x → BufferedBy n (stayed x) (t ∷ [])
+stayed_finds n (Ok Nothing) t s e h = inl (s, e, h)
+stayed_finds n (Ok Away) t s e h = tt
+stayed_finds n (Ok o) t s e h = tt
+stayed_finds n (Err NoMemory) t s e h = tt
+stayed_finds n (Err (IsWorn at)) t s e h = tt
+
+flown_finds : (n upto : ℕ) (pushed : Bool) (ts : List Turn) → BufferedBy n (flown pushed upto) ts
+flown_finds n upto true ts = tt
+flown_finds n upto false ts = tt
+
 module _ {T A : Type 0} where
   flown_so : (a : A) (n w c d upto c1 : ℕ) (pushed : Bool) (ps qs rs : List (Option (Pass T Note Origin))) → Walked (EventTold c w FlushOut (Ok (Out upto)) c1) n w ps qs → Walked (LandTold c1 w pushed upto d) n w qs rs → (pushed ≡ true → KnownAt n upto rs)
       → Rounded w c ps (after_flush a n (flown pushed upto)) d rs
@@ -113,6 +132,12 @@ module _ {T A : Type 0} where
       one n w c d FlushOut x ps qs (after_flush a n (stayed x)) refl none walked
       (λ t s h. stayed_ended a n x t none (fits_by fits_flush FlushOut flush_fits walked.turned.s walked.turned.t c w x walked.turned.told.made walked.turned.told.tells) s h)
   flush_rounds a n w c _ ps _ _ (two_turns upto c1 d pushed qs rs out land known) = flown_so a n w c d upto c1 pushed ps qs rs out land known
+
+  -- and that nothing was buffered
+  pub flush_finds : (a : A) (n w c d : ℕ) (ps qs : List (Option (Pass T Note Origin))) (r : Result Flushed FlushError) → FlushTold n w c ps r d qs → (h : Rounded w c ps (after_flush a n r) d qs) × BufferedBy n r h.turns
+  unfolding flush_rounds one
+  flush_finds a n w c _ ps _ _ (one_turn x d qs none walked) = (flush_rounds a n w c d ps qs (stayed x) (one_turn x d qs none walked), stayed_finds n x (record { shard = n; event = FlushOut; answer = x; made = walked.turned.told.made }) refl refl refl)
+  flush_finds a n w c _ ps _ _ (two_turns upto c1 d pushed qs rs out land known) = (flush_rounds a n w c d ps rs (flown pushed upto) (two_turns upto c1 d pushed qs rs out land known), flown_finds n upto pushed _)
 
   pub flush_fails : (a : A) (n w c d : ℕ) (ps qs : List (Option (Pass T Note Origin))) (e f : FlushError) → FlushTold n w c ps (Err e) d qs → e ≡ f → Rounded w c ps (after_flush a n (Err f)) d qs
   flush_fails a n w c d ps qs e f told is = subst (λ x. Rounded w c ps (after_flush a n (Err x)) d qs) is (flush_rounds a n w c d ps qs (Err e) told)
@@ -138,6 +163,29 @@ brought_ended a n (Ok o) t s h = tt
 brought_ended a n (Err NoMemory) t s h = tt
 brought_ended a n (Err (IsWorn at)) t s h = inl h
 
+abbrev pub LeftBy : ℕ → Result Carry CarryError → List Turn → Type 0
+LeftBy n (Ok CarryNothing) ts = AnyTurn (FindsCarried n) ts
+LeftBy n (Ok m) ts = ⊤
+LeftBy n (Err e) ts = ⊤
+
+sent_finds : (n : ℕ) (x : Result Outcome StepError) (t : Turn) → ((m : Message) → x ≡ Ok (Sent m) → ⊥) → ((o : Outcome) → x ≡ Ok o → fits_send o ≡ true) → t.shard ≡ n → t.event ≡ Send → t.answer ≡ x → LeftBy n (not_taken (message_of n x)) (t ∷ [])
+sent_finds n (Ok (Sent m)) t none fits s e h = absurd (none m refl)
+sent_finds n (Ok Nothing) t none fits s e h = inl (s, e, h)
+sent_finds n (Ok Down) t none fits s e h = tt
+sent_finds n (Ok o) t none fits s e h = absurd (both_ways false refl (fits o refl))
+sent_finds n (Err NoMemory) t none fits s e h = tt
+sent_finds n (Err (IsWorn at)) t none fits s e h = tt
+
+brought_finds : (k n : ℕ) (x : Result Outcome StepError) (ts : List Turn) → LeftBy k (brought_by n x) ts
+brought_finds k n (Ok Down) ts = tt
+brought_finds k n (Ok o) ts = tt
+brought_finds k n (Err NoMemory) ts = tt
+brought_finds k n (Err (IsWorn at)) ts = tt
+
+bring_finds : {T : Type 0} (k count w c d : ℕ) (m : Message) (ps qs : List (Option (Pass T Note Origin))) (r : Result Carry CarryError) (ts : List Turn) → BringTold count m w c ps r d qs → LeftBy k r ts
+bring_finds k count w c _ m ps _ _ ts (is_lost past) = tt
+bring_finds k count w c _ m ps _ _ ts (is_brought x d qs low walked) = brought_finds k (to_of m) x ts
+
 module _ {T A : Type 0} where
   bring_rounds : (a : A) (count w c d : ℕ) (m : Message) (ps qs : List (Option (Pass T Note Origin))) (r : Result Carry CarryError) → BringTold count m w c ps r d qs → Rounded w c ps (after_carry a r) d qs
   bring_rounds a count w c _ m ps _ _ (is_lost past) = no_round w c ps a
@@ -149,6 +197,15 @@ module _ {T A : Type 0} where
       (λ t s h. not_sent a n x t none (fits_by fits_send Send send_fits walked.turned.s walked.turned.t c w x walked.turned.told.made walked.turned.told.tells) s h)
   carry_rounds a count n w c _ ps _ _ (one_sent m c1 qs r d rs walked brought) =
       rounds_follow {A = A} {B = A} w c c1 d ps qs rs (Ok a) (after_carry a r) (one n w c c1 Send (Ok (Sent m)) ps qs (Ok a) refl refl walked (λ t s h. tt)) (bring_rounds a count w c1 d m qs rs r brought)
+
+  -- and that there was none
+  pub carry_finds : (a : A) (count n w c d : ℕ) (ps qs : List (Option (Pass T Note Origin))) (r : Result Carry CarryError) → CarryTold count n w c ps r d qs → (h : Rounded w c ps (after_carry a r) d qs) × LeftBy n r h.turns
+  unfolding carry_rounds one
+  carry_finds a count n w c _ ps _ _ (none_sent x d qs none walked) = (
+    carry_rounds a count n w c d ps qs (not_taken (message_of n x)) (none_sent x d qs none walked),
+    sent_finds n x (record { shard = n; event = Send; answer = x; made = walked.turned.told.made }) none (fits_by fits_send Send send_fits walked.turned.s walked.turned.t c w x walked.turned.told.made walked.turned.told.tells) refl refl refl,
+  )
+  carry_finds a count n w c _ ps _ _ (one_sent m c1 qs r d rs walked brought) = (carry_rounds a count n w c d ps rs r (one_sent m c1 qs r d rs walked brought), bring_finds n count w c1 d m qs rs r _ brought)
 
   pub carry_fails : (a : A) (count n w c d : ℕ) (ps qs : List (Option (Pass T Note Origin))) (e f : CarryError) → CarryTold count n w c ps (Err e) d qs → e ≡ f → Rounded w c ps (after_carry a (Err f)) d qs
   carry_fails a count n w c d ps qs e f told is = subst (λ x. Rounded w c ps (after_carry a (Err x)) d qs) is (carry_rounds a count n w c d ps qs (Err e) told)

@@ -1,7 +1,7 @@
 // The parts of a round on one shard.
-ghost use Rattle.std.specs.Prelude.{◌≡◌, ◌<◌, length, None};
+ghost use Rattle.std.specs.Prelude.{◌≡◌, ◌<◌, true, length, None};
 ghost use Rattle.cluster_turns.specs.Walkers.{IsWalker, IsSameWalker};
-ghost use Rattle.session_ops.specs.Rounds.{PassedOver, Passed, EndsAt};
+ghost use Rattle.session_ops.specs.Rounds.{IsOwn, IsQuiet, PassedOver, Passed, EndsAt, Whatever, FoundFlushed, FoundCarried, CarriedAs, met_flush};
 
 use cluster_turns::{
     Carry, CarryError, FlushError, Flushed, Shards, Walker, carry_once, flush_once, remind_once,
@@ -24,7 +24,7 @@ pub enum RoundError {
 // What a round has met so far.
 #[derive(Clone, Copy)]
 pub(crate) struct Met {
-    // A batch was written, or a message carried.
+    // A batch was written, or another walker has the gate, or a message was carried.
     pub(crate) moves: bool,
     // A shard of which another walker writes this batch.
     pub(crate) away: Option<(u32, Batch)>,
@@ -33,9 +33,11 @@ pub(crate) struct Met {
 }
 
 // Whether the caller needs a shard.
-pub(crate) fn is_own(own: &[bool; 16], shard: u32) -> bool {
+pub(crate) fn is_own(own: &[bool; 16], shard: u32) -> bool
+    ensures { result ≡ true → IsOwn own.now shard }
+{
     match own.get(shard as usize) {
-        Some(is) => *is,
+        Some(needs) => *needs,
         None => false,
     }
 }
@@ -43,6 +45,7 @@ pub(crate) fn is_own(own: &[bool; 16], shard: u32) -> bool {
 impl Met {
     pub(crate) fn new() -> Self
         ensures none { result.down ≡ None }
+        ensures quiet { IsQuiet result }
     {
         Met {
             moves: false,
@@ -53,7 +56,7 @@ impl Met {
 
     // A shard was found down: that ends the round where the caller needs it, else it is passed over.
     fn pass_over(&mut self, own: &[bool; 16], shard: u32) -> Result<(), RoundError>
-        ensures passed { PassedOver self.old shard result self.new }
+        ensures passed { PassedOver own.now self.old shard result self.new }
     {
         if is_own(own, shard) {
             return Err(RoundError::Down { shard });
@@ -65,23 +68,26 @@ impl Met {
     }
 
     fn note(&mut self, flushed: Flushed)
-        ensures down { self.new.down ≡ self.old.down }
+        ensures { self.new ≡ met_flush self.old flushed }
     {
-        if let Flushed::Durable(_) = flushed {
-            self.moves = true;
+        match flushed {
+            Flushed::Nothing => {}
+            Flushed::Durable(_) => self.moves = true,
+            Flushed::Away => self.moves = true,
         }
     }
 
     // Another walker writes this batch of a shard.
     fn note_away(&mut self, shard: u32, batch: Batch)
         ensures down { self.new.down ≡ self.old.down }
+        ensures away { IsQuiet self.new → ⊥ }
     {
         self.away = Some((shard, batch));
     }
 
     // How a round ends whose own shards are up: at one that was passed over, where it moved nothing and nobody else writes.
     pub(crate) fn end(self) -> Result<(), RoundError>
-        ensures ended { EndsAt self.down result }
+        ensures ended { EndsAt self result }
     {
         if self.moves || self.away.is_some() {
             return Ok(());
@@ -107,7 +113,7 @@ fn flush_now<M: Flier, P: Pace, R: Wait>(
     requires walker { IsWalker shards.now walker.old }
     requires shard { shard < length shards.now.locks.items }
     ensures walker { IsWalker shards.now walker.new × IsSameWalker walker.old walker.new }
-    ensures flush { Passed walker.old.number walker.old.clock walker.old.passes.items met.old result walker.new.clock walker.new.passes.items met.new }
+    ensures flush { Passed own.now (FoundFlushed shard) walker.old.number walker.old.clock walker.old.passes.items met.old result walker.new.clock walker.new.passes.items met.new }
 {
     match flush_once(rt, alloc, shards, walker, shard, pace) {
         Ok(flushed) => {
@@ -136,7 +142,7 @@ pub(crate) fn flush<M: Flier, P: Pace, R: Wait>(
     requires walker { IsWalker shards.now walker.old }
     requires shard { shard < length shards.now.locks.items }
     ensures walker { IsWalker shards.now walker.new × IsSameWalker walker.old walker.new }
-    ensures flush { Passed walker.old.number walker.old.clock walker.old.passes.items met.old result walker.new.clock walker.new.passes.items met.new }
+    ensures flush { Passed own.now (FoundFlushed shard) walker.old.number walker.old.clock walker.old.passes.items met.old result walker.new.clock walker.new.passes.items met.new }
 {
     let Some(gate) = shards.batches.get(shard as usize) else {
         return flush_now(rt, alloc, shards, walker, shard, own, pace, met);
@@ -180,7 +186,7 @@ fn carry<M: Machine, R: Wait>(
     requires walker { IsWalker shards.now walker.old }
     requires shard { shard < length shards.now.locks.items }
     ensures walker { IsWalker shards.now walker.new × IsSameWalker walker.old walker.new }
-    ensures carried { Passed walker.old.number walker.old.clock walker.old.passes.items met.old result walker.new.clock walker.new.passes.items met.new }
+    ensures carried { Passed own.now (CarriedAs shard result) walker.old.number walker.old.clock walker.old.passes.items met.old result walker.new.clock walker.new.passes.items met.new }
 {
     match carry_once(rt, alloc, shards, walker, shard) {
         Ok(Carry::Carried) => {
@@ -210,7 +216,7 @@ pub(crate) fn carry_all<M: Machine, R: Wait>(
     requires walker { IsWalker shards.now walker.old }
     requires shard { shard < length shards.now.locks.items }
     ensures walker { IsWalker shards.now walker.new × IsSameWalker walker.old walker.new }
-    ensures carried { Passed walker.old.number walker.old.clock walker.old.passes.items met.old result walker.new.clock walker.new.passes.items met.new }
+    ensures carried { Passed own.now (FoundCarried shard) walker.old.number walker.old.clock walker.old.passes.items met.old result walker.new.clock walker.new.passes.items met.new }
 {
     for _ in rt.forever() {
         match carry(rt, alloc, shards, walker, shard, own, met) {
@@ -235,7 +241,7 @@ pub(crate) fn remind<M: Machine, R: Wait>(
     requires walker { IsWalker shards.now walker.old }
     requires shard { shard < length shards.now.locks.items }
     ensures walker { IsWalker shards.now walker.new × IsSameWalker walker.old walker.new }
-    ensures reminded { Passed walker.old.number walker.old.clock walker.old.passes.items met.old result walker.new.clock walker.new.passes.items met.new }
+    ensures reminded { Passed own.now Whatever walker.old.number walker.old.clock walker.old.passes.items met.old result walker.new.clock walker.new.passes.items met.new }
 {
     match remind_once(rt, alloc, shards, walker, shard) {
         Ok(_) => Ok(()),

@@ -1,7 +1,7 @@
 // A round.
 ghost use Rattle.std.specs.Prelude.{◌<◌, length};
 ghost use Rattle.cluster_turns.specs.Walkers.{IsWalker, IsSameWalker};
-ghost use Rattle.session_ops.specs.Rounds.{Rounded, Passed};
+ghost use Rattle.session_ops.specs.Rounds.{Rounded, RoundTold, Passed, Whatever, FoundAtRest, AllFoundAtRest};
 
 use crate::parts::{Met, RoundError, await_writer, carry_all, flush, is_own, remind};
 use cluster_turns::{Shards, Walker};
@@ -25,7 +25,7 @@ fn move_one<M: Flier, P: Pace, R: Wait>(
     requires walker { IsWalker shards.now walker.old }
     requires shard { shard < length shards.now.locks.items }
     ensures walker { IsWalker shards.now walker.new × IsSameWalker walker.old walker.new }
-    ensures round { Passed walker.old.number walker.old.clock walker.old.passes.items met.old result walker.new.clock walker.new.passes.items met.new }
+    ensures round { Passed own.now (FoundAtRest shard) walker.old.number walker.old.clock walker.old.passes.items met.old result walker.new.clock walker.new.passes.items met.new }
 {
     match flush(rt, alloc, shards, walker, shard, is_home, own, pace, met) {
         Ok(()) => carry_all(rt, alloc, shards, walker, shard, own, met),
@@ -45,7 +45,7 @@ fn move_all<M: Flier, P: Pace, R: Wait>(
 ) -> Result<(), RoundError>
     requires walker { IsWalker shards.now walker.old }
     ensures walker { IsWalker shards.now walker.new × IsSameWalker walker.old walker.new }
-    ensures round { Passed walker.old.number walker.old.clock walker.old.passes.items met.old result walker.new.clock walker.new.passes.items met.new }
+    ensures round { Passed own.now (AllFoundAtRest (length shards.now.locks.items)) walker.old.number walker.old.clock walker.old.passes.items met.old result walker.new.clock walker.new.passes.items met.new }
 {
     for shard in 0..shards.splits().shards() {
         match move_one(rt, alloc, shards, walker, shard, false, own, pace, met) {
@@ -67,7 +67,7 @@ fn carry_every<M: Machine, R: Wait>(
 ) -> Result<(), RoundError>
     requires walker { IsWalker shards.now walker.old }
     ensures walker { IsWalker shards.now walker.new × IsSameWalker walker.old walker.new }
-    ensures round { Passed walker.old.number walker.old.clock walker.old.passes.items met.old result walker.new.clock walker.new.passes.items met.new }
+    ensures round { Passed own.now Whatever walker.old.number walker.old.clock walker.old.passes.items met.old result walker.new.clock walker.new.passes.items met.new }
 {
     for shard in 0..shards.splits().shards() {
         match carry_all(rt, alloc, shards, walker, shard, own, met) {
@@ -93,7 +93,7 @@ fn move_if_own<M: Flier, P: Pace, R: Wait>(
     requires walker { IsWalker shards.now walker.old }
     requires shard { shard < length shards.now.locks.items }
     ensures walker { IsWalker shards.now walker.new × IsSameWalker walker.old walker.new }
-    ensures round { Passed walker.old.number walker.old.clock walker.old.passes.items met.old result walker.new.clock walker.new.passes.items met.new }
+    ensures round { Passed own.now Whatever walker.old.number walker.old.clock walker.old.passes.items met.old result walker.new.clock walker.new.passes.items met.new }
 {
     if is_own(own, shard) {
         move_one(
@@ -125,7 +125,7 @@ fn move_own<M: Flier, P: Pace, R: Wait>(
 ) -> Result<(), RoundError>
     requires walker { IsWalker shards.now walker.old }
     ensures walker { IsWalker shards.now walker.new × IsSameWalker walker.old walker.new }
-    ensures round { Passed walker.old.number walker.old.clock walker.old.passes.items met.old result walker.new.clock walker.new.passes.items met.new }
+    ensures round { Passed own.now Whatever walker.old.number walker.old.clock walker.old.passes.items met.old result walker.new.clock walker.new.passes.items met.new }
 {
     for shard in 0..shards.splits().shards() {
         match move_if_own(rt, alloc, shards, walker, shard, home, own, pace, met) {
@@ -149,7 +149,7 @@ fn carry_and_move<M: Flier, P: Pace, R: Wait>(
 ) -> Result<(), RoundError>
     requires walker { IsWalker shards.now walker.old }
     ensures walker { IsWalker shards.now walker.new × IsSameWalker walker.old walker.new }
-    ensures round { Passed walker.old.number walker.old.clock walker.old.passes.items met.old result walker.new.clock walker.new.passes.items met.new }
+    ensures round { Passed own.now Whatever walker.old.number walker.old.clock walker.old.passes.items met.old result walker.new.clock walker.new.passes.items met.new }
 {
     match move_own(rt, alloc, shards, walker, home, own, pace, met) {
         Ok(()) => carry_every(rt, alloc, shards, walker, own, met),
@@ -168,7 +168,7 @@ fn ask_all<M: Machine, R: Wait>(
 ) -> Result<(), RoundError>
     requires walker { IsWalker shards.now walker.old }
     ensures walker { IsWalker shards.now walker.new × IsSameWalker walker.old walker.new }
-    ensures round { Passed walker.old.number walker.old.clock walker.old.passes.items met.old result walker.new.clock walker.new.passes.items met.new }
+    ensures round { Passed own.now Whatever walker.old.number walker.old.clock walker.old.passes.items met.old result walker.new.clock walker.new.passes.items met.new }
 {
     for shard in 0..shards.splits().shards() {
         match remind(rt, alloc, shards, walker, shard, own, met) {
@@ -190,7 +190,7 @@ fn stand_by<M: Machine, R: Wait>(
 ) -> Result<(), RoundError>
     requires walker { IsWalker shards.now walker.old }
     ensures walker { IsWalker shards.now walker.new × IsSameWalker walker.old walker.new }
-    ensures round { Passed walker.old.number walker.old.clock walker.old.passes.items met.old result walker.new.clock walker.new.passes.items met.new }
+    ensures round { Passed own.now Whatever walker.old.number walker.old.clock walker.old.passes.items met.old result walker.new.clock walker.new.passes.items met.new }
 {
     if met.moves {
         return Ok(());
@@ -216,7 +216,7 @@ fn move_and_ask<M: Flier, P: Pace, R: Wait>(
 ) -> Result<(), RoundError>
     requires walker { IsWalker shards.now walker.old }
     ensures walker { IsWalker shards.now walker.new × IsSameWalker walker.old walker.new }
-    ensures round { Passed walker.old.number walker.old.clock walker.old.passes.items met.old result walker.new.clock walker.new.passes.items met.new }
+    ensures round { Passed own.now (AllFoundAtRest (length shards.now.locks.items)) walker.old.number walker.old.clock walker.old.passes.items met.old result walker.new.clock walker.new.passes.items met.new }
 {
     match move_all(rt, alloc, shards, walker, own, pace, met) {
         Ok(()) => stand_by(rt, alloc, shards, walker, own, met),
@@ -227,8 +227,8 @@ fn move_and_ask<M: Flier, P: Pace, R: Wait>(
 /// Goes through all shards, in rising order: flushes once, unless another walker writes a batch, and carries messages until none is left. Where nothing
 /// moved it sleeps until the other's batch is written, or, where nobody writes, asks once for what is missing. The shards that the caller needs are its
 /// own, by their numbers. `Down` comes only where a turn of the round found that shard down: an own one ends the round there; any other is passed over, and
-/// its messages and those to it with it, and ends the round only where it moved nothing and nobody else writes. `Worn` comes only where a turn would have had
-/// a stamp past the last; the round ends there.
+/// its messages and those to it with it, and ends the round only where it moved nothing and nobody else writes: each shard was then found down, or with
+/// nothing buffered and no message. `Worn` comes only where a turn would have had a stamp past the last; the round ends there.
 pub fn round<M: Flier, P: Pace, R: Wait>(
     rt: &R,
     alloc: Global,
@@ -240,6 +240,7 @@ pub fn round<M: Flier, P: Pace, R: Wait>(
     requires walker { IsWalker shards.now walker.old }
     ensures walker { IsWalker shards.now walker.new × IsSameWalker walker.old walker.new }
     ensures round { Rounded walker.old.number walker.old.clock walker.old.passes.items result walker.new.clock walker.new.passes.items }
+    ensures rests { RoundTold (length shards.now.locks.items) own.now walker.old.number walker.old.clock walker.old.passes.items result walker.new.clock walker.new.passes.items }
 {
     let mut met = Met::new();
     match move_and_ask(rt, alloc, shards, walker, own, pace, &mut met) {
@@ -261,6 +262,7 @@ fn stand_by_own<M: Flier, P: Pace, R: Wait>(
     requires walker { IsWalker shards.now walker.old }
     ensures walker { IsWalker shards.now walker.new × IsSameWalker walker.old walker.new }
     ensures round { Rounded walker.old.number walker.old.clock walker.old.passes.items result walker.new.clock walker.new.passes.items }
+    ensures rests { RoundTold (length shards.now.locks.items) own.now walker.old.number walker.old.clock walker.old.passes.items result walker.new.clock walker.new.passes.items }
 {
     if met.moves {
         return Ok(());
@@ -290,6 +292,7 @@ pub fn round_for<M: Flier, P: Pace, R: Wait>(
     requires walker { IsWalker shards.now walker.old }
     ensures walker { IsWalker shards.now walker.new × IsSameWalker walker.old walker.new }
     ensures round { Rounded walker.old.number walker.old.clock walker.old.passes.items result walker.new.clock walker.new.passes.items }
+    ensures rests { RoundTold (length shards.now.locks.items) own.now walker.old.number walker.old.clock walker.old.passes.items result walker.new.clock walker.new.passes.items }
 {
     let mut met = Met::new();
     match carry_and_move(rt, alloc, shards, walker, home, own, pace, &mut met) {

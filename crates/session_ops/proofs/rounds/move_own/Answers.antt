@@ -1,17 +1,18 @@
-use Rattle.std.proofs.Common.{◌∙◌, Ok, Err, refl}
-use Rattle.session_ops.proofs.Noting.{none_passed, passes_on}
+use Rattle.std.proofs.Common.{◌∙◌, Ok, refl}
+use Rattle.session_ops.specs.Rounds.{Whatever}
+use Rattle.session_ops.proofs.Noting.{none_passed, passes_on, passes_to_error}
 use Rattle.session_ops.proofs.rounds.move_own.Goals as goal
 
 pub loop-shard-init : goal.loop-shard-init
-loop-shard-init g c = let w = c.args.walker.now in (c.requires.walker, (refl, refl), none_passed {A = Unit {0}} w.number w.clock w.passes.items c.args.met.now c.args.met.now tt refl)
+loop-shard-init g c = let w = c.args.walker.now in let x = c.args.met.now in (c.requires.walker, (refl, refl), none_passed {A = Unit {0}} c.args.own.now Whatever w.number w.clock w.passes.items x x tt refl (λ q. q) (λ q. tt))
 
 pub returns-in-Err-clause-round : goal.returns-in-Err-clause-round
 returns-in-Err-clause-round g c = let w = c.args.walker.now in let u = c.loop-shard.walker in let v = c.move_if_own.new.walker in let i = c.loop-shard.invariant in
-    passes_on {A = Unit {0}} {B = Unit {0}} w.number u.number w.clock u.clock v.clock w.passes.items u.passes.items v.passes.items c.args.met.now c.loop-shard.met c.move_if_own.new.met (Ok tt) (Err c.in-Err.error) i.1.0 i.2 c.in-Err.ensures.round
+    passes_to_error {A = Unit {0}} {B = Unit {0}} c.args.own.now Whatever Whatever Whatever w.number u.number w.clock u.clock v.clock w.passes.items u.passes.items v.passes.items c.args.met.now c.loop-shard.met c.move_if_own.new.met tt c.in-Err.error i.1.0 i.2 c.in-Err.ensures.round
 
 pub loop-shard-preserved : goal.loop-shard-preserved
 loop-shard-preserved g c = let w = c.args.walker.now in let u = c.loop-shard.walker in let v = c.move_if_own.new.walker in let i = c.loop-shard.invariant in let e = c.in-Ok.ensures in (
   e.walker.0,
   (e.walker.1.0 ∙ i.1.0, e.walker.1.1 ∙ i.1.1),
-  passes_on {A = Unit {0}} {B = Unit {0}} w.number u.number w.clock u.clock v.clock w.passes.items u.passes.items v.passes.items c.args.met.now c.loop-shard.met c.move_if_own.new.met (Ok tt) (Ok tt) i.1.0 i.2 e.round,
+  passes_on {A = Unit {0}} {B = Unit {0}} c.args.own.now Whatever Whatever Whatever w.number u.number w.clock u.clock v.clock w.passes.items u.passes.items v.passes.items c.args.met.now c.loop-shard.met c.move_if_own.new.met tt (Ok tt) (λ xs ys p k. tt) i.1.0 i.2 e.round,
 )
