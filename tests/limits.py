@@ -146,9 +146,9 @@ def stands_in(checks, folder, title, make, shard, statuses):
 
 
 def has_a_hole(checks, folder, size):
-    """A log with a hole up to this size behind its closed gate: what means nothing takes no memory and no time."""
+    """A log with a hole up to this size behind its closed gate: what means nothing takes no memory."""
     os.truncate(folder.log(1), size)
-    got = folder.run("show", limits=[(resource.RLIMIT_AS, 256 * MIB)], seconds=10)
+    got = folder.run("show", limits=[(resource.RLIMIT_AS, 256 * MIB)], seconds=SECONDS)
     checks.check(f"a hole up to {size} bytes behind a log", got.is_fine() and got.out == "[1,1]\n[11,1]\n", got)
 
 
