@@ -49,7 +49,7 @@ pub shards_sync : (M S G : RattleType) (a : _) (b : _) (c : _) → IsSend M → 
 shards_sync M S G a b c m =
     let h = home_row_send M S G m in
     let W = shards.the_type M S G a b c in
-    struct_sync (shape W) (search (h, lock.the_sync, Vec-sync, sendable) depth 20, (splits.the_sync, (search sendable, (search (gate.the_sync, crosses, sendable) depth 20, (search (crosses, sendable) depth 20, (search (crosses, sendable) depth 20, tt))))))
+    struct_sync (shape W) (search (h, lock.the_sync, Vec-sync, sendable) depth 20, (splits.the_sync, (search sendable, (search (gate.the_sync, crosses, sendable) depth 20, (search (crosses, sendable) depth 20, (search (crosses, sendable) depth 20, (search (crosses, sendable) depth 20, tt)))))))
 
 pub shards_row_sync : (M S G : RattleType) (a : _) (b : _) (c : _) → IsSend M → IsSync (shards.the_row M S G a b c)
 shards_row_sync M S G a b c m = let W = shards.the_type M S G a b c in recorded_sync (Struct (shape W)) W.D W.to W.to_one (shards_sync M S G a b c m)
