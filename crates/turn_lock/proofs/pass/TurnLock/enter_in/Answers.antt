@@ -2,7 +2,7 @@ use Rattle.std.proofs.Common.{rules, arith, ◌≡◌, ◌%◌, ◌^◌, ◌∙�
 use Rattle.atomic_table.specs.Table.{rest}
 use Rattle.turn_lock.proofs.Keeps.{draws, looks, held_or}
 use Rattle.turn_lock.proofs.Tells.{entered}
-use Rattle.turn_lock.proofs.pass.TurnLock.enter.Goals as goal
+use Rattle.turn_lock.proofs.pass.TurnLock.enter_in.Goals as goal
 
 pub fetch_add-ticket-requires : goal.fetch_add-ticket-requires
 fetch_add-ticket-requires g c = let p = c.args.pass.rests in let z = c.args.self.now.sized in

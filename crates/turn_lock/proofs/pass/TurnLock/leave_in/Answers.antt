@@ -6,7 +6,7 @@ use Rattle.atomic_table.specs.Table.{rest}
 use Rattle.turn_lock.proofs.Sums.{only_one}
 use Rattle.turn_lock.proofs.Keeps.{releases}
 use Rattle.turn_lock.proofs.Tells.{left}
-use Rattle.turn_lock.proofs.pass.TurnLock.leave.Goals as goal
+use Rattle.turn_lock.proofs.pass.TurnLock.leave_in.Goals as goal
 
 pub fetch_add-requires : goal.fetch_add-requires
 fetch_add-requires g c = let p = c.args.turn.seat.me in let h = c.args.turn.served in let z = c.args.self.now.sized in
