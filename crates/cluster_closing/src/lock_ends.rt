@@ -45,6 +45,7 @@ fn close_all<M: Machine>(
         batches: _,
         lacking: _,
         left: _,
+        staying: _,
         found: _,
     } = shards;
     let count = locks.len();

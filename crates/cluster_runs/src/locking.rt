@@ -95,6 +95,7 @@ pub(crate) fn lock_all<H: House, M: OverDisks<H::Disk>>(
                 batches: new_gates(),
                 lacking: AtomicU64::new(0),
                 left: AtomicU64::new(0),
+                staying: AtomicU64::new(0),
                 found,
             };
             Ok((shards, passes))

@@ -26,6 +26,7 @@ pub(crate) fn depart<M: Flier, R: Wait>(
     ensures walked { Walked (EventTold walker.old.clock walker.old.number FlushOut (outcome_in result) walker.new.clock) shard walker.old.number walker.old.passes.items walker.new.passes.items }
     ensures flight { FlightTaken M.Gate.is_shut M.Gate.faults M.Gate.shard M.Gate.logs shard walker.old.number walker.new.clock walker.new.passes.items result }
 {
+    shards.go_out(walker.number);
     let place = shard as usize;
     let pass = walker.passes[place].take().unwrap();
     let (pass, clock, answer) = take_off(
