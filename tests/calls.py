@@ -72,9 +72,38 @@ put 1 8
 put 12 8
 abort
 """
+# Sessions that meet on one shard, and end in each way.
+ONE_SHARD = b"""session
+begin
+put 1 1
+put 2 2
+get 3
+commit
+begin
+put 1 3
+put 3 4
+abort
+session
+begin
+get 2
+put 3 5
+put 2 6
+commit
+begin
+get 1
+get 3
+commit
+session
+begin
+scan 0 5
+put 2 7
+put 1 8
+commit
+"""
 # Splits, a script that ran before, the script.
 SCRIPTS = [
     ("one put", (), b"", ONE_PUT),
+    ("one shard", (), b"", ONE_SHARD),
     ("two shards", (10,), FILLING, TWO_SHARDS),
     ("three shards", (10, 20), b"", THREE_SHARDS),
 ]
