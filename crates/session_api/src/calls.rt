@@ -35,29 +35,35 @@ impl<'a, M: Flier, P: Pace, R: Wait> SessionCalls for ScriptSession<'a, M, P, R>
     ghost missed = { λ s tx n es. HasMissed s.session.walker tx n es };
 
     fn begin(&mut self) -> Result<(), StopCause> {
+        self.session.shards.go_out(self.session.walker.number);
         begun(self.session.begin())
     }
 
     fn retry(&mut self) -> Result<(), StopCause> {
+        self.session.shards.go_out(self.session.walker.number);
         retried(self.session.retry())
     }
 
     fn operate(&mut self, alloc: Global, op: Op) -> Result<Answer, TryEnd> {
         let shards = self.session.shards;
+        let walker = self.session.walker.number;
         match op {
-            Op::Get(key) => value_told(shards, self.session.get(alloc, key)),
-            Op::Put(key, value) => value_told(shards, self.session.put(alloc, key, value)),
-            Op::Del(key) => value_told(shards, self.session.del(alloc, key)),
-            Op::Scan(lo, hi) => pairs_told(shards, self.session.scan(alloc, lo, bound(hi))),
+            Op::Get(key) => value_told(shards, walker, self.session.get(alloc, key)),
+            Op::Put(key, value) => value_told(shards, walker, self.session.put(alloc, key, value)),
+            Op::Del(key) => value_told(shards, walker, self.session.del(alloc, key)),
+            Op::Scan(lo, hi) => pairs_told(shards, walker, self.session.scan(alloc, lo, bound(hi))),
         }
     }
 
     fn commit(&mut self, alloc: Global) -> TryEnd {
         let shards = self.session.shards;
-        committed(shards, self.session.commit(alloc))
+        let walker = self.session.walker.number;
+        committed(shards, walker, self.session.commit(alloc))
     }
 
     fn abort(&mut self, alloc: Global) -> Result<(), StopCause> {
-        aborted(self.session.abort(alloc))
+        let shards = self.session.shards;
+        let walker = self.session.walker.number;
+        aborted(shards, walker, self.session.abort(alloc))
     }
 }
