@@ -41,6 +41,13 @@ where
     run_all(rt, alloc, seats.as_mut_slice(), most, start);
 }
 
+// Lets the sessions, numbered from 1, stay behind a shard's door between two turns: a script's thread waits for nothing there, where its pace holds nothing.
+fn let_stay<M: Flier, P: Pace>(shards: &Shards<M>, pace: &P, sessions: usize) {
+    if pace.never_holds() {
+        shards.let_stay(sessions);
+    }
+}
+
 // Runs each session with a walker of its own on a thread of its own, behind walker 0. Where there is no memory for their seats none is begun.
 pub(crate) fn run_sessions<M: Flier + Send, P: Pace + Sync, R: Threads + Wait + Sync>(
     rt: &R,
@@ -70,7 +77,9 @@ where
         return Err(StopCause::Memory);
     };
     let mut seats = take_seats(rt, shards, pace, walkers, sessions, room);
+    let_stay(shards, pace, sessions.len());
     run_seats(rt, alloc, shards, sessions, &mut seats, most, start);
+    shards.let_stay(0);
     let end = gravest(seats.as_slice());
     leave_seats(walkers, seats);
     end
