@@ -37,3 +37,9 @@ flush_next-requires-clause-rest g c = let kept = c.loop-alloc.invariant in (kept
 
 pub returns-in-Err-clause-failed : goal.returns-in-Err-clause-failed
 returns-in-Err-clause-failed g c = λ is layout rest. c.in-Err.ensures.failed.2 layout ((c.loop-alloc.invariant).3 layout rest)
+
+pub returns-clause-all : goal.returns-clause-all
+returns-clause-all g c =
+    let kept = c.loop-alloc.invariant in
+    let rest = kept.3 kept.4.0 kept.4.1 in
+    omega (arith, c.taken.ensures.taken, c.taken.ensures.fronts, c.end.ensures.end, rest.nothing_flies, c.loop-alloc-test.false, ap length kept.0)
