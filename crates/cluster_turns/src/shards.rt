@@ -65,7 +65,7 @@ impl<M: Machine> Walker<M> {
         passes: Vec<Option<Pass<Home<M>, Note, Origin>>>,
     ) -> Walker<M>
         requires shards { (length shards.now.locks.items ≡ shard_count shards.now.splits) × (shards.now.run ≡ run_after (founds_of shards.now)) }
-        requires passes { AreNewPasses (founds_of shards.now) shards.now.locks.items number passes.items }
+        requires passes { AreNewPasses shards.now.splits (founds_of shards.now) shards.now.locks.items number passes.items }
         ensures walker { IsWalker shards.now result }
         ensures begins { (result.number ≡ number) × (result.clock ≡ clock) × (result.serial ≡ 0) × (result.passes ≡ passes) }
     {

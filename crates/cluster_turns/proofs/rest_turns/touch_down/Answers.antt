@@ -4,8 +4,9 @@ use Rattle.clv_base.specs.Events.{land}
 use Rattle.turn_lock.specs.Passes.{seen, own, turn_seen}
 use Rattle.turn_lock.specs.Journals.{GrownByOthers, durable_of}
 use Rattle.machine_laws.specs.Notes.{noter, plain, notes_of, noted_durable}
-use Rattle.machine_laws.specs.Homes.{IsLegal}
+use Rattle.machine_laws.specs.Homes.{layout_of, IsLegal}
 use Rattle.machine_laws.specs.Sound.{IsSound}
+use Rattle.machine_laws.specs.Gates.{Landable}
 use Rattle.machine_laws.proofs.Laws.{grown_by, added_notes, notes_step, still_flying, still_landable, sound_lands}
 use Rattle.law_base.proofs.Options.{some_inj}
 use Rattle.cluster_turns.proofs.Flights.{land_is, told_durable}
@@ -41,7 +42,7 @@ leave-pass-requires-clause-sound g c = let a = c.requires.away in let home = c.e
     let legal = subst (λ o. IsLegal o (seen c.args.pass) a.s) (some_inj a.origin home.origin (sym a.has_origin ∙ c.enter-turn.ensures.origin)) a.s_is in
     let f = still_flying home.origin a.s s c.args.walker flight.upto (seen c.args.pass) (notes_of s.journal home.marks.items) legal c.enter-turn.ensures.sound.legal
     (subst (λ w. GrownByOthers noter w (seen c.args.pass) (notes_of s.journal home.marks.items)) c.requires.pass.1 c.enter-turn.ensures.grown) a.holds.up a.holds.flies a.early a.taken in
-    let ready = still_landable g.M.Gate.Gate.is_shut g.M.Gate.Gate.faults g.M.Gate.Gate.shard g.M.Gate.Gate.logs home.origin (seen c.args.pass) c.args.pushed a.s s flight.upto (g.M.Gate.Gate.faults flight.as_taken.value) flight.gate legal f.0 a.holds in
+    let ready = still_landable g.M.Gate.Gate.is_shut g.M.Gate.Gate.faults g.M.Gate.Gate.shard g.M.Gate.Gate.logs home.origin (seen c.args.pass) c.args.pushed a.s s flight.upto (g.M.Gate.Gate.faults flight.as_taken.value) flight.gate legal f.0 (subst (λ o. Landable c.args.pushed a.s flight.upto (g.M.Gate.Gate.faults flight.as_taken.value) (g.M.Gate.Gate.is_shut flight.gate) (g.M.Gate.Gate.faults flight.gate) (g.M.Gate.Gate.shard flight.gate) (g.M.Gate.Gate.logs flight.gate (layout_of o))) (some_inj a.origin home.origin (sym a.has_origin ∙ c.enter-turn.ensures.origin)) a.holds) in
     subst (λ y. IsSound g.M.Gate.Gate.is_shut g.M.Gate.Gate.faults g.M.Gate.Gate.shard g.M.Gate.Gate.logs home.origin home.marks.items (vec_capacity home.marks) u y) (sym c.land.ensures.gate)
     (sound_lands g.M.Gate.Gate.is_shut g.M.Gate.Gate.faults g.M.Gate.Gate.shard g.M.Gate.Gate.logs home.origin home.marks.items (vec_capacity home.marks) s (g.M.Machine.gate home.machine) c.args.clock c.args.walker flight.upto (g.M.Gate.Gate.faults flight.as_taken.value) c.args.pushed c.land.result u
     c.land.ensures.told.0 flight.gate c.enter-turn.ensures.sound c.land.ensures.told.1 ready f.0.early c.requires.clock f.1)
@@ -65,7 +66,7 @@ returns-clause-turned g c = let t = c.enter-turn.ensures.turn in let h = c.land.
     let others = subst (λ w. GrownByOthers noter w (seen c.args.pass) before) c.requires.pass.1 c.enter-turn.ensures.grown in
     let f = still_flying home.origin a.s s c.args.walker flight.upto (seen c.args.pass) before legal c.enter-turn.ensures.sound.legal others a.holds.up a.holds.flies a.early a.taken in
     let m = land_is s c.args.clock c.args.walker flight.upto c.args.pushed c.land.result u h.0 h.1 f.0.is_up f.0.flight in
-    let ready = still_landable g.M.Gate.Gate.is_shut g.M.Gate.Gate.faults g.M.Gate.Gate.shard g.M.Gate.Gate.logs home.origin (seen c.args.pass) c.args.pushed a.s s flight.upto (g.M.Gate.Gate.faults flight.as_taken.value) flight.gate legal f.0 a.holds in
+    let ready = still_landable g.M.Gate.Gate.is_shut g.M.Gate.Gate.faults g.M.Gate.Gate.shard g.M.Gate.Gate.logs home.origin (seen c.args.pass) c.args.pushed a.s s flight.upto (g.M.Gate.Gate.faults flight.as_taken.value) flight.gate legal f.0 (subst (λ o. Landable c.args.pushed a.s flight.upto (g.M.Gate.Gate.faults flight.as_taken.value) (g.M.Gate.Gate.is_shut flight.gate) (g.M.Gate.Gate.faults flight.gate) (g.M.Gate.Gate.shard flight.gate) (g.M.Gate.Gate.logs flight.gate (layout_of o))) (some_inj a.origin home.origin (sym a.has_origin ∙ c.enter-turn.ensures.origin)) a.holds) in
     let k = sound_lands g.M.Gate.Gate.is_shut g.M.Gate.Gate.faults g.M.Gate.Gate.shard g.M.Gate.Gate.logs home.origin home.marks.items (vec_capacity home.marks) s (g.M.Machine.gate home.machine) c.args.clock c.args.walker flight.upto (g.M.Gate.Gate.faults flight.as_taken.value) c.args.pushed c.land.result u
     h.0 flight.gate c.enter-turn.ensures.sound h.1 ready f.0.early c.requires.clock f.1 in
     let n = notes_step s u home.marks.items (Some h.0) h.1.journal c.enter-turn.ensures.sound.marked in

@@ -38,7 +38,7 @@ returns g c = let w = c.args.walker.now in let sh = c.args.self.now in let locks
     let long : n < length w.passes.items = (let h = is_walker.walks.are_passes.count in omega arith) in
     let told = EventTold w.clock w.number c.args.event c.turn-pass.result.2 c.turn-pass.result.1 in
     let turned : Turned told w.number t.0 c.turn-pass.result.0 = subst (λ p. Turned told w.number p c.turn-pass.result.0) (sym same) c.turn-pass.ensures.turned in
-    let new = still_pass (founds_of sh) locks w.number n told t.0 c.turn-pass.result.0 t.2 turned (λ l. subst (λ x. IsPassOf x c.turn-pass.result.0) (c.index.ensures ∙ get_or_default locks n c.index.result.now l low) c.turn-pass.ensures.pass) in
+    let new = still_pass sh.splits (founds_of sh) locks w.number n told t.0 c.turn-pass.result.0 t.2 turned (λ l. subst (λ x. IsPassOf x c.turn-pass.result.0) (c.index.ensures ∙ get_or_default locks n c.index.result.now l low) c.turn-pass.ensures.pass) in
     let adds = event_adds sh.splits _ w.number n w.clock c.turn-pass.result.1 (kept w.passes.items) c.args.event c.turn-pass.result.2 turned.s turned.t turned.added turned.told
     (subst (λ run. GoesOn sh.splits run w.number (kept w.passes.items) n c.args.event) is_walker.run c.requires.goes) in
     let h = walks sh.splits (founds_of sh) locks n w.number w.clock c.turn-pass.result.1 told w.passes.items t.0 c.turn-pass.result.0 is_walker.walks is_walker.count low
