@@ -24,7 +24,7 @@ use Rattle.machine_laws.specs.declared.notes.Mark.{Mark}
 use Rattle.machine_laws.specs.declared.notes.Mark.TheVariants.{Fetched as FetchedAt}
 use Rattle.machine_laws.specs.Notes.{noter, told, notes_of}
 use Rattle.machine_laws.specs.Homes.{layout_of, start, state_of, holder_of, is_failed, has_failed, is_stop, never_stops, IsLegal}
-use Rattle.machine_laws.specs.Gates.{GateStands, is_gate_away}
+use Rattle.machine_laws.specs.Gates.{EachLog, GateStands, is_gate_away}
 use Rattle.machine_laws.specs.Sound.{IsSound}
 use Rattle.machine_laws.proofs.Calm.{does_calm, does_fly}
 use Rattle.machine_laws.proofs.Marking.{fetch_last}
@@ -144,6 +144,6 @@ module _ {G : Type 0} (shut : G → Bool) (faults whose : G → ℕ) (logs : G �
 
   -- what the disk of a shard that is down is
   pub down_disk : (o : Origin) (notes : List Note) (s : Shard) (held : Option ℕ) (g : G) → IsLegal o notes s → s.is_up ≡ false → GateStands shut faults whose (λ h. logs h (layout_of o)) s held (Some g)
-      → (1 ≤ faults g) × ((log : List LogRecord) → logs g (layout_of o) (Some log) → MayLeave s log) × (whose g ≡ s.shard)
+      → (1 ≤ faults g) × EachLog (MayLeave s) (logs g (layout_of o)) × (whose g ≡ s.shard)
   down_disk o notes s held g l down h =
       let f = h.1 in (f.counted.some (down_failed o notes s l down), fits_leaves o notes s (shut g) (faults g) (whose g) (logs g (layout_of o)) l f, f.own)

@@ -21,7 +21,7 @@ use Rattle.machine_laws.specs.declared.notes.Origin.{Origin}
 use Rattle.machine_laws.specs.declared.notes.Mark.{Mark}
 use Rattle.machine_laws.specs.Notes.{noter}
 use Rattle.machine_laws.specs.Homes.{layout_of, start, state_of, holder_of, taker, is_single, is_named, IsFree, IsLegal}
-use Rattle.machine_laws.specs.Gates.{GateFits, Landable, StillFlies}
+use Rattle.machine_laws.specs.Gates.{EachLog, GateFits, Landable, StillFlies}
 use Rattle.machine_laws.specs.Sound.{IsSound}
 
 -- a shard as it was opened, with its gate, holds it
@@ -65,4 +65,4 @@ BirthsStayFree = (o : Origin) (s : Shard) (w : ℕ) (e : Event) (seen notes : Li
 -- each log that a gate at home may have is one that the shard may leave
 abbrev pub GatesMayBeLeft : {G : Type 0} → (G → Bool) → (G → ℕ) → (G → ℕ) → (G → Layout → Option (List LogRecord) → Type 0) → Type 0
 GatesMayBeLeft {G} shut faults whose logs =
-    (o : Origin) (notes : List Note) (s : Shard) (g : G) → IsLegal o notes s → GateFits s (shut g) (faults g) (whose g) (logs g (layout_of o)) → (log : List LogRecord) → logs g (layout_of o) (Some log) → MayLeave s log
+    (o : Origin) (notes : List Note) (s : Shard) (g : G) → IsLegal o notes s → GateFits s (shut g) (faults g) (whose g) (logs g (layout_of o)) → EachLog (MayLeave s) (logs g (layout_of o))
