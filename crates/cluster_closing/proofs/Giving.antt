@@ -81,7 +81,7 @@ module _ {T D : Type 0} (story : D → Option Story) (faults : D → ℕ) where
   pass_taken w q o s t before after added (Err Away) told is l sees from disk away = ap (λ ns. is_some (holder_of ns)) (sees ∙ is ∙ ap (λ a. before ++ a) told.2 ∙ append-nil before) ∙ away refl
 
 -- the shard whose disk it is
-module _ {T D : Type 0} (story : D → Option Story) (faults : D → ℕ) (founds : List (List LogRecord)) (locks : List (TurnLock T Note Origin)) (w n : ℕ) (q : Pass T Note Origin) (at : IsPassAt founds locks w n q) where
+module _ {T D : Type 0} (story : D → Option Story) (faults : D → ℕ) (splits : List ℕ) (founds : List (List LogRecord)) (locks : List (TurnLock T Note Origin)) (w n : ℕ) (q : Pass T Note Origin) (at : IsPassAt splits founds locks w n q) where
   taken_of : (f : Taken D) → PassTaken story faults w q (Ok f) → (f.shard ≡ n) × Holds w (IsDiskOf faults f) q
   taken_of f h =
       let same : h.origin ≡ at.origin = some_inj h.origin at.origin (sym h.has_origin ∙ at.has_origin) in (

@@ -42,7 +42,7 @@ ready_for n run own epoch failed found records r shut whose faults logs is next 
 
 module _ {T D : Type 0} (faults : D → ℕ) where
   -- the state in which a walker's pass has seen the shard
-  pub held_as : (founds : List (List LogRecord)) (locks : List (TurnLock T Note Origin)) (w run : ℕ) (passes : List (Option (Pass T Note Origin))) (f : Fetched D) (Q : Shard → Type 0) → ArePassesOf founds locks w passes → f.shard < length locks → run ≡ run_after founds
+  pub held_as : (splits : List ℕ) (founds : List (List LogRecord)) (locks : List (TurnLock T Note Origin)) (w run : ℕ) (passes : List (Option (Pass T Note Origin))) (f : Fetched D) (Q : Shard → Type 0) → ArePassesOf splits founds locks w passes → f.shard < length locks → run ≡ run_after founds
       → HoldsAt f.shard w (IsDiskOf faults f) passes → ((s : Shard) → s.shard ≡ f.shard → s.run ≡ run → s.local.epoch ≡ f.epoch → 1 ≤ faults f.disk → Q s) → HoldsAt f.shard w Q passes
   held_as founds locks w run passes f Q are low is (p, had, h) to =
       let t = are.each f.shard None low in
