@@ -17,7 +17,8 @@ use Rattle.clv_base.specs.Journals.{own, journal_of, start_of, logs_left_from}
 use Rattle.clv_base.specs.Machines.{Runs}
 use Rattle.io_model.specs.Story.{Story, reads}
 use Rattle.io_model.specs.Disk.{Rose}
-use Rattle.log_gate.specs.Image.{HasLog}
+use Rattle.log_gate.specs.Header.{Layout}
+use Rattle.log_gate.specs.Image.{HasHeader, HasLog}
 use Rattle.log_gate.specs.Gate.{EachNow}
 use Rattle.history_laws.proofs.Laws.{left_at}
 use Rattle.journal_laws.proofs.Laws.{run_made}
@@ -72,9 +73,9 @@ inside (y ∷ xs) zero x h = omega arith
 inside (y ∷ xs) (suc n) x h = let l = inside xs n x h in omega arith
 
 -- a disk that came back where none was fetched
-pub none_fetched : {D : Type 0} (s : Shard) (n : ℕ) (fetched : List (Fetched D)) (before now : ℕ) (out : Bool) (story : Option Story) → length fetched ≡ 0 → IsBack s n fetched before now out story → IsBack {D = D} s n [] before now out story
-none_fetched s n [] before now out story none back = back
-none_fetched s n (f ∷ fs) before now out story none back = absurd (omega arith)
+pub none_fetched : {D : Type 0} (s : Shard) (n : ℕ) (layout : Layout) (fetched : List (Fetched D)) (before now : ℕ) (out : Bool) (story : Option Story) → length fetched ≡ 0 → IsBack s n layout fetched before now out story → IsBack {D = D} s n layout [] before now out story
+none_fetched s n layout [] before now out story none back = back
+none_fetched s n layout (f ∷ fs) before now out story none back = absurd (omega arith)
 
 -- ---- no stop and no restart
 
@@ -165,16 +166,16 @@ module _
   state_is : (n : ℕ) (d : Home M S G) → n < count → states n ≡ made (get_or homes n d)
   state_is n d l = state_here made (founds_of sh) homes n d (there n l)
 
-  back : (n : ℕ) (l : n < count) (d : Home M S G) → IsBack {D = D} (made (get_or homes n d)) n [] (r.counts_open n) (counts_now n) (out_now n) (now n)
+  back : (n : ℕ) (l : n < count) (d : Home M S G) → IsBack {D = D} (made (get_or homes n d)) n (record { splits = sh.splits }) [] (r.counts_open n) (counts_now n) (out_now n) (now n)
   back n l d = r.closed.disks n d (low n l)
 
-  holds_at : (n : ℕ) → n < count → Home M S G → IfSome (now n) (EachNow (HoldsLog (flush_failed (journal_at kept.journals n)) (states n) n))
+  holds_at : (n : ℕ) → n < count → Home M S G → IfSome (now n) (EachNow (HoldsLog sh.splits (flush_failed (journal_at kept.journals n)) (states n) n))
   holds_at n l d =
       let h = get_or homes n d in
       let s = made h in
-      subst (λ j. IfSome (now n) (EachNow (HoldsLog (flush_failed j) (states n) n))) (sym (journal_is n d l))
-      (subst (λ t. IfSome (now n) (EachNow (HoldsLog (flush_failed s.journal) t n))) (sym (state_is n d l))
-      (left_disks_hold n h.origin (notes_of s.journal h.marks.items) s (now n) (r.closed.noted n d (low n l)) ((back n l d).left (λ j f e. absurd (omega arith)))))
+      subst (λ j. IfSome (now n) (EachNow (HoldsLog sh.splits (flush_failed j) (states n) n))) (sym (journal_is n d l))
+      (subst (λ t. IfSome (now n) (EachNow (HoldsLog sh.splits (flush_failed s.journal) t n))) (sym (state_is n d l))
+      (left_disks_hold sh.splits n h.origin (notes_of s.journal h.marks.items) s (now n) (r.closed.noted n d (low n l)) ((back n l d).left (λ j f e. absurd (omega arith)))))
 
   rose_at : (n : ℕ) → n < count → Home M S G → has_failed (journal_at kept.journals n) ≡ true → Rose (counts n) (counts_now n)
   rose_at n l d failed = subst (λ m. Rose m (counts_now n)) (r.went_out.counts n) ((back n l d).counted.rose (sym (ap has_failed (journal_is n d l)) ∙ failed))
@@ -203,7 +204,7 @@ module _
 
   pub ended : ClusterEnded sh.splits before now counts counts_now kept states (walked_by walkers)
   ended = record {
-    found = λ n l. subst (λ logs. IfSome (before n) (λ s. HasLog n (log_of logs n) (reads s))) (sym r.closed.founds_are) (r.begun.held.each n l).read_as;
+    found = λ n l. subst (λ logs. IfSome (before n) (λ s. HasHeader n sh.splits (reads s) × HasLog n (log_of logs n) (reads s))) (sym r.closed.founds_are) (r.begun.held.each n l).read_as;
     opens = ap (may_open sh.splits) r.closed.founds_are ∙ r.begun.may;
     legal = λ left many leaves. subst (λ logs. MakesHistory sh.splits logs left kept.journals states (walked_by walkers)) (sym r.closed.founds_are) (r.closed.legal left many leaves);
     holds = λ n l. holds_at n l (home n l);

@@ -12,7 +12,7 @@ use Rattle.clv_base.specs.Journals.{History, own, journal_of}
 use Rattle.journal_laws.specs.Gathered.{journal_at}
 use Rattle.io_model.specs.Story.{Story, reads}
 use Rattle.log_gate.specs.Gate.{EachNow}
-use Rattle.log_gate.specs.Image.{HasLog}
+use Rattle.log_gate.specs.Image.{HasHeader, HasLog}
 use Rattle.history_replay.specs.Entries.{Kept, entries_of}
 use Rattle.headline_laws.proofs.Laws.{promise}
 use Rattle.machine_laws.specs.Homes.{has_failed}
@@ -50,11 +50,11 @@ none_of_zero (e ∷ es) all =
 pub runs_are_promised : RunsArePromised
 runs_are_promised splits before now counts counts_now most script went kept states own_of ended sessions =
     let count = shard_count splits in
-    let picks : (n : ℕ) → n < count → Picked (states n) n (now n) = λ n l. picked (flush_failed (journal_at kept.journals n)) (states n) n (now n) (ended.holds n l) in
+    let picks : (n : ℕ) → n < count → Picked splits (states n) n (now n) = λ n l. picked splits (flush_failed (journal_at kept.journals n)) (states n) n (now n) (ended.holds n l) in
     let c = choice count states now picks in
     let logs = left count states now picks in
-    let is = left_is count states now picks in
-    let reads_so = choice_reads count states now picks in
+    let is = left_is splits count states now picks in
+    let reads_so = choice_reads splits count states now picks in
     let made = ended.legal logs (left_length count states now picks) (λ n l. (c n, inl (is n l))) in
     let h = entries_of kept.journals in
     record {
@@ -64,14 +64,14 @@ runs_are_promised splits before now counts counts_now most script went kept stat
             legal =
                 record {
                   found = ended.found;
-                  left_is_read = λ n l. subst (λ log. IfSome (now n) (λ s. HasLog n log (reads s))) (sym (is n l)) (reads_so n l).read;
+                  left_is_read = λ n l. subst (λ log. IfSome (now n) (λ s. HasHeader n splits (reads s) × HasLog n log (reads s))) (sym (is n l)) (reads_so n l).read;
                   untold = λ n l none. is n l ∙ ap (λ b. log_left (states n) b) ((reads_so n l).untold none) ∙ ap (λ s. log_left s false) (sym (made.same_states n l));
                   legal = made.legal;
                 };
             disks =
                 λ n l.
-                subst (λ s. IfSome (now n) (EachNow (HoldsLog (flush_failed (journal_of n h)) s n))) (sym (made.same_states n l))
-                (subst (λ j. IfSome (now n) (EachNow (HoldsLog (flush_failed j) (states n) n))) (sym (made.same_journals n l)) (ended.holds n l));
+                subst (λ s. IfSome (now n) (EachNow (HoldsLog splits (flush_failed (journal_of n h)) s n))) (sym (made.same_states n l))
+                (subst (λ j. IfSome (now n) (EachNow (HoldsLog splits (flush_failed j) (states n) n))) (sym (made.same_journals n l)) (ended.holds n l));
             promised = λ by. promise splits kept.found h logs by (record { opens = ended.opens; legal = made.legal });
           };
       sessions =

@@ -16,7 +16,7 @@ use Rattle.clv_base.specs.Restarts.{log_left}
 use Rattle.clv_base.specs.Journals.{History, journal_of, final_of}
 use Rattle.io_model.specs.Story.{Story, reads, IsImage}
 use Rattle.io_model.specs.Crash.{AtEachMoment}
-use Rattle.log_gate.specs.Image.{HasLog, HasLogOrMore, checked_log}
+use Rattle.log_gate.specs.Image.{HasLog, HasHeader, HasLogOrMore, checked_log}
 use Rattle.log_gate.specs.Gate.{EachNow}
 use Rattle.log_gate.specs.Opening.{IsUnchanged}
 
@@ -35,19 +35,19 @@ flush_failed_from so_far (e ∷ es) = flush_failed_from (flush_after so_far e.ev
 abbrev pub flush_failed : List Entry → Bool
 flush_failed journal = flush_failed_from false journal
 
--- the log of these bytes of shard n's disk is the shard's durable records, or these with the records in flight where its last flush failed
-abbrev pub HoldsLog : Bool → Shard → ℕ → List ℕ → Type 0
-HoldsLog false s n bytes = HasLog n (log_left s false) bytes
-HoldsLog true s n bytes = HasLog n (log_left s false) bytes ⊎ HasLog n (log_left s true) bytes
+-- these bytes of shard n's disk begin with its header, with these splits, and their log is the shard's durable records, or these with the records in flight where its last flush failed
+abbrev pub HoldsLog : List ℕ → Bool → Shard → ℕ → List ℕ → Type 0
+HoldsLog splits false s n bytes = HasHeader n splits bytes × HasLog n (log_left s false) bytes
+HoldsLog splits true s n bytes = HasHeader n splits bytes × (HasLog n (log_left s false) bytes ⊎ HasLog n (log_left s true) bytes)
 
 -- what a read of each disk gives, and each image that a crash now may leave of it, has such a log by the history
 abbrev pub DisksHold : List ℕ → List (List LogRecord) → History → List (List LogRecord) → (ℕ → Option Story) → Type 0
 DisksHold splits found h left now =
-    (n : ℕ) → n < shard_count splits → IfSome (now n) (EachNow (HoldsLog (flush_failed (journal_of n h)) (final_of found h left n) n))
+    (n : ℕ) → n < shard_count splits → IfSome (now n) (EachNow (HoldsLog splits (flush_failed (journal_of n h)) (final_of found h left n) n))
 
--- each disk that tells its bytes reads as a log of these
+-- each disk that tells its bytes reads as a log of these, behind a header with these splits
 abbrev pub DisksRead : List ℕ → (ℕ → Option Story) → List (List LogRecord) → Type 0
-DisksRead splits now logs = (n : ℕ) → n < shard_count splits → IfSome (now n) (λ s. HasLog n (log_of logs n) (reads s))
+DisksRead splits now logs = (n : ℕ) → n < shard_count splits → IfSome (now n) (λ s. HasHeader n splits (reads s) × HasLog n (log_of logs n) (reads s))
 
 -- of a disk that doesn't tell its bytes, the log at the end is the durable records of the shard
 abbrev pub UntoldAreDurable : List ℕ → List (List LogRecord) → History → List (List LogRecord) → (ℕ → Option Story) → Type 0
