@@ -14,7 +14,7 @@ use Rattle.cluster_runs.specs.Disks.{HoldsLog}
 
 -- by whether the records in flight are there, this log of shard n is what its disk reads as
 pub record Reads (splits : List ℕ) (s : Shard) (n : ℕ) (now : Option Story) (in_flight : Bool) : Type 0 where
-  pub read : IfSome now (λ t. HasHeader n splits (reads t) × HasLog n (log_left s in_flight) (reads t))
+  pub read : IfSome now (λ t. HasLog n (log_left s in_flight) (reads t) × HasHeader n splits (reads t))
   pub untold : now ≡ None → in_flight ≡ false
 
 abbrev pub Picked : List ℕ → Shard → ℕ → Option Story → Type 0
@@ -26,11 +26,11 @@ some_none t h = absurd cc
 pub picked : (splits : List ℕ) (b : Bool) (s : Shard) (n : ℕ) (now : Option Story) → IfSome now (EachNow (HoldsLog splits b s n)) → Picked splits s n now
 picked splits b s n None h = (false, record { read = tt; untold = λ none. refl })
 picked splits false s n (Some t) h = (false, record { read = h.read; untold = λ none. refl })
-picked splits true s n (Some t) h = at h.read.1
+picked splits true s n (Some t) h = at h.read.0
   where
     at : HasLog n (log_left s false) (reads t) ⊎ HasLog n (log_left s true) (reads t) → Picked splits s n (Some t)
-    at (inl r) = (false, record { read = (h.read.0, r); untold = λ none. refl })
-    at (inr r) = (true, record { read = (h.read.0, r); untold = λ none. some_none t none })
+    at (inl r) = (false, record { read = (r, h.read.1); untold = λ none. refl })
+    at (inr r) = (true, record { read = (r, h.read.1); untold = λ none. some_none t none })
 
 -- ---- all shards
 

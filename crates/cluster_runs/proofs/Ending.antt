@@ -204,7 +204,7 @@ module _
 
   pub ended : ClusterEnded sh.splits before now counts counts_now kept states (walked_by walkers)
   ended = record {
-    found = λ n l. subst (λ logs. IfSome (before n) (λ s. HasHeader n sh.splits (reads s) × HasLog n (log_of logs n) (reads s))) (sym r.closed.founds_are) (r.begun.held.each n l).read_as;
+    found = λ n l. subst (λ logs. IfSome (before n) (λ s. HasLog n (log_of logs n) (reads s) × HasHeader n sh.splits (reads s))) (sym r.closed.founds_are) (r.begun.held.each n l).read_as;
     opens = ap (may_open sh.splits) r.closed.founds_are ∙ r.begun.may;
     legal = λ left many leaves. subst (λ logs. MakesHistory sh.splits logs left kept.journals states (walked_by walkers)) (sym r.closed.founds_are) (r.closed.legal left many leaves);
     holds = λ n l. holds_at n l (home n l);

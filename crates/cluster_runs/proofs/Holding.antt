@@ -78,8 +78,8 @@ at_least s None c e = omega arith
 at_least s (Some n) c e = (c.flying n e).0
 
 only_durable : (splits : List ℕ) (b : Bool) (s : Shard) (n : ℕ) (image : List ℕ) → HasHeader n splits image → HasLog n (durable_records s) image → HoldsLog splits b s n image
-only_durable splits true s n image header h = (header, inl h)
-only_durable splits false s n image header h = (header, h)
+only_durable splits true s n image header h = (inl h, header)
+only_durable splits false s n image header h = (h, header)
 
 holds_image : (splits : List ℕ) (o : Origin) (notes : List Note) (s : Shard) (story : Option Story) (n : ℕ) → IsLegal o notes s → IsLeft s (logs_told story n (record { splits = splits })) → (image : List ℕ)
     → logs_told story n (record { splits = splits }) (log_under n (record { splits = splits }) image) → HoldsLog splits (flush_failed s.journal) s n image
@@ -93,8 +93,8 @@ holds_image splits o notes s story n l left image has = at s.is_up refl
         let k = from_under n under (durable_records s) image (left.durable up (log_under n under image) has) in
         only_durable splits (flush_failed s.journal) s n image k.1 k.0
     at false down = subst (λ b. HoldsLog splits b s n image) (sym (down_after_failed o notes s l down))
-        (⊎_elim (λ h. (let k = from_under n under (durable_records s) image h in (k.1, inl k.0)))
-        (λ h. (let k = from_under n under (durable_records s ++ flying_records s) image h in (k.1, inr (k.0 ∙ ap (λ z. Some z) (whole s (legal_counted o notes s l))))))
+        (⊎_elim (λ h. (let k = from_under n under (durable_records s) image h in (inl k.0, k.1)))
+        (λ h. (let k = from_under n under (durable_records s ++ flying_records s) image h in (inr (k.0 ∙ ap (λ z. Some z) (whole s (legal_counted o notes s l))), k.1)))
         (left.either down (log_under n under image) has))
 
 pub left_disks_hold : LeftDisksHold

@@ -51,11 +51,11 @@ pub runs_are_promised : RunsArePromised
 runs_are_promised splits before now counts counts_now most script went kept states own_of ended sessions =
     let count = shard_count splits in
     let picks : (n : ℕ) → n < count → Picked splits (states n) n (now n) = λ n l. picked splits (flush_failed (journal_at kept.journals n)) (states n) n (now n) (ended.holds n l) in
-    let c = choice count states now picks in
-    let logs = left count states now picks in
+    let c = choice splits count states now picks in
+    let logs = left splits count states now picks in
     let is = left_is splits count states now picks in
     let reads_so = choice_reads splits count states now picks in
-    let made = ended.legal logs (left_length count states now picks) (λ n l. (c n, inl (is n l))) in
+    let made = ended.legal logs (left_length splits count states now picks) (λ n l. (c n, inl (is n l))) in
     let h = entries_of kept.journals in
     record {
       keeps =
@@ -64,7 +64,7 @@ runs_are_promised splits before now counts counts_now most script went kept stat
             legal =
                 record {
                   found = ended.found;
-                  left_is_read = λ n l. subst (λ log. IfSome (now n) (λ s. HasHeader n splits (reads s) × HasLog n log (reads s))) (sym (is n l)) (reads_so n l).read;
+                  left_is_read = λ n l. subst (λ log. IfSome (now n) (λ s. HasLog n log (reads s) × HasHeader n splits (reads s))) (sym (is n l)) (reads_so n l).read;
                   untold = λ n l none. is n l ∙ ap (λ b. log_left (states n) b) ((reads_so n l).untold none) ∙ ap (λ s. log_left s false) (sym (made.same_states n l));
                   legal = made.legal;
                 };

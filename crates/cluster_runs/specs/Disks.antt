@@ -37,8 +37,8 @@ flush_failed journal = flush_failed_from false journal
 
 -- these bytes of shard n's disk begin with its header, with these splits, and their log is the shard's durable records, or these with the records in flight where its last flush failed
 abbrev pub HoldsLog : List ℕ → Bool → Shard → ℕ → List ℕ → Type 0
-HoldsLog splits false s n bytes = HasHeader n splits bytes × HasLog n (log_left s false) bytes
-HoldsLog splits true s n bytes = HasHeader n splits bytes × (HasLog n (log_left s false) bytes ⊎ HasLog n (log_left s true) bytes)
+HoldsLog splits false s n bytes = HasLog n (log_left s false) bytes × HasHeader n splits bytes
+HoldsLog splits true s n bytes = (HasLog n (log_left s false) bytes ⊎ HasLog n (log_left s true) bytes) × HasHeader n splits bytes
 
 -- what a read of each disk gives, and each image that a crash now may leave of it, has such a log by the history
 abbrev pub DisksHold : List ℕ → List (List LogRecord) → History → List (List LogRecord) → (ℕ → Option Story) → Type 0
@@ -47,7 +47,7 @@ DisksHold splits found h left now =
 
 -- each disk that tells its bytes reads as a log of these, behind a header with these splits
 abbrev pub DisksRead : List ℕ → (ℕ → Option Story) → List (List LogRecord) → Type 0
-DisksRead splits now logs = (n : ℕ) → n < shard_count splits → IfSome (now n) (λ s. HasHeader n splits (reads s) × HasLog n (log_of logs n) (reads s))
+DisksRead splits now logs = (n : ℕ) → n < shard_count splits → IfSome (now n) (λ s. HasLog n (log_of logs n) (reads s) × HasHeader n splits (reads s))
 
 -- of a disk that doesn't tell its bytes, the log at the end is the durable records of the shard
 abbrev pub UntoldAreDurable : List ℕ → List (List LogRecord) → History → List (List LogRecord) → (ℕ → Option Story) → Type 0

@@ -29,4 +29,4 @@ returns-in-Err-make_walkers-clause-taken_back g c = λ c0 o0 s0 F. (
     let opened = subst (λ z. AreOpened (record { splits = sh.splits }) sh.run c.args.walkers (founds_of sh) sh.locks.items z.items) (sym c.in-Err-make_walkers.ensures.unmoved) c.in-Ok.ensures.opened.1 in
     wanting sh.splits (founds_of sh) c0 (faults h1) (faults h2) o0 (out h1) (out h2) s0 (story h1) (story h2)
     (went_on c.args.found.splits sh.splits c0 (faults h0) (faults h1) o0 (out h0) (out h1) s0 (story h0) (story h1) same.0 same.1 F.went) F.inside (λ n l. given.others n (omega arith))
-    sh.run A.held A.may A.run (subst (λ r. r < 2 ^ 32) (sym A.run) A.shards.run_fits) (λ n l. given.back n (omega arith)) (λ n b l. given.left sh.run c.args.walkers (founds_of sh) opened n b (omega arith)))
+    sh.run A.held A.may A.run (subst (λ r. r < 2 ^ 32) (sym A.run) A.shards.run_fits) (λ n l. given.back n (omega arith)) (λ n b l. given.left (record { splits = sh.splits }) sh.run c.args.walkers (founds_of sh) opened n b (omega arith)))
