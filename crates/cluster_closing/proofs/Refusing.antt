@@ -11,6 +11,7 @@ use Rattle.log_gate.specs.View.{Only, logs_told}
 use Rattle.log_gate.specs.declared.error.OpenLogError.{OpenLogError}
 use Rattle.log_gate.specs.declared.error.OpenLogError.TheVariants.{NotLog as NoLog, Failed as ReadFailed, Memory as NoneToRead}
 use Rattle.shard_recovery.specs.Recovering.{IsBegun}
+use Rattle.log_gate.specs.Header.{Layout}
 use Rattle.cluster_closing.specs.Judging.{RefusesDisk, opening_error}
 use Rattle.cluster_closing.specs.Left.{WasRead, HasBegun, IsLeftBy, begun}
 use Rattle.cluster_closing.proofs.ReviveLeaving.{at_start, in_between, under}
@@ -27,7 +28,7 @@ module _ {G : Type 0} (logs : G → Option (List LogRecord) → Type 0) where
   left_recovery n run epoch found before now DiskFailed only failed same = in_between n run epoch found (logs now) (failed refl)
   left_recovery n run epoch found before now NoMemory only failed same = subst (λ g. HasBegun n run epoch found (logs g)) (sym (same refl)) (at_start n run epoch found (logs before) only)
 
-pub left_begun : (n run own epoch whose : ℕ) (found : List LogRecord) (logs : Option (List LogRecord) → Type 0) (before now : Option Story) → WasRead before n found → epoch ≡ suc (greatest_epoch run own found) → whose ≡ n
-    → ((log : Option (List LogRecord)) → logs_told now whose log → logs log) → HasBegun n run epoch found logs → IsLeftBy n run own before now
-left_begun n run own epoch whose found logs before now read next own_it told b =
-    begun found read (subst (λ (e : ℕ). HasBegun n run e found (logs_told now n)) next (under n run epoch whose found logs now own_it told b))
+pub left_begun : (n : ℕ) (layout : Layout) (run own epoch whose : ℕ) (found : List LogRecord) (logs : Option (List LogRecord) → Type 0) (before now : Option Story) → WasRead before n layout found → epoch ≡ suc (greatest_epoch run own found) → whose ≡ n
+    → ((log : Option (List LogRecord)) → logs_told now whose layout log → logs log) → HasBegun n run epoch found logs → IsLeftBy n layout run own before now
+left_begun n layout run own epoch whose found logs before now read next own_it told b =
+    begun found read (subst (λ (e : ℕ). HasBegun n run e found (logs_told now n layout)) next (under n layout run epoch whose found logs now own_it told b))

@@ -33,7 +33,7 @@ returns g c = let w = c.args.walker.now in let sh = c.args.shards.now in let loc
       walker = (record { count = is_walker.count; run = is_walker.run; walks = subst (λ ps. IsWalkerOf sh.splits (founds_of sh) locks w.number w.clock ps) twice h.0; serials = is_walker.serials }, (refl, refl), refl);
       fetch = subst (λ ps. Walked told n w.number w.passes.items ps) twice h.1;
       disk = (r.0, (λ d. subst (λ ps. get_or ps n d ≡ Some r.0) twice (get_or-set_same w.passes.items n (Some r.0) d long)), c.take_disk-pass.ensures.disk);
-      held = subst (λ ps. IfOk r.1 (λ f. HoldsAt f.shard w.number (IsDiskOf g.M.Disk.Disk.faults f) ps)) twice
+      held = subst (λ ps. IfOk r.1 (λ f. HoldsAt f.shard w.number (λ layout. IsDiskOf g.M.Disk.Disk.faults f) ps)) twice
           (disk_held g.M.Disk.Disk.story g.M.Disk.Disk.faults (founds_of sh) locks w.number n r.0 new (set w.passes.items n (Some r.0)) (λ d. get_or-set_same w.passes.items n (Some r.0) d long) r.1 c.take_disk-pass.ensures.disk);
       shard = shard_taken g.M.Disk.Disk.story g.M.Disk.Disk.faults (founds_of sh) locks w.number n r.0 new r.1 c.take_disk-pass.ensures.disk;
     }

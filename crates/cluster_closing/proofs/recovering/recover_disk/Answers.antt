@@ -13,8 +13,8 @@ returns-in-Err-clause-refused g c = let story = g.M.Disk.Disk.story c.args.disk 
 
 pub returns-in-Err-judge-clause-left : goal.returns-in-Err-judge-clause-left
 returns-in-Err-judge-clause-left g c = let G = g.M.Gate.Gate in let gate = c.in-Ok.opened.0 in let log = c.in-Ok.opened.1.items in let e = c.in-Ok.ensures in
-    left_begun c.args.shard c.args.run c.args.own (suc (greatest_epoch c.args.run c.args.own log)) (G.shard gate) log (G.logs gate) (g.M.Disk.Disk.story c.args.disk) (g.M.Disk.Disk.story c.disk_of.result) e.before refl e.opened.1 c.disk_of.ensures.logs
-    (at_start c.args.shard c.args.run (suc (greatest_epoch c.args.run c.args.own log)) log (G.logs gate) e.log)
+    left_begun c.args.shard (record { splits = c.args.splits.now }) c.args.run c.args.own (suc (greatest_epoch c.args.run c.args.own log)) (G.shard gate) log (G.logs gate (record { splits = c.args.splits.now })) (g.M.Disk.Disk.story c.args.disk) (g.M.Disk.Disk.story c.disk_of.result) e.before refl e.opened.1 (c.disk_of.ensures.logs (record { splits = c.args.splits.now }))
+    (at_start c.args.shard c.args.run (suc (greatest_epoch c.args.run c.args.own log)) log (G.logs gate (record { splits = c.args.splits.now })) e.log)
 
 pub returns-in-Ok-recover_log-clause-free : goal.returns-in-Ok-recover_log-clause-free
 returns-in-Ok-recover_log-clause-free g c =
@@ -23,5 +23,5 @@ returns-in-Ok-recover_log-clause-free g c =
 pub returns-in-Err-recover_log-clause-left : goal.returns-in-Err-recover_log-clause-left
 returns-in-Err-recover_log-clause-left g c = let G = g.M.Gate.Gate in let gate = c.in-Err-recover_log.gate in let log = c.in-Ok.opened.1.items in let e = c.in-Ok.ensures in
     let next : c.in-Ok-judge.judged.0 ≡ suc (greatest_epoch c.args.run c.args.own log) = c.in-Ok-judge.ensures.epoch ∙ ap (λ (l : List LogRecord). suc (greatest_epoch c.args.run c.args.own l)) c.deref.ensures.value in
-    left_begun c.args.shard c.args.run c.args.own c.in-Ok-judge.judged.0 (G.shard gate) log (G.logs gate) (g.M.Disk.Disk.story c.args.disk) (g.M.Disk.Disk.story c.disk_of-in-Err-recover_log.result) e.before next (c.in-Err-recover_log.ensures.shard ∙ e.opened.1)
-    c.disk_of-in-Err-recover_log.ensures.logs c.in-Err-recover_log.ensures.left
+    left_begun c.args.shard (record { splits = c.args.splits.now }) c.args.run c.args.own c.in-Ok-judge.judged.0 (G.shard gate) log (G.logs gate (record { splits = c.args.splits.now })) (g.M.Disk.Disk.story c.args.disk) (g.M.Disk.Disk.story c.disk_of-in-Err-recover_log.result) e.before next (c.in-Err-recover_log.ensures.shard ∙ e.opened.1)
+    (c.disk_of-in-Err-recover_log.ensures.logs (record { splits = c.args.splits.now })) (c.in-Err-recover_log.ensures.left (record { splits = c.args.splits.now }) e.log)

@@ -23,7 +23,7 @@ take_up-pass-requires-clause-pass g c = let t = c.requires.walker.walks.are_pass
 pub take_up-pass-requires-clause-held : goal.take_up-pass-requires-clause-held
 take_up-pass-requires-clause-held g c = let a = c.requires.held in let is : c.take.result ≡ Some a.0 = c.take.ensures.value ∙ (c.index_mut.ensures.value ∙ a.1 c.index_mut.result.now) in
     let same : a.0 ≡ c.unwrap-pass.result = ap (the a.0) (sym is ∙ c.unwrap-pass.ensures) in let y = c.args.ready in let G = g.M.Gate.Gate in
-    subst (λ p. Holds c.args.walker.now.number (λ s. IsReadyFor s y.epoch y.found.value.items (g.M.Store.Store.records y.store) y.recovered × Recovers s y.recovered.buffer.records (G.is_shut y.gate) (G.faults y.gate) (G.shard y.gate) (G.logs y.gate)) p) same a.2
+    subst (λ p. Holds c.args.walker.now.number (λ layout s. IsReadyFor s y.epoch y.found.value.items (g.M.Store.Store.records y.store) y.recovered × Recovers s y.recovered.buffer.records (G.is_shut y.gate) (G.faults y.gate) (G.shard y.gate) (G.logs y.gate layout)) p) same a.2
 
 pub returns : goal.returns
 returns g c = let w = c.args.walker.now in let sh = c.args.shards.now in let locks = sh.locks.items in let n = c.args.shard in let low = c.requires.shard in let is_walker = c.requires.walker in let r = c.take_up-pass.result in let y = c.args.ready in
