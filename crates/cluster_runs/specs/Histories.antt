@@ -1,6 +1,7 @@
 -- What a history and the logs that a crash leaves stand for.
-use Rattle.std.specs.Prelude.{ℕ, Bool, List, Option}
+use Rattle.std.specs.Prelude.{◌≡◌, ℕ, Bool, true, List, Option}
 use Rattle.clv_base.specs.declared.logs.LogRecord.{LogRecord}
+use Rattle.clv_base.specs.FileRules.{may_open}
 use Rattle.clv_base.specs.Journals.{History}
 use Rattle.clv_base.specs.History.{Legal, Member, serial, logs_left}
 use Rattle.io_model.specs.Story.{Story}
@@ -33,3 +34,13 @@ pub record Keeps (splits : List ℕ) (before now : ℕ → Option Story) (kept :
   pub legal : IsLegalRun splits before now kept left
   pub disks : DisksHold splits kept.found (entries kept) left now
   pub promised : (choice : ℕ → Bool) → Promised splits kept.found (entries kept) left choice
+
+-- each disk that tells its bytes reads as the header of its shard, with these splits, and a log; and these logs may be opened together: the next run goes on
+pub record OpensAgain (splits : List ℕ) (now : ℕ → Option Story) : Type 0 where
+  pub logs : List (List LogRecord)
+  pub read : DisksRead splits now logs
+  pub opens : may_open splits logs ≡ true
+
+-- what a run that keeps the promise leaves opens again
+abbrev pub RunsOpenAgain : Type 0
+RunsOpenAgain = (splits : List ℕ) (before now : ℕ → Option Story) (kept : Kept) → Keeps splits before now kept → OpensAgain splits now

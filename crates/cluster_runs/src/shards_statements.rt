@@ -1,5 +1,6 @@
 // Laws of the promise.
 
+ghost use Rattle.cluster_runs.specs.Histories.{RunsOpenAgain};
 ghost use Rattle.cluster_runs.specs.Promises.{RunsArePromised};
 ghost use Rattle.cluster_runs.specs.Completing.{SessionsHaveEnded};
 ghost use Rattle.cluster_runs.specs.Down.{FailedAreDown, DownStays, LowestDownIsFault};
@@ -28,4 +29,9 @@ pub fn down_stays()
 /// The lowest shard that is down at the end of a cluster is the lowest whose disk's count rose.
 pub fn lowest_down_is_fault()
     ensures { LowestDownIsFault }
+{}
+
+/// What a run leaves opens again: the disks have the headers of its splits, and their logs may be opened together.
+pub fn runs_open_again()
+    ensures { RunsOpenAgain }
 {}
