@@ -57,3 +57,10 @@ returns-in-Ok-flush_all-clause-gate g c = λ layout log.
     let whole : take buffer.durable buffer.records ≡ buffer.records = take_all buffer.durable buffer.records (omega arith) in
     let rest = at_rest c.args.shard c.args.run c.args.epoch c.args.records.items c.in-Ok.recovered.buffer (g.G.Gate.is_shut c.args.gate.now) (g.G.Gate.logs c.args.gate.now layout) c.in-Ok.ensures.log c.in-Ok.ensures.fronts c.requires.open log in
     subst (λ (rs : List LogRecord). Only rs (g.G.Gate.logs c.flush_all.new.gate layout)) whole (e.rest layout rest).log
+
+pub returns-in-Ok-flush_all-clause-fronts : goal.returns-in-Ok-flush_all-clause-fronts
+returns-in-Ok-flush_all-clause-fronts g c =
+    let e = c.in-Ok-flush_all.ensures in let buffer = c.flush_all.new.buffer in let same = ap length e.records.0 in let all = e.all in
+    let rest = e.rest c.requires.log.0
+    (at_rest c.args.shard c.args.run c.args.epoch c.args.records.items c.in-Ok.recovered.buffer (g.G.Gate.is_shut c.args.gate.now) (g.G.Gate.logs c.args.gate.now c.requires.log.0) c.in-Ok.ensures.log c.in-Ok.ensures.fronts c.requires.open c.requires.log.1) in
+    (omega (arith, same, all), omega (arith, same, all, rest.nothing_flies))
