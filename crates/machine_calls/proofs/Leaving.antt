@@ -23,7 +23,7 @@ module _ (n : ℕ) (layout : Layout) (found : List LogRecord) (run : ℕ) (logs 
   each_image (Some s) told is = record { read = by (reads s) (is _ (told _ (reads s, inl refl, refl))); images = λ image left. by image (is _ (told _ (image, inr left, refl))) }
     where
       by : (image : List ℕ) → (count : ℕ) × (log_under n layout image ≡ Some (found ++ take count (restart_records n found run 0))) → HasBegun n layout found run image
-      by image (count, is) = (count, from_under n layout (found ++ take count (restart_records n found run 0)) image is)
+      by image (count, is) = (let k = from_under n layout (found ++ take count (restart_records n found run 0)) image is in (count, k.0, k.1))
 
   in_between : IsBegun n found run 0 logs → (log : Option (List LogRecord)) → logs log → (count : ℕ) × (log ≡ Some (found ++ take count (restart_records n found run 0)))
   in_between b log has = by b.written b.batch (b.log log has)
