@@ -85,7 +85,7 @@ holds_image : (splits : List ℕ) (o : Origin) (notes : List Note) (s : Shard) (
     → logs_told story n (record { splits = splits }) (log_under n (record { splits = splits }) image) → HoldsLog splits (flush_failed s.journal) s n image
 holds_image splits o notes s story n l left image has = at s.is_up refl
   where
-    abbrev under : Layout
+    under : Layout
     under = record { splits = splits }
 
     at : (u : Bool) → s.is_up ≡ u → HoldsLog splits (flush_failed s.journal) s n image
