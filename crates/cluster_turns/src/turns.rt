@@ -1,5 +1,6 @@
 // One turn of one lock.
-ghost use Rattle.std.specs.Prelude.{◌≡◌, true, Some, IfOk};
+ghost use Rattle.std.specs.Prelude.{◌≡◌, ◌≤◌, true, Some, IfOk};
+ghost use Rattle.clv_base.specs.Events.{message_stamp};
 ghost use Rattle.turn_lock.specs.Passes.{number, seen, pass_origin, IsPassOf};
 ghost use Rattle.machine_calls.specs.Events.{event_fits, sends_fit};
 ghost use Rattle.machine_laws.specs.declared.notes.Origin.{Origin as OriginIs};
@@ -28,6 +29,7 @@ pub(crate) fn turn<M: Machine, R: Wait>(
     requires single { is_single event ≡ true }
     requires fits { (o : OriginIs) → pass_origin pass ≡ Some o → event_fits o.shard event ≡ true }
     requires named { is_named walker event ≡ true }
+    requires in_time { message_stamp event ≤ clock }
     requires free { (o : OriginIs) → pass_origin pass ≡ Some o → IsFree (state_of o (seen pass)) event }
     ensures pass { IsPassOf lock.now result.0 }
     ensures turned { Turned (EventTold clock walker event result.2 result.1) walker pass result.0 }

@@ -40,7 +40,7 @@ returns-clause-turned g c = let t = c.enter-turn.ensures.turn in let h = c.take_
       t = u;
       s_is = c.enter-turn.ensures.sound.legal;
       t_is = subst (λ ns. IsLegal home.origin ns u) n.0 k.legal;
-      told = record { made = h.0; added_is = refl; tells = h.1; clock_is = c.clock_for-clock.ensures ∙ (e ∙ clock_is s c.args.clock c.args.walker FlushOut r u h.0 h.1) };
+      told = record { made = h.0; added_is = refl; tells = h.1; clock_is = c.clock_for-clock.ensures ∙ (e ∙ clock_is s c.args.clock c.args.walker FlushOut r u h.0 h.1); in_time = omega arith };
       found = subst (λ w. GrownByOthers noter w (seen c.args.pass) before) c.requires.1 c.enter-turn.ensures.grown;
       seen_is = l.seen ∙ n.0;
       own_is = l.own ∙ ap (λ o. o ++ drop (length (turn_seen c.enter-turn.result.0)) (notes_of u.journal home.marks.items)) t.2

@@ -39,7 +39,7 @@ returns-clause-turned g c = let t = c.enter-turn.ensures.turn in let h = c.event
       t = u;
       s_is = c.enter-turn.ensures.sound.legal;
       t_is = subst (λ o. IsLegal o (before ++ map plain (listed h.0)) u) c.event-clock.ensures.rest.0 (subst (λ ns. IsLegal after.origin ns u) is c.event-clock.ensures.sound.legal);
-      told = record { made = h.0; added_is = Rattle.std.proofs.Common.refl; tells = h.1; clock_is = h.2 };
+      told = record { made = h.0; added_is = Rattle.std.proofs.Common.refl; tells = h.1; clock_is = h.2; in_time = c.requires.in_time };
       found = subst (λ w. GrownByOthers noter w (seen c.args.pass) before) c.requires.pass.1 c.enter-turn.ensures.grown;
       seen_is = l.seen ∙ is;
       own_is = l.own ∙ ap (λ o. o ++ drop (length (turn_seen c.enter-turn.result.0)) (notes_of u.journal after.marks.items)) t.2

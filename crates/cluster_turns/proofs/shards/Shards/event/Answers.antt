@@ -5,6 +5,7 @@ use Rattle.machine_calls.specs.Events.{event_fits}
 use Rattle.cluster_turns.specs.Turns.{Turned, EventTold}
 use Rattle.cluster_turns.specs.Walkers.{IsWalkerOf, Walked, GoesOn, kept, founds_of}
 use Rattle.cluster_turns.proofs.Walking.{walks, still_pass, event_adds, event_rises}
+use Rattle.cluster_turns.proofs.Dating.{sent_in_time}
 use Rattle.cluster_turns.proofs.shards.Shards.event.Goals as goal
 use Rattle.law_base.proofs.Options.{value_or as the, some_inj}
 
@@ -21,6 +22,9 @@ turn-pass-requires-clause-fits g c = let t = c.requires.walker.walks.are_passes.
     let same : t.0 ≡ c.unwrap-pass.result = ap (the t.0) (sym is ∙ c.unwrap-pass.ensures) in
     λ o h. (let one : t.2.origin ≡ o = some_inj t.2.origin o (sym t.2.has_origin ∙ (ap (λ p. pass_origin p) same ∙ h)) in
     subst (λ n. event_fits n c.args.event ≡ true) (sym t.2.origin_is.shard ∙ ap (λ x. x.shard) one) c.requires.fits)
+
+pub turn-pass-requires-clause-in_time : goal.turn-pass-requires-clause-in_time
+turn-pass-requires-clause-in_time g c = sent_in_time c.args.walker.now.clock (kept c.args.walker.now.passes.items) c.args.event c.requires.walker.walks.in_time c.requires.goes.sent
 
 pub turn-pass-requires-clause-named : goal.turn-pass-requires-clause-named
 turn-pass-requires-clause-named g c = c.requires.free.named
