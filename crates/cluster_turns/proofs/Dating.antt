@@ -26,6 +26,22 @@ use Rattle.cluster_turns.specs.Turns.{Turned, EventTold}
 use Rattle.cluster_turns.specs.Walkers.{Walked, Looked}
 use Rattle.cluster_turns.specs.Flights.{LandTold}
 use Rattle.cluster_turns.specs.CallTurns.{Turn, Took, no_turn, event_turn, flush_turns, horizon_look}
+use Rattle.cluster_turns.specs.Turns.{SettledTold}
+use Rattle.cluster_turns.specs.declared.flushing.Flushed.{Flushed}
+use Rattle.cluster_turns.specs.declared.flushing.FlushError.{FlushError}
+use Rattle.cluster_turns.specs.declared.flushing.FlushError.TheVariants.{Failed as FlushFailed, Down as FlushDown, Worn as FlushWorn, Memory as FlushMemory}
+use Rattle.cluster_turns.specs.Told.{FlushTold, one_turn, two_turns, stayed, flown}
+use Rattle.cluster_turns.specs.declared.carrying.Carry.{Carry}
+use Rattle.cluster_turns.specs.declared.carrying.CarryError.{CarryError}
+use Rattle.cluster_turns.specs.declared.carrying.CarryError.TheVariants.{Down as CarryDown, Worn as CarryWorn, Memory as CarryMemory}
+use Rattle.clv_base.specs.declared.events.Outcome.TheVariants.{Sent, Nothing as NothingOut, Away as AwayOut, Down as DownOut, Reminded as RemindedOut}
+use Rattle.cluster_turns.specs.declared.reminding.Reminding.{Reminding}
+use Rattle.cluster_turns.specs.Reminded.{reminded_by}
+use Rattle.cluster_turns.specs.Carried.{message_of, brought_by, not_taken, BringTold, is_lost, is_brought, CarryTold, none_sent, one_sent}
+use Rattle.cluster_turns.specs.declared.tending.DrainError.{DrainError}
+use Rattle.cluster_turns.specs.declared.tending.DrainError.TheVariants.{Worn as DrainWorn}
+use Rattle.cluster_turns.specs.Rounds.{Rounds, no_turn as no_round, flushes, carries, reminds, looks, Refused, no_flush, no_message, no_reminder, DrainTold, flush_refusal, carry_refusal}
+use Rattle.cluster_turns.proofs.Answering.{worn_told}
 use Rattle.cluster_turns.specs.Dates.{latest, seen_by, last_seen, IsDated}
 
 -- ---- greatest stamps
@@ -98,6 +114,7 @@ event_dated clock w e r c s t o before added legal h = by_made h.made h.added_is
         let more = notes_left before added in
         let m = h.in_time in
         omega arith
+
     by_made : (made : Option Entry) → added ≡ map plain (listed made) → Tells (step s clock w e) s clock w e r t made → c ≡ clock_after clock r made → c ≤ max clock (latest (entries_in (before ++ added)))
     by_made None is told k = by_answer r told.0 k
     by_made (Some x) is told k =
@@ -148,7 +165,7 @@ module _ {T : Type 0} where
 
   looked_grows : (n horizon : ℕ) (ps qs : List (Option (Pass T Note Origin))) → Looked n ps horizon qs → last_seen ps ≤ last_seen qs
   looked_grows n horizon ps qs h =
-      let same = ap (λ l. latest (entries_in l)) h.same.2.0 in
+      let same = ap (λ l. latest (entries_in l)) h.same.2 in
       let r = set_grows n ps h.p h.q h.had (let s = same in omega arith) in
       let e = ap last_seen h.after_is in
       omega arith
@@ -179,3 +196,105 @@ module _ {T : Type 0} where
       dated_on clock d clock' ps qs rs (dated_on clock c d ps ms qs (event_walked out) (landing_walked back)) (turns_are_dated w d clock' qs rs ts h)
   turns_are_dated w _ _ _ _ _ (horizon_look clock clock' n horizon ps qs rs ts looked h) =
       dated_on clock clock clock' ps qs rs (looked_grows n horizon ps qs looked, omega arith) (turns_are_dated w clock clock' qs rs ts h)
+
+-- ---- rounds
+
+module _ {T : Type 0} where
+  flush_dated : {n w c : ℕ} {ps qs : List (Option (Pass T Note Origin))} {r : Result Flushed FlushError} {d : ℕ} → FlushTold n w c ps r d qs → IsDated c ps d qs
+  flush_dated (one_turn r d qs stays h) = event_walked h
+  flush_dated {n} {w} {c} {ps} (two_turns upto c1 d pushed ms qs h k p) = dated_on c c1 d ps ms qs (event_walked h) (landing_walked k)
+
+  bring_dated : {count : ℕ} {m : _} {w c : ℕ} {ps qs : List (Option (Pass T Note Origin))} {r : Result Carry CarryError} {d : ℕ} → BringTold count m w c ps r d qs → IsDated c ps d qs
+  bring_dated (is_lost l) = (omega arith, omega arith)
+  bring_dated (is_brought r d qs l h) = event_walked h
+
+  carry_dated : {count n w c : ℕ} {ps qs : List (Option (Pass T Note Origin))} {r : Result Carry CarryError} {d : ℕ} → CarryTold count n w c ps r d qs → IsDated c ps d qs
+  carry_dated (none_sent r d qs unsent h) = event_walked h
+  carry_dated {count} {n} {w} {c} {ps} (one_sent m c1 ms r d qs h b) = dated_on c c1 d ps ms qs (event_walked h) (bring_dated b)
+
+  look_dated : {n w c : ℕ} {answer : Bool} {ps qs : List (Option (Pass T Note Origin))} → Walked (SettledTold answer) n w ps qs → IsDated c ps c qs
+  look_dated h = (walked_grows h, omega arith)
+
+  pub rounds_dated : {count w c : ℕ} {ps qs : List (Option (Pass T Note Origin))} {d : ℕ} → Rounds count w c ps d qs → IsDated c ps d qs
+  rounds_dated no_round = (omega arith, omega arith)
+  rounds_dated {count} {w} {c} {ps} (flushes {c = c1} {between} n r d qs b l t) = dated_on c c1 d ps between qs (rounds_dated b) (flush_dated t)
+  rounds_dated {count} {w} {c} {ps} (carries {c = c1} {between} n r d qs b l t) = dated_on c c1 d ps between qs (rounds_dated b) (carry_dated t)
+  rounds_dated {count} {w} {c} {ps} (reminds {c = c1} {between} n r d qs b l t) = dated_on c c1 d ps between qs (rounds_dated b) (event_walked t)
+  rounds_dated {count} {w} {c} {ps} (looks {c = c1} {between} n answer qs b l t) = dated_on c c1 c1 ps between qs (rounds_dated b) (look_dated t)
+
+  refused_dated : {count w c : ℕ} {ps qs : List (Option (Pass T Note Origin))} {e : DrainError} {d : ℕ} → Refused count w c ps e d qs → IsDated c ps d qs
+  refused_dated {count} {w} {c} {ps} (no_flush {c = c1} {between} n e d qs b l t) = dated_on c c1 d ps between qs (rounds_dated b) (flush_dated t)
+  refused_dated {count} {w} {c} {ps} (no_message {c = c1} {between} n e d qs b l t) = dated_on c c1 d ps between qs (rounds_dated b) (carry_dated t)
+  refused_dated {count} {w} {c} {ps} (no_reminder {c = c1} {between} n r e d qs b l t is) = dated_on c c1 d ps between qs (rounds_dated b) (event_walked t)
+
+  pub drains_are_dated : (count w c d : ℕ) (ps qs : List (Option (Pass T Note Origin))) (r : Result Unit DrainError) → DrainTold count w c ps r d qs → IsDated c ps d qs
+  drains_are_dated count w c d ps qs (Ok u) h = rounds_dated h.0
+  drains_are_dated count w c d ps qs (Err e) h = refused_dated h
+
+-- ---- a clock at its end
+
+stayed_worn : (r : Result Outcome StepError) (at : ℕ) → stayed r ≡ Err (FlushWorn at) → r ≡ Err (Worn at)
+stayed_worn (Ok NothingOut) at h = absurd cc
+stayed_worn (Ok AwayOut) at h = absurd cc
+stayed_worn (Ok o) at h = absurd cc
+stayed_worn (Err Memory) at h = absurd cc
+stayed_worn (Err (Worn k)) at h = cc
+
+not_flown : (pushed : Bool) (upto at : ℕ) → flown pushed upto ≡ Err (FlushWorn at) → {X : Type 0} → X
+not_flown true upto at h = absurd cc
+not_flown false upto at h = absurd cc
+
+taken_worn : (n : ℕ) (r : Result Outcome StepError) (at : ℕ) → not_taken (message_of n r) ≡ Err (CarryWorn at) → r ≡ Err (Worn at)
+taken_worn n (Ok (Sent m)) at h = absurd cc
+taken_worn n (Ok NothingOut) at h = absurd cc
+taken_worn n (Ok o) at h = absurd cc
+taken_worn n (Err Memory) at h = absurd cc
+taken_worn n (Err (Worn k)) at h = cc
+
+brought_worn : (n : ℕ) (r : Result Outcome StepError) (at : ℕ) → brought_by n r ≡ Err (CarryWorn at) → r ≡ Err (Worn at)
+brought_worn n (Ok DownOut) at h = absurd cc
+brought_worn n (Ok o) at h = absurd cc
+brought_worn n (Err Memory) at h = absurd cc
+brought_worn n (Err (Worn k)) at h = cc
+
+reminded_worn : (n : ℕ) (r : Result Outcome StepError) (at : ℕ) → reminded_by n r ≡ Err (CarryWorn at) → r ≡ Err (Worn at)
+reminded_worn n (Ok (RemindedOut k)) at h = absurd cc
+reminded_worn n (Ok NothingOut) at h = absurd cc
+reminded_worn n (Ok o) at h = absurd cc
+reminded_worn n (Err Memory) at h = absurd cc
+reminded_worn n (Err (Worn k)) at h = cc
+
+flush_refused : (n : ℕ) (e : FlushError) (at : ℕ) → flush_refusal n e ≡ DrainWorn at → e ≡ FlushWorn at
+flush_refused n FlushFailed at h = absurd cc
+flush_refused n FlushDown at h = absurd cc
+flush_refused n (FlushWorn k) at h = cc
+flush_refused n FlushMemory at h = absurd cc
+
+carry_refused : (e : CarryError) (at : ℕ) → carry_refusal e ≡ DrainWorn at → e ≡ CarryWorn at
+carry_refused (CarryDown n) at h = absurd cc
+carry_refused (CarryWorn k) at h = cc
+carry_refused CarryMemory at h = absurd cc
+
+module _ {T : Type 0} where
+  event_wears : {n w c d : ℕ} {e : Event} {r : Result Outcome StepError} {ps qs : List (Option (Pass T Note Origin))} (at : ℕ) → Walked (EventTold c w e r d) n w ps qs → r ≡ Err (Worn at) → 2 ^ 48 - 1 ≤ d
+  event_wears {n} {w} {c} {d} {e} {r} at h is = let t = h.turned in (worn_told t.s t.t c w d at e r (t.told).made (t.told).tells is (t.told).clock_is).1
+
+  flush_wears : {n w c : ℕ} {ps qs : List (Option (Pass T Note Origin))} {r : Result Flushed FlushError} {d : ℕ} (at : ℕ) → FlushTold n w c ps r d qs → r ≡ Err (FlushWorn at) → 2 ^ 48 - 1 ≤ d
+  flush_wears at (one_turn r d qs stays h) is = event_wears at h (stayed_worn r at is)
+  flush_wears at (two_turns upto c1 d pushed ms qs h k p) is = not_flown pushed upto at is
+
+  bring_wears : {count : ℕ} {m : _} {w c : ℕ} {ps qs : List (Option (Pass T Note Origin))} {r : Result Carry CarryError} {d : ℕ} (at : ℕ) → BringTold count m w c ps r d qs → r ≡ Err (CarryWorn at) → 2 ^ 48 - 1 ≤ d
+  bring_wears at (is_lost l) is = absurd cc
+  bring_wears {count} {m} at (is_brought r d qs l h) is = event_wears at h (brought_worn (Rattle.clv_base.specs.Events.to_of m) r at is)
+
+  carry_wears : {count n w c : ℕ} {ps qs : List (Option (Pass T Note Origin))} {r : Result Carry CarryError} {d : ℕ} (at : ℕ) → CarryTold count n w c ps r d qs → r ≡ Err (CarryWorn at) → 2 ^ 48 - 1 ≤ d
+  carry_wears {count} {n} at (none_sent r d qs unsent h) is = event_wears at h (taken_worn n r at is)
+  carry_wears at (one_sent m c1 ms r d qs h b) is = bring_wears at b is
+
+  refused_wears : {count w c : ℕ} {ps qs : List (Option (Pass T Note Origin))} {e : DrainError} {d : ℕ} (at : ℕ) → Refused count w c ps e d qs → e ≡ DrainWorn at → 2 ^ 48 - 1 ≤ d
+  refused_wears at (no_flush n e d qs b l t) is = flush_wears at t (ap (λ x. Err x) (flush_refused n e at is))
+  refused_wears at (no_message n e d qs b l t) is = carry_wears at t (ap (λ x. Err x) (carry_refused e at is))
+  refused_wears at (no_reminder n r e d qs b l t told) is = event_wears at t (reminded_worn n r at (told ∙ ap (λ x. Err x) (carry_refused e at is)))
+
+  pub drains_wear_out : (count w c d at : ℕ) (ps qs : List (Option (Pass T Note Origin))) → DrainTold count w c ps (Err (DrainWorn at)) d qs → 2 ^ 48 - 1 ≤ d
+  drains_wear_out count w c d at ps qs h = refused_wears at h refl
