@@ -5,6 +5,7 @@ pub use Rattle.law_base.proofs.Lists.{all_append}
 pub use Rattle.script_runs.proofs.Sessions.{tries_more}
 pub use Rattle.script_runs.proofs.Tries.{entries_more}
 pub use Rattle.script_runs.proofs.Doing.{one_more}
-pub use Rattle.script_runs.proofs.Doing.{grows_none, grows_on}
+pub use Rattle.script_runs.proofs.Doing.{grows_none, grows_on, grows_over}
 pub use Rattle.script_runs.proofs.Doing.{stamped_on}
+pub use Rattle.script_runs.proofs.Counting.{session_tries_are_few}
 pub use Rattle.script_runs.proofs.Alone.{all_past}

@@ -9,3 +9,4 @@ pub mod TriesSessions
 mod Alone
 mod Begun
 pub mod Laws
+pub mod Counting

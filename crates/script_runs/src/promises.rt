@@ -1,5 +1,5 @@
 // What a session of a script keeps.
-ghost use Rattle.script_runs.specs.TriesLaws.{AcknowledgedDidTheirLines, EntriesTellTheirLines, EntriesTellOfNoOther, DropsHaveReasons, TriesAreFew, TriesHaveOneBirth, TransactionsHaveOwnBirths, SessionsGoThrough, SessionsTellTheirTries};
+ghost use Rattle.script_runs.specs.TriesLaws.{AcknowledgedDidTheirLines, EntriesTellTheirLines, EntriesTellOfNoOther, DropsHaveReasons, TriesAreFew, SessionTriesAreFew, TriesHaveOneBirth, TransactionsHaveOwnBirths, SessionsGoThrough, SessionsTellTheirTries};
 
 /// A try that is acknowledged did each of its lines.
 pub fn acknowledged_did_their_lines()
@@ -24,6 +24,11 @@ pub fn drops_have_reasons()
 /// A transaction has at most as many tries as are wanted.
 pub fn tries_are_few()
     ensures { TriesAreFew }
+{}
+
+/// Nor does a session make more tries than it has transactions and makes entries.
+pub fn session_tries_are_few()
+    ensures { SessionTriesAreFew }
 {}
 
 /// The operations of all its tries bear one birth.
