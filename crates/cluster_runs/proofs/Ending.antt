@@ -57,7 +57,11 @@ use Rattle.cluster_runs.proofs.Promising.{runs_are_promised}
 use Rattle.cluster_runs.proofs.Down.{failed_are_down, down_stays, lowest_down_is_fault}
 use Rattle.command_line.specs.Running.{End, IsOk, status_by}
 use Rattle.cluster_runs.specs.Ends.{end_of, walked_by, IsClosedRun}
-use Rattle.cluster_runs.specs.Statuses.{StatusTold, FlushesTold}
+use Rattle.cluster_turns.specs.Dates.{latest, seen_by, last_seen}
+use Rattle.cluster_turns.proofs.Laws.{notes_left}
+use Rattle.cluster_runs.specs.Sessions.{AreCounted, seen_by_all, begun_by_all}
+use Rattle.cluster_runs.specs.Statuses.{StatusTold, FlushesTold, AreWorn, transactions, last_stamp}
+use Rattle.cluster_runs.proofs.Wearing.{owned_few, begun_few, filter_below, journal_below}
 use Rattle.cluster_runs.specs.Drained.{WasSettled}
 use Rattle.cluster_runs.specs.Laws.{ClustersEnd, OthersStand, AllAreIn, RunsKeep, SessionsHaveGone, StatusesTell, FlushesTell, DownsTell}
 use Rattle.law_base.proofs.Lists.{elem_at, all_mono}
@@ -286,6 +290,33 @@ module _
       (subst (λ x. (state_of x first).is_up ≡ false) (sym same) down) in
       (l, failed_at n l ∙ ap not (ap (λ t. t.is_up) (state_is n (home n l) l) ∙ fell))
 
+  -- ---- what walkers have seen is in the history
+
+  seen_below : (k n : ℕ) → k < length walkers → n < count → (d : Walker M S G) → seen_by (get_or (get_or walkers k d).passes.items n None) ≤ last_stamp (entries_of kept.journals)
+  seen_below k n few l d =
+      let h = get_or homes n (home n l) in
+      let s = made h in
+      let begins = r.closed.seen n (home n l) (low n l) in
+      let more = begins.seen_is k d few in
+      let noted = r.closed.noted n (home n l) (low n l) in
+      let same : journal_of n (entries_of kept.journals) ≡ entries_in (notes_of s.journal h.marks.items) = history.same_journals n l ∙ journal_is n (home n l) l ∙ noted.entries in
+      let first = ap (λ x. latest (entries_in x)) more.1 in
+      let a = notes_left (seen_of (get_or (get_or walkers k d).passes.items n None)) more.0 in
+      let top = journal_below n (entries_of kept.journals) in
+      let is = ap latest same in
+      by_pass (get_or (get_or walkers k d).passes.items n None) (omega arith)
+    where
+      by_pass : (p : Option (Pass (Home M S G) Note Origin)) → latest (entries_in (seen_of p)) ≤ last_stamp (entries_of kept.journals) → seen_by p ≤ last_stamp (entries_of kept.journals)
+      by_pass None low = omega arith
+      by_pass (Some p) low = low
+
+  pub walker_below : (k : ℕ) (d : Walker M S G) → k < length walkers → last_seen (get_or walkers k d).passes.items ≤ last_stamp (entries_of kept.journals)
+  walker_below k d few = each_below (get_or walkers k d).passes.items (λ n l. seen_below k n few (let b = r.closed.passes k d few in let c = r.begun.count in omega arith) d)
+    where
+      each_below : (ps : List (Option (Pass (Home M S G) Note Origin))) → ((n : ℕ) → n < length ps → seen_by (get_or ps n None) ≤ last_stamp (entries_of kept.journals)) → last_seen ps ≤ last_stamp (entries_of kept.journals)
+      each_below [] all = omega arith
+      each_below (p ∷ ps) all = let a = all 0 (omega arith) in let b = each_below ps (λ n l. all (suc n) (omega arith)) in omega arith
+
   -- ---- drained shards
 
   begins_there : (n : ℕ) (d : Walker M S G) (w : Walker M S G) (p : Pass (Home M S G) Note Origin) (o : Origin) → n < count → IsWalker sh w → ((e : Option (Pass (Home M S G) Note Origin)) → get_or w.passes.items n e ≡ Some p) → pass_origin p ≡ Some o
@@ -334,20 +365,6 @@ runs_keep {D = D} shard sh walkers homes kept down counts counts_now out out_now
 
 -- ---- statuses
 
-tells :
-    (shards : ℕ) (counts counts_now : ℕ → ℕ) (sessions : ℕ) (went : ℕ → Went) (down : Option ℕ) (end : End) → IsLowestFault counts counts_now shards down → (IsOk end → (k : ℕ) → k < sessions → went k ≡ Begun None)
-    → ((at : ℕ) → end ≡ Err (stop.Worn at) → at ≡ 2 ^ 48) → StatusTold shards counts counts_now sessions went (status_by down end)
-tells shards counts counts_now sessions went (Some m) end fault fine worn = fault
-tells shards counts counts_now sessions went None (Ok a) fault fine worn = (fault, fine tt)
-tells shards counts counts_now sessions went None (Err (stop.Worn at)) fault fine worn = (worn at refl, fault)
-tells shards counts counts_now sessions went None (Err stop.Memory) fault fine worn = fault
-tells shards counts counts_now sessions went None (Err (stop.Down n)) fault fine worn = fault
-tells shards counts counts_now sessions went None (Err (stop.Unsettled n)) fault fine worn = fault
-
-pub statuses_tell : {M S G D : Type 0} → StatusesTell M S G D
-statuses_tell shard sh walkers homes kept down counts counts_now out out_now before now sessions went end r fine worn =
-    tells (shard_count sh.splits) counts counts_now sessions went down end (fault shard sh walkers homes kept down counts counts_now out out_now before now r) fine worn
-
 pub flushes_tell : {M S G D : Type 0} → FlushesTell M S G D
 flushes_tell shard sh walkers homes kept down counts counts_now out out_now before now end r = flushes shard sh walkers homes kept down counts counts_now out out_now before now r end
 
@@ -392,3 +409,43 @@ pub own_is_kept :
 own_is_kept {D = D} shard sh walkers homes kept down counts counts_now out out_now before now r numbers k d l =
     (history {D = D} shard sh walkers homes kept down counts counts_now out out_now before now r).same_own k
     ∙ ap entries_of (view_at walkers k k d l (numbers k d l) (λ j e low same. (let n = numbers j e (omega arith) in omega arith)))
+
+-- where the walkers came to the last stamp, an entry is so near it
+all_below : {M S G : Type 0} (top : ℕ) (ws : List (Walker M S G)) → ((k : ℕ) (d : Walker M S G) → k < length ws → last_seen (get_or ws k d).passes.items ≤ top) → seen_by_all ws ≤ top
+all_below top [] all = omega arith
+all_below top (w ∷ ws) all = let a = all 0 w (omega arith) in let b = all_below top ws (λ k d l. all (suc k) d (omega arith)) in omega arith
+
+begun_by_sessions : {M S G : Type 0} (script : List (List Body)) (ws : List (Walker M S G)) (h : History) → length ws ≡ suc (length script) → AreCounted script ws
+    → ((k : ℕ) (d : Walker M S G) → k < length ws → own k h ≡ kept_by (get_or ws k d).passes.items) → begun_by_all ws ≤ transactions script + length h
+begun_by_sessions script [] h many counted same = absurd (omega arith)
+begun_by_sessions script (w ∷ ws) h many counted same =
+    let none = counted.none w in
+    let few = begun_few script ws 1 h (omega arith) (λ k bodies d is. (let c = counted.few k bodies d is in let low = inside script k bodies is in
+    let e = ap length (same (suc k) d (omega arith)) in let f = filter_below (λ x. is_of_session (x.1).event) (kept_by (get_or ws k d).passes.items) in let n : 1 + k ≡ suc k = omega arith in
+    let g = ap (λ j. length (own j h)) n in omega arith)) in
+    let all = owned_few h 1 (length ws) in
+    omega arith
+
+worn_by :
+    {M S G D : Type 0} (shard : M → Shard) (sh : Shards M S G) (walkers : List (Walker M S G)) (homes : List (Home M S G)) (kept : Kept) (down : Option ℕ) (counts counts_now : ℕ → ℕ) (out out_now : ℕ → Bool) (before now : ℕ → Option Story)
+    (script : List (List Body)) → IsClosedRun D shard sh walkers homes kept down counts counts_now out out_now before now → ((k : ℕ) (d : Walker M S G) → k < length walkers → (get_or walkers k d).number ≡ k) → length walkers ≡ suc (length script)
+    → AreCounted script walkers → 2 ^ 48 - 1 ≤ seen_by_all walkers + begun_by_all walkers → AreWorn script (entries_of kept.journals)
+worn_by {D = D} shard sh walkers homes kept down counts counts_now out out_now before now script r numbers many counted worn =
+    let top = all_below (last_stamp (entries_of kept.journals)) walkers (walker_below {D = D} shard sh walkers homes kept down counts counts_now out out_now before now r) in
+    let few = begun_by_sessions script walkers (entries_of kept.journals) many counted (own_is_kept {D = D} shard sh walkers homes kept down counts counts_now out out_now before now r numbers) in
+    omega arith
+
+tells :
+    (shards : ℕ) (counts counts_now : ℕ → ℕ) (script : List (List Body)) (h : History) (went : ℕ → Went) (down : Option ℕ) (end : End) → IsLowestFault counts counts_now shards down → (IsOk end → (k : ℕ) → k < length script → went k ≡ Begun None)
+    → ((at : ℕ) → end ≡ Err (stop.Worn at) → (at ≡ 2 ^ 48) × AreWorn script h) → StatusTold shards counts counts_now script h went (status_by down end)
+tells shards counts counts_now script h went (Some m) end fault fine worn = fault
+tells shards counts counts_now script h went None (Ok a) fault fine worn = (fault, fine tt)
+tells shards counts counts_now script h went None (Err (stop.Worn at)) fault fine worn = ((worn at refl).0, ((worn at refl).1, fault))
+tells shards counts counts_now script h went None (Err stop.Memory) fault fine worn = fault
+tells shards counts counts_now script h went None (Err (stop.Down n)) fault fine worn = fault
+tells shards counts counts_now script h went None (Err (stop.Unsettled n)) fault fine worn = fault
+
+pub statuses_tell : {M S G D : Type 0} → StatusesTell M S G D
+statuses_tell shard sh walkers homes kept down counts counts_now out out_now before now script went end r fine numbers many counted worn =
+    tells (shard_count sh.splits) counts counts_now script (entries_of kept.journals) went down end (fault shard sh walkers homes kept down counts counts_now out out_now before now r) fine
+    (λ at is. ((worn at is).0, worn_by shard sh walkers homes kept down counts counts_now out out_now before now script r numbers many counted (worn at is).1))

@@ -1,4 +1,5 @@
 mod Promised
+mod Wearing
 mod Drained
 mod Settled
 mod Gone

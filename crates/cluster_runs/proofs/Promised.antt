@@ -40,14 +40,14 @@ use Rattle.cluster_runs.specs.Alone.{BeginsWith, AreAlone, RanAlone}
 use Rattle.cluster_runs.proofs.Alone.{ran_alone}
 use Rattle.cluster_runs.proofs.Ending.{others_stand, runs_keep, sessions_have_gone, statuses_tell, flushes_tell, downs_tell, was_drained, own_is_kept}
 use Rattle.cluster_runs.proofs.Before.{before_sessions}
-use Rattle.cluster_runs.specs.Sessions.{HasGrounds, SessionsGone, HasWornLast}
+use Rattle.cluster_runs.specs.Sessions.{HasGrounds, SessionsGone, AreCounted, HasWornLast}
 use Rattle.cluster_runs.specs.Ran.{AllEnded, StopTold, RanAll}
 use Rattle.law_base.proofs.Lists.{elem_at as some_elem}
 
 -- where all was fine each transaction has ended
 module _ (ends : SessionsHaveEnded) (splits : List ℕ) (before now : ℕ → Option Story) (counts counts_now : ℕ → ℕ) (most : Option ℕ) (script : List (List Body)) (went : ℕ → Went) (kept : Kept)
     (promised : RunPromised splits before now counts counts_now most script went kept) where
-  all_ended : (shards : ℕ) (status : Status) → StatusTold shards counts counts_now (length script) went status → AllEnded splits most script kept status
+  all_ended : (shards : ℕ) (status : Status) → StatusTold shards counts counts_now script (entries_of kept.journals) went status → AllEnded splits most script kept status
   all_ended shards Fine told = λ wanted k bodies at. ends splits before now counts counts_now most script went kept k bodies wanted promised at (told.1 k (slice_get_within script k bodies at))
   all_ended shards Usage told = tt
   all_ended shards (Script line) told = tt
@@ -78,11 +78,11 @@ module _ {M S G : Type 0} (shards : ℕ) (failed : ℕ → Bool) (w : Walker M S
 pub ran_all : {M S G : Type 0} → SessionsHaveEnded → (D : Type 0) (shard : M → Shard) (sh : Shards M S G) (walkers : List (Walker M S G)) (homes : List (Home M S G)) (kept : Kept) (down : Option ℕ) (counts counts_now : ℕ → ℕ) (out out_now : ℕ → Bool)
     (before now : ℕ → Option Story) (most : Option ℕ) (start : Start) (script : List (List Body)) (went : ℕ → Went) (end : End) (status : Status)
     → IsClosedRun D shard sh walkers homes kept down counts counts_now out out_now before now → ((k : ℕ) (d : Walker M S G) → k < length walkers → (get_or walkers k d).number ≡ k) → length walkers ≡ suc (length script)
-    → SessionsGone sh most script walkers went end → AreDrained sh (length script) walkers went → ((d : Walker M S G) → IsWalker sh (get_or walkers 0 d)) → (start ≡ FirstAlone → AreAlone sh most script (λ k d. get_or walkers (suc k) d)) → HasWornLast end → status ≡ status_by down end → RanAll before now counts counts_now most start script kept status
-ran_all ends D shard sh walkers homes kept down counts counts_now out out_now before now most start script went end status ended numbers many gone drains walks apart worn is =
+    → SessionsGone sh most script walkers went end → AreDrained sh (length script) walkers went → ((d : Walker M S G) → IsWalker sh (get_or walkers 0 d)) → (start ≡ FirstAlone → AreAlone sh most script (λ k d. get_or walkers (suc k) d)) → AreCounted script walkers → HasWornLast walkers end → status ≡ status_by down end → RanAll before now counts counts_now most start script kept status
+ran_all ends D shard sh walkers homes kept down counts counts_now out out_now before now most start script went end status ended numbers many gone drains walks apart counted worn is =
     let each = subst (λ r. SessionsWent sh.splits r most script went (walked_by walkers)) ended.begun.run (sessions_have_gone sh.splits sh.run most script went walkers numbers many gone.each) in
     let promised = runs_keep {D = D} shard sh walkers homes kept down counts counts_now out out_now before now most script went ended each in
-    let told = subst (λ z. StatusTold (shard_count sh.splits) counts counts_now (length script) went z) (sym is) (statuses_tell {D = D} shard sh walkers homes kept down counts counts_now out out_now before now (length script) went end ended gone.fine worn) in
+    let told = subst (λ z. StatusTold (shard_count sh.splits) counts counts_now script (entries_of kept.journals) went z) (sym is) (statuses_tell {D = D} shard sh walkers homes kept down counts counts_now out out_now before now script went end ended gone.fine numbers many counted worn) in
     record {
       splits = sh.splits;
       went = went;

@@ -8,6 +8,8 @@ use Rattle.turn_lock.specs.Passes.{seen}
 use Rattle.machine_calls.specs.Settled.{is_settled}
 use Rattle.machine_laws.specs.declared.notes.Note.{Note}
 use Rattle.machine_laws.specs.declared.notes.Origin.{Origin}
+use Rattle.cluster_turns.specs.Dates.{last_seen}
+use Rattle.cluster_turns.proofs.Dating.{state_last, walked_has}
 use Rattle.cluster_turns.specs.Turns.{Turned, SettledTold}
 use Rattle.cluster_turns.specs.Walkers.{Walked}
 use Rattle.cluster_turns.specs.declared.flushing.Flushed.{Flushed}
@@ -99,6 +101,15 @@ module _ {T : Type 0} where
     after_is = h.after_is;
     kept_is = h.kept_is;
   }
+
+  -- its last stamp is among those that the walker has seen then
+  pub looked_last : {n w : ℕ} {before after : List (Option (Pass T Note Origin))} (answer : Bool) (last : ℕ) → Walked (LookTold answer last) n w before after → last ≤ last_seen after
+  looked_last answer last h =
+      let t = h.turned in
+      let is = t.told.last_is in
+      let low = state_last t.origin (t.before ++ t.added) t.t t.t_is in
+      let has = walked_has h in
+      omega arith
 
   pub seen_settled : {n w : ℕ} {before after : List (Option (Pass T Note Origin))} (answer : Bool) (last most : ℕ) → Walked (LookTold answer last) n w before after → answer ≡ true → last ≤ most → WasSettled n most after
   seen_settled {n} {w} {before} {after} answer last most h is low =

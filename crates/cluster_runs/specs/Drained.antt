@@ -16,6 +16,8 @@ use Rattle.history_replay.specs.Entries.{Kept}
 use Rattle.cluster_turns.specs.declared.shards.Shards.{Shards}
 use Rattle.cluster_turns.specs.declared.shards.Walker.{Walker}
 use Rattle.cluster_turns.specs.Turns.{SettledTold}
+use Rattle.cluster_turns.specs.declared.tending.DrainError.{DrainError}
+use Rattle.cluster_turns.specs.declared.tending.DrainError.TheVariants.{Worn}
 use Rattle.cluster_turns.specs.Walkers.{kept}
 use Rattle.script_runs.specs.declared.ends.StopCause.{StopCause}
 use Rattle.script_runs.specs.Sessions.{session_entries}
@@ -37,10 +39,10 @@ pub record WasDrained (n : ℕ) (run : Kept) : Type 0 where
 
 -- ---- as walker 0 has seen it
 
--- a look at the state, which makes no entry: whether it is settled, and a stamp that its last one isn't past
+-- a look at the state, which makes no entry: whether it is settled, and its last stamp
 pub record LookTold (answer : Bool) (last : ℕ) (s t : Shard) (added : List Note) : Type 0 where
   pub settled : SettledTold answer s t added
-  pub last_is : t.last ≤ last
+  pub last_is : last ≡ t.last
 
 module _ {T : Type 0} where
   -- after the first of the notes that the pass has seen, the shard was settled, and its last stamp was not past the clock
@@ -65,3 +67,7 @@ module _ {M S G : Type 0} where
     pub clock : ℕ
     pub settled : (k : ℕ) (cause : Option StopCause) → k < sessions → went k ≡ Begun cause → (n : ℕ) (d : Walker M S G) → n < length sh.locks.items → WasSettled n clock (slice_index_or walkers 0 d).passes.items
     pub later : (k : ℕ) (d : Walker M S G) → k < sessions → AllByRecursion (λ e. clock < (e.1).stamp) (session_entries (kept (slice_index_or walkers (suc k) d).passes.items))
+
+-- a drain ended as stamps were wanting
+abbrev pub IsWornDrain : DrainError → Type 0
+IsWornDrain e = (at : ℕ) × (e ≡ Worn at)

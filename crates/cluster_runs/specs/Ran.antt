@@ -45,7 +45,7 @@ pub record RanAll (before now : ℕ → Option Story) (counts counts_now : ℕ �
   -- the promise of the run, with its shards and with how far each session came
   pub promised : RunPromised splits before now counts counts_now most script went kept
   -- what its status tells of disks and sessions, and of the shards whose flush failed; how each transaction ended, and why a session was stopped
-  pub told : StatusTold (shard_count splits) counts counts_now (length script) went status
+  pub told : StatusTold (shard_count splits) counts counts_now script (entries kept) went status
   pub flushes : FlushesTold (shard_count splits) (λ n. has_failed (journal_of n (entries kept))) status
   pub ended : AllEnded splits most script kept status
   -- where the first session's first transaction was to run alone, all that other sessions made has stamps past those of its entries

@@ -1,13 +1,13 @@
 // The drains of a run.
-ghost use Rattle.std.specs.Prelude.{◌≡◌, ◌<◌, ◌^◌, ℕ, IfOk, IfSome, length};
+ghost use Rattle.std.specs.Prelude.{◌≡◌, ◌<◌, ◌≤◌, ◌^◌, ◌-◌, ℕ, Err, IfOk, IfSome, length};
 ghost use Rattle.turn_lock.specs.Passes.{number, IsPassOf};
 ghost use Rattle.cluster_turns.specs.Turns.{Turned};
 ghost use Rattle.cluster_turns.specs.Walkers.{IsWalker, IsSameWalker, Walked};
 ghost use Rattle.cluster_turns.specs.Rounds.{Rounds, SettledAt};
 ghost use Rattle.script_runs.specs.declared.ends.StopCause.TheVariants.{Worn};
 ghost use Rattle.session_api.specs.Standing.{IsAtRest};
-ghost use Rattle.cluster_runs.specs.Sessions.{HasWornLast};
-ghost use Rattle.cluster_runs.specs.Drained.{LookTold, WasSettled};
+ghost use Rattle.cluster_turns.specs.Dates.{IsDated, last_seen};
+ghost use Rattle.cluster_runs.specs.Drained.{LookTold, WasSettled, IsWornDrain};
 
 use cluster_closing::end_promises::drains_land;
 use cluster_closing::promises::{drains_fetch_none, drains_hold_none};
@@ -25,7 +25,7 @@ const WORN: u64 = 1 << 48;
 
 // What a drain's end is to a run.
 fn stop_of(error: DrainError) -> StopCause
-    ensures { (at : ℕ) → result ≡ Worn at → at ≡ 2 ^ 48 }
+    ensures { (at : ℕ) → result ≡ Worn at → (at ≡ 2 ^ 48) × IsWornDrain error }
 {
     match error {
         DrainError::Down { shard } => StopCause::Down { shard },
@@ -80,6 +80,7 @@ fn last_if_settled<M: Machine, R: Wait>(
     ensures walker { IsWalker shards.now walker.new × IsSameWalker walker.old walker.new }
     ensures looked { Rounds (length shards.now.locks.items) walker.old.number walker.old.clock walker.old.passes.items walker.new.clock walker.new.passes.items }
     ensures settled { IfSome result (λ last. (n : ℕ) → n < length shards.now.locks.items → SettledAt n walker.new.passes.items × WasSettled n last walker.new.passes.items) }
+    ensures seen { IfSome result (λ last. last ≤ last_seen walker.new.passes.items) }
 {
     let mut most: u64 = 0;
     for shard in 0..shards.splits.shards() {
@@ -104,7 +105,9 @@ pub(crate) fn drain_all<M: Flier, P: Pace, R: Wait>(
     ensures rest { IsAtRest shards.now 0 walker.new }
     ensures settled { IfOk result (λ u. (n : ℕ) → n < length shards.now.locks.items → WasSettled n walker.new.clock walker.new.passes.items) }
     ensures stays { (n clock : ℕ) → WasSettled n clock walker.old.passes.items → WasSettled n clock walker.new.passes.items }
-    ensures worn { HasWornLast result }
+    ensures dated { IsDated walker.old.clock walker.old.passes.items walker.new.clock walker.new.passes.items }
+    ensures serial { walker.new.serial ≡ walker.old.serial }
+    ensures worn { (at : ℕ) → result ≡ Err (Worn at) → (at ≡ 2 ^ 48) × (2 ^ 48 - 1 ≤ walker.new.clock) }
 {
     drains_land::<Home<M>>();
     drains_hold_none::<Home<M>>();

@@ -4,12 +4,13 @@ use native.Mathlib.Decide.{ℕ_discrete}
 use Rattle.cluster_turns.specs.Walkers.{Walked}
 use Rattle.cluster_turns.specs.Rounds.{Rounds, no_turn, looks, SettledAt}
 use Rattle.cluster_turns.proofs.Laws.{settled_still, settled_here}
+use Rattle.cluster_turns.proofs.Dating.{walked_grows}
 use Rattle.cluster_runs.specs.Drained.{LookTold, WasSettled}
-use Rattle.cluster_runs.proofs.Settled.{walked_settled, as_look, seen_settled, settled_later}
+use Rattle.cluster_runs.proofs.Settled.{walked_settled, as_look, looked_last, seen_settled, settled_later}
 use Rattle.cluster_runs.proofs.draining.last_if_settled.Goals as goal
 
 pub loop-shard-init : goal.loop-shard-init
-loop-shard-init g c = record { walker = c.requires.walker; same = (refl, refl); rounds = no_turn; settled = λ n l. absurd (omega arith) }
+loop-shard-init g c = record { walker = c.requires.walker; same = (refl, refl); rounds = no_turn; settled = λ n l. absurd (omega arith); seen = omega arith }
 
 pub look-settled-requires-clause-shard : goal.look-settled-requires-clause-shard
 look-settled-requires-clause-shard g c = let h = c.loop-shard-test.true in let e = c.shards-shard-end.ensures.shards in let k = c.requires.walker.count in omega arith
@@ -35,7 +36,11 @@ loop-shard-preserved g c = let w = c.args.walker.now in let u = c.loop-shard.wal
           (settled_here r.0 (as_look r.0 r.1 told) (let k = inv.walker.walks.are_passes.count in omega arith) yes, seen_settled r.0 r.1 c.max-most.result told yes (omega arith)))
           (λ other. (let before = inv.settled n (omega arith) in
           (settled_still told n other before.0, settled_later n c.loop-shard.most c.max-most.result v.passes.items (omega arith) (walked_settled n c.loop-shard.most told before.1))));
+      seen = (let old = inv.seen in let up = walked_grows told in let here = looked_last r.0 r.1 told in omega arith);
     }
 
 pub returns-clause-settled : goal.returns-clause-settled
 returns-clause-settled g c = let inv = c.loop-shard.invariant in let h = c.loop-shard-test.false in let e = c.shards-shard-end.ensures.shards in let k = c.requires.walker.count in λ n l. inv.settled n (omega arith)
+
+pub returns-clause-seen : goal.returns-clause-seen
+returns-clause-seen g c = c.loop-shard.invariant.seen

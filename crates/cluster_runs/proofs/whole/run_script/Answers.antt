@@ -24,7 +24,7 @@ returns-clause-ran g c =
     subst (λ f. RanAll (story h0) (story h1) (faults h0) (faults h1) c.args.most c.args.start c.args.sessions.now (record { journals = c.new.result.journals; found = f }) c.running_status.result) (sym (c.new.ensures.found ∙ c.in-Ok.ensures.founds))
     (subst (λ j. RanAll (story h0) (story h1) (faults h0) (faults h1) c.args.most c.args.start c.args.sessions.now (record { journals = j; found = founds_of sh }) c.running_status.result) (sym c.new.ensures.journals)
     (ran_all c.sessions_have_ended.ensures _ _ sh W.items r.ends.value.items (record { journals = lists r.journals.items; found = founds_of sh }) r.down (faults h0) (faults h1) (out h0) (out h1) (story h0) (story h1) c.args.most c.args.start c.args.sessions.now went.0 c.run_over-end.result c.running_status.result ended
-    (λ k d l. (c.run_over-end.ensures.rest k d (omega arith)).number_is) (omega arith) went.1 went.2 (λ d. (c.run_over-end.ensures.rest 0 d (omega arith)).walker) c.run_over-end.ensures.alone c.run_over-end.ensures.worn c.running_status.ensures.is))
+    (λ k d l. (c.run_over-end.ensures.rest k d (omega arith)).number_is) (omega arith) went.1 went.2 (λ d. (c.run_over-end.ensures.rest 0 d (omega arith)).walker) c.run_over-end.ensures.alone c.run_over-end.ensures.counted c.run_over-end.ensures.worn c.running_status.ensures.is))
 
 pub returns-clause-back : goal.returns-clause-back
 returns-clause-back g c =
