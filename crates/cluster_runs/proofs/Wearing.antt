@@ -1,13 +1,13 @@
 -- Stamps that come to their end.
-use Rattle.std.proofs.Common.{◌≡◌, ◌≢◌, refl, sym, ap, ◌∙◌, subst, ℕ, zero, suc, ◌+◌, ◌<◌, ◌≤◌, Bool, true, false, cond, List, [], ◌∷◌, map, length, get_or, Option, Some, slice_get, arith}
+use Rattle.std.proofs.Common.{◌≡◌, ◌≢◌, refl, sym, ap, ◌∙◌, subst, ℕ, zero, suc, ◌+◌, ◌<◌, ◌≤◌, Bool, true, false, cond, List, [], ◌∷◌, map, length, get_or, set, max, ◌^◌, ◌-◌, Option, Some, slice_get, arith}
 use Rattle.std.specs.List.{filter}
 use Rattle.std.proofs.lemmas.Bool.{eqb-true}
 use Rattle.clv_base.specs.declared.events.Entry.{Entry}
 use Rattle.clv_base.specs.Journals.{History, own, journal_of}
 use Rattle.cluster_turns.specs.declared.shards.Walker.{Walker}
-use Rattle.cluster_turns.specs.Dates.{latest}
+use Rattle.cluster_turns.specs.Dates.{latest, last_seen}
 use Rattle.script_lang.specs.Bodies.{Body}
-use Rattle.cluster_runs.specs.Sessions.{begun_by_all}
+use Rattle.cluster_runs.specs.Sessions.{seen_by_all, begun_by_all, base_from}
 use Rattle.cluster_runs.specs.Statuses.{transactions, last_stamp}
 
 -- ---- the entries of walkers, from a number on
@@ -71,3 +71,49 @@ journal_below n (e ∷ es) = at (e.0 == n)
     at : (b : Bool) → latest (cond b (e.1 ∷ journal_of n es) (journal_of n es)) ≤ last_stamp (e ∷ es)
     at true = omega arith
     at false = omega arith
+
+-- ---- walkers at their places
+
+module _ {M S G : Type 0} where
+  seen_at : (ws : List (Walker M S G)) (k : ℕ) (d : Walker M S G) → k < length ws → last_seen (get_or ws k d).passes.items ≤ seen_by_all ws
+  seen_at [] k d l = absurd (omega arith)
+  seen_at (w ∷ ws) zero d l = omega arith
+  seen_at (w ∷ ws) (suc k) d l = let a = seen_at ws k d (omega arith) in omega arith
+
+  begun_at : (ws : List (Walker M S G)) (k : ℕ) (d : Walker M S G) → k < length ws → (get_or ws k d).serial ≤ begun_by_all ws
+  begun_at [] k d l = absurd (omega arith)
+  begun_at (w ∷ ws) zero d l = omega arith
+  begun_at (w ∷ ws) (suc k) d l = let a = begun_at ws k d (omega arith) in omega arith
+
+  -- that of the first session, and of another one
+  begun_both : (ws : List (Walker M S G)) (k : ℕ) (d : Walker M S G) → suc (suc k) < length ws → (get_or ws 1 d).serial + (get_or ws (suc (suc k)) d).serial ≤ begun_by_all ws
+  begun_both [] k d l = absurd (omega arith)
+  begun_both (v ∷ []) k d l = absurd (omega arith)
+  begun_both (v ∷ w ∷ ws) k d l = let a = begun_at ws k d (omega arith) in omega arith
+
+  -- a session whose clock is at its end: by the stamps that walkers have seen, and their tries
+  pub session_worn : (ws : List (Walker M S G)) (clock base k : ℕ) (d : Walker M S G) → suc k < length ws → clock ≤ last_seen (get_or ws 0 d).passes.items → base ≤ (get_or ws 1 d).serial + max clock (last_seen (get_or ws 1 d).passes.items)
+      → (get_or ws (suc k) d).clock ≤ (get_or ws (suc k) d).serial + max (base_from clock base k) (last_seen (get_or ws (suc k) d).passes.items) → 2 ^ 48 - 1 ≤ (get_or ws (suc k) d).clock
+      → 2 ^ 48 - 1 ≤ seen_by_all ws + begun_by_all ws
+  session_worn ws clock base zero d l start reached dated worn =
+      let zeroth = seen_at ws 0 d (omega arith) in
+      let own = seen_at ws 1 d l in
+      let tries = begun_at ws 1 d l in
+      omega arith
+  session_worn ws clock base (suc k) d l start reached dated worn =
+      let zeroth = seen_at ws 0 d (omega arith) in
+      let first = seen_at ws 1 d (omega arith) in
+      let own = seen_at ws (suc (suc k)) d l in
+      let tries = begun_both ws k d l in
+      omega arith
+
+  -- walker 0, whose clock is at its end
+  pub drain_worn : (ws : List (Walker M S G)) (w : Walker M S G) → 0 < length ws → w.clock ≤ last_seen w.passes.items → 2 ^ 48 - 1 ≤ w.clock → 2 ^ 48 - 1 ≤ seen_by_all (set ws 0 w) + begun_by_all (set ws 0 w)
+  drain_worn [] w l dated worn = absurd (omega arith)
+  drain_worn (x ∷ xs) w l dated worn = omega arith
+
+  -- it has gone on, and begun none
+  pub worn_still : (ws : List (Walker M S G)) (w : Walker M S G) → ((d : Walker M S G) → last_seen (get_or ws 0 d).passes.items ≤ last_seen w.passes.items) → ((d : Walker M S G) → w.serial ≡ (get_or ws 0 d).serial) → 2 ^ 48 - 1 ≤ seen_by_all ws + begun_by_all ws
+      → 2 ^ 48 - 1 ≤ seen_by_all (set ws 0 w) + begun_by_all (set ws 0 w)
+  worn_still [] w more same worn = worn
+  worn_still (x ∷ xs) w more same worn = let m = more x in let s = same x in omega arith

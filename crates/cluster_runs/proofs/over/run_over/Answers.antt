@@ -1,4 +1,4 @@
-use Rattle.std.proofs.Common.{arith, ◌≡◌, ◌∙◌, suc, ◌<◌, true, false, sym, subst, get_or, set, Ok, Err}
+use Rattle.std.proofs.Common.{arith, ◌≡◌, ◌∙◌, ap, suc, ◌<◌, true, false, sym, subst, get_or, set, Ok, Err}
 use Rattle.std.specs.Prelude.{IfOk}
 use Rattle.std.specs.Result.{is_err}
 use Rattle.std.specs.List.{AllByRecursion}
@@ -10,6 +10,7 @@ use Rattle.cluster_runs.specs.PromisedSessions.{NotBegun}
 use Rattle.cluster_runs.specs.Drained.{WasSettled}
 use Rattle.script_runs.specs.declared.ends.StopCause.TheVariants.{Memory}
 use Rattle.cluster_runs.proofs.Gone.{none_gone, new_rest, all_rest, goes_on, none_drained, here_first, all_drained}
+use Rattle.cluster_runs.proofs.Wearing.{drain_worn, worn_still}
 use Rattle.cluster_runs.proofs.Alone.{none_alone, same_alone, behind_first}
 use Rattle.cluster_runs.proofs.over.run_over.Goals as goal
 
@@ -69,3 +70,14 @@ returns-then-is_err-clause-alone g c = let sh = c.args.shards.now in let script 
 pub returns-clause-alone : goal.returns-clause-alone
 returns-clause-alone g c = let sh = c.args.shards.now in let script = c.args.sessions.now in let ws = c.run_sessions-ran.new.walkers.items in
     λ is. same_alone sh c.args.most script (λ k d. get_or ws (suc k) d) (λ k d. get_or (set ws 0 c.drain_all-last.new.walker) (suc k) d) (behind_first ws c.drain_all-last.new.walker) (c.run_sessions-ran.ensures.alone is)
+
+-- ---- stamps that came to their end
+
+pub returns-then-is_err-clause-worn : goal.returns-then-is_err-clause-worn
+returns-then-is_err-clause-worn g c at is =
+    let count = c.requires.count in let ok = c.args.walkers.now.ok in let v = c.drain_all-first.new.walker in
+    let told = c.drain_all-first.ensures.worn at is in
+    let dated = c.drain_all-first.ensures.dated.1 in
+    let new = c.requires.new 0 c.index_mut.result.now (omega arith) in
+    let zero = new.clock_is in let same = ap (λ w. w.clock) c.index_mut.ensures.value in
+    (told.0, drain_worn c.args.walkers.now.items v (omega arith) (omega arith) told.1)

@@ -9,7 +9,7 @@ use Rattle.script_runs.specs.Sessions.{session_entries}
 use Rattle.session_api.specs.Standing.{IsAtRest}
 use Rattle.session_api.proofs.Laws.{new_walkers_keep_none}
 use Rattle.cluster_runs.specs.PromisedSessions.{NotBegun}
-use Rattle.cluster_runs.specs.Sessions.{HasSat, went_by}
+use Rattle.cluster_runs.specs.Sessions.{HasSat, base_from, went_by}
 use Rattle.cluster_runs.specs.Alone.{BeginsWith}
 use Rattle.cluster_runs.proofs.Alone.{none_alone}
 use Rattle.cluster_runs.proofs.Gone.{gone, none_gone, new_rest}
@@ -25,17 +25,17 @@ returns-in_default-clause-went g c = (λ k. NotBegun, none_gone c.args.shards.no
 pub returns-clause-rest : goal.returns-clause-rest
 returns-clause-rest g c =
     let S = c.run_seats.new.seats in let okS = S.ok in let many = c.run_seats.ensures.len in let took = c.take_seats-seats.ensures.len.2 in
-    λ k d l. (let e = some_elem S.items k (omega arith) in subst (λ w. IsAtRest c.args.shards.now (suc k) w) (sym (c.leave_seats.ensures.walkers k d e (omega arith))) (c.run_seats.ensures.sat k e l).rest)
+    λ k d l. (let e = some_elem S.items k (omega arith) in subst (λ w. IsAtRest c.args.shards.now (suc k) w) (sym (c.leave_seats.ensures.walkers k d e (omega arith))) (c.run_seats.ensures.sat.each k e l).rest)
 
 pub returns-clause-went : goal.returns-clause-went
 returns-clause-went g c =
     let S = c.run_seats.new.seats in let okS = S.ok in let many = c.run_seats.ensures.len in let took = c.take_seats-seats.ensures.len.2 in
     let ends = map (λ s. s.ended) S.items in (
       went_by ends,
-      gone c.args.shards.now c.args.most c.args.sessions.now c.args.clock c.leave_seats.new.walkers.items ends c.gravest-end.result (length-map S.items (λ s. s.ended) ∙ (omega arith))
+      gone c.args.shards.now c.args.most c.args.sessions.now c.args.clock c.run_seats.ensures.sat.base c.leave_seats.new.walkers.items ends c.gravest-end.result (length-map S.items (λ s. s.ended) ∙ (omega arith))
           (λ k d e l. (let x = some_elem S.items k (omega arith) in
-          subst (λ w. HasSat c.args.shards.now c.args.clock c.args.most c.args.sessions.now k w (get_or ends k e)) (sym (c.leave_seats.ensures.walkers k d x (omega arith)))
-          (subst (λ z. HasSat c.args.shards.now c.args.clock c.args.most c.args.sessions.now k (get_or S.items k x).session.session.walker z) (sym (get_or-map (λ s. s.ended) S.items k x e (omega arith))) (c.run_seats.ensures.sat k x l))))
+          subst (λ w. HasSat c.args.shards.now c.args.clock (base_from c.args.clock c.run_seats.ensures.sat.base k) c.args.most c.args.sessions.now k w (get_or ends k e)) (sym (c.leave_seats.ensures.walkers k d x (omega arith)))
+          (subst (λ z. HasSat c.args.shards.now c.args.clock (base_from c.args.clock c.run_seats.ensures.sat.base k) c.args.most c.args.sessions.now k (get_or S.items k x).session.session.walker z) (sym (get_or-map (λ s. s.ended) S.items k x e (omega arith))) (c.run_seats.ensures.sat.each k x l))))
           (λ ok k e l. (let x = some_elem S.items k (omega arith) in subst IsOk (sym (get_or-map (λ s. s.ended) S.items k x e (omega arith))) (subst (λ z. IsOk (get_or z k x).ended) c.as_slice.ensures.value (c.gravest-end.ensures.fine ok k x (let a = c.as_slice.ensures.len in omega arith))))),
     )
 
@@ -46,7 +46,7 @@ pub returns-clause-later : goal.returns-clause-later
 returns-clause-later g c =
     let S = c.run_seats.new.seats in let okS = S.ok in let many = c.run_seats.ensures.len in let took = c.take_seats-seats.ensures.len.2 in
     λ k d l. (let e = some_elem S.items k (omega arith) in
-    subst (λ w. AllByRecursion (λ e. c.args.clock < (e.1).stamp) (session_entries (kept w.passes.items))) (sym (c.leave_seats.ensures.walkers k d e (omega arith))) (c.run_seats.ensures.sat k e l).later)
+    subst (λ w. AllByRecursion (λ e. c.args.clock < (e.1).stamp) (session_entries (kept w.passes.items))) (sym (c.leave_seats.ensures.walkers k d e (omega arith))) (c.run_seats.ensures.sat.each k e l).later)
 
 pub returns-in_default-clause-alone : goal.returns-in_default-clause-alone
 returns-in_default-clause-alone g c = λ is. none_alone c.args.shards.now c.args.most c.args.sessions.now (λ k d. get_or c.args.walkers.now.items (suc k) d) c.requires.new
@@ -61,3 +61,17 @@ returns-clause-alone g c =
       others = λ k d pos l. (let e = some_elem S.items k (omega arith) in
           subst (λ w. AllByRecursion (λ x. a.clock < (x.1).stamp) (session_entries (kept w.passes.items))) (sym (c.leave_seats.ensures.walkers k d e (omega arith))) (a.others k e pos l));
     })
+
+-- ---- tries, and stamps that came to their end
+
+pub returns-in_default-clause-counted : goal.returns-in_default-clause-counted
+returns-in_default-clause-counted g c k bodies d at = let none = (c.requires.new k d (slice_get_within c.args.sessions.now k bodies at)).none_begun in omega arith
+
+pub returns-in_default-clause-worn : goal.returns-in_default-clause-worn
+returns-in_default-clause-worn g c d start at is = absurd cc
+
+pub returns-clause-counted : goal.returns-clause-counted
+returns-clause-counted g c =
+    let S = c.run_seats.new.seats in let okS = S.ok in let many = c.run_seats.ensures.len in let took = c.take_seats-seats.ensures.len.2 in
+    λ k bodies d at. (let l = slice_get_within c.args.sessions.now k bodies at in let e = some_elem S.items k (omega arith) in
+    subst (λ w. w.serial ≤ length bodies + length (session_entries (kept w.passes.items))) (sym (c.leave_seats.ensures.walkers k d e (omega arith))) ((c.run_seats.ensures.sat.each k e l).few bodies at))
