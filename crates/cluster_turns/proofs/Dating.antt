@@ -156,7 +156,7 @@ module _ {T : Type 0} where
   pub walked_grows : {Told : Shard → Shard → List Note → Type 0} {n w : ℕ} {ps qs : List (Option (Pass T Note Origin))} → Walked Told n w ps qs → last_seen ps ≤ last_seen qs
   walked_grows {Told} {n} {w} {ps} {qs} h = let r = set_grows n ps h.p h.q h.had (turned_grows w h.p h.q h.turned) in let e = ap last_seen h.after_is in omega arith
 
-  walked_has : {Told : Shard → Shard → List Note → Type 0} {n w : ℕ} {ps qs : List (Option (Pass T Note Origin))} (h : Walked Told n w ps qs) → latest (entries_in ((h.turned).before ++ (h.turned).added)) ≤ last_seen qs
+  pub walked_has : {Told : Shard → Shard → List Note → Type 0} {n w : ℕ} {ps qs : List (Option (Pass T Note Origin))} (h : Walked Told n w ps qs) → latest (entries_in ((h.turned).before ++ (h.turned).added)) ≤ last_seen qs
   walked_has {Told} {n} {w} {ps} {qs} h =
       let r = set_has n ps h.p h.q h.had in
       let e = ap last_seen h.after_is in
