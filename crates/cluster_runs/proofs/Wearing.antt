@@ -5,9 +5,11 @@ use Rattle.std.proofs.lemmas.Bool.{eqb-true}
 use Rattle.clv_base.specs.declared.events.Entry.{Entry}
 use Rattle.clv_base.specs.Journals.{History, own, journal_of}
 use Rattle.cluster_turns.specs.declared.shards.Walker.{Walker}
+use Rattle.cluster_turns.specs.Walkers.{kept}
 use Rattle.cluster_turns.specs.Dates.{latest, last_seen}
+use Rattle.script_runs.specs.Sessions.{session_entries}
 use Rattle.script_lang.specs.Bodies.{Body}
-use Rattle.cluster_runs.specs.Sessions.{seen_by_all, begun_by_all, base_from}
+use Rattle.cluster_runs.specs.Sessions.{seen_by_all, begun_by_all, AreCounted, base_from}
 use Rattle.cluster_runs.specs.Statuses.{transactions, last_stamp}
 
 -- ---- the entries of walkers, from a number on
@@ -26,6 +28,7 @@ one_more zero i e es = (omega arith, λ low. refl)
 one_more (suc n) i e es = at ((e.1).walker == i) refl
   where
     more = one_more n (suc i) e es
+
     at : (b : Bool) → ((e.1).walker == i) ≡ b → (owned_from i (suc n) (e ∷ es) ≤ suc (owned_from i (suc n) es)) × ((e.1).walker < i → owned_from i (suc n) (e ∷ es) ≡ owned_from i (suc n) es)
     at true is =
         let here : (e.1).walker ≡ i = eqb-true (e.1).walker i is in
@@ -57,6 +60,7 @@ filter_below f [] = omega arith
 filter_below f (x ∷ xs) = at (f x)
   where
     rest = filter_below f xs
+
     at : (b : Bool) → length (cond b (x ∷ filter f xs) (filter f xs)) ≤ suc (length xs)
     at true = omega arith
     at false = omega arith
@@ -68,6 +72,7 @@ journal_below n [] = omega arith
 journal_below n (e ∷ es) = at (e.0 == n)
   where
     rest = journal_below n es
+
     at : (b : Bool) → latest (cond b (e.1 ∷ journal_of n es) (journal_of n es)) ≤ last_stamp (e ∷ es)
     at true = omega arith
     at false = omega arith
@@ -117,3 +122,9 @@ module _ {M S G : Type 0} where
       → 2 ^ 48 - 1 ≤ seen_by_all (set ws 0 w) + begun_by_all (set ws 0 w)
   worn_still [] w more same worn = worn
   worn_still (x ∷ xs) w more same worn = let m = more x in let s = same x in omega arith
+
+  -- with walker 0, which began none
+  pub first_counted : (script : List (List Body)) (ws : List (Walker M S G)) (w : Walker M S G) → 0 < length ws → w.serial ≡ 0
+      → ((k : ℕ) (bodies : List Body) (d : Walker M S G) → slice_get script k ≡ Some bodies → (get_or ws (suc k) d).serial ≤ length bodies + length (session_entries (kept (get_or ws (suc k) d).passes.items))) → AreCounted script (set ws 0 w)
+  first_counted script [] w l none few = absurd (omega arith)
+  first_counted script (x ∷ xs) w l none few = record { none = λ d. none; few = λ k bodies d is. few k bodies d is }

@@ -5,6 +5,7 @@ use Rattle.io_model.specs.Story.{Story}
 use Rattle.cluster_runs.specs.Ran.{RanAll}
 use Rattle.history_replay.specs.Entries.{Kept}
 use Rattle.cluster_runs.specs.Replays.{RunsReplay}
+use Rattle.cluster_runs.specs.Histories.{entries}
 use Rattle.cluster_runs.specs.Statuses.{StatusTold}
 use Rattle.command_line.specs.declared.status.Status.{Status}
 use Rattle.script_lang.specs.Bodies.{Body}
@@ -17,5 +18,5 @@ loaded replay script before now counts counts_now kept running status r ends = (
   running,
   r,
   ends,
-  λ fine. replay r.splits before now counts counts_now None script r.went kept r.opens r.promised (subst (StatusTold (shard_count r.splits) counts counts_now (length script) r.went) fine r.told).1,
+  λ fine. replay r.splits before now counts counts_now None script r.went kept r.opens r.promised (subst (StatusTold (shard_count r.splits) counts counts_now script (entries kept) r.went) fine r.told).1,
 )

@@ -2,6 +2,7 @@ use Rattle.std.proofs.Common.{arith, ◌≡◌, ◌∙◌, ap, suc, ◌<◌, tru
 use Rattle.std.specs.Prelude.{IfOk}
 use Rattle.std.specs.Result.{is_err}
 use Rattle.std.specs.List.{AllByRecursion}
+use Rattle.std.proofs.lemmas.Option.{slice_get_within}
 use Rattle.cluster_turns.specs.Walkers.{kept}
 use Rattle.script_runs.specs.Sessions.{session_entries}
 use Rattle.command_line.specs.Running.{End, IsOk}
@@ -10,7 +11,7 @@ use Rattle.cluster_runs.specs.PromisedSessions.{NotBegun}
 use Rattle.cluster_runs.specs.Drained.{WasSettled}
 use Rattle.script_runs.specs.declared.ends.StopCause.TheVariants.{Memory}
 use Rattle.cluster_runs.proofs.Gone.{none_gone, new_rest, all_rest, goes_on, none_drained, here_first, all_drained}
-use Rattle.cluster_runs.proofs.Wearing.{drain_worn, worn_still}
+use Rattle.cluster_runs.proofs.Wearing.{first_counted, drain_worn, worn_still}
 use Rattle.cluster_runs.proofs.Alone.{none_alone, same_alone, behind_first}
 use Rattle.cluster_runs.proofs.over.run_over.Goals as goal
 
@@ -81,3 +82,19 @@ returns-then-is_err-clause-worn g c at is =
     let new = c.requires.new 0 c.index_mut.result.now (omega arith) in
     let zero = new.clock_is in let same = ap (λ w. w.clock) c.index_mut.ensures.value in
     (told.0, drain_worn c.args.walkers.now.items v (omega arith) (omega arith) told.1)
+
+pub returns-then-is_err-clause-counted : goal.returns-then-is_err-clause-counted
+returns-then-is_err-clause-counted g c =
+    let count = c.requires.count in let ok = c.args.walkers.now.ok in let v = c.drain_all-first.new.walker in let ws = c.args.walkers.now.items in
+    let none : v.serial ≡ 0 = (let s = c.drain_all-first.ensures.serial in let at = ap (λ w. w.serial) c.index_mut.ensures.value in let new = (c.requires.new 0 c.index_mut.result.now (omega arith)).none_begun in omega arith) in
+    first_counted c.args.sessions.now ws v (omega arith) none (λ k bodies d is. (let new = (c.requires.new (suc k) d (let l = slice_get_within c.args.sessions.now k bodies is in omega arith)).none_begun in omega arith))
+
+pub returns-clause-counted : goal.returns-clause-counted
+returns-clause-counted g c =
+    let many = c.run_sessions-ran.ensures.len in let ok = c.run_sessions-ran.new.walkers.ok in let ok0 = c.args.walkers.now.ok in let v = c.drain_all-last.new.walker in let count = c.requires.count in
+    let first = c.drain_all-first.new.walker in let u = c.index_mut-2.result.now in let ws = c.args.walkers.now.items in
+    let here : (d : _) → get_or (set ws 0 first) 0 d ≡ first = λ d. here_first c.args.shards.now c.args.most c.args.sessions.now ws first d (omega arith) in
+    let last : u ≡ first = c.index_mut-2.ensures.value ∙ (c.run_sessions-ran.ensures.first u ∙ here u) in
+    let none : v.serial ≡ 0 = (let s = c.drain_all-last.ensures.serial in let t = ap (λ w. w.serial) last in let f = c.drain_all-first.ensures.serial in let at = ap (λ w. w.serial) c.index_mut.ensures.value in
+    let new = (c.requires.new 0 c.index_mut.result.now (omega arith)).none_begun in omega arith) in
+    first_counted c.args.sessions.now c.run_sessions-ran.new.walkers.items v (omega arith) none c.run_sessions-ran.ensures.counted
