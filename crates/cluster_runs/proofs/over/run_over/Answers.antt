@@ -1,9 +1,10 @@
-use Rattle.std.proofs.Common.{arith, ◌≡◌, ◌∙◌, ap, suc, ◌<◌, true, false, sym, subst, get_or, set, Ok, Err}
+use Rattle.std.proofs.Common.{arith, ◌≡◌, ◌∙◌, ap, ⊎_elim, suc, ◌<◌, ◌≤◌, true, false, sym, subst, get_or, set, Ok, Err}
 use Rattle.std.specs.Prelude.{IfOk}
 use Rattle.std.specs.Result.{is_err}
 use Rattle.std.specs.List.{AllByRecursion}
 use Rattle.std.proofs.lemmas.Option.{slice_get_within}
 use Rattle.cluster_turns.specs.Walkers.{kept}
+use Rattle.cluster_turns.specs.Dates.{last_seen}
 use Rattle.script_runs.specs.Sessions.{session_entries}
 use Rattle.command_line.specs.Running.{End, IsOk}
 use Rattle.session_api.specs.Standing.{IsAtRest}
@@ -98,3 +99,26 @@ returns-clause-counted g c =
     let none : v.serial ≡ 0 = (let s = c.drain_all-last.ensures.serial in let t = ap (λ w. w.serial) last in let f = c.drain_all-first.ensures.serial in let at = ap (λ w. w.serial) c.index_mut.ensures.value in
     let new = (c.requires.new 0 c.index_mut.result.now (omega arith)).none_begun in omega arith) in
     first_counted c.args.sessions.now c.run_sessions-ran.new.walkers.items v (omega arith) none c.run_sessions-ran.ensures.counted
+
+pub returns-clause-worn : goal.returns-clause-worn
+returns-clause-worn g c at is =
+    let many = c.run_sessions-ran.ensures.len in let ok = c.run_sessions-ran.new.walkers.ok in let ok0 = c.args.walkers.now.ok in let count = c.requires.count in
+    let v = c.drain_all-last.new.walker in let first = c.drain_all-first.new.walker in let u = c.index_mut-2.result.now in let ws = c.args.walkers.now.items in let vs = c.run_sessions-ran.new.walkers.items in
+    let here : (d : _) → get_or (set ws 0 first) 0 d ≡ first = λ d. here_first c.args.shards.now c.args.most c.args.sessions.now ws first d (omega arith) in
+    let same : (d : _) → get_or vs 0 d ≡ first = λ d. c.run_sessions-ran.ensures.first d ∙ here d in
+    let last : u ≡ first = c.index_mut-2.ensures.value ∙ same u in
+    let new = c.requires.new 0 c.index_mut.result.now (omega arith) in
+    let zero = new.clock_is in
+    let start = ap (λ w. w.clock) c.index_mut.ensures.value in
+    let dated = c.drain_all-first.ensures.dated.1 in
+    let low : first.clock ≤ last_seen first.passes.items = omega arith in
+    let more = c.drain_all-last.ensures.dated in
+    let at_u = ap (λ w. last_seen w.passes.items) last in
+    let clock_u = ap (λ w. w.clock) last in
+    let serial_u = ap (λ w. w.serial) last in
+    let serial = c.drain_all-last.ensures.serial in
+    ⊎_elim
+    (λ ran. let told = c.run_sessions-ran.ensures.worn c.index.result.now (let f = ap (λ w. last_seen w.passes.items) (same c.index.result.now) in let k = ap (λ w. w.clock) (c.index.ensures ∙ here c.index.result.now) in omega arith) at (sym ran ∙ is) in
+    (told.0, worn_still vs v (λ d. (let f = ap (λ w. last_seen w.passes.items) (same d) in let m = more.0 in omega arith)) (λ d. (let f = ap (λ w. w.serial) (same d) in omega arith)) told.1))
+    (λ end. let told = c.drain_all-last.ensures.worn at (sym end ∙ is) in (told.0, drain_worn vs v (omega arith) (let d = more.1 in let m = more.0 in omega arith) told.1))
+    c.graver.ensures.one

@@ -1,10 +1,12 @@
-use Rattle.std.proofs.Common.{arith, ◌∙◌, suc, ◌<◌, get_or, map, sym, subst}
+use Rattle.std.proofs.Common.{arith, ◌≡◌, ◌∙◌, ℕ, suc, ◌+◌, ◌-◌, ◌^◌, ◌<◌, ◌≤◌, max, get_or, length, map, sym, subst, Err, IfErr}
 use Rattle.std.specs.List.{AllByRecursion}
 use Rattle.std.proofs.lemmas.List.{get_or-map, length-map}
 use Rattle.std.proofs.lemmas.Option.{slice_get_within}
 use Rattle.script_runs.specs.declared.ends.StopCause.TheVariants.{Memory}
 use Rattle.command_line.specs.Running.{IsOk}
 use Rattle.cluster_turns.specs.Walkers.{kept}
+use Rattle.cluster_turns.specs.Dates.{last_seen}
+use Rattle.session_api.specs.Grounds.{Grounds}
 use Rattle.script_runs.specs.Sessions.{session_entries}
 use Rattle.session_api.specs.Standing.{IsAtRest}
 use Rattle.session_api.proofs.Laws.{new_walkers_keep_none}
@@ -12,6 +14,7 @@ use Rattle.cluster_runs.specs.PromisedSessions.{NotBegun}
 use Rattle.cluster_runs.specs.Sessions.{HasSat, base_from, went_by}
 use Rattle.cluster_runs.specs.Alone.{BeginsWith}
 use Rattle.cluster_runs.proofs.Alone.{none_alone}
+use Rattle.cluster_runs.proofs.Wearing.{session_worn}
 use Rattle.cluster_runs.proofs.Gone.{gone, none_gone, new_rest}
 use Rattle.cluster_runs.proofs.sessions.run_sessions.Goals as goal
 use Rattle.law_base.proofs.Lists.{elem_at as some_elem}
@@ -75,3 +78,22 @@ returns-clause-counted g c =
     let S = c.run_seats.new.seats in let okS = S.ok in let many = c.run_seats.ensures.len in let took = c.take_seats-seats.ensures.len.2 in
     λ k bodies d at. (let l = slice_get_within c.args.sessions.now k bodies at in let e = some_elem S.items k (omega arith) in
     subst (λ w. w.serial ≤ length bodies + length (session_entries (kept w.passes.items))) (sym (c.leave_seats.ensures.walkers k d e (omega arith))) ((c.run_seats.ensures.sat.each k e l).few bodies at))
+
+pub returns-clause-worn : goal.returns-clause-worn
+returns-clause-worn g c =
+    let S = c.run_seats.new.seats in let okS = S.ok in let many = c.run_seats.ensures.len in let took = c.take_seats-seats.ensures.len.2 in let r = c.run_seats.ensures.sat in let ws = c.leave_seats.new.walkers.items in let len = c.leave_seats.ensures.len in
+    let okW = c.leave_seats.new.walkers.ok in
+    λ d start at is. (
+    let one = subst (λ x. IfErr x (λ cause. (k : ℕ) × (k < length S.items) × ((e : _) → (get_or S.items k e).ended ≡ Err cause))) is
+    (subst (λ z. IfErr c.gravest-end.result (λ cause. (k : ℕ) × (k < length z) × ((e : _) → (get_or z k e).ended ≡ Err cause))) c.as_slice.ensures.value c.gravest-end.ensures.one) in
+    let k = one.0 in
+    let e = some_elem S.items k one.1 in
+    let e0 = some_elem S.items 0 (omega arith) in
+    let sat = r.each k e (omega arith) in
+    let ground = subst (λ x. IfErr x (Grounds (get_or S.items k e).session.session.walker)) (one.2 e) sat.grounds in
+    let here = c.leave_seats.ensures.walkers k d e (omega arith) in
+    let there = c.leave_seats.ensures.walkers 0 d e0 (omega arith) in (
+      ground.0,
+      session_worn ws c.args.clock r.base k d (omega arith) start (subst (λ w. r.base ≤ w.serial + max c.args.clock (last_seen w.passes.items)) (sym there) (r.reached e0 (omega arith)))
+          (subst (λ w. w.clock ≤ w.serial + max (base_from c.args.clock r.base k) (last_seen w.passes.items)) (sym here) sat.dated) (subst (λ w. 2 ^ 48 - 1 ≤ w.clock) (sym here) ground.1),
+    ))
