@@ -1,5 +1,5 @@
 -- Clocks go by the stamps that were seen.
-use Rattle.std.proofs.Common.{◌≡◌, ◌∙◌, refl, sym, ap, subst, ℕ, zero, suc, ◌≤◌, ◌^◌, ◌-◌, Bool, true, false, List, [], ◌∷◌, ◌++◌, get_or, set, map, nat_lt, Option, Some, None, Result, Ok, Err, arith}
+use Rattle.std.proofs.Common.{◌≡◌, ◌∙◌, refl, ap, ℕ, zero, suc, ◌≤◌, ◌^◌, ◌-◌, Bool, true, false, List, [], ◌∷◌, ◌++◌, get_or, set, map, nat_lt, Option, Some, None, Result, Ok, Err, arith}
 use Rattle.std.specs.Prelude.{max}
 use Rattle.std.specs.List.{AllByRecursion}
 use Rattle.std.proofs.lemmas.Bool.{ltb-false}
@@ -35,7 +35,6 @@ use Rattle.cluster_turns.specs.declared.carrying.Carry.{Carry}
 use Rattle.cluster_turns.specs.declared.carrying.CarryError.{CarryError}
 use Rattle.cluster_turns.specs.declared.carrying.CarryError.TheVariants.{Down as CarryDown, Worn as CarryWorn, Memory as CarryMemory}
 use Rattle.clv_base.specs.declared.events.Outcome.TheVariants.{Sent, Nothing as NothingOut, Away as AwayOut, Down as DownOut, Reminded as RemindedOut}
-use Rattle.cluster_turns.specs.declared.reminding.Reminding.{Reminding}
 use Rattle.cluster_turns.specs.Reminded.{reminded_by}
 use Rattle.cluster_turns.specs.Carried.{message_of, brought_by, not_taken, BringTold, is_lost, is_brought, CarryTold, none_sent, one_sent}
 use Rattle.cluster_turns.specs.declared.tending.DrainError.{DrainError}
