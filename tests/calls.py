@@ -73,9 +73,38 @@ put 1 8
 put 12 8
 abort
 """
+# Sessions that meet on one shard, and end in each way.
+ONE_SHARD = b"""session
+begin
+put 1 1
+put 2 2
+get 3
+commit
+begin
+put 1 3
+put 3 4
+abort
+session
+begin
+get 2
+put 3 5
+put 2 6
+commit
+begin
+get 1
+get 3
+commit
+session
+begin
+scan 0 5
+put 2 7
+put 1 8
+commit
+"""
 # Splits, a script that ran before, the script.
 SCRIPTS = [
     ("one put", (), b"", ONE_PUT),
+    ("one shard", (), b"", ONE_SHARD),
     ("two shards", (10,), FILLING, TWO_SHARDS),
     ("three shards", (10, 20), b"", THREE_SHARDS),
 ]
@@ -84,7 +113,7 @@ SCRIPTS = [
 DONE = '{"ops":[["put",5,10,null]],"serial":1,"session":1}\n{"aborted":0,"acknowledged":1,"unsettled":0}\n'
 UNSETTLED = '{"aborted":0,"acknowledged":0,"unsettled":1}\n'
 NOTHING, EITHER = {""}, {"", "[5,10]\n"}
-UNOPENED = {"open": 1, "len": 2, "read": 2, "write": 2, "sync": 3}
+UNOPENED = {"open": 1, "lock": 1, "len": 2, "read": 2, "write": 2, "sync": 3}
 WORKED = {(kind, number): ("", NOTHING) for kind, most in UNOPENED.items() for number in range(1, most + 1)}
 WORKED |= {("write", 3): (UNSETTLED, NOTHING), ("sync", 4): (UNSETTLED, NOTHING)}
 WORKED |= {("write", 4): (UNSETTLED, EITHER), ("sync", 5): (UNSETTLED, EITHER)}
@@ -271,7 +300,7 @@ def fails_to_make(checks, library, folder, kind, number):
 
 def makes(checks, library, program):
     with Folder(program) as folder:
-        for kind in ("open", "len", "write", "sync", "folder"):
+        for kind in ("open", "lock", "len", "write", "sync", "folder"):
             number = 1
             while fails_to_make(checks, library, folder, kind, number):
                 number += 1

@@ -5,11 +5,11 @@
    A log is a file whose name begins with "shard-". The environment says what is to be done; what it doesn't name goes on as ever.
 
    FAULTS_TRACE=FILE   is given a line for each call on a log, and for each fault:
-                         open LOG E | len LOG E | read LOG AT SIZE E | write LOG AT HEX E | sync LOG E | folder E | fault KIND | stop
+                         open LOG E | lock LOG E | len LOG E | read LOG AT SIZE E | write LOG AT HEX E | sync LOG E | folder E | fault KIND | stop
                        with the place AT, the bytes in HEX, and E, the number of the error or 0. `folder` is a sync of the working folder.
    FAULTS_CALL=KIND:N:E[:MORE]
-                       the Nth call of a kind, from 1, fails with the error E. Kinds: open, len, read, write, sync, folder; disk, which is any
-                       of these; in and out, a read of standard input and a write of standard output; thread. KIND@LOG counts the calls on
+                       the Nth call of a kind, from 1, fails with the error E. Kinds: open, lock, len, read, write, sync, folder; disk, which is
+                       any of these; in and out, a read of standard input and a write of standard output; thread. KIND@LOG counts the calls on
                        that log alone. MORE is `on`: all later ones fail too; `short`: the call moves one byte and doesn't fail; `half`:
                        a write moves half of its bytes, and the next one fails.
    FAULTS_ALLOC=N      the Nth allocation (malloc or realloc) finds no memory; N.. is that and all later ones, N-M those from N to M.
@@ -27,6 +27,7 @@
 #include <stdio.h>
 #include <stdlib.h>
 #include <string.h>
+#include <sys/file.h>
 #include <sys/stat.h>
 #include <sys/syscall.h>
 #include <unistd.h>
@@ -212,6 +213,16 @@ int close(int file) {
     if (file >= 0 && file < FILES) names[file][0] = 0;
     pthread_mutex_unlock(&lock);
     return syscall(SYS_close, file);
+}
+
+int flock(int file, int how) {
+    pthread_mutex_lock(&lock);
+    const char *log = name_of(file);
+    int error = log && fate_of("lock", log) == FAILS ? call_error : 0;
+    if (log) tell("lock %s %d\n", log, error);
+    int status = error ? failed(error) : syscall(SYS_flock, file, how);
+    pthread_mutex_unlock(&lock);
+    return status;
 }
 
 int statx(int file, const char *restrict path, int flags, unsigned mask, struct statx *restrict into) {

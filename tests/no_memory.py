@@ -15,7 +15,7 @@ import faults
 import logs
 import members
 import reports
-from calls import ONE_PUT, RUN, crowd
+from calls import ONE_PUT, ONE_SHARD, RUN, crowd
 from program import Checks, Folder, arguments, cases
 
 SPREAD = b"session\nbegin\nput 0 1\nput 10 2\nput 20 3\nput 18446744073709551615 4\ncommit\nbegin\nscan 0 18446744073709551615\ncommit\n"
@@ -53,6 +53,7 @@ COMMANDS = [
     ("no session", (), b"", RUN, b""),
     ("three shards", (10, 20), b"", RUN, SPREAD),
     ("two sessions", (), b"", RUN, MEETING),
+    ("three sessions on one shard", (), b"", RUN, ONE_SHARD),
     ("three sessions", (10, 20), SPREAD, RUN, DYING),
     ("show", (10, 20), SPREAD, ("show",), b""),
     ("load", (50,), b"", LOAD, b""),

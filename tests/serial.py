@@ -4,12 +4,12 @@
 
 Each case makes logs of 1 to 4 shards, and runs some scripts of 1 to 8 sessions over them, one behind the other, each from what the one before
 left. Of each run: the report's transactions, one after the other on a plain map, give each answer exactly, those of a session in the order of
-its script; the counts add up; the logs and `show` tell the map after them. Then a run of `load` keeps its sum.
+its script; the counts add up; the logs and `show` tell the map after them. Then a run of `load` keeps its sum. Before all cases 64 sessions meet under `load`.
 """
 
 import logs
 import reports
-from program import Checks, Folder, arguments, cases
+from program import Checks, Folder, arguments, cases, seeded
 
 LAST = (1 << 64) - 1
 TRIES = (1, 2, 10, 100, 1000, 1000)
@@ -105,9 +105,10 @@ def runs(checks, case, numbers, program):
         shows(checks, f"case {case}, at the end", case, folder, pairs, script)
 
 
-def loads(checks, case, numbers, program):
+def loads(checks, case, numbers, program, sessions=None, accounts=None, transfers=None):
     """`load`, over logs that may hold other pairs: it acknowledges all, and the accounts keep their sum."""
-    accounts, sessions, transfers = numbers.randrange(2, 30), numbers.randrange(1, 9), numbers.randrange(13)
+    if sessions is None:
+        accounts, sessions, transfers = numbers.randrange(2, 30), numbers.randrange(1, 9), numbers.randrange(13)
     splits = sorted(numbers.sample(range(1, accounts + 3), numbers.randrange(min(4, accounts))))
     words = f"load --seed {numbers.randrange(LAST)} --sessions {sessions} --accounts {accounts} --transfers {transfers}"
     with Folder(program) as folder:
@@ -129,6 +130,9 @@ def loads(checks, case, numbers, program):
 def main():
     told = arguments(__doc__, count=200)
     checks = Checks(told)
+    if told.only is None:
+        for accounts in (5, 5, 1000, 1000):
+            loads(checks, None, seeded(told.seed, accounts), told.program, 64, accounts, 20)
     for case, numbers in cases(told):
         runs(checks, case, numbers, told.program)
         loads(checks, case, numbers, told.program)

@@ -27,6 +27,7 @@ const NAMES: [&str; 16] = [
 
 /// The files `shard-00.log` to `shard-15.log` of the working folder. A file is opened only when its shard's disk is
 /// asked for, and is made empty where it is absent; the folder is synced then, so that the file is there after a power cut.
+/// It is locked for as long as it is open: a second opening of it, by whatever program, is `Failed`.
 #[derive(Drop)]
 pub struct FileHouse<R: Files<File = File> + Drop> {
     rt: R,
@@ -49,6 +50,7 @@ impl<R: Files<File = File> + Drop> FileHouse<R> {
 }
 
 impl<R: Files<File = File> + Drop> FileHouse<R> {
+    // The lock is the open file's: the system gives it up when that is closed, however the process ends.
     // A file without bytes may be a new one: its name is durable only after the folder was synced.
     fn open_file(&self, name: &str) -> io::Result<File> {
         let file = OpenOptions::new()
@@ -56,6 +58,7 @@ impl<R: Files<File = File> + Drop> FileHouse<R> {
             .write(true)
             .create(true)
             .open(&self.rt, name)?;
+        file.try_lock()?;
         if file.metadata()?.len() == 0 {
             File::open(&self.rt, ".")?.sync_all()?;
         }

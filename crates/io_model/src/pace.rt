@@ -14,6 +14,11 @@ pub enum Step {
 /// Is told each step; a test may hold the run there. It can't fail, and answers nothing.
 pub trait Pace {
     fn pass(&self, point: Step);
+
+    /// Whether it holds nothing at any step, so that whoever tells it a step may keep what others wait for meanwhile. No clause rests on it.
+    fn never_holds(&self) -> bool {
+        false
+    }
 }
 
 /// Holds nothing.
@@ -22,4 +27,8 @@ pub struct NoPace;
 
 impl Pace for NoPace {
     fn pass(&self, _point: Step) {}
+
+    fn never_holds(&self) -> bool {
+        true
+    }
 }
