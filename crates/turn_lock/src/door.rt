@@ -1,71 +1,96 @@
-// The door before the line: few stand in line at a time, and others sleep.
-use crossbeam_utils::Backoff;
+// The door before the line: one is inside at a time, and others sleep.
 use std::sync::Wait;
 use std::sync::atomic::{AtomicU64, Ordering};
+use std::{hint, thread};
 
-// How many are inside at most. Who stands in line keeps a processor busy, and who is to be served next must not be asleep.
-const PLACES: u64 = 3;
+// How often who finds it shut looks again before it sleeps.
+const LOOKS: u32 = 200;
+
+// And how often it gives its processor away then.
+const YIELDS: u32 = 20;
+
+const OPEN: u64 = 0;
+
+const SHUT: u64 = 1;
+
+// Shut, and one may sleep before it.
+const WANTED: u64 = 2;
+
+// For so many turns one stays at most.
+const TURNS: u64 = 32;
+
+fn name(who: u32) -> u64 {
+    (who as u64).wrapping_add(1)
+}
 
 /// The door before a line. No proof rests on it: who is inside is served in the order of tickets all the same.
 #[derive(Drop)]
 pub(crate) struct Door {
-    inside: AtomicU64,
-    // How many sleep before it, or are about to.
-    asleep: AtomicU64,
-    // How often one of these was called.
-    calls: AtomicU64,
-}
-
-// The half of a word that a sleeper tells, so that it doesn't sleep where the word has changed.
-fn low(word: u64) -> u32 {
-    (word % (1 << 32)) as u32
+    word: AtomicU64,
+    // The number above that of who stays behind it between two turns, 0 for nobody, and how many turns that one has had.
+    stayed: AtomicU64,
+    turns: AtomicU64,
 }
 
 impl Door {
     pub(crate) const fn new() -> Door {
         Door {
-            inside: AtomicU64::new(0),
-            asleep: AtomicU64::new(0),
-            calls: AtomicU64::new(0),
+            word: AtomicU64::new(OPEN),
+            stayed: AtomicU64::new(0),
+            turns: AtomicU64::new(0),
         }
     }
 
-    // Who finds no place leaves again at once. Another one may find none for that while, and doesn't sleep before it has looked once more.
     fn try_come_in(&self) -> bool {
-        if self.inside.fetch_add(1, Ordering::SeqCst) < PLACES {
-            return true;
-        }
-        self.inside.fetch_sub(1, Ordering::SeqCst);
-        false
+        self.word.load(Ordering::SeqCst) == OPEN
+            && self
+                .word
+                .compare_exchange(OPEN, SHUT, Ordering::SeqCst, Ordering::SeqCst)
+                .is_ok()
     }
 
-    /// Waits until there is a place inside.
+    /// Waits until nobody is inside.
     pub(crate) fn come_in<R: Wait>(&self, rt: &R) {
-        let backoff = Backoff::new();
-        for _ in rt.forever() {
-            let calls = self.calls.load(Ordering::SeqCst);
+        for _ in 0..LOOKS {
             if self.try_come_in() {
                 return;
             }
-            if !backoff.is_completed() {
-                backoff.snooze();
-                continue;
-            }
-            self.asleep.fetch_add(1, Ordering::SeqCst);
-            // Who goes out after this look sees that one sleeps, and calls.
-            if PLACES <= self.inside.load(Ordering::SeqCst) {
-                self.calls.park(rt, low(calls));
-            }
-            self.asleep.fetch_sub(1, Ordering::SeqCst);
+            hint::spin_loop();
         }
+        for _ in 0..YIELDS {
+            if self.try_come_in() {
+                return;
+            }
+            thread::yield_now();
+        }
+        for _ in rt.forever() {
+            if self.word.swap(WANTED, Ordering::SeqCst) == OPEN {
+                return;
+            }
+            self.word.park(rt, WANTED as u32);
+        }
+    }
+
+    /// Whether this one stayed.
+    pub(crate) fn has_stayed(&self, who: u32) -> bool {
+        self.stayed.load(Ordering::SeqCst) == name(who)
+    }
+
+    /// Gives the place up, unless this one stays and has had few turns.
+    pub(crate) fn go_out_unless(&self, who: u32, stays: bool) {
+        if stays && self.turns.fetch_add(1, Ordering::SeqCst) < TURNS {
+            self.stayed.store(name(who), Ordering::SeqCst);
+            return;
+        }
+        self.turns.store(0, Ordering::SeqCst);
+        self.stayed.store(0, Ordering::SeqCst);
+        self.go_out();
     }
 
     /// Gives the place up, and wakes one that sleeps.
     pub(crate) fn go_out(&self) {
-        self.inside.fetch_sub(1, Ordering::SeqCst);
-        if 0 < self.asleep.load(Ordering::SeqCst) {
-            self.calls.fetch_add(1, Ordering::SeqCst);
-            self.calls.wake_one();
+        if self.word.swap(OPEN, Ordering::SeqCst) == WANTED {
+            self.word.wake_one();
         }
     }
 }

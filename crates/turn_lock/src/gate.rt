@@ -8,6 +8,9 @@ const NAPS: u32 = 10;
 
 const NAP: u64 = 100;
 
+// How many microseconds the first that sleeps on a batch sleeps each time, until it has told that the batch takes long.
+const WATCH: u64 = 200;
+
 /// The gate before a log's batches. Threads share it.
 #[derive(Drop)]
 pub struct BatchGate {
@@ -19,6 +22,9 @@ pub struct BatchGate {
     asleep: AtomicU64,
     // How many slept on that one.
     slept: AtomicU64,
+    // The number of the batch that left last, from 1, and of the one that was last seen to take long.
+    left: AtomicU64,
+    slow: AtomicU64,
 }
 
 /// The right to write the next batch, until it is dropped; then all that sleep go on.
@@ -46,6 +52,8 @@ impl BatchGate {
             written: AtomicU64::new(0),
             asleep: AtomicU64::new(0),
             slept: AtomicU64::new(0),
+            left: AtomicU64::new(0),
+            slow: AtomicU64::new(0),
         }
     }
 
@@ -67,13 +75,45 @@ impl BatchGate {
         if self.slept.load(Ordering::SeqCst) <= before.saturating_add(1) {
             self.asleep.wake_all();
         }
+        if before == 0 {
+            self.watch(rt, batch);
+        }
         self.written.park(rt, low(batch.written));
+    }
+
+    // Sleeps for a little at a time, and notes where two times pass while the batch is on its way.
+    fn watch<R: Wait>(&self, rt: &R, batch: Batch) {
+        let nap = Duration::from_micros(WATCH);
+        let number = batch.written.wrapping_add(1);
+        let mut seen: u32 = 0;
+        for _ in rt.forever() {
+            self.written.park_timeout(rt, low(batch.written), nap);
+            if self.written.load(Ordering::SeqCst) != batch.written {
+                return;
+            }
+            if self.left.load(Ordering::SeqCst) == number {
+                seen = seen.wrapping_add(1);
+            }
+            if seen == 2 {
+                self.slow.store(number, Ordering::SeqCst);
+                return;
+            }
+        }
     }
 }
 
 impl Writer<'_> {
-    /// Naps until as many sleep as slept on the batch before, for some 1,000 microseconds at most.
+    /// Where the batch before took long, naps until as many sleep as slept on it, for some 1,000 microseconds at most.
     pub fn let_others_in<R: Wait>(&self, rt: &R) {
+        let last = self.gate.left.load(Ordering::SeqCst);
+        if last != 0 && self.gate.slow.load(Ordering::SeqCst) == last {
+            self.nap(rt);
+        }
+        let number = self.gate.written.load(Ordering::SeqCst).wrapping_add(1);
+        self.gate.left.store(number, Ordering::SeqCst);
+    }
+
+    fn nap<R: Wait>(&self, rt: &R) {
         let nap = Duration::from_micros(NAP);
         for _ in 0..NAPS {
             let asleep = self.gate.asleep.load(Ordering::SeqCst);

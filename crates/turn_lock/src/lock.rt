@@ -90,6 +90,27 @@ impl<T: Journaled> TurnLock<T> {
         all
     }
 
+    /// Waits until nobody is behind the door, unless who comes stayed behind it. Turns between this and `go_out_unless` are taken by `enter_in` and
+    /// `leave_in`. No proof rests on it.
+    pub fn come_in<R: Wait>(&self, rt: &R, who: u32) {
+        if !self.door.has_stayed(who) {
+            self.door.come_in(rt);
+        }
+    }
+
+    /// Leaves the door, or stays behind it for the next turn, where it has had few turns there. Who stays goes out by its next turn or by `go_out_if`, and
+    /// waits for nothing else before.
+    pub fn go_out_unless(&self, who: u32, stays: bool) {
+        self.door.go_out_unless(who, stays);
+    }
+
+    /// Leaves the door, if who goes stayed behind it.
+    pub fn go_out_if(&self, who: u32) {
+        if self.door.has_stayed(who) {
+            self.door.go_out_unless(who, false);
+        }
+    }
+
     /// Waits for a turn and takes the value out. Its journal is what the pass had seen, with what others have added since; and it says at least so much to be durable as the pass knows of.
     pub fn enter<R: Wait>(&self, rt: &R, pass: PassOf<T>) -> (TurnOf<T>, T)
         requires { IsPassOf self.now pass }
@@ -100,6 +121,18 @@ impl<T: Journaled> TurnLock<T> {
         ensures sound { T.sound result.1 }
     {
         self.door.come_in(rt);
+        self.enter_in(rt, pass)
+    }
+
+    /// The same of who is behind the door already. Its journal is what the pass had seen, with what others have added since; and it says at least so much to be durable as the pass knows of.
+    pub fn enter_in<R: Wait>(&self, rt: &R, pass: PassOf<T>) -> (TurnOf<T>, T)
+        requires { IsPassOf self.now pass }
+        ensures turn { IsTurnOf self.now result.0 × (turn_number result.0 ≡ number pass) × (turn_own result.0 ≡ own pass) × (turn_seen result.0 ≡ T.journal result.1) × (turn_known result.0 ≡ known pass) × (turn_origin result.0 ≡ pass_origin pass) }
+        ensures origin { pass_origin pass ≡ Some (T.origin result.1) }
+        ensures grown { GrownByOthers T.maker (number pass) (seen pass) (T.journal result.1) }
+        ensures durable { known pass ≤ durable_of T.durable (T.journal result.1) }
+        ensures sound { T.sound result.1 }
+    {
         let Pass { mut seat } = pass;
         let shared = &self.table.shared;
         let ticket = shared.fetch_add::<DrawTicket>(&mut seat, 0, 1);
@@ -125,12 +158,26 @@ impl<T: Journaled> TurnLock<T> {
         ensures seen { seen result ≡ T.journal value }
         ensures own { own result ≡ turn_own turn ++ drop (length (turn_seen turn)) (T.journal value) }
     {
+        let pass = self.leave_in(turn, value);
+        self.door.go_out();
+        pass
+    }
+
+    /// The same, and stays behind the door. The journal may have grown, by entries of this pass's number.
+    pub fn leave_in(&self, turn: TurnOf<T>, value: T) -> PassOf<T>
+        requires turn { IsTurnOf self.now turn }
+        requires origin { turn_origin turn ≡ Some (T.origin value) }
+        requires grown { GrownBy T.maker (turn_number turn) (turn_seen turn) (T.journal value) }
+        requires sound { T.sound value }
+        ensures pass { IsPassOf self.now result × (number result ≡ turn_number turn) × (known result ≡ turn_known turn) × (pass_origin result ≡ turn_origin turn) }
+        ensures seen { seen result ≡ T.journal value }
+        ensures own { own result ≡ turn_own turn ++ drop (length (turn_seen turn)) (T.journal value) }
+    {
         let Turn { mut seat } = turn;
         let shared = &self.table.shared;
         let empty = shared.exchange(&mut seat, 0, Some(value));
         let None = empty else { unreachable!() };
         shared.fetch_add::<Release>(&mut seat, 1, 1);
-        self.door.go_out();
         Pass { seat }
     }
 
