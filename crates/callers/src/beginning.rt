@@ -3,6 +3,7 @@ ghost use Rattle.std.specs.Prelude.{◌≡◌, ◌<◌, None, true, false};
 ghost use Rattle.std.specs.List.{list_all};
 ghost use Rattle.clv_base.specs.FileRules.{has_spelling};
 ghost use Rattle.clv_base.specs.LogRules.{disorder};
+ghost use Rattle.log_gate.specs.Header.{Layout};
 ghost use Rattle.log_gate.specs.View.{Only};
 
 use clv_base::logs::LogRecord;
@@ -24,7 +25,7 @@ where
     M::Gate: Drop,
     requires shard { shard < 16 }
     requires open { M.Gate.is_shut gate ≡ false }
-    requires log { Only log.items (M.Gate.logs gate) }
+    requires log { (layout : Layout) × Only log.items (M.Gate.logs gate layout) }
     requires spelled { list_all has_spelling log.items ≡ true }
     requires in_order { disorder shard log.items ≡ None }
 {

@@ -4,6 +4,7 @@ ghost use Rattle.std.specs.List.{list_all};
 ghost use Rattle.clv_base.specs.FileRules.{has_spelling};
 ghost use Rattle.clv_base.specs.Logs.{in_doubt as in_doubt_in};
 ghost use Rattle.clv_base.specs.Restarts.{homes_of, local_after, log_after_restart, unended_in};
+ghost use Rattle.log_gate.specs.Header.{Layout};
 ghost use Rattle.log_gate.specs.View.{Only};
 ghost use Rattle.shard_recovery.specs.Recovering.{CountsRecovery, IsBegun};
 
@@ -42,7 +43,7 @@ pub fn restart<S: Store + Drop, L: Locks + Drop, G: Gate>(
     epoch: u64,
 ) -> Result<Restarted<S, L>, RecoverError>
     requires open { G.is_shut gate.old ≡ false }
-    requires log { Only records.items (G.logs gate.old) }
+    requires log { (layout : Layout) × Only records.items (G.logs gate.old layout) }
     requires spelled { list_all has_spelling records.items ≡ true }
     requires run { 1 ≤ run }
     ensures shard { IfOk result (λ r. (r.transactions).shard ≡ shard) }
@@ -50,10 +51,10 @@ pub fn restart<S: Store + Drop, L: Locks + Drop, G: Gate>(
     ensures fronts { IfOk result (λ r. ((r.transactions).durable ≡ length (log_after_restart shard records.items run epoch)) × ((r.transactions).taken ≡ (r.transactions).durable)) }
     ensures in_doubt { IfOk result (λ r. r.in_doubt.items ≡ homes_of (log_after_restart shard records.items run epoch) (in_doubt_in shard (log_after_restart shard records.items run epoch))) }
     ensures unended { IfOk result (λ r. r.unended.items ≡ unended_in (log_after_restart shard records.items run epoch) (log_after_restart shard records.items run epoch)) }
-    ensures gate { IfOk result (λ r. (G.is_shut gate.new ≡ false) × Only (log_after_restart shard records.items run epoch) (G.logs gate.new)) }
-    ensures failed { IsErrOf result RecoverError.Failed → IsBegun shard records.items run epoch (G.logs gate.new) }
+    ensures gate { IfOk result (λ r. (G.is_shut gate.new ≡ false) × ((layout : Layout) → Only records.items (G.logs gate.old layout) → Only (log_after_restart shard records.items run epoch) (G.logs gate.new layout))) }
+    ensures failed { IsErrOf result RecoverError.Failed → (layout : Layout) → Only records.items (G.logs gate.old layout) → IsBegun shard records.items run epoch (G.logs gate.new layout) }
     ensures down { IsErrOf result RecoverError.Failed → G.is_shut gate.new ≡ true }
-    ensures memory { IsErrOf result RecoverError.Memory → (gate.new ≡ gate.old) ⊎ ((G.is_shut gate.new ≡ false) × Only (log_after_restart shard records.items run epoch) (G.logs gate.new)) }
+    ensures memory { IsErrOf result RecoverError.Memory → (gate.new ≡ gate.old) ⊎ ((G.is_shut gate.new ≡ false) × ((layout : Layout) → Only records.items (G.logs gate.old layout) → Only (log_after_restart shard records.items run epoch) (G.logs gate.new layout))) }
     ensures cause { CountsRecovery (G.faults gate.old) (G.faults gate.new) result }
     ensures own { G.shard gate.new ≡ G.shard gate.old }
 {

@@ -98,7 +98,7 @@ impl ListGate {
 }
 
 impl Gate for ListGate {
-    ghost logs = { λ g log. log ≡ Some g.records };
+    ghost logs = { λ g layout log. log ≡ Some g.records };
 
     ghost faults = { λ g. g.faults };
 

@@ -2,6 +2,7 @@
 ghost use Rattle.std.specs.Prelude.{◌≡◌, ◌≤◌, ◌<◌, true, false, length, vec_capacity, OnOk, OnErr, IsErrOf, Err};
 ghost use Rattle.std.specs.List.{list_all};
 ghost use Rattle.clv_base.specs.FileRules.{has_spelling};
+ghost use Rattle.log_gate.specs.Header.{Layout};
 ghost use Rattle.log_buffer.specs.Flushing.{AtRest, ByBatches, CountsFlush, InFlight, flown, landed};
 
 use crate::LogBuffer;
@@ -31,13 +32,13 @@ fn flush_next<G: Gate>(
     payload: &mut Vec<u8>,
 ) -> Result<(), FlushError>
     requires spelled { list_all has_spelling buffer.old.records ≡ true }
-    requires rest { AtRest buffer.old (G.is_shut gate.old) (G.logs gate.old) }
+    requires rest { (layout : Layout) × AtRest buffer.old (G.is_shut gate.old) (G.logs gate.old layout) }
     requires more { buffer.old.durable < length buffer.old.records }
     requires room { 1048576 ≤ vec_capacity payload.old }
     ensures ok { OnOk result (buffer.new ≡ landed buffer.old) }
     ensures grows { OnOk result (buffer.old.durable < buffer.new.durable) }
-    ensures rest { OnOk result (AtRest buffer.new (G.is_shut gate.new) (G.logs gate.new)) }
-    ensures failed { OnErr result ((result ≡ Err FlushError.Failed) × (buffer.new ≡ flown buffer.old) × InFlight buffer.new (G.logs gate.new)) }
+    ensures rest { OnOk result ((layout : Layout) → AtRest buffer.old (G.is_shut gate.old) (G.logs gate.old layout) → AtRest buffer.new (G.is_shut gate.new) (G.logs gate.new layout)) }
+    ensures failed { OnErr result ((result ≡ Err FlushError.Failed) × (buffer.new ≡ flown buffer.old) × ((layout : Layout) → AtRest buffer.old (G.is_shut gate.old) (G.logs gate.old layout) → InFlight buffer.new (G.logs gate.new layout))) }
     ensures down { IsErrOf result FlushError.Failed → G.is_shut gate.new ≡ true }
     ensures cause { CountsFlush (G.faults gate.old) (G.faults gate.new) result }
     ensures shard { G.shard gate.new ≡ G.shard gate.old }
@@ -57,7 +58,7 @@ fn flush_next<G: Gate>(
     }
 }
 
-/// Makes all records of the buffer durable: batch by batch, each of as many of the next records as have together at most 1,048,576 bytes.
+/// Makes all records of the buffer durable, and each log of the gate's stays one of the store whose layout it has: batch by batch, each of as many of the next records as have together at most 1,048,576 bytes.
 ///
 /// `Failed` comes where the disk failed at a batch: those before it are durable, and each log that the gate may have is the durable records,
 /// with that whole batch or without. `Memory` comes before anything is written.
@@ -67,12 +68,12 @@ pub fn flush_all<G: Gate>(
     gate: &mut G,
 ) -> Result<(), FlushError>
     requires spelled { list_all has_spelling buffer.old.records ≡ true }
-    requires rest { AtRest buffer.old (G.is_shut gate.old) (G.logs gate.old) }
+    requires rest { (layout : Layout) × AtRest buffer.old (G.is_shut gate.old) (G.logs gate.old layout) }
     ensures records { (buffer.new.records ≡ buffer.old.records) × (buffer.new.room ≡ buffer.old.room) }
     ensures batches { ByBatches buffer.old.records buffer.old.durable buffer.new.durable }
     ensures all { OnOk result (buffer.new.durable ≡ length buffer.old.records) }
-    ensures rest { OnOk result (AtRest buffer.new (G.is_shut gate.new) (G.logs gate.new)) }
-    ensures failed { IsErrOf result FlushError.Failed → InFlight buffer.new (G.logs gate.new) }
+    ensures rest { OnOk result ((layout : Layout) → AtRest buffer.old (G.is_shut gate.old) (G.logs gate.old layout) → AtRest buffer.new (G.is_shut gate.new) (G.logs gate.new layout)) }
+    ensures failed { IsErrOf result FlushError.Failed → (layout : Layout) → AtRest buffer.old (G.is_shut gate.old) (G.logs gate.old layout) → InFlight buffer.new (G.logs gate.new layout) }
     ensures memory { IsErrOf result FlushError.Memory → (buffer.new ≡ buffer.old) × (gate.new ≡ gate.old) }
     ensures down { IsErrOf result FlushError.Failed → G.is_shut gate.new ≡ true }
     ensures cause { CountsFlush (G.faults gate.old) (G.faults gate.new) result }

@@ -32,7 +32,7 @@ pub field_fails : (b : Bool) (place : ℕ) (r : Result (List ℕ) ℕ) → b ≡
 field_fails true place r is = absurd (cc)
 field_fails false place r is = refl
 
-split_first : (n : ℕ) (r : Result (List ℕ) ℕ) (splits : List ℕ) → with_split n r ≡ Ok splits → (rest : List ℕ) × (r ≡ Ok rest) × (splits ≡ n ∷ rest)
+pub split_first : (n : ℕ) (r : Result (List ℕ) ℕ) (splits : List ℕ) → with_split n r ≡ Ok splits → (rest : List ℕ) × (r ≡ Ok rest) × (splits ≡ n ∷ rest)
 split_first n (Ok rest) splits is = (rest, refl, (cc))
 split_first n (Err place) splits is = absurd (cc)
 

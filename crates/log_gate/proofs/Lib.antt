@@ -18,6 +18,7 @@ pub mod Steps
 pub mod Fronts
 pub mod Unchanged
 pub mod Finding
+pub mod Agreed
 pub mod ManyLogs
 pub mod ReopenedUnchanged
 pub mod Laws

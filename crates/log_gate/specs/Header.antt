@@ -11,6 +11,10 @@ magic = 67 ∷ 76 ∷ 86 ∷ 76 ∷ 79 ∷ 71 ∷ 48 ∷ 49 ∷ []
 unfoldable pub header_bytes : ℕ → List ℕ → List ℕ
 header_bytes shard splits = magic ++ (little_bytes 4 1 ++ (little_bytes 4 shard ++ (little_bytes 4 (suc (length splits)) ++ flat_map (little_bytes 8) splits)))
 
+-- what the headers of all logs of a store say alike
+pub record Layout : Type 0 where
+  pub splits : List ℕ
+
 -- how many they are
 abbrev pub header_size : List ℕ → ℕ
 header_size splits = 20 + 8 * length splits

@@ -7,7 +7,7 @@ use Rattle.log_records.specs.Spelling.{spelling}
 use Rattle.log_records.specs.Reading.{record_at}
 use Rattle.log_gate.specs.Payloads.{IsPayload}
 use Rattle.log_gate.specs.Records.{record_log}
-use Rattle.log_gate.specs.Header.{header_size, header_of}
+use Rattle.log_gate.specs.Header.{Layout, header_size, header_of}
 
 -- these bytes are the spellings of these records, one behind the other
 pub record SpellAll (records : List LogRecord) (payload : List ℕ) : Type 0 where
@@ -66,6 +66,10 @@ records_of (Err place) = None
 -- the log of this image of the shard's disk is these records
 abbrev pub HasLog : ℕ → List LogRecord → List ℕ → Type 0
 HasLog shard records image = records_of (log_of shard image) ≡ Some records
+
+-- the log of an image of this shard's disk whose header says this; none where it says otherwise
+abbrev pub log_under : (shard : ℕ) → Layout → (image : List ℕ) → Option (List LogRecord)
+log_under shard layout image = records_of (behind_header (λ splits r. true) image (header_of shard (Some layout.splits) image))
 
 -- it is these records, or these and more
 abbrev pub HasLogOrMore : ℕ → List LogRecord → List LogRecord → List ℕ → Type 0

@@ -2,7 +2,8 @@
 use Rattle.std.specs.Prelude.{◌≡◌, ◌⊎◌, ℕ, List, ◌++◌, Bool, Option, Some, None, IfSome}
 use Rattle.clv_base.specs.declared.logs.LogRecord.{LogRecord}
 use Rattle.io_model.specs.Story.{Story, reads, IsImage}
-use Rattle.log_gate.specs.Image.{log_of, records_of, HasLog, HasHeader}
+use Rattle.log_gate.specs.Header.{Layout}
+use Rattle.log_gate.specs.Image.{log_under, HasLog, HasHeader}
 use Rattle.log_gate.specs.Gate.{EachNow}
 
 -- its disk's story, where it is told, and the disk's count of faults; the shard; and whether it is shut
@@ -20,13 +21,13 @@ IsLogOf g records = IfSome g.story (EachNow (HasLog g.shard records))
 abbrev pub IsHeaderOf : View → List ℕ → Type 0
 IsHeaderOf g splits = IfSome g.story (EachNow (HasHeader g.shard splits))
 
-abbrev pub logs_told : Option Story → ℕ → Option (List LogRecord) → Type 0
-logs_told None shard log = ⊥
-logs_told (Some s) shard log = (image : List ℕ) × ((image ≡ reads s) ⊎ IsImage s image) × (records_of (log_of shard image) ≡ log)
+abbrev pub logs_told : Option Story → ℕ → Layout → Option (List LogRecord) → Type 0
+logs_told None shard layout log = ⊥
+logs_told (Some s) shard layout log = (image : List ℕ) × ((image ≡ reads s) ⊎ IsImage s image) × (log_under shard layout image ≡ log)
 
--- its logs: that of what a read gives, and that of each image that a crash now may leave; none where the disk doesn't tell
-abbrev pub logs_of : View → Option (List LogRecord) → Type 0
-logs_of g log = logs_told g.story g.shard log
+-- its logs, as one of a store with this layout: that of what a read gives, and that of each image that a crash now may leave; none where the disk doesn't tell
+abbrev pub logs_of : View → Layout → Option (List LogRecord) → Type 0
+logs_of g layout log = logs_told g.story g.shard layout log
 
 -- each log is these records
 abbrev pub Only : List LogRecord → (Option (List LogRecord) → Type 0) → Type 0

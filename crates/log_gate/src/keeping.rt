@@ -1,6 +1,7 @@
 // What the layers above see of a gate.
 ghost use Rattle.std.specs.Prelude.{◌≡◌, ◌++◌, ℕ, List, Option, Bool, true, false, Err, OnOk, IsErrOf};
 ghost use Rattle.clv_base.specs.declared.logs.LogRecord.{LogRecord};
+ghost use Rattle.log_gate.specs.Header.{Layout};
 ghost use Rattle.log_gate.specs.Image.{SpellAll, IsBatch};
 ghost use Rattle.log_gate.specs.View.{Only, OnlyOrMore, logs_of};
 ghost use Rattle.log_gate.specs.Errors.{Counts};
@@ -10,8 +11,9 @@ use io_model::Disk;
 
 /// A log to which batches are pushed.
 pub trait Gate {
-    /// Which logs it may have: that of what a read gives, and those that a crash now may leave. None where it doesn't tell.
-    ghost logs: { Self → Option (List LogRecord) → Type 0 };
+    /// Which logs it may have, as one of a store with this layout: that of what a read gives, and those that a crash now may leave. An image whose header
+    /// says otherwise has the log `None`. None where it doesn't tell.
+    ghost logs: { Self → Layout → Option (List LogRecord) → Type 0 };
 
     /// How often its disk has failed.
     ghost faults: { Self → ℕ };
@@ -25,8 +27,8 @@ pub trait Gate {
     /// with the whole batch or without, and the gate answers `Shut` from then on.
     fn push(&mut self, payload: &[u8]) -> Result<(), PushError>
         requires { IsBatch payload.now }
-        ensures ok { OnOk result ((records more : List LogRecord) → Only records (logs self.old) → SpellAll more payload.now → Only (records ++ more) (logs self.new)) }
-        ensures either { (records more : List LogRecord) → Only records (logs self.old) → SpellAll more payload.now → OnlyOrMore records more (logs self.new) }
+        ensures ok { OnOk result ((layout : Layout) (records more : List LogRecord) → Only records (logs self.old layout) → SpellAll more payload.now → Only (records ++ more) (logs self.new layout)) }
+        ensures either { (layout : Layout) (records more : List LogRecord) → Only records (logs self.old layout) → SpellAll more payload.now → OnlyOrMore records more (logs self.new layout) }
         ensures up { OnOk result (is_shut self.new ≡ false) }
         ensures down { IsErrOf result PushError.Failed → is_shut self.new ≡ true }
         ensures shut { IsErrOf result PushError.Shut → is_shut self.old ≡ true }

@@ -7,17 +7,23 @@ use Rattle.io_model.specs.Story.{Story, reads}
 use Rattle.shard_recovery.specs.declared.recovering.RecoverError.{RecoverError}
 use Rattle.shard_recovery.specs.declared.recovering.RecoverError.TheVariants.{Failed, Memory}
 use Rattle.shard_recovery.specs.Recovering.{IsBegun}
+use Rattle.log_gate.specs.Header.{Layout}
+use Rattle.log_gate.specs.Image.{log_under}
 use Rattle.log_gate.specs.Gate.{EachNow}
 use Rattle.log_gate.specs.View.{Only, logs_told}
 use Rattle.machine_calls.specs.Recovered.{HasBegun, IsLeft, unwritten, begun}
+use Rattle.log_gate.proofs.Laws.{from_under}
 use Rattle.law_base.proofs.Lists.{take_plus}
 
-module _ (n : ℕ) (found : List LogRecord) (run : ℕ) (logs : Option (List LogRecord) → Type 0) where
+module _ (n : ℕ) (layout : Layout) (found : List LogRecord) (run : ℕ) (logs : Option (List LogRecord) → Type 0) where
   -- each log of the disk is one of the gate's
-  each_image : (story : Option Story) → ((log : Option (List LogRecord)) → logs_told story n log → logs log) → ((log : Option (List LogRecord)) → logs log → (count : ℕ) × (log ≡ Some (found ++ take count (restart_records n found run 0))))
-      → IfSome story (EachNow (HasBegun n found run))
+  each_image : (story : Option Story) → ((log : Option (List LogRecord)) → logs_told story n layout log → logs log) → ((log : Option (List LogRecord)) → logs log → (count : ℕ) × (log ≡ Some (found ++ take count (restart_records n found run 0))))
+      → IfSome story (EachNow (HasBegun n layout found run))
   each_image None told is = tt
-  each_image (Some s) told is = record { read = is _ (told _ (reads s, inl refl, refl)); images = λ image left. is _ (told _ (image, inr left, refl)) }
+  each_image (Some s) told is = record { read = by (reads s) (is _ (told _ (reads s, inl refl, refl))); images = λ image left. by image (is _ (told _ (image, inr left, refl))) }
+    where
+      by : (image : List ℕ) → (count : ℕ) × (log_under n layout image ≡ Some (found ++ take count (restart_records n found run 0))) → HasBegun n layout found run image
+      by image (count, is) = (let k = from_under n layout (found ++ take count (restart_records n found run 0)) image is in (count, k.0, k.1))
 
   in_between : IsBegun n found run 0 logs → (log : Option (List LogRecord)) → logs log → (count : ℕ) × (log ≡ Some (found ++ take count (restart_records n found run 0)))
   in_between b log has = by b.written b.batch (b.log log has)
@@ -32,12 +38,12 @@ module _ (n : ℕ) (found : List LogRecord) (run : ℕ) (logs : Option (List Log
   at_end : Only (log_after_restart n found run 0) logs → (log : Option (List LogRecord)) → logs log → (count : ℕ) × (log ≡ Some (found ++ take count (restart_records n found run 0)))
   at_end only log has = (length (restart_records n found run 0), only log has ∙ ap (λ l. Some (found ++ l)) (sym (take_all (length (restart_records n found run 0)) (restart_records n found run 0) (omega arith))))
 
-  pub left_begun : (before now : Option Story) (shard : ℕ) → shard ≡ n → ((log : Option (List LogRecord)) → logs_told now shard log → logs log) → IsBegun n found run 0 logs → IsLeft n found run before now
-  left_begun before now shard same told b = begun (each_image now (subst (λ (m : ℕ). (log : Option (List LogRecord)) → logs_told now m log → logs log) same told) (in_between b))
+  pub left_begun : (before now : Option Story) (shard : ℕ) → shard ≡ n → ((log : Option (List LogRecord)) → logs_told now shard layout log → logs log) → IsBegun n found run 0 logs → IsLeft n layout found run before now
+  left_begun before now shard same told b = begun (each_image now (subst (λ (m : ℕ). (log : Option (List LogRecord)) → logs_told now m layout log → logs log) same told) (in_between b))
 
-  pub left_whole : (before now : Option Story) (shard : ℕ) → shard ≡ n → ((log : Option (List LogRecord)) → logs_told now shard log → logs log) → Only (log_after_restart n found run 0) logs → IsLeft n found run before now
-  left_whole before now shard same told only = begun (each_image now (subst (λ (m : ℕ). (log : Option (List LogRecord)) → logs_told now m log → logs log) same told) (at_end only))
+  pub left_whole : (before now : Option Story) (shard : ℕ) → shard ≡ n → ((log : Option (List LogRecord)) → logs_told now shard layout log → logs log) → Only (log_after_restart n found run 0) logs → IsLeft n layout found run before now
+  left_whole before now shard same told only = begun (each_image now (subst (λ (m : ℕ). (log : Option (List LogRecord)) → logs_told now m layout log → logs log) same told) (at_end only))
 
-pub left_by : (n : ℕ) (found : List LogRecord) (run : ℕ) (before now : Option Story) (e : RecoverError) → (e ≡ Failed → IsLeft n found run before now) → (e ≡ Memory → now ≡ before) → IsLeft n found run before now
-left_by n found run before now Failed failed memory = failed refl
-left_by n found run before now Memory failed memory = unwritten (memory refl)
+pub left_by : (n : ℕ) (layout : Layout) (found : List LogRecord) (run : ℕ) (before now : Option Story) (e : RecoverError) → (e ≡ Failed → IsLeft n layout found run before now) → (e ≡ Memory → now ≡ before) → IsLeft n layout found run before now
+left_by n layout found run before now Failed failed memory = failed refl
+left_by n layout found run before now Memory failed memory = unwritten (memory refl)

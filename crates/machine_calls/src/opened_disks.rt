@@ -3,6 +3,7 @@
 ghost use Rattle.std.specs.Prelude.{◌≡◌, List, Option};
 ghost use Rattle.clv_base.specs.declared.logs.LogRecord.{LogRecord};
 ghost use Rattle.io_model.specs.Story.{Story};
+ghost use Rattle.log_gate.specs.Header.{Layout};
 ghost use Rattle.log_gate.specs.View.{logs_told};
 
 use crate::Maker;
@@ -17,5 +18,5 @@ pub trait OverDisks<D: Disk>: Maker {
     fn disk_under(gate: Self::Gate) -> D
         ensures story { D.story result ≡ story gate }
         ensures faults { D.faults result ≡ Self.Gate.faults gate }
-        ensures logs { (log : Option (List LogRecord)) → logs_told (D.story result) (Self.Gate.shard gate) log → Self.Gate.logs gate log };
+        ensures logs { (layout : Layout) (log : Option (List LogRecord)) → logs_told (D.story result) (Self.Gate.shard gate) layout log → Self.Gate.logs gate layout log };
 }

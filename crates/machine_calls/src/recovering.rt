@@ -7,6 +7,7 @@ ghost use Rattle.clv_base.specs.FileRules.{has_spelling};
 ghost use Rattle.clv_base.specs.LogRules.{disorder};
 ghost use Rattle.io_model.specs.Story.{Story};
 ghost use Rattle.log_analysis.specs.Facts.{Knows};
+ghost use Rattle.log_gate.specs.Header.{Layout};
 ghost use Rattle.log_gate.specs.View.{Only};
 ghost use Rattle.machine_calls.specs.Recovered.{IsLeft, CountsLeft, IsMachineAt};
 
@@ -34,11 +35,11 @@ pub fn recover_shard<D: Disk, M: OverDisks<D>>(
     requires shard { (shard < 16) × (M.Gate.shard gate ≡ shard) }
     requires run { 1 ≤ run }
     requires open { (M.Gate.is_shut gate ≡ false) × (M.Gate.faults gate ≡ 0) }
-    requires log { Only log.items (M.Gate.logs gate) }
+    requires log { (layout : Layout) × Only log.items (M.Gate.logs gate layout) }
     requires spelled { list_all has_spelling log.items ≡ true }
     requires in_order { disorder shard log.items ≡ None }
-    ensures machine { IfOk result (λ m. IsMachineAt M.Gate.is_shut M.Gate.faults M.Gate.shard M.Gate.logs shard log.items run (M.shard m) (M.gate m)) }
-    ensures left { IfErr result (λ e. IsLeft shard log.items run (M.story gate) (D.story e.1)) }
+    ensures machine { IfOk result (λ m. (layout : Layout) → Only log.items (M.Gate.logs gate layout) → IsMachineAt M.Gate.is_shut M.Gate.faults M.Gate.shard M.Gate.logs shard layout log.items run (M.shard m) (M.gate m)) }
+    ensures left { IfErr result (λ e. (layout : Layout) → Only log.items (M.Gate.logs gate layout) → IsLeft shard layout log.items run (M.story gate) (D.story e.1)) }
     ensures cause { IfErr result (λ e. CountsLeft (M.Gate.faults gate) (D.faults e.1) e.0) }
 {
     let Ok(mut store) = M::Store::empty(alloc) else {
@@ -58,8 +59,8 @@ pub fn take_apart<D: Disk, M: OverDisks<D>>(machine: M) -> D
     requires { IsSome (M.gate machine) }
 
     // Of a machine that recovery made and that did nothing since.
-    ensures left { (n : ℕ) (found : List Rec) (run : ℕ) (before : Option Story) → IsMachineAt M.Gate.is_shut M.Gate.faults M.Gate.shard M.Gate.logs n found run (M.shard machine) (M.gate machine) → IsLeft n found run before (D.story result) }
-    ensures fine { (n : ℕ) (found : List Rec) (run : ℕ) → IsMachineAt M.Gate.is_shut M.Gate.faults M.Gate.shard M.Gate.logs n found run (M.shard machine) (M.gate machine) → D.faults result ≡ 0 }
+    ensures left { (n : ℕ) (layout : Layout) (found : List Rec) (run : ℕ) (before : Option Story) → IsMachineAt M.Gate.is_shut M.Gate.faults M.Gate.shard M.Gate.logs n layout found run (M.shard machine) (M.gate machine) → IsLeft n layout found run before (D.story result) }
+    ensures fine { (n : ℕ) (layout : Layout) (found : List Rec) (run : ℕ) → IsMachineAt M.Gate.is_shut M.Gate.faults M.Gate.shard M.Gate.logs n layout found run (M.shard machine) (M.gate machine) → D.faults result ≡ 0 }
 {
     let Parts {
         gate,

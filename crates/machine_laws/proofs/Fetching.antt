@@ -16,14 +16,15 @@ use Rattle.history_cases.proofs.Durability.{framed_finish}
 use Rattle.turn_lock.specs.Journals.{GrownByOthers, entries_by}
 use Rattle.journal_laws.specs.Notes.{Note as Told, made, fetched, MayNotes, after_notes, entries_of_notes, notes_by}
 use Rattle.journal_laws.proofs.Noting.{held_shards_rest}
+use Rattle.log_gate.specs.Header.{Layout}
 use Rattle.machine_laws.specs.declared.notes.Note.{Note}
 use Rattle.machine_laws.specs.declared.notes.Note.TheVariants.{Made, Fetched}
 use Rattle.machine_laws.specs.declared.notes.Origin.{Origin}
 use Rattle.machine_laws.specs.declared.notes.Mark.{Mark}
 use Rattle.machine_laws.specs.declared.notes.Mark.TheVariants.{Fetched as FetchedAt}
 use Rattle.machine_laws.specs.Notes.{noter, told, notes_of}
-use Rattle.machine_laws.specs.Homes.{start, state_of, holder_of, is_failed, has_failed, is_stop, never_stops, IsLegal}
-use Rattle.machine_laws.specs.Gates.{GateStands, is_gate_away}
+use Rattle.machine_laws.specs.Homes.{layout_of, start, state_of, holder_of, is_failed, has_failed, is_stop, never_stops, IsLegal}
+use Rattle.machine_laws.specs.Gates.{EachLog, GateStands, is_gate_away}
 use Rattle.machine_laws.specs.Sound.{IsSound}
 use Rattle.machine_laws.proofs.Calm.{does_calm, does_fly}
 use Rattle.machine_laws.proofs.Marking.{fetch_last}
@@ -122,7 +123,7 @@ held_rests o s u w seen notes k l d down held =
 pub gate_of_down : (s : Shard) (held : Option ℕ) (b : Bool) → s.is_up ≡ false → is_gate_away s held ≡ b → is_some held ≡ b
 gate_of_down s held b down h = ap (λ u. elim u [ true ↦ is_some s.flight | false ↦ is_some held ]) (sym down) ∙ h
 
-module _ {G : Type 0} (shut : G → Bool) (faults whose : G → ℕ) (logs : G → Option (List LogRecord) → Type 0) where
+module _ {G : Type 0} (shut : G → Bool) (faults whose : G → ℕ) (logs : G → Layout → Option (List LogRecord) → Type 0) where
   pub sound_fetched : (o : Origin) (marks : List Mark) (capacity : ℕ) (s : Shard) (g : G) (w : ℕ) → IsSound shut faults whose logs o marks capacity s (Some g) → s.is_up ≡ false
       → IsSound shut faults whose logs o (marks ++ FetchedAt (length s.journal) w ∷ []) capacity s None × (notes_of s.journal (marks ++ FetchedAt (length s.journal) w ∷ []) ≡ notes_of s.journal marks ++ Fetched w ∷ [])
       × (length marks < capacity)
@@ -142,7 +143,7 @@ module _ {G : Type 0} (shut : G → Bool) (faults whose : G → ℕ) (logs : G �
       )
 
   -- what the disk of a shard that is down is
-  pub down_disk : (o : Origin) (notes : List Note) (s : Shard) (held : Option ℕ) (g : G) → IsLegal o notes s → s.is_up ≡ false → GateStands shut faults whose logs s held (Some g)
-      → (1 ≤ faults g) × ((log : List LogRecord) → logs g (Some log) → MayLeave s log) × (whose g ≡ s.shard)
+  pub down_disk : (o : Origin) (notes : List Note) (s : Shard) (held : Option ℕ) (g : G) → IsLegal o notes s → s.is_up ≡ false → GateStands shut faults whose (λ h. logs h (layout_of o)) s held (Some g)
+      → (1 ≤ faults g) × EachLog (MayLeave s) (logs g (layout_of o)) × (whose g ≡ s.shard)
   down_disk o notes s held g l down h =
-      let f = h.1 in (f.counted.some (down_failed o notes s l down), fits_leaves o notes s (shut g) (faults g) (whose g) (logs g) l f, f.own)
+      let f = h.1 in (f.counted.some (down_failed o notes s l down), fits_leaves o notes s (shut g) (faults g) (whose g) (logs g (layout_of o)) l f, f.own)

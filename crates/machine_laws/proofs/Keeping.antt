@@ -11,11 +11,12 @@ use Rattle.clv_base.specs.Events.{step}
 use Rattle.journal_laws.specs.Notes.{Note as Told, holder, holder_after, ends_holding}
 use Rattle.machine_calls.specs.declared.machine.StepError.{StepError}
 use Rattle.machine_calls.specs.Steps.{Tells, listed}
+use Rattle.log_gate.specs.Header.{Layout}
 use Rattle.machine_laws.specs.declared.notes.Note.{Note}
 use Rattle.machine_laws.specs.declared.notes.Origin.{Origin}
 use Rattle.machine_laws.specs.declared.notes.Mark.{Mark}
 use Rattle.machine_laws.specs.Notes.{told, plain, notes_of, AreMarksOf}
-use Rattle.machine_laws.specs.Homes.{holder_of, is_turned, is_single, is_named, IsFree, IsLegal}
+use Rattle.machine_laws.specs.Homes.{layout_of, holder_of, is_turned, is_single, is_named, IsFree, IsLegal}
 use Rattle.machine_laws.specs.Gates.{GateStands}
 use Rattle.machine_laws.specs.Sound.{IsSound}
 use Rattle.machine_laws.proofs.Marking.{entry_last}
@@ -73,7 +74,7 @@ pub holder_step : (notes : List Note) (s t : Shard) (answer : _) (clock w : ℕ)
 holder_step notes s t answer clock w e r None h turned = ap holder_of (append-nil notes)
 holder_step notes s t answer clock w e r (Some y) h turned = holder_plain notes y (ap ends_holding (made_event answer s t clock w e r (Some y) h y refl) ∙ no_restart e turned)
 
-module _ {G : Type 0} (shut : G → Bool) (faults whose : G → ℕ) (logs : G → Option (List LogRecord) → Type 0) where
+module _ {G : Type 0} (shut : G → Bool) (faults whose : G → ℕ) (logs : G → Layout → Option (List LogRecord) → Type 0) where
   -- an event of one call
   pub sound_step : (o : Origin) (marks : List Mark) (capacity : ℕ) (s : Shard) (gate : Option G) (clock w : ℕ) (e : Event) (r : Result Outcome StepError) (t : Shard) (x : Option Entry) → IsSound shut faults whose logs o marks capacity s gate
       → Tells (step s clock w e) s clock w e r t x → is_single e ≡ true → IsFree s e → is_named w e ≡ true → IsSound shut faults whose logs o marks capacity t gate
@@ -85,6 +86,6 @@ module _ {G : Type 0} (shut : G → Bool) (faults whose : G → ℕ) (logs : G �
       record {
         marked = n.1;
         legal = subst (λ ns. IsLegal o ns t) (sym n.0) (legal_step o notes s clock w e r t x l.legal h k.turned free named);
-        gated = subst (λ y. GateStands shut faults whose logs t y gate) (sym held) (gate_step shut faults whose logs o notes s clock w e r t x (holder_of notes) gate l.legal h k.turned k.no_flush free l.gated);
+        gated = subst (λ y. GateStands shut faults whose (λ h. logs h (layout_of o)) t y gate) (sym held) (gate_step shut faults whose (λ h. logs h (layout_of o)) o notes s clock w e r t x (holder_of notes) gate l.legal h k.turned k.no_flush free l.gated);
         room = λ y. l.room (sym held ∙ y);
       }

@@ -14,9 +14,8 @@ use Rattle.history_cases.proofs.Durability.{Counted}
 use Rattle.machine_laws.specs.declared.notes.Note.{Note}
 use Rattle.machine_laws.specs.declared.notes.Origin.{Origin}
 use Rattle.machine_laws.specs.Homes.{taker_after, may_follow, ends_own, is_stop, never_stops, IsLegal}
-use Rattle.machine_laws.specs.Gates.{durable_records, flying_records, GateFits, GateStands}
+use Rattle.machine_laws.specs.Gates.{EachLog, durable_records, flying_records, GateFits, GateStands}
 use Rattle.machine_laws.proofs.Gating.{legal_counted}
-use Rattle.law_base.proofs.Logs.{some_log as some_same}
 
 at_least : (s : Shard) (f : Option ℕ) → Counted s → s.flight ≡ f → s.durable ≤ unwrap_or f s.durable
 at_least s None c e = omega arith
@@ -27,13 +26,13 @@ whole s c =
     let m = unwrap_or s.flight s.durable in
     ap (λ z. z ++ flying_records s) (sym (take-take s.durable m s.local.log (at_least s s.flight c refl))) ∙ take-append-drop s.durable (take m s.local.log)
 
-pub fits_leaves : (o : Origin) (notes : List Note) (s : Shard) (shut : Bool) (faults whose : ℕ) (logs : Option (List LogRecord) → Type 0) → IsLegal o notes s → GateFits s shut faults whose logs → (log : List LogRecord) → logs (Some log) → MayLeave s log
+pub fits_leaves : (o : Origin) (notes : List Note) (s : Shard) (shut : Bool) (faults whose : ℕ) (logs : Option (List LogRecord) → Type 0) → IsLegal o notes s → GateFits s shut faults whose logs → EachLog (MayLeave s) logs
 fits_leaves o notes s shut faults whose logs l f log is = at s.is_up refl
   where
-    at : (b : Bool) → s.is_up ≡ b → MayLeave s log
-    at true u = (false, inl (some_same (f.durable u (Some log) is)))
-    at false d = ⊎_elim (λ (e : Some log ≡ Some (durable_records s)). (false, inl (some_same e))) (λ (e : Some log ≡ Some (durable_records s ++ flying_records s)). (true, inl (some_same e ∙ whole s (legal_counted o notes s l))))
-        (f.either d (Some log) is)
+    at : (b : Bool) → s.is_up ≡ b → (records : List LogRecord) × (log ≡ Some records) × MayLeave s records
+    at true u = (durable_records s, f.durable u log is, (false, inl refl))
+    at false d = ⊎_elim (λ (e : log ≡ Some (durable_records s)). (durable_records s, e, (false, inl refl)))
+        (λ (e : log ≡ Some (durable_records s ++ flying_records s)). (durable_records s ++ flying_records s, e, (true, inl (whole s (legal_counted o notes s l))))) (f.either d log is)
 
 no_stop : (t : Option ℕ) (w : ℕ) (e : Event) → may_follow t w e ≡ true → not (is_stop e) ≡ true
 no_stop t w (Op tx birth nth seen op) h = refl

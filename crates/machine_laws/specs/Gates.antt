@@ -9,6 +9,10 @@ use Rattle.machine_calls.specs.Flights.{CountsPush}
 use Rattle.protocol_laws.specs.Growth.{IsPrefixOf}
 use Rattle.machine_laws.specs.Homes.{has_failed}
 
+-- each of these logs is one of which P holds, and no image has none
+abbrev pub EachLog : (List LogRecord → Type 0) → (Option (List LogRecord) → Type 0) → Type 0
+EachLog P logs = (log : Option (List LogRecord)) → logs log → (records : List LogRecord) × (log ≡ Some records) × P records
+
 -- the records that are durable, and those in flight
 abbrev pub durable_records : Shard → List LogRecord
 durable_records s = take s.durable s.local.log

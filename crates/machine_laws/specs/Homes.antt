@@ -10,9 +10,14 @@ use Rattle.clv_base.specs.State.{Shard}
 use Rattle.clv_base.specs.Restarts.{opened}
 use Rattle.clv_base.specs.Journals.{has_no_equal_active_birth}
 use Rattle.journal_laws.specs.Notes.{MayNotes, after_notes, holder, entries_of_notes}
+use Rattle.log_gate.specs.Header.{Layout}
 use Rattle.machine_laws.specs.declared.notes.Note.{Note}
 use Rattle.machine_laws.specs.declared.notes.Origin.{Origin}
 use Rattle.machine_laws.specs.Notes.{told}
+
+-- what the header of its log says, as those of all shards do
+abbrev pub layout_of : Origin → Layout
+layout_of o = record { splits = o.splits.value }
 
 -- the shard as it opens the log found
 abbrev pub start : Origin → Shard

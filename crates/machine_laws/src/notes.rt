@@ -1,16 +1,18 @@
 // What a shard's lock takes for an entry.
 use clv_base::events::Entry;
 use clv_base::logs::LogRecord;
+use clv_base::splits::Splits;
 use log_buffer::LogBuffer;
 use std::collections::LinkedList;
 use std::snapshot::Snapshot;
 
-/// What never changes of a shard: its number, the run, and, for contracts alone, the log that opening found.
+/// What never changes of a shard: its number, the run, and, for contracts alone, the log that opening found, and the splits of its header.
 #[derive(Drop)]
 pub struct Origin {
     pub shard: u32,
     pub run: u32,
     pub found: Snapshot<Vec<LogRecord>>,
+    pub splits: Snapshot<Splits>,
 }
 
 /// What is noted of a shard, one after another, for contracts alone: no value of it is made.

@@ -38,7 +38,7 @@ pub fn births_stay_free()
     ensures { BirthsStayFree }
 {}
 
-/// Each log that a gate at home may have is one that the shard may leave.
+/// Each log that a gate at home may have, under the layout of its shard, is there, and one that the shard may leave.
 pub fn gates_may_be_left<G: Gate>()
     ensures { GatesMayBeLeft G.is_shut G.faults G.shard G.logs }
 {}

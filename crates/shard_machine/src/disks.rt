@@ -1,6 +1,7 @@
 //! A machine whose gates are those of logs on disks.
 ghost use Rattle.std.specs.Prelude.{◌≡◌, List, Option};
 ghost use Rattle.clv_base.specs.declared.logs.LogRecord.{LogRecord};
+ghost use Rattle.log_gate.specs.Header.{Layout};
 ghost use Rattle.log_gate.specs.View.{logs_of, logs_told};
 
 use crate::machine::ShardMachine;
@@ -16,7 +17,7 @@ impl<S: Store + Drop, L: Locks + Drop, D: Disk> OverDisks<D> for ShardMachine<S,
     fn disk_under(gate: LogGate<D>) -> D
         ensures story { D.story result ≡ gate.story }
         ensures faults { D.faults result ≡ gate.faults }
-        ensures logs { (log : Option (List LogRecord)) → logs_told (D.story result) gate.shard log → logs_of gate log }
+        ensures logs { (layout : Layout) (log : Option (List LogRecord)) → logs_told (D.story result) gate.shard layout log → logs_of gate layout log }
     {
         gate.into_disk()
     }

@@ -1,10 +1,10 @@
 -- How far recovery has come when the disk fails.
-use Rattle.std.proofs.Common.{◌≡◌, refl, ap, sym, ◌∙◌, subst, ℕ, suc, ◌+◌, ◌-◌, ◌≤◌, List, [], ◌∷◌, ◌++◌, length, take, drop, Option, arith}
+use Rattle.std.proofs.Common.{◌≡◌, refl, ap, sym, ◌∙◌, subst, Bool, false, ℕ, suc, ◌+◌, ◌-◌, ◌≤◌, List, [], ◌∷◌, ◌++◌, length, take, drop, Option, arith}
 use Rattle.clv_base.specs.declared.logs.LogRecord.{LogRecord}
 use Rattle.clv_base.specs.Restarts.{restart_records, log_after_restart}
 use Rattle.log_buffer.specs.Buffers.{Buffer}
-use Rattle.log_buffer.specs.Flushing.{ByBatches, none, another, InFlight, batch_from}
-use Rattle.log_gate.specs.View.{OnlyOrMore}
+use Rattle.log_buffer.specs.Flushing.{AtRest, ByBatches, none, another, InFlight, batch_from}
+use Rattle.log_gate.specs.View.{Only, OnlyOrMore}
 use Rattle.log_buffer.specs.declared.flushing.FlushError.{FlushError}
 use Rattle.log_buffer.specs.declared.flushing.FlushError.TheVariants.{Failed as FlushFailed, Memory as NoMemory}
 use Rattle.shard_recovery.specs.declared.recovering.RecoverError.TheVariants.{Failed}
@@ -26,6 +26,13 @@ behind (r ∷ found) more k =
 pub all_found : (found more : List LogRecord) → take (length found) (found ++ more) ≡ found
 all_found [] more = refl
 all_found (r ∷ found) more = ap (λ (xs : List LogRecord). r ∷ xs) (all_found found more)
+
+-- before anything is written the log that was found is durable
+pub at_rest : (shard run epoch : ℕ) (found : List LogRecord) (b : Buffer LogRecord) (is_shut : Bool) (logs : Option (List LogRecord) → Type 0) → b.records ≡ log_after_restart shard found run epoch
+    → (b.durable ≡ length found) × (b.taken ≡ length found) → is_shut ≡ false → Only found logs → AtRest b is_shut logs
+at_rest shard run epoch found b is_shut logs is fronts is_open only =
+    let durable : take b.durable b.records ≡ found = ap (λ (n : ℕ). take n b.records) fronts.0 ∙ ap (take (length found)) is ∙ all_found found (restart_records shard found run epoch) in
+    record { nothing_flies = fronts.1 ∙ sym fronts.0; is_open = is_open; log = subst (λ (rs : List LogRecord). Only rs logs) (sym durable) only }
 
 no_less : (log : List LogRecord) (from to : ℕ) → ByBatches log from to → from ≤ to
 no_less log from to none = omega arith

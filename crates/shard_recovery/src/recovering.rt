@@ -5,6 +5,7 @@ ghost use Rattle.clv_base.specs.FileRules.{has_spelling};
 ghost use Rattle.clv_base.specs.Logs.{in_doubt as in_doubt_in};
 ghost use Rattle.clv_base.specs.Restarts.{homes_of, local_after, log_after_restart, restored_pairs, unended_in};
 ghost use Rattle.log_analysis.specs.Facts.{Knows};
+ghost use Rattle.log_gate.specs.Header.{Layout};
 ghost use Rattle.log_gate.specs.View.{Only};
 ghost use Rattle.shard_recovery.specs.Recovering.{CountsRecovery, IsBegun, recover_error};
 
@@ -116,7 +117,7 @@ pub fn recover<S: Store, G: Gate>(
     requires knows { Knows facts records.items }
     requires empty { S.records store.old ≡ [] }
     requires open { G.is_shut gate.old ≡ false }
-    requires log { Only records.items (G.logs gate.old) }
+    requires log { (layout : Layout) × Only records.items (G.logs gate.old layout) }
     requires spelled { list_all has_spelling records.items ≡ true }
     requires run { 1 ≤ run }
     ensures log { IfOk result (λ r. r.buffer.records ≡ log_after_restart shard records.items run epoch) }
@@ -126,8 +127,9 @@ pub fn recover<S: Store, G: Gate>(
     ensures pairs { IfOk result (λ r. r.pairs.items ≡ restored_pairs r.buffer.records (in_doubt_in shard r.buffer.records)) }
     ensures unended { IfOk result (λ r. r.unended.items ≡ unended_in r.buffer.records r.buffer.records) }
     ensures spelled { IfOk result (λ r. list_all has_spelling r.buffer.records ≡ true) }
-    ensures gate { IfOk result (λ r. (G.is_shut gate.new ≡ false) × Only r.buffer.records (G.logs gate.new)) }
-    ensures failed { IsErrOf result RecoverError.Failed → IsBegun shard records.items run epoch (G.logs gate.new) }
+    ensures open { IfOk result (λ r. G.is_shut gate.new ≡ false) }
+    ensures gate { IfOk result (λ r. (layout : Layout) → Only records.items (G.logs gate.old layout) → Only r.buffer.records (G.logs gate.new layout)) }
+    ensures failed { IsErrOf result RecoverError.Failed → (layout : Layout) → Only records.items (G.logs gate.old layout) → IsBegun shard records.items run epoch (G.logs gate.new layout) }
     ensures down { IsErrOf result RecoverError.Failed → G.is_shut gate.new ≡ true }
     ensures memory { IsErrOf result RecoverError.Memory → gate.new ≡ gate.old }
     ensures cause { CountsRecovery (G.faults gate.old) (G.faults gate.new) result }

@@ -1,4 +1,4 @@
-use Rattle.std.proofs.Common.{◌≡◌, suc, refl, sym, ap, subst, ◌∙◌, Some}
+use Rattle.std.proofs.Common.{◌≡◌, suc, refl, sym, ap, subst, ◌∙◌, [], Some}
 use Rattle.clv_base.specs.Restarts.{greatest_epoch, log_after_restart, next_epoch, misfit}
 use Rattle.interleaving_core.specs.Seated.{IsSeated}
 use Rattle.interleaving_core.specs.declared.seat.Air.TheVariants.{Home}
@@ -29,4 +29,7 @@ returns-in-Ok-revive-clause-seated g c =
     let gate = c.recover.new.gate in
     subst (λ x. IsSeated t x Home) (sym c.in-Ok-revive.ensures.up)
     (seated_revived s t a.clock a.walker a.epoch log c.in-Ok-revive.outcome gate c.requires.room (revived_enters s t a.clock a.walker a.epoch log c.in-Ok-revive.outcome told.0 c.requires.room told.1)
-    (c.in-Ok-recover.ensures.gate.1 (Some gate.records) refl) c.in-Ok-recover.ensures.gate.0 c.in-Ok-recover.ensures.spelled)
+    (c.in-Ok-recover.ensures.gate (record { splits = [] }) (λ l is. is ∙ ap (λ rs. Some rs) c.requires.gate.is) (Some gate.records) refl) c.in-Ok-recover.ensures.open c.in-Ok-recover.ensures.spelled)
+
+pub recover-requires-clause-log : goal.recover-requires-clause-log
+recover-requires-clause-log g c = (record { splits = [] }, λ l is. is ∙ ap (λ rs. Some rs) c.requires.gate.is)

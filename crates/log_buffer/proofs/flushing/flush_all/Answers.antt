@@ -9,14 +9,14 @@ pub returns-in_default-clause-batches : goal.returns-in_default-clause-batches
 returns-in_default-clause-batches g c = none
 
 pub loop-alloc-init : goal.loop-alloc-init
-loop-alloc-init g c = (refl, refl, none, c.requires.rest, c.in-Ok.ensures.room, refl, refl)
+loop-alloc-init g c = (refl, refl, none, λ layout rest. rest, c.requires.rest, c.in-Ok.ensures.room, refl, refl)
 
 pub loop-alloc-smaller : goal.loop-alloc-smaller
 loop-alloc-smaller g c =
     let before = c.loop-alloc.buffer in
     let after = c.flush_next.new.buffer in
     let records : length after.records ≡ length before.records = ap (λ (x : Buffer LogRecord). length x.records) c.in-Ok-flush_next.ensures.ok in
-    let rest = (c.loop-alloc.invariant).3 in
+    let rest = (c.loop-alloc.invariant).3 (c.loop-alloc.invariant).4.0 (c.loop-alloc.invariant).4.1 in
     let less : length after.records - after.durable < length before.records - before.durable =
     omega (arith, records, c.in-Ok-flush_next.ensures.grows, c.taken.ensures.taken, c.end.ensures.end, rest.nothing_flies, c.loop-alloc-test.true) in
     less
@@ -30,4 +30,16 @@ loop-alloc-preserved g c =
     let records : c.flush_next.new.buffer.records ≡ first.records = ap (λ (x : Buffer LogRecord). x.records) is ∙ kept.0 in
     let room : c.flush_next.new.buffer.room ≡ first.room = ap (λ (x : Buffer LogRecord). x.room) is ∙ kept.1 in
     let batches : ByBatches first.records first.durable c.flush_next.new.buffer.durable = goes_on first before c.flush_next.new.buffer kept.0 kept.2 is in
-    (records, room, batches, c.in-Ok-flush_next.ensures.rest, omega (arith, kept.4, c.flush_next.ensures.room), c.in-Ok-flush_next.ensures.cause ∙ kept.5, c.flush_next.ensures.shard ∙ kept.6)
+    (records, room, batches, λ layout rest. c.in-Ok-flush_next.ensures.rest layout (kept.3 layout rest), kept.4, omega (arith, kept.5, c.flush_next.ensures.room), c.in-Ok-flush_next.ensures.cause ∙ kept.6, c.flush_next.ensures.shard ∙ kept.7)
+
+pub flush_next-requires-clause-rest : goal.flush_next-requires-clause-rest
+flush_next-requires-clause-rest g c = let kept = c.loop-alloc.invariant in (kept.4.0, kept.3 kept.4.0 kept.4.1)
+
+pub returns-in-Err-clause-failed : goal.returns-in-Err-clause-failed
+returns-in-Err-clause-failed g c = λ is layout rest. c.in-Err.ensures.failed.2 layout ((c.loop-alloc.invariant).3 layout rest)
+
+pub returns-clause-all : goal.returns-clause-all
+returns-clause-all g c =
+    let kept = c.loop-alloc.invariant in
+    let rest = kept.3 kept.4.0 kept.4.1 in
+    omega (arith, c.taken.ensures.taken, c.taken.ensures.fronts, c.end.ensures.end, rest.nothing_flies, c.loop-alloc-test.false, ap length kept.0)
