@@ -5,9 +5,10 @@ ghost use Rattle.machine_calls.specs.Settled.{is_flushed as is_flushed_in, is_st
 
 use crate::shard::ShardCore;
 use clv_base::names::TxId;
-use clv_base::state::{Request, RequestState};
+use clv_base::state::RequestState;
 use lock_table::Locks;
 use ordered_store::Store;
+use two_phase_commit::Kept;
 
 impl<S: Store + Drop, L: Locks + Drop> ShardCore<S, L> {
     /// Whether all of the log is durable.
@@ -18,12 +19,12 @@ impl<S: Store + Drop, L: Locks + Drop> ShardCore<S, L> {
     }
 
     /// Whether a request is decided, and each part of its COMMIT has acknowledged it.
-    fn is_ended(&self, tx: TxId, request: &Request) -> bool
+    fn is_ended(&self, tx: TxId, request: &Kept) -> bool
         ensures { result ≡ is_request_settled ((self.now.shard).local).log tx request.now }
     {
-        match &request.state {
+        match request.state() {
             RequestState::Undecided => self.is_committed(tx),
-            RequestState::Committed { parts } => parts.as_slice().is_empty() || request.is_ended,
+            RequestState::Committed { parts } => parts.as_slice().is_empty() || request.is_ended(),
             RequestState::Finished | RequestState::Refused { .. } => true,
         }
     }

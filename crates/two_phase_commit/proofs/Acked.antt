@@ -14,7 +14,7 @@ use Rattle.clv_base.specs.Coordinator.{others, takes_done, counts_done, with_don
 use Rattle.clv_base.proofs.SameNames.{or_left, or_right, nat_cmp_true, nat_cmp_self}
 use Rattle.std.specs.Ordering.{ordering_reverse}
 use Rattle.std.proofs.lemmas.Cmp.{nat_cmp_total}
-use Rattle.two_phase_commit.specs.Coordinated.{IsFit, AreParts, parts_of}
+use Rattle.two_phase_commit.specs.Coordinated.{HasHome, IsFit, AreParts, parts_of}
 use Rattle.law_base.proofs.Lists.{insert_in}
 
 abbrev Above : ℕ → List ℕ → Type 0
@@ -125,7 +125,7 @@ parts_again from q Finished acked h e = tt
 parts_again from q (Refused c) acked h e = tt
 
 pub still_fit : (shard from : ℕ) (q : Request) → IsFit shard q → takes_done from q ≡ true → IsFit shard (with_done_of from q)
-still_fit shard from q fit e = record { few = fit.few; low = fit.low; rise = fit.rise; acked = insert_rises from q.acknowledged_by fit.acked; parts = parts_again from q q.state q.acknowledged_by fit.parts e }
+still_fit shard from q fit e = record { home = fit.home; few = fit.few; low = fit.low; rise = fit.rise; acked = insert_rises from q.acknowledged_by fit.acked; parts = parts_again from q q.state q.acknowledged_by fit.parts e }
 
 -- ---- a new one
 
@@ -134,5 +134,9 @@ unfolding IsStrictlySortedBy
 none_rise [] e = tt
 none_rise (n ∷ ns) e = absurd cc
 
-pub new_fit : (shard : ℕ) (q : Request) → length (others shard q.touched) ≤ 15 → AllByRecursion (λ t. t.0 < 16) q.touched → IsStrictlySortedBy nat_cmp (map (λ t. t.0) q.touched) → q.acknowledged_by ≡ [] → q.state ≡ Undecided → IsFit shard q
-new_fit shard q few low rise none st = record { few = few; low = low; rise = rise; acked = none_rise q.acknowledged_by none; parts = subst (λ (s : RequestState). AreParts s q.acknowledged_by) (sym st) (ap length none) }
+pub has_home : (shard : ℕ) (touched : List (ℕ × ℕ)) → nat_in shard (map (λ t. t.0) touched) ≡ true → HasHome shard touched
+has_home shard [] e = tt
+has_home shard (t ∷ ts) e = e
+
+pub new_fit : (shard : ℕ) (q : Request) → HasHome shard q.touched → length (others shard q.touched) ≤ 15 → AllByRecursion (λ t. t.0 < 16) q.touched → IsStrictlySortedBy nat_cmp (map (λ t. t.0) q.touched) → q.acknowledged_by ≡ [] → q.state ≡ Undecided → IsFit shard q
+new_fit shard q home few low rise none st = record { home = home; few = few; low = low; rise = rise; acked = none_rise q.acknowledged_by none; parts = subst (λ (s : RequestState). AreParts s q.acknowledged_by) (sym st) (ap length none) }

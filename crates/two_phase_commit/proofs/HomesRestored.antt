@@ -30,7 +30,7 @@ unfolding IsStrictlySortedBy
 nothing_rises = tt
 
 restored_fit : (shard : ℕ) (parts : List ℕ) → IsFit shard (restored_request parts)
-restored_fit shard parts = record { few = omega arith; low = tt; rise = nothing_rises; acked = nothing_rises; parts = λ n e. absurd (both_ways _ refl e) }
+restored_fit shard parts = record { home = tt; few = omega arith; low = tt; rise = nothing_rises; acked = nothing_rises; parts = λ n e. absurd (both_ways _ refl e) }
 
 restored_are_fit : (shard : ℕ) (commits : Table (List ℕ)) → AllByRecursion (λ p. IsFit shard p.1) (restored_requests commits)
 restored_are_fit shard [] = tt

@@ -1,3 +1,4 @@
+pub mod Ballots
 pub mod Setting
 pub mod Restored
 pub mod Doubtful

@@ -1,8 +1,9 @@
 pub mod Voting
 pub mod Doubtful
 pub mod Asked
+pub mod Ballots
 pub mod Coordinated
-pub mod Lending
+pub mod Kept
 pub mod Reminding
 pub mod Unended
 pub mod Waiting

@@ -1,5 +1,5 @@
 //! The coordinator.
-ghost use Rattle.std.specs.Prelude.{◌≡◌, ◌≤◌, ◌<◌, ◌++◌, [], true, length, map, cond, IfOk, IfSome, OnOk, OnErr};
+ghost use Rattle.std.specs.Prelude.{◌≡◌, ◌<◌, ◌++◌, [], true, map, IfOk, IfSome, OnOk, OnErr};
 ghost use Rattle.std.specs.List.{AllByRecursion};
 ghost use Rattle.std.specs.List.Sorted.{IsStrictlySortedBy};
 ghost use Rattle.std.specs.Map.{keys_of};
@@ -7,23 +7,22 @@ ghost use Rattle.std.specs.Ordering.{nat_cmp};
 ghost use Rattle.clv_base.specs.declared.state.RequestState.TheVariants.{Undecided};
 ghost use Rattle.clv_base.specs.FileRules.{tx_has_spelling};
 ghost use Rattle.clv_base.specs.Orders.{nat_in, tx_cmp, tx_get, tx_put};
-ghost use Rattle.clv_base.specs.Coordinator.{new_request, restored_request as request_restored, restored_requests, home_reminders, ask_answer, ruling_by, takes_vote, with_vote_of, takes_done, with_done_of};
-ghost use Rattle.two_phase_commit.specs.Coordinated.{AreNamed, IsFit, IsSpelledRuling, ruling_of, requests_by, counts_by, requests_with, done_by, requests_done, ruled, undecided, parts_of, told_by, state_by};
+ghost use Rattle.clv_base.specs.Coordinator.{new_request, restored_requests, home_reminders, ask_answer};
+ghost use Rattle.two_phase_commit.specs.Coordinated.{AreNamed, IsSpelledRuling, ruling_of, requests_by, counts_by, requests_with, done_by, requests_done, told_by, state_by};
 ghost use Rattle.two_phase_commit.specs.Reminding.{each_at, of_one, votes_of, dones_of};
 ghost use Rattle.two_phase_commit.specs.Waiting.{waiting_in};
 
 use crate::kept::Kept;
 use crate::memory::Memory;
-use crate::reminding::{contains, remind_dones, remind_votes};
-use crate::ruling::{answer, due_ruling};
-use crate::votes::is_other;
-use crate::waiting_homes::{put_request, waits};
+use crate::reminding::contains;
+use crate::ruling::answer;
+use crate::waiting_homes::put_request;
 use clv_base::causes::Vote;
-use clv_base::lists::{Touched, Votes};
+use clv_base::lists::Touched;
 use clv_base::messages::Message;
 use clv_base::names::TxId;
 use clv_base::parts::{PartFacts, ShardList};
-use clv_base::state::{Request, RequestState, Ruling};
+use clv_base::state::{RequestState, Ruling};
 use std::alloc::Global;
 use std::collections::BTreeMap;
 use std::collections::btree_map::Iter;
@@ -56,101 +55,6 @@ impl Model for Coordinator {
     ghost invariant = { λ c. AreFit c.shard c.requests.entries × IsIndex (waits c.shard) c.requests.entries c.waiting × AreAsked c.asked.rows c.requests.entries × AreNamed c.requests.entries };
 }
 
-/// Whether a vote counts: it is the first of another part of an undecided request.
-fn counts_vote(shard: u32, request: &Request, from: u32) -> bool
-    ensures { result ≡ takes_vote shard from request.now }
-{
-    is_undecided(&request.state)
-        && is_other(shard, request.touched.as_slice(), from)
-        && request.votes.get(from).is_none()
-}
-
-/// The first vote of another part of an undecided request counts.
-fn take_vote(shard: u32, request: &mut Request, from: u32, vote: Vote) -> bool
-    requires { IsFit shard request.old }
-    ensures taken { result ≡ takes_vote shard from request.old }
-    ensures request { request.new ≡ cond result (with_vote_of from vote request.old) request.old }
-    ensures fit { IsFit shard request.new }
-{
-    if !is_undecided(&request.state)
-        || !is_other(shard, request.touched.as_slice(), from)
-        || request.votes.get(from).is_some()
-    {
-        return false;
-    }
-    request.votes.set(from, vote);
-    true
-}
-
-/// Whether the shard is a part of a commit, of which there are at most 15.
-fn is_part(parts: &ShardList, from: u32) -> bool
-    ensures part { result ≡ nat_in from parts.now }
-    ensures few { length parts.now ≤ 15 }
-{
-    parts.as_slice().iter().any(|part| from == *part)
-}
-
-/// Whether an acknowledgement counts: it is the first of a part of a commit that isn't ended.
-fn counts_done(request: &Request, from: u32) -> bool
-    ensures counts { result ≡ takes_done from request.now }
-    ensures few { length (parts_of (request.now).state) ≤ 15 }
-{
-    match &request.state {
-        RequestState::Committed { parts } => {
-            is_part(parts, from) && !request.acknowledged_by.contains(from) && !request.is_ended
-        }
-        RequestState::Undecided | RequestState::Finished | RequestState::Refused { .. } => false,
-    }
-}
-
-/// The first acknowledgement of a part of a commit that isn't ended counts.
-fn take_done(shard: u32, request: &mut Request, from: u32) -> bool
-    requires { IsFit shard request.old }
-    ensures taken { result ≡ takes_done from request.old }
-    ensures request { request.new ≡ cond result (with_done_of from request.old) request.old }
-    ensures fit { IsFit shard request.new }
-{
-    if !counts_done(request, from) {
-        return false;
-    }
-    request.acknowledged_by = request.acknowledged_by.with(from);
-    true
-}
-
-/// The ruling that is due of a request is made.
-fn rule(shard: u32, tx: TxId, request: &mut Request, facts: &PartFacts) -> Option<Ruling>
-    requires { IsFit shard request.old }
-    ensures ruling { result ≡ ruling_by shard tx request.old facts.entry.now }
-    ensures request { request.new ≡ ruled result request.old }
-    ensures fit { IsFit shard request.new }
-{
-    let ruling = due_ruling(shard, tx, request, facts);
-    match &ruling {
-        None => {}
-        Some(Ruling::Commit { parts }) => {
-            request.state = RequestState::Committed {
-                parts: parts.copied(),
-            }
-        }
-        Some(Ruling::Acknowledge) => request.state = RequestState::Finished,
-        Some(Ruling::Abort { cause, .. }) => {
-            request.state = RequestState::Refused { cause: *cause }
-        }
-        Some(Ruling::End) => request.is_ended = true,
-    }
-    ruling
-}
-
-fn is_undecided(state: &RequestState) -> bool
-    ensures { result ≡ undecided state.now }
-{
-    match state {
-        RequestState::Undecided => true,
-        RequestState::Committed { .. } | RequestState::Finished | RequestState::Refused { .. } =>
-            false,
-    }
-}
-
 impl Coordinator {
     /// A home without a request. Takes no memory.
     pub fn new(alloc: Global, shard: u32) -> Self
@@ -179,9 +83,11 @@ impl Coordinator {
         let mut waiting = TxIndex::new(alloc);
         let mut asked = TxTable::new(alloc);
         for commit in unended {
-            let request = restored_request(alloc, &commit.1);
+            let request = match Kept::restored(alloc, &commit.1) {
+                Ok(request) => request,
+                Err(memory) => return Err(memory),
+            };
             match put_request(
-                alloc,
                 &mut requests,
                 &mut waiting,
                 &mut asked,
@@ -215,7 +121,7 @@ impl Coordinator {
             return None;
         }
         match self.requests.get(&tx) {
-            Some(request) => Some(copied(&request.state)),
+            Some(request) => Some(request.state()),
             None => None,
         }
     }
@@ -225,7 +131,7 @@ impl Coordinator {
         ensures { result ≡ told_by (tx_get tx self.now.requests) }
     {
         match self.requests.get(&tx) {
-            Some(request) => Some(told_parts(&request.state)),
+            Some(request) => Some(request.told()),
             None => None,
         }
     }
@@ -269,7 +175,7 @@ impl Coordinator {
         ensures { OnOk result (list.new.items ≡ list.old.items ++ of_one (votes_of self.now.shard) tx (tx_get tx self.now.requests)) }
     {
         match self.requests.get(&tx) {
-            Some(request) => remind_votes(self.shard, tx, request, list),
+            Some(request) => request.remind_votes(self.shard, tx, list),
             None => Ok(()),
         }
     }
@@ -297,7 +203,7 @@ impl Coordinator {
         for tx in txs {
             if contains(durable, tx) {
                 if let Some(request) = self.requests.get(tx) {
-                    remind_dones(self.shard, *tx, request, list)?;
+                    request.remind_dones(self.shard, *tx, list)?;
                 }
             }
         }
@@ -326,7 +232,7 @@ impl Coordinator {
         ensures { result ≡ counts_by self.now.shard from (tx_get tx self.now.requests) }
     {
         match self.requests.get(&tx) {
-            Some(request) => counts_vote(self.shard, request, from),
+            Some(request) => request.counts_vote(self.shard, from),
             None => false,
         }
     }
@@ -336,7 +242,7 @@ impl Coordinator {
         ensures { result ≡ done_by from (tx_get tx self.now.requests) }
     {
         match self.requests.get(&tx) {
-            Some(request) => counts_done(request, from),
+            Some(request) => request.counts_done(from),
             None => false,
         }
     }
@@ -350,7 +256,7 @@ impl Coordinator {
         let Some(request) = self.requests.get_mut(&tx) else {
             return false;
         };
-        take_vote(shard, request.as_mut(), from, vote)
+        request.take_vote(shard, from, vote)
     }
 
     /// An acknowledgement came: whether it counts. Takes no memory.
@@ -362,8 +268,8 @@ impl Coordinator {
         let Some(request) = self.requests.get_mut(&tx) else {
             return false;
         };
-        let taken = take_done(shard, request.as_mut(), from);
-        let stays = waits(shard, request);
+        let taken = request.take_done(shard, from);
+        let stays = request.waits(shard);
         self.waiting.keep_if(tx, stays);
         taken
     }
@@ -381,8 +287,8 @@ impl Coordinator {
         let Some(request) = self.requests.get_mut(&tx) else {
             return None;
         };
-        let ruling = rule(shard, tx, request.as_mut(), facts);
-        let stays = waits(shard, request);
+        let ruling = request.rule(shard, tx, facts);
+        let stays = request.waits(shard);
         self.waiting.keep_if(tx, stays);
         ruling
     }
@@ -397,15 +303,11 @@ impl Coordinator {
         ensures err { OnErr result (self.new ≡ self.old) }
         ensures keys { OnOk result (IsStrictlySortedBy tx_cmp (keys_of self.new.requests)) }
     {
-        let request = Request {
-            touched,
-            votes: Votes::new(),
-            state: RequestState::Undecided,
-            acknowledged_by: ShardList::new(),
-            is_ended: false,
+        let request = match Kept::asked(self.alloc, touched) {
+            Ok(request) => request,
+            Err(memory) => return Err(memory),
         };
         put_request(
-            self.alloc,
             &mut self.requests,
             &mut self.waiting,
             &mut self.asked,
@@ -413,45 +315,5 @@ impl Coordinator {
             tx,
             request,
         )
-    }
-}
-
-/// The request of a commit that a restart found without an END. Takes no memory.
-fn restored_request(alloc: Global, parts: &ShardList) -> Request
-    ensures { result ≡ request_restored parts.now }
-{
-    Request {
-        touched: Touched::new(Vec::new(alloc)),
-        votes: Votes::new(),
-        state: RequestState::Committed {
-            parts: parts.copied(),
-        },
-        acknowledged_by: ShardList::new(),
-        is_ended: false,
-    }
-}
-
-/// The same state. Takes no memory.
-fn copied(state: &RequestState) -> RequestState
-    ensures { result ≡ state.now }
-{
-    match state {
-        RequestState::Undecided => RequestState::Undecided,
-        RequestState::Committed { parts } => RequestState::Committed {
-            parts: parts.copied(),
-        },
-        RequestState::Finished => RequestState::Finished,
-        RequestState::Refused { cause } => RequestState::Refused { cause: *cause },
-    }
-}
-
-/// The parts of a commit.
-fn told_parts(state: &RequestState) -> ShardList
-    ensures { result ≡ parts_of state.now }
-{
-    match state {
-        RequestState::Committed { parts } => parts.copied(),
-        RequestState::Undecided | RequestState::Finished | RequestState::Refused { .. } =>
-            ShardList::new(),
     }
 }

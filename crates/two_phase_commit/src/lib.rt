@@ -6,15 +6,20 @@
 
 #![tactic(auto)]
 
+mod alone;
+mod ballot;
 mod coordinator;
 pub mod coordinator_laws;
 mod deciding;
 pub mod doubts;
+mod form;
+mod joint;
 mod kept;
 mod memory;
 mod participant;
 mod reminding;
 mod ruling;
+mod states;
 mod votes;
 mod voting;
 mod waiting_homes;

@@ -5,14 +5,16 @@ ghost use Rattle.std.specs.List.Sorted.{IsStrictlySortedBy};
 ghost use Rattle.clv_base.specs.declared.messages.Message.TheVariants.{Decide};
 ghost use Rattle.clv_base.specs.Orders.{nat_in, tx_cmp, tx_in};
 ghost use Rattle.clv_base.specs.Coordinator.{missing_dones, missing_votes};
+ghost use Rattle.two_phase_commit.specs.Kept.{joint_request};
 ghost use Rattle.two_phase_commit.specs.Reminding.{prepares_for, decides_for};
 
+use crate::ballot::Ballot;
+use crate::joint::Joint;
 use crate::memory::Memory;
-use clv_base::lists::Votes;
 use clv_base::messages::Message;
 use clv_base::names::TxId;
 use clv_base::parts::ShardList;
-use clv_base::state::{Request, RequestState};
+use clv_base::state::RequestState;
 
 /// Whether the transaction is one of these, which rise.
 pub(crate) fn contains(txs: &[TxId], tx: &TxId) -> bool
@@ -36,10 +38,10 @@ fn ask_again(
     shard: u32,
     tx: TxId,
     touched: &[(u32, u64)],
-    votes: &Votes,
+    votes: &Ballot,
     list: &mut Vec<Message>,
 ) -> Result<(), Memory>
-    ensures { OnOk result (list.new.items ≡ list.old.items ++ prepares_for shard tx votes.now touched.now) }
+    ensures { OnOk result (list.new.items ≡ list.old.items ++ prepares_for shard tx (votes.now).votes touched.now) }
 {
     for part in touched {
         if part.0 != shard && votes.get(part.0).is_none() {
@@ -61,10 +63,10 @@ fn ask_again(
 pub(crate) fn remind_votes(
     shard: u32,
     tx: TxId,
-    request: &Request,
+    request: &Joint,
     list: &mut Vec<Message>,
 ) -> Result<(), Memory>
-    ensures { OnOk result (list.new.items ≡ list.old.items ++ missing_votes shard tx request.now (request.now).state) }
+    ensures { OnOk result (list.new.items ≡ list.old.items ++ missing_votes shard tx (joint_request request.now) (joint_request request.now).state) }
 {
     match &request.state {
         RequestState::Undecided => ask_again(
@@ -109,10 +111,10 @@ fn tell_again(
 pub(crate) fn remind_dones(
     shard: u32,
     tx: TxId,
-    request: &Request,
+    request: &Joint,
     list: &mut Vec<Message>,
 ) -> Result<(), Memory>
-    ensures { OnOk result (list.new.items ≡ list.old.items ++ missing_dones shard tx request.now (request.now).state) }
+    ensures { OnOk result (list.new.items ≡ list.old.items ++ missing_dones shard tx (joint_request request.now) (joint_request request.now).state) }
 {
     match &request.state {
         RequestState::Committed { parts } => tell_again(

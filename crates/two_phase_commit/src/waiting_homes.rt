@@ -5,15 +5,16 @@ ghost use Rattle.std.specs.List.Sorted.{IsStrictlySortedBy};
 ghost use Rattle.std.specs.Map.{keys_of};
 ghost use Rattle.clv_base.specs.Orders.{tx_cmp, tx_put};
 ghost use Rattle.two_phase_commit.specs.Asked.{AreAsked};
+ghost use Rattle.two_phase_commit.specs.Kept.{joint_request};
 ghost use Rattle.two_phase_commit.specs.Waiting.{waits as request_waits};
 ghost use Rattle.tx_table.specs.Index.{IsIndex};
 
+use crate::joint::Joint;
 use crate::kept::Kept;
 use crate::memory::Memory;
 use crate::ruling::are_in;
 use clv_base::names::TxId;
-use clv_base::state::{Request, RequestState};
-use std::alloc::Global;
+use clv_base::state::RequestState;
 use std::collections::BTreeMap;
 use tx_table::{TxIndex, TxTable};
 
@@ -25,8 +26,8 @@ fn touches_others(shard: u32, touched: &[(u32, u64)]) -> bool
 }
 
 /// Whether a request waits: for votes of other shards, or for the acknowledgement of a part.
-pub(crate) fn waits(shard: u32, request: &Request) -> bool
-    ensures { result ≡ request_waits shard request.now }
+pub(crate) fn waits(shard: u32, request: &Joint) -> bool
+    ensures { result ≡ request_waits shard (joint_request request.now) }
 {
     match &request.state {
         RequestState::Undecided => touches_others(shard, request.touched.as_slice()),
@@ -37,13 +38,12 @@ pub(crate) fn waits(shard: u32, request: &Request) -> bool
 
 /// Puts a request into the table, the transaction among those with one, and it into the index if it waits. Where there is no memory all stays.
 pub(crate) fn put_request(
-    alloc: Global,
     requests: &mut BTreeMap<TxId, Kept>,
     waiting: &mut TxIndex,
     asked: &mut TxTable<()>,
     shard: u32,
     tx: TxId,
-    request: Request,
+    request: Kept,
 ) -> Result<(), Memory>
     requires index { IsIndex (request_waits shard) requests.old.entries waiting.old }
     requires asked { AreAsked asked.old.rows requests.old.entries }
@@ -53,12 +53,8 @@ pub(crate) fn put_request(
     ensures asked { AreAsked asked.new.rows requests.new.entries }
     ensures keys { IsStrictlySortedBy tx_cmp (keys_of requests.new.entries) }
 {
-    let waits = waits(shard, &request);
+    let waits = request.waits(shard);
     let _all = requests.len();
-    let kept = match Kept::new(alloc, request) {
-        Ok(kept) => kept,
-        Err(memory) => return Err(memory),
-    };
     match asked.reserve(1) {
         Ok(()) => {}
         Err(_) => return Err(Memory),
@@ -68,7 +64,7 @@ pub(crate) fn put_request(
         Err(_) => return Err(Memory),
     }
     asked.set(tx, ());
-    match requests.insert(tx, kept) {
+    match requests.insert(tx, request) {
         Ok(_) => {
             waiting.keep_if(tx, waits);
             Ok(())

@@ -5,4 +5,4 @@ use Rattle.clv_base.specs.Coordinator.{others, vote_from, is_good}
 use Rattle.two_phase_commit.proofs.votes.are_good.Given as goal
 
 abbrev pub invariant-loop-part : goal.invariant-loop-part
-invariant-loop-part l = list_all (λ p. is_good (vote_from p l.votes)) (others l.shard (drop l.part-index l.touched)) ≡ list_all (λ p. is_good (vote_from p l.votes)) (others l.shard l.touched)
+invariant-loop-part l = list_all (λ p. is_good (vote_from p (l.votes).votes)) (others l.shard (drop l.part-index l.touched)) ≡ list_all (λ p. is_good (vote_from p (l.votes).votes)) (others l.shard l.touched)

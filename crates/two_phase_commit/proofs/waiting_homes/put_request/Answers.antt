@@ -10,13 +10,7 @@ pub returns-in-Err-clause-index : goal.returns-in-Err-clause-index
 returns-in-Err-clause-index c = c.requires.index
 
 pub returns-in-Err-clause-asked : goal.returns-in-Err-clause-asked
-returns-in-Err-clause-asked c = c.requires.asked
-
-pub returns-in-Err-reserve-clause-index : goal.returns-in-Err-reserve-clause-index
-returns-in-Err-reserve-clause-index c = c.requires.index
-
-pub returns-in-Err-reserve-clause-asked : goal.returns-in-Err-reserve-clause-asked
-returns-in-Err-reserve-clause-asked c = λ t none. c.requires.asked t (sym (c.reserve.ensures.rows t) ∙ none)
+returns-in-Err-clause-asked c = λ t none. c.requires.asked t (sym (c.reserve.ensures.rows t) ∙ none)
 
 pub returns-in-Err-insert_if-clause-index : goal.returns-in-Err-insert_if-clause-index
 returns-in-Err-insert_if-clause-index c = λ t. ap (tx_in t) c.in-Err-insert_if.ensures.err ∙ c.requires.index t
@@ -27,7 +21,7 @@ returns-in-Err-insert_if-clause-asked c = λ t none. c.requires.asked t (sym (c.
 pub returns-in-Ok-insert-clause-index : goal.returns-in-Ok-insert-clause-index
 returns-in-Ok-insert-clause-index c =
     let tx = c.args.tx in let rows = c.args.requests.now.entries in let old = c.args.waiting.now in let mid = c.insert_if.new.self in
-    let put : c.insert.new.self.entries ≡ tx_put tx c.args.request rows = c.in-Ok-insert.ensures.entries ∙ ap (λ (r : Request). tx_put tx r rows) c.in-Ok.ensures in
+    let put : c.insert.new.self.entries ≡ tx_put tx c.args.request rows = c.in-Ok-insert.ensures.entries in
     subst (λ (es : Table Request). IsIndex (waits c.args.shard) es c.keep_if.new.self) (sym put)
     (index_renewed (waits c.args.shard) tx c.args.request rows old mid c.keep_if.new.self c.requires.index
     (λ t. c.in-Ok-insert_if.ensures.members t ∙ ap (λ b. cond (tx_same tx t) (b || tx_in t old) (tx_in t old)) c.waits-waits.ensures)

@@ -15,21 +15,21 @@ use Rattle.tx_table.specs.Index.{IsIndex}
 use Rattle.two_phase_commit.proofs.coordinator.Coordinator.on_done.Goals as goal
 
 pub take_done-taken-requires : goal.take_done-taken-requires
-take_done-taken-requires c = rows_get (λ p. IsFit c.self.inside.shard p.1) c.args.tx c.as_mut.result.now c.self.inside.requests.entries c.self.invariant.0 (sym c.in-Some.ensures.value ∙ ap Some (sym c.as_mut.ensures.value))
+take_done-taken-requires c = rows_get (λ p. IsFit c.self.inside.shard p.1) c.args.tx c.in-Some.request.now c.self.inside.requests.entries c.self.invariant.0 (sym c.in-Some.ensures.value)
 
 pub invariant_of-self-2 : goal.invariant_of-self-2
 invariant_of-self-2 c =
-    let shard = c.self.inside.shard in let old = c.self.inside.requests.entries in let q = c.as_mut.result.now in let now = c.take_done-taken.new.request in
+    let shard = c.self.inside.shard in let old = c.self.inside.requests.entries in let q = c.in-Some.request.now in let now = c.take_done-taken.new.self in
     let down : waits shard q ≡ false → waits shard now ≡ false = λ e. ap (waits shard) c.take_done-taken.ensures.request ∙ done_waits shard c.args.from q c.take_done-taken.result e in
-    let index = after_change shard c.args.tx now q old c.self.inside.waiting c.keep_if.new.self c.waits-stays.result (sym c.in-Some.ensures.value ∙ ap Some (sym c.as_mut.ensures.value)) down c.self.invariant.1 (c.waits-stays.ensures ∙ ap (waits shard) c.deref.ensures) c.keep_if.ensures.members in
-    let name = rows_get (λ p. tx_has_spelling p.0 ≡ true) c.args.tx q old c.self.invariant.3 (sym c.in-Some.ensures.value ∙ ap Some (sym c.as_mut.ensures.value)) in
+    let index = after_change shard c.args.tx now q old c.self.inside.waiting c.keep_if.new.self c.waits-stays.result (sym c.in-Some.ensures.value) down c.self.invariant.1 c.waits-stays.ensures c.keep_if.ensures.members in
+    let name = rows_get (λ p. tx_has_spelling p.0 ≡ true) c.args.tx q old c.self.invariant.3 (sym c.in-Some.ensures.value) in
     subst (λ (rs : Table Request). AreFit shard rs × IsIndex (waits shard) rs c.keep_if.new.self × AreAsked c.self.inside.asked.rows rs × AreNamed rs) (sym (c.get_mut.follows.holds now).0)
     (rows_set (λ p. IsFit shard p.1) c.args.tx now old c.take_done-taken.ensures.fit c.self.invariant.0, index, λ u e. set_none c.args.tx u now old (c.self.invariant.2 u e), rows_set (λ p. tx_has_spelling p.0 ≡ true) c.args.tx now old name c.self.invariant.3)
 
 pub returns-clause-requests : goal.returns-clause-requests
 returns-clause-requests c =
-    let shard = c.self.inside.shard in let tx = c.args.tx in let old = c.self.inside.requests.entries in let q = c.as_mut.result.now in let now = c.take_done-taken.new.request in
-    let there : tx_get tx old ≡ Some q = sym c.in-Some.ensures.value ∙ ap Some (sym c.as_mut.ensures.value) in
+    let shard = c.self.inside.shard in let tx = c.args.tx in let old = c.self.inside.requests.entries in let q = c.in-Some.request.now in let now = c.take_done-taken.new.self in
+    let there : tx_get tx old ≡ Some q = sym c.in-Some.ensures.value in
     let set : (c.get_mut.follows.lender now).entries ≡ requests_done tx c.args.from (tx_get tx old) old =
     (c.get_mut.follows.holds now).0 ∙ ap (λ (w : Request). tx_set tx w old) c.take_done-taken.ensures.request
     ∙ set_if tx c.take_done-taken.result (with_done_of c.args.from q) q old there

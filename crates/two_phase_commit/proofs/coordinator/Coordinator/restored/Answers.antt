@@ -11,10 +11,10 @@ pub loop-commit-preserved : goal.loop-commit-preserved
 loop-commit-preserved c =
     let commits = c.args.unended.now in let i = c.loop-commit.commit-index in let now = c.loop-commit.requests.entries in
     record {
-      all = ap (λ (l : Table Request). l ++ restored_requests (drop (i + 1) commits)) (c.in-Ok.ensures.ok ∙ ap (insert_entry tx_cmp now _) c.restored_request-request.ensures)
+      all = ap (λ (l : Table Request). l ++ restored_requests (drop (i + 1) commits)) (c.in-Ok-put_request.ensures.ok ∙ ap (insert_entry tx_cmp now _) c.in-Ok.ensures)
           ∙ step_restored i commits c.commit-item.result now c.requires.rising c.loop-commit-test.true c.commit-item.is c.loop-commit.invariant.all;
-      index = c.in-Ok.ensures.index;
-      asked = c.in-Ok.ensures.asked;
+      index = c.in-Ok-put_request.ensures.index;
+      asked = c.in-Ok-put_request.ensures.asked;
     }
 
 pub invariant_of-self : goal.invariant_of-self
