@@ -1,5 +1,5 @@
 -- A shard restarts before it is asked for its vote: its no aborts the transaction, and the one that read its write at the home.
-use Rattle.std.specs.Prelude.{◌≡◌, ℕ, true, List, [], ◌∷◌, take, Some, None}
+use Rattle.std.specs.Prelude.{◌≡◌, ℕ, ◌<◌, true, List, [], ◌∷◌, take, Some, None}
 use Rattle.clv_base.specs.declared.names.TxId.{TxId}
 use Rattle.clv_base.specs.declared.ops.Op.TheVariants.{Get, Put}
 use Rattle.clv_base.specs.declared.ops.Answer.TheVariants.{Value}
@@ -14,6 +14,9 @@ use Rattle.clv_base.specs.declared.events.Outcome.TheVariants.{Answered, Asked, 
 use Rattle.clv_base.specs.declared.events.Entry.{Entry}
 use Rattle.clv_base.specs.Journals.{History}
 use Rattle.clv_base.specs.History.{CauseStands}
+use Rattle.clv_base.specs.Shards.{shard_count}
+use Rattle.fate_laws.specs.Causes.{TellsCause}
+use Rattle.settled_laws.specs.Deaths.{BeginsSettled}
 use Rattle.history_laws.specs.Openings.{LegalFrom}
 use Rattle.history_laws.specs.Continuing.{serial_left}
 use Rattle.history_laws.specs.Outcomes.{aborted_in_history}
@@ -70,3 +73,22 @@ abbrev pub RefusedHasNoMember : Type 0
 RefusedHasNoMember =
     (serial_left splits new_logs refused refused_logs (λ n. true) ≡ []) × (aborted_in_history refused writer ≡ true) × (aborted_in_history refused reader ≡ true)
     × (aborted_in_history refused younger ≡ true)
+
+-- ---- its first three entries alone, from shards of which none was ever used
+
+abbrev pub met : History
+met =
+    on_0 2 1 (OpEvent writer (born 1 1) 1 None (Put 3 30)) (Answered (Value None) 0)
+    ∷ on_1 3 1 (OpEvent writer (born 1 1) 2 None (Put 5 50)) (Answered (Value None) 0)
+    ∷ dies
+    ∷ []
+
+abbrev pub met_logs : List (List LogRecord)
+met_logs = (RestartRecord 1 0 ∷ []) ∷ (RestartRecord 1 0 ∷ []) ∷ []
+
+abbrev pub MetIsLegal : Type 0
+MetIsLegal = LegalFrom splits new_logs met met_logs
+
+-- each shard began settled, and none is restarted: what is told of an abort here is a death
+abbrev pub MetBeginsSettled : Type 0
+MetBeginsSettled = ((n : ℕ) → n < shard_count splits → BeginsSettled new_logs met n) × TellsCause (dies.1).event (dies.1).outcome younger (Died writer)

@@ -4,9 +4,9 @@ use Rattle.std.specs.List.{AllByRecursion}
 use Rattle.clv_base.specs.Journals.{History}
 use Rattle.script_lang.specs.Bodies.{Body}
 use Rattle.script_runs.specs.declared.ends.StopCause.{StopCause}
-use Rattle.script_runs.specs.Seen.{Seen, Misses, AreStamped, Grows, raised}
-use Rattle.script_runs.specs.Sessions.{FollowsScript}
-use Rattle.script_runs.specs.Ran.{Rise, Follows}
+use Rattle.script_runs.specs.Seen.{Seen, Misses, AreStamped, GrowsFrom, GrowsIn, raised}
+use Rattle.script_runs.specs.Sessions.{FollowsScript, tries_of}
+use Rattle.script_runs.specs.Ran.{Rise, FollowsFrom, Follows}
 use Rattle.script_runs.specs.Begun.{HasBegun}
 use Rattle.script_runs.specs.Alone.{BeginsBy, BeginsPast}
 
@@ -26,24 +26,26 @@ all_early : (clock k m : ℕ) (es : History) → m ≤ clock → AreStamped k m 
 all_early clock k m [] high s = tt
 all_early clock k m (e ∷ es) high s = ((let l = s.0.1 in omega arith), all_early clock k m es high s.1)
 
-grows_below : (clock : ℕ) (es : History) (u v : Seen) → Grows es (raised clock u) v → Grows es u v
-grows_below clock es u v g =
+grows_below : (clock n : ℕ) (es : History) (u v : Seen) → GrowsIn n es (raised clock u) v → GrowsFrom (max u.clock clock) n es u v
+grows_below clock n es u v g =
     record {
       splits_are = g.splits_are;
       run_is = g.run_is;
       walker_is = g.walker_is;
       entries_are = g.entries_are;
       clock_rises = let c = g.clock_rises in omega arith;
-      serial_rises = g.serial_rises;
+      serial_is = g.serial_is;
+      latest_rises = g.latest_rises;
+      dated = g.dated;
       stamped = stamped_below u.clock (max u.clock clock) v.clock es (omega arith) g.stamped;
     }
 
--- a session whose clock was raised follows as before
-pub follows_raised : (missed : Misses) (bodies : List Body) (most : Option ℕ) (cause : Option StopCause) (clock : ℕ) (u w v : Seen) → w ≡ raised clock u → Follows missed bodies most cause w v → Follows missed bodies most cause u v
+-- a session whose clock was raised follows as before, from that clock
+pub follows_raised : (missed : Misses) (bodies : List Body) (most : Option ℕ) (cause : Option StopCause) (clock : ℕ) (u w v : Seen) → w ≡ raised clock u → Follows missed bodies most cause w v → FollowsFrom (max u.clock clock) missed bodies most cause u v
 follows_raised missed bodies most cause clock u w v is f = at (subst (λ z. Follows missed bodies most cause z v) is f)
   where
-    at : Follows missed bodies most cause (raised clock u) v → Follows missed bodies most cause u v
-    at f = (f.0, f.1, grows_below clock f.0 u v f.2, rise_below u.clock (max u.clock clock) v.clock _ (omega arith) f.3, f.4, f.5)
+    at : Follows missed bodies most cause (raised clock u) v → FollowsFrom (max u.clock clock) missed bodies most cause u v
+    at f = (f.0, f.1, grows_below clock (length (tries_of (f.1).transactions)) f.0 u v f.2, rise_below u.clock (max u.clock clock) v.clock _ (omega arith) f.3, f.4, f.5)
 
 -- and its entries have stamps past that clock
 pub begins_past : (missed : Misses) (bodies : List Body) (most : Option ℕ) (cause : Option StopCause) (clock : ℕ) (u w v : Seen) → w ≡ raised clock u → Follows missed bodies most cause w v → BeginsPast clock u v

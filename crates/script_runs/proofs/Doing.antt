@@ -21,7 +21,7 @@ use Rattle.script_lang.specs.declared.following.Stage.{Stage}
 use Rattle.script_lang.specs.declared.following.Stage.TheVariants.{AtLine, Second, Puts, LastPut}
 use Rattle.script_runs.specs.Operations.{IsOperation, AreOperations, no_operation, operation}
 use Rattle.script_runs.specs.Tries.{is_touched, ops_so_far}
-use Rattle.script_runs.specs.Seen.{Active, Seen, AreStamped, Grows, untouched}
+use Rattle.script_runs.specs.Seen.{Active, Seen, AreStamped, GrowsFrom, GrowsIn, Grows, untouched}
 use Rattle.script_runs.specs.Told.{has_range, TouchesBy, TouchesJust}
 use Rattle.script_runs.specs.Lines.{HasDone}
 
@@ -32,20 +32,39 @@ stamped_on [] [] k l m up more first later = tt
 stamped_on [] (e ∷ es) k l m up more first later = ((let x = later.0.0 in omega arith, later.0.1), stamped_on [] es k l m up more tt later.1)
 stamped_on (e ∷ es) b k l m up more first later = ((first.0.0, (let x = first.0.1 in omega arith)), stamped_on es b k l m up more first.1 later)
 
-pub grows_on : (a b : History) (u v w : Seen) → Grows a u v → Grows b v w → Grows (a ++ b) u w
-grows_on a b u v w g h =
+pub grows_over : (base n m : ℕ) (a b : History) (u v w : Seen) → GrowsFrom base n a u v → GrowsIn m b v w → GrowsFrom base (n + m) (a ++ b) u w
+grows_over base n m a b u v w g h =
     record {
       splits_are = h.splits_are ∙ g.splits_are;
       run_is = h.run_is ∙ g.run_is;
       walker_is = h.walker_is ∙ g.walker_is;
       entries_are = h.entries_are ∙ ap (λ es. es ++ b) g.entries_are ∙ append_assoc u.entries a b;
       clock_rises = let x = g.clock_rises in let y = h.clock_rises in omega arith;
-      serial_rises = let x = g.serial_rises in let y = h.serial_rises in omega arith;
+      serial_is = let x = g.serial_is in let y = h.serial_is in omega arith;
+      latest_rises = let x = g.latest_rises in let y = h.latest_rises in omega arith;
+      dated = let x = g.dated in let y = h.dated in let l = h.latest_rises in omega arith;
       stamped = stamped_on a b u.clock v.clock w.clock g.clock_rises h.clock_rises g.stamped h.stamped;
     }
 
+pub grows_on : (a b : History) (u v w : Seen) → Grows a u v → Grows b v w → Grows (a ++ b) u w
+grows_on a b u v w g h = grows_over u.clock 0 0 a b u v w g h
+
 pub grows_none : (u : Seen) → Grows [] u u
-grows_none u = record { splits_are = refl; run_is = refl; walker_is = refl; entries_are = sym (append-nil u.entries); clock_rises = omega arith; serial_rises = omega arith; stamped = tt }
+grows_none u = record {
+  splits_are = refl;
+  run_is = refl;
+  walker_is = refl;
+  entries_are = sym (append-nil u.entries);
+  clock_rises = omega arith;
+  serial_is = omega arith;
+  latest_rises = omega arith;
+  dated = omega arith;
+  stamped = tt;
+}
+
+-- with another number, and other entries, that are the same
+pub grows_as : (base n m : ℕ) (es fs : History) (u v : Seen) → n ≡ m → es ≡ fs → GrowsFrom base n es u v → GrowsFrom base m fs u v
+grows_as base n m es fs u v is same g = subst (λ k. GrowsFrom base k fs u v) is (subst (λ l. GrowsFrom base n l u v) same g)
 
 -- ---- lines
 

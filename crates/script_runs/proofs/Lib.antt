@@ -6,6 +6,8 @@ mod Sessions
 mod Retried
 pub mod TriesListed
 pub mod TriesSessions
+mod TriesTell
 mod Alone
 mod Begun
 pub mod Laws
+pub mod Counting

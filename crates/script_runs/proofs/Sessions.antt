@@ -1,5 +1,5 @@
 -- A session's transactions, one after another.
-use Rattle.std.proofs.Common.{◌≡◌, refl, sym, ap, subst, ◌∙◌, ◌⊎◌, inl, inr, ℕ, ◌+◌, ◌<◌, ◌≤◌, true, ◌&&◌, List, [], ◌∷◌, ◌++◌, take, drop, length, get_or, append_assoc, append-nil, Option, Some, None, arith}
+use Rattle.std.proofs.Common.{◌≡◌, refl, sym, ap, subst, ◌∙◌, ◌⊎◌, inl, inr, ℕ, ◌+◌, ◌<◌, ◌≤◌, true, ◌&&◌, List, [], ◌∷◌, ◌++◌, take, drop, length, get_or, length-append, append_assoc, append-nil, Option, Some, None, arith}
 use Rattle.std.proofs.lemmas.Bool.{lt-ltb}
 use Rattle.std.proofs.lemmas.List.{map-append, take-append-drop, take_more, take_all}
 use Rattle.clv_base.specs.FileRules.{numbers_rise}
@@ -8,11 +8,11 @@ use Rattle.script_runs.specs.declared.ends.StopCause.{StopCause}
 use Rattle.script_runs.specs.declared.ends.StopCause.TheVariants.{Worn}
 use Rattle.script_runs.specs.Sessions.{Transaction, IsTransaction, AreTransactions, all_done, not_begun, stopped, done, entries_of, tries_of}
 use Rattle.script_runs.specs.Dropped.{LetsGo, AllLetGo}
-use Rattle.script_runs.specs.Seen.{Seen, Misses, Keeps, Grows}
-use Rattle.script_runs.specs.Ran.{Rise, serials, stamps, Ran, NotBegun, Follows}
+use Rattle.script_runs.specs.Seen.{Seen, Misses, Keeps, GrowsFrom, GrowsIn}
+use Rattle.script_runs.specs.Ran.{Rise, serials, stamps, Ran, NotBegun, FollowsFrom, Follows}
 use Rattle.script_runs.specs.Laws.{SessionsGoOn, SessionsStop}
 use Rattle.law_base.proofs.Lists.{all_append}
-use Rattle.script_runs.proofs.Doing.{grows_on}
+use Rattle.script_runs.proofs.Doing.{grows_over, grows_as}
 use Rattle.script_runs.proofs.Dropped.{kept_so, all_let_go_later}
 use Rattle.script_runs.proofs.Tries.{rise_later, rise_on, entries_more}
 
@@ -30,7 +30,7 @@ pub record Running (missed : Misses) (bodies : List Body) (most : Option ℕ) (u
   pub transactions : List Transaction
   pub front : (more : List Body) (trs : List Transaction) (cause : Option StopCause) → AreTransactions u.splits u.run u.walker most more trs cause
       → AreTransactions u.splits u.run u.walker most (bodies ++ more) (transactions ++ trs) cause
-  pub grows : Grows (entries_of (tries_of transactions)) u v
+  pub grows : GrowsIn (length (tries_of transactions)) (entries_of (tries_of transactions)) u v
   pub births_rise : Rise u.clock (stamps transactions) v.clock
   pub serials_rise : Rise u.serial (serials (tries_of transactions)) v.serial
   pub dropped : AllLetGo missed v.clock (tries_of transactions)
@@ -48,8 +48,8 @@ running_later missed later bodies most u v keeps d =
     }
 
 -- with one transaction more, however it ended
-record HasRun (missed : Misses) (u w : Seen) (trs : List Transaction) : Type 0 where
-  grows : Grows (entries_of (tries_of trs)) u w
+record HasRun (missed : Misses) (base : ℕ) (u w : Seen) (trs : List Transaction) : Type 0 where
+  grows : GrowsFrom base (length (tries_of trs)) (entries_of (tries_of trs)) u w
   births_rise : Rise u.clock (stamps trs) w.clock
   serials_rise : Rise u.serial (serials (tries_of trs)) w.serial
   dropped : AllLetGo missed w.clock (tries_of trs)
@@ -57,14 +57,15 @@ record HasRun (missed : Misses) (u w : Seen) (trs : List Transaction) : Type 0 w
 abbrev as_run : (missed : Misses) (body : Body) (most : Option ℕ) (cause : Option StopCause) (v w : Seen) → Ran missed body most cause v w → Transaction
 as_run missed body most cause v w r = record { body = body; birth = r.birth; tries = r.tries }
 
-one_run : (missed : Misses) (bodies : List Body) (body : Body) (most : Option ℕ) (cause : Option StopCause) (u v w : Seen) (d : Running missed bodies most u v) (r : Ran missed body most cause v w) → HasRun missed u w (d.transactions ++ as_run missed body most cause v w r ∷ [])
+one_run : (missed : Misses) (bodies : List Body) (body : Body) (most : Option ℕ) (cause : Option StopCause) (u v w : Seen) (d : Running missed bodies most u v) (r : Ran missed body most cause v w) → HasRun missed u.clock u w (d.transactions ++ as_run missed body most cause v w r ∷ [])
 one_run missed bodies body most cause u v w d r =
     let tr = as_run missed body most cause v w r in
     let tries_are : tries_of (d.transactions ++ tr ∷ []) ≡ tries_of d.transactions ++ r.tries = tries_more d.transactions (tr ∷ []) ∙ ap (λ ts. tries_of d.transactions ++ ts) (append-nil r.tries) in
     record {
       grows =
-          subst (λ es. Grows es u w) (sym (ap entries_of tries_are ∙ entries_more (tries_of d.transactions) r.tries))
-          (grows_on (entries_of (tries_of d.transactions)) (entries_of r.tries) u v w d.grows r.grows);
+          grows_as u.clock (length (tries_of d.transactions) + length r.tries) (length (tries_of (d.transactions ++ tr ∷ []))) (entries_of (tries_of d.transactions) ++ entries_of r.tries) (entries_of (tries_of (d.transactions ++ tr ∷ []))) u w
+          (sym (ap length tries_are ∙ length-append (tries_of d.transactions) r.tries)) (sym (ap entries_of tries_are ∙ entries_more (tries_of d.transactions) r.tries))
+          (grows_over u.clock (length (tries_of d.transactions)) (length r.tries) (entries_of (tries_of d.transactions)) (entries_of r.tries) u v w d.grows r.grows);
       births_rise =
           subst (λ ns. Rise u.clock ns w.clock) (sym (map-append (λ x. (x.birth).stamp) d.transactions (tr ∷ [])))
           (rise_on u.clock v.clock w.clock (stamps d.transactions) ((r.birth).stamp ∷ []) d.births_rise (r.later, r.earlier));
@@ -84,8 +85,9 @@ is_so missed bodies body most cause u v w d r =
     (subst (λ n. IsTransaction v.splits n u.walker most (as_run missed body most cause v w r) cause) (d.grows).run_is
     (subst (λ n. IsTransaction v.splits v.run n most (as_run missed body most cause v w r) cause) (d.grows).walker_is r.is_transaction))
 
-follows_so : (missed : Misses) (bodies : List Body) (most : Option ℕ) (cause : Option StopCause) (u w : Seen) (trs : List Transaction) → HasRun missed u w trs → AreTransactions u.splits u.run u.walker most bodies trs cause → Follows missed bodies most cause u w
-follows_so missed bodies most cause u w trs h are = (
+follows_so : (missed : Misses) (bodies : List Body) (most : Option ℕ) (cause : Option StopCause) (base : ℕ) (u w : Seen) (trs : List Transaction) → HasRun missed base u w trs → AreTransactions u.splits u.run u.walker most bodies trs cause
+    → FollowsFrom base missed bodies most cause u w
+follows_so missed bodies most cause base u w trs h are = (
   entries_of (tries_of trs),
   record {
     transactions = trs;
@@ -125,7 +127,7 @@ goes_on missed bodies body most u v w d (inr (at, is, grows)) = absurd cc
 -- all are done
 all_follow : (missed : Misses) (bodies : List Body) (most : Option ℕ) (u v : Seen) → Running missed bodies most u v → Follows missed bodies most None u v
 all_follow missed bodies most u v d =
-    follows_so missed bodies most None u v d.transactions (record { grows = d.grows; births_rise = d.births_rise; serials_rise = d.serials_rise; dropped = d.dropped })
+    follows_so missed bodies most None u.clock u v d.transactions (record { grows = d.grows; births_rise = d.births_rise; serials_rise = d.serials_rise; dropped = d.dropped })
     (subst (λ bs. AreTransactions u.splits u.run u.walker most bs d.transactions None) (append-nil bodies)
     (subst (λ ts. AreTransactions u.splits u.run u.walker most (bodies ++ []) ts None) (append-nil d.transactions) (d.front [] [] None all_done)))
 
@@ -134,14 +136,16 @@ stops : (missed : Misses) (bodies : List Body) (body : Body) (later : List Body)
     → Follows missed (bodies ++ body ∷ later) most (Some cause) u w
 stops missed bodies body later most cause u v w d (inl r) =
     let tr = as_run missed body most (Some cause) v w r in
-    follows_so missed (bodies ++ body ∷ later) most (Some cause) u w (d.transactions ++ tr ∷ []) (one_run missed bodies body most (Some cause) u v w d r)
+    follows_so missed (bodies ++ body ∷ later) most (Some cause) u.clock u w (d.transactions ++ tr ∷ []) (one_run missed bodies body most (Some cause) u v w d r)
     (d.front (body ∷ later) (tr ∷ []) (Some cause) (stopped tr later cause (is_so missed bodies body most (Some cause) u v w d r)))
 stops missed bodies body later most cause u v w d (inr (at, is, grows)) =
     let clock_up = grows.clock_rises in
-    let serial_up = grows.serial_rises in
-    follows_so missed (bodies ++ body ∷ later) most (Some cause) u w d.transactions
+    let serial_up : v.serial ≤ w.serial = (let s = grows.serial_is in omega arith) in
+    follows_so missed (bodies ++ body ∷ later) most (Some cause) u.clock u w d.transactions
     (record {
-      grows = subst (λ es. Grows es u w) (append-nil (entries_of (tries_of d.transactions))) (grows_on (entries_of (tries_of d.transactions)) [] u v w d.grows grows);
+      grows =
+          grows_as u.clock (length (tries_of d.transactions) + 0) (length (tries_of d.transactions)) (entries_of (tries_of d.transactions) ++ []) (entries_of (tries_of d.transactions)) u w (omega arith) (append-nil (entries_of (tries_of d.transactions)))
+          (grows_over u.clock (length (tries_of d.transactions)) 0 (entries_of (tries_of d.transactions)) [] u v w d.grows grows);
       births_rise = rise_later u.clock (stamps d.transactions) v.clock w.clock d.births_rise clock_up;
       serials_rise = rise_later u.serial (serials (tries_of d.transactions)) v.serial w.serial d.serials_rise serial_up;
       dropped = all_let_go_later missed missed v.clock w.clock (tries_of d.transactions) (kept_so missed) clock_up d.dropped;
@@ -187,12 +191,13 @@ are_stopped s r k most _ ys _ _ cause (not_begun body bodies at) some = not_begu
 are_stopped s r k most _ ys _ _ cause (stopped tr bodies why is) some = stopped tr (bodies ++ ys) why is
 are_stopped s r k most _ ys _ _ cause (done tr bodies trs c is are) some = done tr (bodies ++ ys) trs c is (are_stopped s r k most bodies ys trs c cause are some)
 
-both_run : (missed later : Misses) (u v w : Seen) (ts us : List Transaction) → Keeps missed later → HasRun missed u v ts → HasRun later v w us → HasRun later u w (ts ++ us)
-both_run missed later u v w ts us keeps h g =
+both_run : (missed later : Misses) (base : ℕ) (u v w : Seen) (ts us : List Transaction) → Keeps missed later → HasRun missed base u v ts → HasRun later v.clock v w us → HasRun later base u w (ts ++ us)
+both_run missed later base u v w ts us keeps h g =
     record {
       grows =
-          subst (λ es. Grows es u w) (sym (ap entries_of (tries_more ts us) ∙ entries_more (tries_of ts) (tries_of us)))
-          (grows_on (entries_of (tries_of ts)) (entries_of (tries_of us)) u v w h.grows g.grows);
+          grows_as base (length (tries_of ts) + length (tries_of us)) (length (tries_of (ts ++ us))) (entries_of (tries_of ts) ++ entries_of (tries_of us)) (entries_of (tries_of (ts ++ us))) u w
+          (sym (ap length (tries_more ts us) ∙ length-append (tries_of ts) (tries_of us))) (sym (ap entries_of (tries_more ts us) ∙ entries_more (tries_of ts) (tries_of us)))
+          (grows_over base (length (tries_of ts)) (length (tries_of us)) (entries_of (tries_of ts)) (entries_of (tries_of us)) u v w h.grows g.grows);
       births_rise =
           subst (λ ns. Rise u.clock ns w.clock) (sym (map-append (λ x. (x.birth).stamp) ts us)) (rise_on u.clock v.clock w.clock (stamps ts) (stamps us) h.births_rise g.births_rise);
       serials_rise =
@@ -206,8 +211,8 @@ both_run missed later u v w ts us keeps h g =
 abbrev transactions_in : (missed : Misses) (bodies : List Body) (most : Option ℕ) (cause : Option StopCause) (u v : Seen) → Follows missed bodies most cause u v → List Transaction
 transactions_in missed bodies most cause u v f = (f.1).transactions
 
-as_has_run : (missed : Misses) (bodies : List Body) (most : Option ℕ) (cause : Option StopCause) (u v : Seen) (f : Follows missed bodies most cause u v) → HasRun missed u v (transactions_in missed bodies most cause u v f)
-as_has_run missed bodies most cause u v f = record { grows = subst (λ es. Grows es u v) (f.1).entries_are f.2; births_rise = f.3; serials_rise = f.4; dropped = f.5 }
+as_has_run : (missed : Misses) (bodies : List Body) (most : Option ℕ) (cause : Option StopCause) (u v : Seen) (f : Follows missed bodies most cause u v) → HasRun missed u.clock u v (transactions_in missed bodies most cause u v f)
+as_has_run missed bodies most cause u v f = record { grows = subst (λ es. GrowsIn (length (tries_of (f.1).transactions)) es u v) (f.1).entries_are f.2; births_rise = f.3; serials_rise = f.4; dropped = f.5 }
 
 pub sessions_go_on : {S : Type 0} (missed_by : S → Misses) → SessionsGoOn missed_by
 sessions_go_on missed_by old new front behind most cause u v w keeps f g =
@@ -217,12 +222,12 @@ sessions_go_on missed_by old new front behind most cause u v w keeps f g =
     subst (λ s. AreTransactions s u.run u.walker most behind (g.1).transactions cause) (f.2).splits_are
     (subst (λ n. AreTransactions v.splits n u.walker most behind (g.1).transactions cause) (f.2).run_is
     (subst (λ n. AreTransactions v.splits v.run n most behind (g.1).transactions cause) (f.2).walker_is (g.1).in_order)) in
-    follows_so later (front ++ behind) most cause u w ((f.1).transactions ++ (g.1).transactions)
-    (both_run missed later u v w (f.1).transactions (g.1).transactions keeps (as_has_run missed front most None u v f) (as_has_run later behind most cause v w g))
+    follows_so later (front ++ behind) most cause u.clock u w ((f.1).transactions ++ (g.1).transactions)
+    (both_run missed later u.clock u v w (f.1).transactions (g.1).transactions keeps (as_has_run missed front most None u v f) (as_has_run later behind most cause v w g))
     (are_more u.splits u.run u.walker most front behind (f.1).transactions (g.1).transactions None cause (f.1).in_order refl are)
 
 pub sessions_stop : {S : Type 0} (missed_by : S → Misses) → SessionsStop missed_by
 sessions_stop missed_by old front behind most cause u v f =
     let missed = missed_by old in
-    follows_so missed (front ++ behind) most (Some cause) u v (f.1).transactions (as_has_run missed front most (Some cause) u v f)
+    follows_so missed (front ++ behind) most (Some cause) u.clock u v (f.1).transactions (as_has_run missed front most (Some cause) u v f)
     (are_stopped u.splits u.run u.walker most front behind (f.1).transactions (Some cause) cause (f.1).in_order refl)

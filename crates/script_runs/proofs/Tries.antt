@@ -1,5 +1,5 @@
 -- A transaction's tries, one after another.
-use Rattle.std.proofs.Common.{◌≡◌, refl, sym, ap, subst, ◌∙◌, inl, inr, ℕ, suc, ◌<◌, ◌≤◌, Bool, true, false, nat_lt, List, [], ◌∷◌, ◌++◌, append_assoc, append-nil, Option, Some, None, Err, arith}
+use Rattle.std.proofs.Common.{◌≡◌, refl, sym, ap, subst, ◌∙◌, inl, inr, ℕ, suc, ◌+◌, ◌<◌, ◌≤◌, Bool, true, false, nat_lt, List, [], ◌∷◌, ◌++◌, append_assoc, append-nil, length, length-append, Option, Some, None, Err, arith}
 use Rattle.std.specs.List.{AllByRecursion}
 use Rattle.std.proofs.lemmas.List.{map-append}
 use Rattle.clv_base.specs.declared.names.TxId.{TxId}
@@ -14,11 +14,11 @@ use Rattle.script_runs.specs.Sessions.{InTries, last, none_left, stopped_between
 use Rattle.script_runs.specs.declared.retrying.Next.{Next}
 use Rattle.script_runs.specs.declared.retrying.Next.TheVariants.{Again, Done, Stop}
 use Rattle.script_runs.specs.Dropped.{LetsGo, AllLetGo}
-use Rattle.script_runs.specs.Seen.{Standing, Idle, Active, Seen, Misses, Keeps, Grows, untouched}
+use Rattle.script_runs.specs.Seen.{Standing, Idle, Active, Seen, Misses, Keeps, GrowsIn, Grows, untouched}
 use Rattle.script_runs.specs.Told.{Begins, RetryTold}
 use Rattle.script_runs.specs.Tried.{Tried, LeftBy}
 use Rattle.script_runs.specs.Ran.{Rise, serials, NextIs, IsIdle, InTriesTold, Ran}
-use Rattle.script_runs.proofs.Doing.{grows_on, grows_none}
+use Rattle.script_runs.proofs.Doing.{grows_over, grows_none, grows_as}
 use Rattle.script_runs.proofs.Dropped.{kept_so, all_let_go_later}
 use Rattle.law_base.proofs.Lists.{all_append as all_more}
 
@@ -58,7 +58,7 @@ pub record Trying (missed : Misses) (body : Body) (first : TxId) (birth : Birth)
   pub front : (more : List Try) (cause : Option StopCause) → InTries most n more cause → InTries most 1 (tries ++ more) cause
   pub each : AllByRecursion (IsTry u.splits body birth) tries
   pub named : AllByRecursion (IsNamed u.run u.walker) tries
-  pub grows : Grows (entries_of tries) u v
+  pub grows : GrowsIn (length tries) (entries_of tries) u v
   pub serials_rise : (lo : ℕ) → lo < first.serial → (hi : ℕ) × Rise lo (serials tries) hi × (hi < tx.serial)
   pub dropped : AllLetGo missed v.clock tries
 
@@ -117,7 +117,9 @@ no_try missed body first birth most u active serial run session =
 record HasTried (missed : Misses) (body : Body) (first : TxId) (birth : Birth) (u w : Seen) (ts : List Try) : Type 0 where
   each : AllByRecursion (IsTry u.splits body birth) ts
   named : AllByRecursion (IsNamed u.run u.walker) ts
-  grows : Grows (entries_of ts) u w
+  more : ℕ
+  counted : length ts ≡ suc more
+  grows : GrowsIn more (entries_of ts) u w
   serials_rise : (lo : ℕ) → lo < first.serial → Rise lo (serials ts) w.serial
   dropped : AllLetGo missed w.clock ts
 
@@ -128,14 +130,17 @@ one_more_try missed body first birth most tried end u v w d t =
     record {
       each = all_more (IsTry u.splits body birth) d.tries (new ∷ []) d.each (subst (λ s. IsTry s body birth new) (d.grows).splits_are t.is_try, tt);
       named = all_more (IsNamed u.run u.walker) d.tries (new ∷ []) d.named (record { run_is = d.run_is; session_is = d.session_is }, tt);
+      more = length d.tries;
+      counted = length-append d.tries (new ∷ []) ∙ (let h : length d.tries + 1 ≡ suc (length d.tries) = omega arith in h);
       grows =
-          subst (λ es. Grows es u w) (sym (entries_more d.tries (new ∷ []) ∙ ap (λ es. entries_of d.tries ++ es) (append-nil t.entries)))
-          (grows_on (entries_of d.tries) t.entries u v w d.grows t.grows);
+          grows_as u.clock (length d.tries + 0) (length d.tries) (entries_of d.tries ++ t.entries) (entries_of (d.tries ++ new ∷ [])) u w (omega arith)
+          (sym (entries_more d.tries (new ∷ []) ∙ ap (λ es. entries_of d.tries ++ es) (append-nil t.entries)))
+          (grows_over u.clock (length d.tries) 0 (entries_of d.tries) t.entries u v w d.grows t.grows);
       serials_rise =
           λ lo h.
           let r = d.serials_rise lo h in
           let here = d.serial_is in
-          let up = (t.grows).serial_rises in
+          let up = (t.grows).serial_is in
           subst (λ ns. Rise lo ns w.serial) (sym (map-append (λ x. (x.tx).serial) d.tries (new ∷ []))) (rise_on lo r.0 w.serial (serials d.tries) ((d.tx).serial ∷ []) r.1 (r.2, omega arith));
       dropped =
           all_more (λ x. LetsGo missed w.clock x x.end) d.tries (new ∷ []) (all_let_go_later missed missed v.clock w.clock d.tries (kept_so missed) (t.grows).clock_rises d.dropped)
@@ -143,7 +148,7 @@ one_more_try missed body first birth most tried end u v w d t =
     }
 
 told_so : (missed : Misses) (body : Body) (first : TxId) (birth : Birth) (most : Option ℕ) (cause : Option StopCause) (u w : Seen) (ts : List Try) → HasTried missed body first birth u w ts → InTries most 1 ts cause → InTriesTold missed body first birth most cause u w
-told_so missed body first birth most cause u w ts h i = record { tries = ts; each = h.each; named = h.named; in_tries = i; grows = h.grows; serials_rise = h.serials_rise; dropped = h.dropped }
+told_so missed body first birth most cause u w ts h i = record { tries = ts; each = h.each; named = h.named; in_tries = i; more = h.more; counted = h.counted; grows = h.grows; serials_rise = h.serials_rise; dropped = h.dropped }
 
 same_left : (most : Option ℕ) (tried n : ℕ) (b : Bool) → ((k : ℕ) → most ≡ Some k → tried ≡ n) → has_left most tried ≡ b → has_left most n ≡ b
 same_left None tried n b c h = h
@@ -180,12 +185,16 @@ stopped_in : (missed : Misses) (body : Body) (first : TxId) (birth : Birth) (mos
 stopped_in missed body first birth most tried end cause u v w x d t r l s grows =
     let new = try_of missed body d.tx birth end v w t in
     let h = one_more_try missed body first birth most tried end u v w d t in
-    let up = grows.serial_rises in
+    let up : w.serial ≤ x.serial = (let s = grows.serial_is in omega arith) in
     told_so missed body first birth most (Some cause) u x (d.tries ++ new ∷ [])
     (record {
       each = h.each;
       named = h.named;
-      grows = subst (λ es. Grows es u x) (append-nil (entries_of (d.tries ++ new ∷ []))) (grows_on (entries_of (d.tries ++ new ∷ [])) [] u w x h.grows grows);
+      more = h.more;
+      counted = h.counted;
+      grows =
+          grows_as u.clock (h.more + 0) h.more (entries_of (d.tries ++ new ∷ []) ++ []) (entries_of (d.tries ++ new ∷ [])) u x (omega arith) (append-nil (entries_of (d.tries ++ new ∷ [])))
+          (grows_over u.clock h.more 0 (entries_of (d.tries ++ new ∷ [])) [] u w x h.grows grows);
       serials_rise = λ lo k. rise_later lo (serials (d.tries ++ new ∷ [])) w.serial x.serial (h.serials_rise lo k) up;
       dropped = all_let_go_later missed missed w.clock x.clock (d.tries ++ new ∷ []) (kept_so missed) grows.clock_rises h.dropped;
     })
@@ -224,7 +233,9 @@ next_tried missed body first birth most tried more_tried end u v w x d t r l b n
           subst (λ ts. InTries most 1 ts cause) (sym (append_assoc d.tries (new ∷ []) more)) (d.front (new ∷ more) cause (further d.n new more cause r (same_left most tried d.n true d.count l) i));
       each = h.each;
       named = h.named;
-      grows = subst (λ es. Grows es u x) (append-nil (entries_of (d.tries ++ new ∷ []))) (grows_on (entries_of (d.tries ++ new ∷ [])) [] u w x h.grows b.grows);
+      grows =
+          grows_as u.clock (h.more + 1) (length (d.tries ++ new ∷ [])) (entries_of (d.tries ++ new ∷ []) ++ []) (entries_of (d.tries ++ new ∷ [])) u x (let n = h.counted in omega arith)
+          (append-nil (entries_of (d.tries ++ new ∷ []))) (grows_over u.clock h.more 1 (entries_of (d.tries ++ new ∷ [])) [] u w x h.grows b.grows);
       serials_rise = λ lo k. (w.serial, h.serials_rise lo k, (let s = b.serial_is in let y = b.rises in omega arith));
       dropped = all_let_go_later missed missed w.clock x.clock (d.tries ++ new ∷ []) (kept_so missed) (b.grows).clock_rises h.dropped;
     }
@@ -261,7 +272,9 @@ ran missed body most cause birth u v w born later earlier b t =
             each = subst (λ s. AllByRecursion (IsTry s body birth) t.tries) (b.grows).splits_are t.each;
             in_tries = t.in_tries;
           };
-      grows = grows_on [] (entries_of t.tries) u v w b.grows t.grows;
+      grows =
+          grows_as u.clock (1 + t.more) (length t.tries) (entries_of t.tries) (entries_of t.tries) u w (let n = t.counted in omega arith) refl
+          (grows_over u.clock 1 t.more [] (entries_of t.tries) u v w b.grows t.grows);
       later = later;
       earlier = let y = (t.grows).clock_rises in omega arith;
       serials_rise = t.serials_rise u.serial (let s = b.serial_is in let y = b.rises in omega arith);

@@ -81,16 +81,16 @@ acknowledged_did_their_lines splits body birth t is e =
 
 -- ---- what its entries tell
 
-told_one : (tx : TxId) (e : ℕ × Entry) (es : History) (op : Op) (answer : Answer) → answered_op tx (e.1).event (e.1).outcome ≡ Some (op, answer) → ops_in tx (e ∷ es) ≡ (op, answer) ∷ ops_in tx es
+pub told_one : (tx : TxId) (e : ℕ × Entry) (es : History) (op : Op) (answer : Answer) → answered_op tx (e.1).event (e.1).outcome ≡ Some (op, answer) → ops_in tx (e ∷ es) ≡ (op, answer) ∷ ops_in tx es
 told_one tx e es op answer h = ap (λ o. elim o as (λ z. List (Op × Answer)) [ Some p ↦ p ∷ ops_in tx es | None ↦ ops_in tx es ]) h
 
-told_none : (tx : TxId) (e : ℕ × Entry) (es : History) → answered_op tx (e.1).event (e.1).outcome ≡ None → ops_in tx (e ∷ es) ≡ ops_in tx es
+pub told_none : (tx : TxId) (e : ℕ × Entry) (es : History) → answered_op tx (e.1).event (e.1).outcome ≡ None → ops_in tx (e ∷ es) ≡ ops_in tx es
 told_none tx e es h = ap (λ o. elim o as (λ z. List (Op × Answer)) [ Some p ↦ p ∷ ops_in tx es | None ↦ ops_in tx es ]) h
 
 told_by : (tx : TxId) (e : ℕ × Entry) (event : Event) (o : Outcome) → (e.1).event ≡ event → (e.1).outcome ≡ o → answered_op tx (e.1).event (e.1).outcome ≡ answered_op tx event o
 told_by tx e event o h k = ap (λ ev. answered_op tx ev (e.1).outcome) h ∙ ap (λ x. answered_op tx event x) k
 
-part_tells : (tx : TxId) (birth : Birth) (nth epoch : ℕ) (p : ℕ × Op) (answer : Answer) (e : ℕ × Entry) → IsPart tx birth nth p (Answered answer epoch) e → answered_op tx (e.1).event (e.1).outcome ≡ Some (p.1, answer)
+pub part_tells : (tx : TxId) (birth : Birth) (nth epoch : ℕ) (p : ℕ × Op) (answer : Answer) (e : ℕ × Entry) → IsPart tx birth nth p (Answered answer epoch) e → answered_op tx (e.1).event (e.1).outcome ≡ Some (p.1, answer)
 part_tells tx birth nth epoch p answer e is =
     told_by tx e (OpEvent tx birth nth is.seen p.1) (Answered answer epoch) is.event is.outcome ∙ ap (λ b. cond b (Some (p.1, answer)) None) (tx_self tx)
 
@@ -109,10 +109,10 @@ operations_tell splits tx birth _ _ _ _ rest (operation nth op answer ops answer
     ∙ ap (λ l. map (λ p. p.1) (parts_of splits op) ++ l) (operations_tell splits tx birth (suc nth) ops answers behind rest more)
     ∙ sym (append_assoc (map (λ p. p.1) (parts_of splits op)) (all_parts splits ops) (map (λ p. p.0) (ops_in tx rest)))
 
-request_tells : (tx : TxId) (home : ℕ) (o : Outcome) (e : ℕ × Entry) → IsRequest tx home o e → answered_op tx (e.1).event (e.1).outcome ≡ None
+pub request_tells : (tx : TxId) (home : ℕ) (o : Outcome) (e : ℕ × Entry) → IsRequest tx home o e → answered_op tx (e.1).event (e.1).outcome ≡ None
 request_tells tx home o e is = told_by tx e (Request tx is.touched) o is.event is.outcome
 
-look_tells : (tx : TxId) (home : ℕ) (o : Outcome) (e : ℕ × Entry) → IsLook tx home o e → answered_op tx (e.1).event (e.1).outcome ≡ None
+pub look_tells : (tx : TxId) (home : ℕ) (o : Outcome) (e : ℕ × Entry) → IsLook tx home o e → answered_op tx (e.1).event (e.1).outcome ≡ None
 look_tells tx home o e is = told_by tx e (Look tx) o is.event is.outcome
 
 pub entries_tell_their_lines : EntriesTellTheirLines

@@ -8,6 +8,7 @@ pub mod Operations
 pub mod Tries
 pub mod Sessions
 pub mod TriesLaws
+pub mod TriesTell
 pub mod Examples
 pub mod Begun
 pub mod Alone

@@ -1,5 +1,5 @@
 -- What a transaction in its tries, and a session of a script, tell.
-use Rattle.std.specs.Prelude.{◌≡◌, ◌⊎◌, ⊤, ℕ, ◌<◌, ◌≤◌, true, false, List, [], ◌∷◌, map, Option, Some, None, Result, Ok, Err}
+use Rattle.std.specs.Prelude.{◌≡◌, ◌⊎◌, ⊤, ℕ, ◌<◌, ◌≤◌, suc, true, false, List, [], ◌∷◌, map, length, Option, Some, None, Result, Ok, Err}
 use Rattle.std.specs.List.{AllByRecursion}
 use Rattle.clv_base.specs.declared.names.TxId.{TxId}
 use Rattle.clv_base.specs.declared.names.Birth.{Birth}
@@ -14,7 +14,7 @@ use Rattle.script_runs.specs.Sessions.{Transaction, InTries, IsNamed, IsTransact
 use Rattle.script_runs.specs.declared.retrying.Next.{Next}
 use Rattle.script_runs.specs.declared.retrying.Next.TheVariants.{Again, Done, Stop}
 use Rattle.script_runs.specs.Dropped.{AllLetGo}
-use Rattle.script_runs.specs.Seen.{Idle, Seen, Misses, Grows}
+use Rattle.script_runs.specs.Seen.{Idle, Seen, Misses, GrowsFrom, GrowsIn, Grows}
 
 -- numbers that rise, all above lo and up to hi
 abbrev pub Rise : ℕ → List ℕ → ℕ → Type 0
@@ -52,7 +52,9 @@ pub record InTriesTold (missed : Misses) (body : Body) (first : TxId) (birth : B
   pub each : AllByRecursion (IsTry u.splits body birth) tries
   pub named : AllByRecursion (IsNamed u.run u.walker) tries
   pub in_tries : InTries most 1 tries cause
-  pub grows : Grows (entries_of tries) u v
+  pub more : ℕ
+  pub counted : length tries ≡ suc more
+  pub grows : GrowsIn more (entries_of tries) u v
   pub serials_rise : (lo : ℕ) → lo < first.serial → Rise lo (serials tries) v.serial
   pub dropped : AllLetGo missed v.clock tries
 
@@ -61,7 +63,7 @@ pub record Ran (missed : Misses) (body : Body) (most : Option ℕ) (cause : Opti
   pub birth : Birth
   pub tries : List Try
   pub is_transaction : IsTransaction u.splits u.run u.walker most (record { body = body; birth = birth; tries = tries }) cause
-  pub grows : Grows (entries_of tries) u v
+  pub grows : GrowsIn (length tries) (entries_of tries) u v
   pub later : u.clock < birth.stamp
   pub earlier : birth.stamp ≤ v.clock
   pub serials_rise : Rise u.serial (serials tries) v.serial
@@ -72,8 +74,12 @@ abbrev pub NotBegun : Option StopCause → Seen → Seen → Type 0
 NotBegun cause u v = (at : ℕ) × (cause ≡ Some (Worn at)) × Grows [] u v
 
 -- the entries that were added are those of the session's transactions, in order, each in its tries, with births and serials past all earlier ones; and
--- each try that was given up let go of its parts
-abbrev pub Follows : Misses → List Body → Option ℕ → Option StopCause → Seen → Seen → Type 0
-Follows missed bodies most cause u v =
-    (es : History) × (f : FollowsScript u.splits u.run u.walker most bodies cause es) × Grows es u v
+-- each try that was given up let go of its parts. The clock rose from this base
+abbrev pub FollowsFrom : ℕ → Misses → List Body → Option ℕ → Option StopCause → Seen → Seen → Type 0
+FollowsFrom base missed bodies most cause u v =
+    (es : History) × (f : FollowsScript u.splits u.run u.walker most bodies cause es) × GrowsFrom base (length (tries_of f.transactions)) es u v
     × Rise u.clock (stamps f.transactions) v.clock × Rise u.serial (serials (tries_of f.transactions)) v.serial × AllLetGo missed v.clock (tries_of f.transactions)
+
+-- it rose from the session's own
+abbrev pub Follows : Misses → List Body → Option ℕ → Option StopCause → Seen → Seen → Type 0
+Follows missed bodies most cause u v = FollowsFrom u.clock missed bodies most cause u v

@@ -1,5 +1,5 @@
 -- What whoever runs a script knows of a session.
-use Rattle.std.specs.Prelude.{◌≡◌, ℕ, ◌<◌, ◌≤◌, ◌^◌, ◌-◌, max, Bool, false, List, ◌++◌, Option}
+use Rattle.std.specs.Prelude.{◌≡◌, ℕ, ◌+◌, ◌<◌, ◌≤◌, ◌^◌, ◌-◌, max, Bool, false, List, ◌++◌, Option}
 use Rattle.std.specs.List.{AllByRecursion}
 use Rattle.clv_base.specs.declared.names.TxId.{TxId}
 use Rattle.clv_base.specs.declared.names.Birth.{Birth}
@@ -15,14 +15,15 @@ pub data Standing : Type 0 where
 abbrev pub untouched : ℕ → Bool
 untouched n = false
 
--- a session: the splits, its run and its walker's number, the entries that it made, a clock that none of its births is past, the serial of its last
--- transaction, and how that stands
+-- a session: the splits, its run and its walker's number, the entries that it made, a clock that none of its births is past, the greatest stamp of the entries
+-- that it has seen, whoever made them, the serial of its last transaction, and how that stands
 pub record Seen : Type 0 where
   pub splits : List ℕ
   pub run : ℕ
   pub walker : ℕ
   pub entries : History
   pub clock : ℕ
+  pub latest : ℕ
   pub serial : ℕ
   pub standing : Standing
 
@@ -45,12 +46,22 @@ Keeps before after = (tx : TxId) (n : ℕ) (es : History) → before tx n es →
 abbrev pub AreStamped : ℕ → ℕ → History → Type 0
 AreStamped clock clock' es = AllByRecursion (λ e. (clock < (e.1).stamp) × ((e.1).stamp ≤ clock')) es
 
--- the same session, with these entries more, which were made between its two clocks
-pub record Grows (es : History) (u v : Seen) : Type 0 where
+-- the same session, with these entries more, which were made between its two clocks. It began so many tries, each with a serial one more than the last; and past
+-- the base and the stamps that it has seen its clock rose by no more than one for each of them
+pub record GrowsFrom (base begun : ℕ) (es : History) (u v : Seen) : Type 0 where
   pub splits_are : v.splits ≡ u.splits
   pub run_is : v.run ≡ u.run
   pub walker_is : v.walker ≡ u.walker
   pub entries_are : v.entries ≡ u.entries ++ es
   pub clock_rises : u.clock ≤ v.clock
-  pub serial_rises : u.serial ≤ v.serial
+  pub serial_is : v.serial ≡ begun + u.serial
+  pub latest_rises : u.latest ≤ v.latest
+  pub dated : v.clock ≤ begun + max base v.latest
   pub stamped : AreStamped u.clock v.clock es
+
+abbrev pub GrowsIn : ℕ → History → Seen → Seen → Type 0
+GrowsIn begun es u v = GrowsFrom u.clock begun es u v
+
+-- by a call that begins none
+abbrev pub Grows : History → Seen → Seen → Type 0
+Grows es u v = GrowsIn 0 es u v

@@ -19,7 +19,7 @@ use Rattle.script_runs.specs.declared.ends.TryEnd.{TryEnd}
 use Rattle.script_runs.specs.declared.ends.TryEnd.TheVariants.{Acknowledged, Empty, Asked, Aborted, Stopped}
 use Rattle.script_runs.specs.Operations.{IsOperation, ArePartsAnswered, IsBegun, IsDeath, parts_of}
 use Rattle.script_runs.specs.Tries.{IsRequest, IsLook, is_touched}
-use Rattle.script_runs.specs.Seen.{Idle, Active, Seen, Misses, Grows, IsWornOut, untouched}
+use Rattle.script_runs.specs.Seen.{Idle, Active, Seen, Misses, Grows, GrowsIn, IsWornOut, untouched}
 
 -- ---- beginnings
 
@@ -29,8 +29,8 @@ pub record Begins (birth : Birth) (u v : Seen) : Type 0 where
   pub run_is : tx.run ≡ u.run
   pub session_is : tx.session ≡ u.walker
   pub serial_is : tx.serial ≡ v.serial
-  pub rises : u.serial < v.serial
-  pub grows : Grows [] u v
+  pub rises : v.serial ≡ suc u.serial
+  pub grows : GrowsIn 1 [] u v
   pub active : v.standing ≡ Active tx birth 0 untouched
 
 -- what was refused made nothing

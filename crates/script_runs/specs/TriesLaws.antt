@@ -1,5 +1,5 @@
 -- What a session of a script keeps.
-use Rattle.std.specs.Prelude.{◌≡◌, ⊤, ℕ, ◌≤◌, Bool, true, false, List, [], ◌∷◌, ◌++◌, map, length, Option, Some, None}
+use Rattle.std.specs.Prelude.{◌≡◌, ⊤, ℕ, ◌+◌, ◌≤◌, Bool, true, false, List, [], ◌∷◌, ◌++◌, map, length, Option, Some, None}
 use Rattle.std.specs.List.{AllByRecursion, list_any}
 use Rattle.clv_base.specs.declared.names.TxId.{TxId}
 use Rattle.clv_base.specs.declared.names.Birth.{Birth}
@@ -21,7 +21,7 @@ use Rattle.script_runs.specs.declared.ends.TryEnd.{TryEnd}
 use Rattle.script_runs.specs.declared.ends.TryEnd.TheVariants as end
 use Rattle.script_runs.specs.Operations.{parts_of, AreOperations}
 use Rattle.script_runs.specs.Tries.{Try, IsTry, IsRequest, IsLook}
-use Rattle.script_runs.specs.Sessions.{Transaction, IsTransaction, FollowsScript, is_to_retry, has_left, entries_of, tries_of}
+use Rattle.script_runs.specs.Sessions.{Transaction, IsTransaction, AreTransactions, FollowsScript, is_to_retry, has_left, entries_of, tries_of}
 
 -- ---- an acknowledged try
 
@@ -85,6 +85,12 @@ abbrev pub TriesAreFew : Type 0
 TriesAreFew =
     (splits : List ℕ) (run walker most : ℕ) (tr : Transaction) (cause : Option StopCause) → IsTransaction splits run walker (Some most) tr cause → 1 ≤ most
     → length tr.tries ≤ most
+
+-- and in a session no more than it has transactions and made entries, as each that is followed by another one made an entry
+abbrev pub SessionTriesAreFew : Type 0
+SessionTriesAreFew =
+    (splits : List ℕ) (run walker : ℕ) (most : Option ℕ) (bodies : List Body) (trs : List Transaction) (cause : Option StopCause) → AreTransactions splits run walker most bodies trs cause
+    → length (tries_of trs) ≤ length bodies + length (entries_of (tries_of trs))
 
 -- each operation of a transaction's tries bears its birth
 abbrev pub IsBornSo : Birth → Event → Type 0

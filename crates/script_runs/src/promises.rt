@@ -1,5 +1,6 @@
 // What a session of a script keeps.
-ghost use Rattle.script_runs.specs.TriesLaws.{AcknowledgedDidTheirLines, EntriesTellTheirLines, EntriesTellOfNoOther, DropsHaveReasons, TriesAreFew, TriesHaveOneBirth, TransactionsHaveOwnBirths, SessionsGoThrough, SessionsTellTheirTries};
+ghost use Rattle.script_runs.specs.TriesLaws.{AcknowledgedDidTheirLines, EntriesTellTheirLines, EntriesTellOfNoOther, DropsHaveReasons, TriesAreFew, SessionTriesAreFew, TriesHaveOneBirth, TransactionsHaveOwnBirths, SessionsGoThrough, SessionsTellTheirTries};
+ghost use Rattle.script_runs.specs.TriesTell.{EntriesTellTheirAnswers, AcknowledgedEndSo};
 
 /// A try that is acknowledged did each of its lines.
 pub fn acknowledged_did_their_lines()
@@ -9,6 +10,16 @@ pub fn acknowledged_did_their_lines()
 /// What its entries tell of answered operations are the parts of its lines' operations, under its answers.
 pub fn entries_tell_their_lines()
     ensures { EntriesTellTheirLines }
+{}
+
+/// And they tell them with their answers.
+pub fn entries_tell_their_answers()
+    ensures { EntriesTellTheirAnswers }
+{}
+
+/// A try whose entries tell that a transaction is acknowledged is that transaction's, and was acknowledged.
+pub fn acknowledged_end_so()
+    ensures { AcknowledgedEndSo }
 {}
 
 /// Of operations of another transaction they tell nothing.
@@ -24,6 +35,11 @@ pub fn drops_have_reasons()
 /// A transaction has at most as many tries as are wanted.
 pub fn tries_are_few()
     ensures { TriesAreFew }
+{}
+
+/// Nor does a session make more tries than it has transactions and makes entries.
+pub fn session_tries_are_few()
+    ensures { SessionTriesAreFew }
 {}
 
 /// The operations of all its tries bear one birth.

@@ -1,8 +1,8 @@
 // Sessions with their work, on threads.
-ghost use Rattle.std.specs.Prelude.{◌≡◌, ◌<◌, ℕ, true, length, slice_index_or, IfErr};
+ghost use Rattle.std.specs.Prelude.{◌≡◌, ◌<◌, ℕ, max, true, length, slice_index_or, IfErr};
 ghost use Rattle.std.specs.List.{list_all};
 ghost use Rattle.script_lang.specs.Laws.{is_narrow_body};
-ghost use Rattle.script_runs.specs.Ran.{stop_in, IsIdle, Follows};
+ghost use Rattle.script_runs.specs.Ran.{stop_in, IsIdle, FollowsFrom};
 ghost use Rattle.script_runs.specs.Seen.{Keeps};
 ghost use Rattle.script_runs.specs.Alone.{BeginsPast};
 
@@ -36,7 +36,7 @@ fn run_one<R: Wait, C: SessionCalls>(
     ensures base { C.base seat.new.session ≡ C.base seat.old.session }
     ensures misses { Keeps (C.missed seat.old.session) (C.missed seat.new.session) }
     ensures transactions { seat.new.transactions.now ≡ seat.old.transactions.now }
-    ensures follows { Follows (C.missed seat.new.session) seat.old.transactions.now most (stop_in seat.new.ended) (C.seen seat.old.session) (C.seen seat.new.session) }
+    ensures follows { FollowsFrom (max (C.seen seat.old.session).clock clock) (C.missed seat.new.session) seat.old.transactions.now most (stop_in seat.new.ended) (C.seen seat.old.session) (C.seen seat.new.session) }
     ensures grounds { IfErr seat.new.ended (C.grounds seat.new.session) }
     ensures past { BeginsPast clock (C.seen seat.old.session) (C.seen seat.new.session) }
 {
@@ -59,7 +59,7 @@ pub(crate) fn run_together<R: Threads + Wait + Sync, C: SessionCalls + Send>(
     ensures base { (k : ℕ) (d : _) → k < length seats.old → C.base (slice_index_or seats.new k d).session ≡ C.base (slice_index_or seats.old k d).session }
     ensures misses { (k : ℕ) (d : _) → k < length seats.old → Keeps (C.missed (slice_index_or seats.old k d).session) (C.missed (slice_index_or seats.new k d).session) }
     ensures transactions { (k : ℕ) (d : _) → k < length seats.old → (slice_index_or seats.new k d).transactions.now ≡ (slice_index_or seats.old k d).transactions.now }
-    ensures follows { (k : ℕ) (d : _) → k < length seats.old → Follows (C.missed (slice_index_or seats.new k d).session) (slice_index_or seats.old k d).transactions.now most (stop_in (slice_index_or seats.new k d).ended) (C.seen (slice_index_or seats.old k d).session) (C.seen (slice_index_or seats.new k d).session) }
+    ensures follows { (k : ℕ) (d : _) → k < length seats.old → FollowsFrom (max (C.seen (slice_index_or seats.old k d).session).clock clock) (C.missed (slice_index_or seats.new k d).session) (slice_index_or seats.old k d).transactions.now most (stop_in (slice_index_or seats.new k d).ended) (C.seen (slice_index_or seats.old k d).session) (C.seen (slice_index_or seats.new k d).session) }
     ensures grounds { (k : ℕ) (d : _) → k < length seats.old → IfErr (slice_index_or seats.new k d).ended (C.grounds (slice_index_or seats.new k d).session) }
     ensures past { (k : ℕ) (d : _) → k < length seats.old → BeginsPast clock (C.seen (slice_index_or seats.old k d).session) (C.seen (slice_index_or seats.new k d).session) }
 {
@@ -75,7 +75,7 @@ pub(crate) fn run_together<R: Threads + Wait + Sync, C: SessionCalls + Send>(
         ensures base { C.base seat.exit.now.session ≡ C.base seat.entry.now.session }
         ensures misses { Keeps (C.missed seat.entry.now.session) (C.missed seat.exit.now.session) }
         ensures transactions { seat.exit.now.transactions.now ≡ seat.entry.now.transactions.now }
-        ensures follows { Follows (C.missed seat.exit.now.session) seat.entry.now.transactions.now most (stop_in seat.exit.now.ended) (C.seen seat.entry.now.session) (C.seen seat.exit.now.session) }
+        ensures follows { FollowsFrom (max (C.seen seat.entry.now.session).clock clock) (C.missed seat.exit.now.session) seat.entry.now.transactions.now most (stop_in seat.exit.now.ended) (C.seen seat.entry.now.session) (C.seen seat.exit.now.session) }
         ensures grounds { IfErr seat.exit.now.ended (C.grounds seat.exit.now.session) }
         ensures past { BeginsPast clock (C.seen seat.entry.now.session) (C.seen seat.exit.now.session) }
     { run_one(rt, alloc, seat, most, clock) };

@@ -2,9 +2,9 @@
 ghost use Rattle.std.specs.Prelude.{◌≡◌, ◌<◌, ℕ, true, length, slice_index_or, IfErr};
 ghost use Rattle.std.specs.List.{list_all};
 ghost use Rattle.script_lang.specs.Laws.{is_narrow_body};
-ghost use Rattle.script_runs.specs.Ran.{stop_in, IsIdle, Follows};
+ghost use Rattle.script_runs.specs.Ran.{IsIdle};
 ghost use Rattle.script_runs.specs.Seen.{Keeps};
-ghost use Rattle.script_runs.specs.Alone.{BeganAlone};
+ghost use Rattle.script_runs.specs.Alone.{AllFollow, BeganAlone};
 ghost use Rattle.script_runs.specs.declared.threads.Start.TheVariants.{FirstAlone};
 
 use crate::SessionCalls;
@@ -40,7 +40,7 @@ pub fn run_all<R: Threads + Wait + Sync, C: SessionCalls + Send>(
     ensures base { (k : ℕ) (d : _) → k < length seats.old → C.base (slice_index_or seats.new k d).session ≡ C.base (slice_index_or seats.old k d).session }
     ensures misses { (k : ℕ) (d : _) → k < length seats.old → Keeps (C.missed (slice_index_or seats.old k d).session) (C.missed (slice_index_or seats.new k d).session) }
     ensures transactions { (k : ℕ) (d : _) → k < length seats.old → (slice_index_or seats.new k d).transactions.now ≡ (slice_index_or seats.old k d).transactions.now }
-    ensures follows { (k : ℕ) (d : _) → k < length seats.old → Follows (C.missed (slice_index_or seats.new k d).session) (slice_index_or seats.old k d).transactions.now most (stop_in (slice_index_or seats.new k d).ended) (C.seen (slice_index_or seats.old k d).session) (C.seen (slice_index_or seats.new k d).session) }
+    ensures follows { AllFollow C.seen C.missed most seats.old seats.new }
     ensures grounds { (k : ℕ) (d : _) → k < length seats.old → IfErr (slice_index_or seats.new k d).ended (C.grounds (slice_index_or seats.new k d).session) }
     ensures alone { start ≡ FirstAlone → BeganAlone C.seen most seats.old seats.new }
 {

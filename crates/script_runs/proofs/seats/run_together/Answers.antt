@@ -1,7 +1,7 @@
-use Rattle.std.proofs.Common.{◌≡◌, true, sym, subst, slice_index_or}
+use Rattle.std.proofs.Common.{◌≡◌, max, true, sym, subst, slice_index_or}
 use Rattle.std.specs.List.{list_all}
 use Rattle.script_lang.specs.Laws.{is_narrow_body}
-use Rattle.script_runs.specs.Ran.{stop_in, IsIdle, Follows}
+use Rattle.script_runs.specs.Ran.{stop_in, IsIdle, FollowsFrom}
 use Rattle.script_runs.specs.Seen.{Keeps}
 use Rattle.script_runs.specs.Alone.{BeginsPast}
 use Rattle.script_runs.proofs.seats.run_together.Goals as goal
@@ -23,8 +23,8 @@ returns-clause-follows g c =
     λ k d l.
     let seen = g.C.SessionCalls.seen in
     let e = (c.for_each_mut.ensures k d l).1 in
-    subst (λ y. Follows (g.C.SessionCalls.missed y.session) (slice_index_or c.args.seats.now k d).transactions.now c.args.most (stop_in y.ended) (seen (slice_index_or c.args.seats.now k d).session) (seen y.session)) e.left
-    (subst (λ x. Follows (g.C.SessionCalls.missed e.after_call.now.session) x.transactions.now c.args.most (stop_in e.after_call.now.ended) (seen x.session) (seen e.after_call.now.session)) e.argument_is e.call.1.1.1.1.0)
+    subst (λ y. FollowsFrom (max (seen (slice_index_or c.args.seats.now k d).session).clock c.args.clock) (g.C.SessionCalls.missed y.session) (slice_index_or c.args.seats.now k d).transactions.now c.args.most (stop_in y.ended) (seen (slice_index_or c.args.seats.now k d).session) (seen y.session)) e.left
+    (subst (λ x. FollowsFrom (max (seen x.session).clock c.args.clock) (g.C.SessionCalls.missed e.after_call.now.session) x.transactions.now c.args.most (stop_in e.after_call.now.ended) (seen x.session) (seen e.after_call.now.session)) e.argument_is e.call.1.1.1.1.0)
 
 pub returns-clause-base : goal.returns-clause-base
 returns-clause-base g c =
