@@ -14,12 +14,13 @@ use Rattle.machine_calls.specs.declared.machine.StepError.{StepError}
 use Rattle.machine_calls.specs.declared.machine.StepError.TheVariants.{Memory as NoMemory, Worn as WornAt}
 use Rattle.machine_calls.specs.Steps.{Made as IsMade, Tells}
 use Rattle.machine_calls.specs.Restored.{revives}
+use Rattle.log_gate.specs.Header.{Layout}
 use Rattle.machine_laws.specs.declared.notes.Note.{Note}
 use Rattle.machine_laws.specs.declared.notes.Note.TheVariants.{Made}
 use Rattle.machine_laws.specs.declared.notes.Origin.{Origin}
 use Rattle.machine_laws.specs.declared.notes.Mark.{Mark}
 use Rattle.machine_laws.specs.Notes.{notes_of, IsLeft}
-use Rattle.machine_laws.specs.Homes.{holder_of}
+use Rattle.machine_laws.specs.Homes.{layout_of, holder_of}
 use Rattle.machine_laws.specs.Gates.{GateStands, is_gate_away}
 use Rattle.machine_laws.specs.Sound.{IsSound}
 use Rattle.cluster_closing.specs.Restarts.{Recovers}
@@ -73,14 +74,15 @@ module _ {G : Type 0} (shut : G → Bool) (faults whose : G → ℕ) (logs : G �
   away s held (Some g) w down is h =
       absurd (both_ways (is_gate_away s held) (h.0) (ap (is_gate_away s) is ∙ ap (λ u. elim u [ true ↦ is_some s.flight | false ↦ true ]) down))
 
+module _ {G : Type 0} (shut : G → Bool) (faults whose : G → ℕ) (logs : G → Layout → Option (List LogRecord) → Type 0) where
   pub gate_away : (o : Origin) (marks : List Mark) (capacity : ℕ) (s : Shard) (gate : Option G) (w : ℕ) → IsSound shut faults whose logs o marks capacity s gate → s.is_up ≡ false → holder_of (notes_of s.journal marks) ≡ Some w → gate ≡ None
-  gate_away o marks capacity s gate w l down held = away s (holder_of (notes_of s.journal marks)) gate w down held l.gated
+  gate_away o marks capacity s gate w l down held = away shut faults whose (λ h. logs h (layout_of o)) s (holder_of (notes_of s.journal marks)) gate w down held l.gated
 
-module _ {G : Type 0} (shut : G → Bool) (faults whose : G → ℕ) (logs : G → Option (List LogRecord) → Type 0) where
+module _ {G : Type 0} (shut : G → Bool) (faults whose : G → ℕ) (logs : G → Layout → Option (List LogRecord) → Type 0) where
   -- the shard is up again
   pub up_again : (o : Origin) (marks : List Mark) (capacity more : ℕ) (s t : Shard) (clock w epoch clock' : ℕ) (found log : List LogRecord) (out : Outcome) (made : Option Entry) (m : Mark) (g : G) → IsSound shut faults whose logs o marks capacity s None
       → Tells (revives s clock w epoch log) s clock w Restart (Ok out) t made → s.is_up ≡ false → epoch ≡ next_epoch s found → log ≡ log_after_restart s.shard found s.run epoch → misfit s log epoch ≡ None → holder_of (notes_of s.journal marks) ≡ Some w
-      → IsLeft (length s.journal) log m → length marks + 2 ≤ more → Recovers s log (shut g) (faults g) (whose g) (logs g) → clock' ≡ t.last
+      → IsLeft (length s.journal) log m → length marks + 2 ≤ more → Recovers s log (shut g) (faults g) (whose g) (logs g (layout_of o)) → clock' ≡ t.last
       → IsSound shut faults whose logs o (marks ++ m ∷ []) more t (Some g) × ((added : List Note) × Revives clock w epoch found clock' s t added × (notes_of t.journal (marks ++ m ∷ []) ≡ notes_of s.journal marks ++ added))
   up_again o marks capacity more s t clock w epoch clock' found log out made m g l told down next is fits held left room r now =
       let x = made_up s t clock w epoch log out made told in

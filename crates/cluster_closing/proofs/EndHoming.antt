@@ -13,6 +13,7 @@ use Rattle.clv_base.specs.State.{Shard}
 use Rattle.clv_base.specs.Events.{Does, happen, with_durable}
 use Rattle.clv_base.specs.Journals.{after_entry, flush_state, FlushMay}
 use Rattle.clv_base.specs.Machines.{BecomesBy}
+use Rattle.log_gate.specs.Header.{Layout}
 use Rattle.turn_lock.specs.Journals.{entries_by}
 use Rattle.turn_lock.specs.Passes.{seen, own}
 use Rattle.journal_laws.specs.Notes.{Note as Told, made, fetched, MayNotes, after_notes, entries_of_notes}
@@ -131,7 +132,7 @@ is_up_away s held up = ap (λ b. elim b [ true ↦ is_some s.flight | false ↦ 
 is_down_away : (s : Shard) (held : Option ℕ) → s.is_up ≡ false → is_gate_away s held ≡ is_some held
 is_down_away s held down = ap (λ b. elim b [ true ↦ is_some s.flight | false ↦ is_some held ]) down
 
-pub gates_come_home : (M S : Type 0) {G : Type 0} (shut : G → Bool) (faults whose : G → ℕ) (logs : G → Option (List LogRecord) → Type 0) → GatesComeHome M S shut faults whose logs
+pub gates_come_home : (M S : Type 0) {G : Type 0} (shut : G → Bool) (faults whose : G → ℕ) (logs : G → Layout → Option (List LogRecord) → Type 0) → GatesComeHome M S shut faults whose logs
 gates_come_home M S shut faults whose logs walkers n o notes s (Some g) c l stands landed = (λ up. (g, refl), λ down held. (g, refl))
 gates_come_home M S shut faults whose logs walkers n o notes s None c l stands landed =
     let free : taker None (entries_in notes) ≡ None = not_taken (taker None (entries_in notes)) (none_takes walkers n o notes c landed) in (

@@ -13,11 +13,12 @@ use Rattle.clv_base.specs.Restarts.{misfit, revived}
 use Rattle.log_gate.specs.View.{Only}
 use Rattle.machine_calls.specs.Steps.{Made as IsMade}
 use Rattle.machine_calls.specs.Restored.{revives}
+use Rattle.log_gate.specs.Header.{Layout}
 use Rattle.machine_laws.specs.declared.notes.Note.TheVariants.{Made}
 use Rattle.machine_laws.specs.declared.notes.Origin.{Origin}
 use Rattle.machine_laws.specs.declared.notes.Mark.{Mark}
 use Rattle.machine_laws.specs.Notes.{notes_of, AreMarksOf, IsLeft}
-use Rattle.machine_laws.specs.Homes.{holder_of, has_failed, is_failed, IsLegal}
+use Rattle.machine_laws.specs.Homes.{layout_of, holder_of, has_failed, is_failed, IsLegal}
 use Rattle.machine_laws.specs.Gates.{durable_records}
 use Rattle.machine_laws.specs.Sound.{IsSound}
 use Rattle.machine_laws.proofs.Laws.{left_last, legal_restart, from_does, gate_home, down_failed, failed_append}
@@ -32,10 +33,10 @@ restarted_is s clock w epoch log out t x h =
     let f = from_does stamp w Restart (nat_lt stamp (2 ^ 48)) (Does (Up epoch) (revived s epoch log)) out t h.enters in
     f.is ∙ ap (with_entry stamp w Restart out) (sym (does_after f.does))
 
-module _ {G : Type 0} (shut : G → Bool) (faults whose : G → ℕ) (logs : G → Option (List LogRecord) → Type 0) where
+module _ {G : Type 0} (shut : G → Bool) (faults whose : G → ℕ) (logs : G → Layout → Option (List LogRecord) → Type 0) where
   pub sound_restarted : (o : Origin) (marks : List Mark) (capacity more : ℕ) (s : Shard) (clock w epoch : ℕ) (log : List LogRecord) (out : Outcome) (t : Shard) (x : Entry) (m : Mark) (g : G) → IsSound shut faults whose logs o marks capacity s None
       → IsMade (revives s clock w epoch log) s clock w Restart out t x → s.is_up ≡ false → misfit s log epoch ≡ None → holder_of (notes_of s.journal marks) ≡ Some w → IsLeft (length s.journal) log m → length (marks ++ m ∷ []) < more
-      → Recovers s log (shut g) (faults g) (whose g) (logs g) → IsSound shut faults whose logs o (marks ++ m ∷ []) more t (Some g) × (notes_of t.journal (marks ++ m ∷ []) ≡ notes_of s.journal marks ++ Made x log ∷ [])
+      → Recovers s log (shut g) (faults g) (whose g) (logs g (layout_of o)) → IsSound shut faults whose logs o (marks ++ m ∷ []) more t (Some g) × (notes_of t.journal (marks ++ m ∷ []) ≡ notes_of s.journal marks ++ Made x log ∷ [])
   sound_restarted o marks capacity more s clock w epoch log out t x m g l h down fits held left room r =
       let notes = notes_of s.journal marks in
       let n = left_last s.journal marks x m log left in
@@ -46,12 +47,12 @@ module _ {G : Type 0} (shut : G → Bool) (faults whose : G → ℕ) (logs : G �
         record {
           marked = subst (λ es. AreMarksOf es (marks ++ m ∷ [])) (sym h.journal) n.1;
           legal = subst (λ ns. IsLegal o ns t) (sym now) (legal_restart o notes s clock w epoch log out t x l.legal h down fits held);
-          gated = gate_home shut faults whose logs t (holder_of (notes_of t.journal (marks ++ m ∷ []))) g up (ap (λ u. u.flight) is)
+          gated = gate_home shut faults whose (λ h. logs h (layout_of o)) t (holder_of (notes_of t.journal (marks ++ m ∷ []))) g up (ap (λ u. u.flight) is)
               (record {
                 own = r.own ∙ sym (ap (λ u. u.shard) is);
                 counted = record { some = λ e. r.failed; none = λ e. absurd (both_ways (has_failed t.journal) e failed) };
                 is_open = λ e. r.is_open;
-                durable = λ e. subst (λ rs. Only rs (logs g)) (sym (ap durable_records is ∙ take_all (length log) log (omega arith))) r.log_is;
+                durable = λ e. subst (λ rs. Only rs (logs g (layout_of o))) (sym (ap durable_records is ∙ take_all (length log) log (omega arith))) r.log_is;
                 either = λ d. absurd (both_ways t.is_up d up);
               });
           room = λ e. room;

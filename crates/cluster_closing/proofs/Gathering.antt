@@ -1,5 +1,5 @@
 -- Lists that are filled or changed place by place.
-use Rattle.std.proofs.Common.{◌≡◌, ℕ, ◌+◌, ◌<◌, List, [], length, get_or, set, sym, ap, ◌∙◌, subst, arith, None, get_or-set_same, get_or-set_other}
+use Rattle.std.proofs.Common.{◌≡◌, ℕ, ◌+◌, ◌<◌, List, length, get_or, set, sym, ap, ◌∙◌, subst, arith, None, get_or-set_same, get_or-set_other}
 use mathlib.Core.Logic.{dite}
 use Rattle.turn_lock.specs.Journals.{StartsWith, entries_by}
 use Rattle.machine_laws.specs.declared.notes.Note.{Note}

@@ -6,6 +6,7 @@ use Rattle.std.proofs.lemmas.List.Elements.{All-cons, All-nil}
 use Rattle.clv_base.specs.declared.logs.LogRecord.{LogRecord}
 use Rattle.clv_base.specs.State.{Shard}
 use Rattle.io_model.specs.Story.{Story}
+use Rattle.log_gate.specs.Header.{Layout}
 use Rattle.turn_lock.specs.Journals.{GrownBy}
 use Rattle.turn_lock.specs.declared.pass.TurnLock.{TurnLock}
 use Rattle.turn_lock.specs.declared.pass.Pass.{Pass}
@@ -17,7 +18,7 @@ use Rattle.machine_laws.specs.declared.notes.Origin.{Origin}
 use Rattle.machine_laws.specs.declared.notes.Mark.{Mark}
 use Rattle.machine_laws.specs.declared.notes.Mark.TheVariants.{Fetched as FetchedAt}
 use Rattle.machine_laws.specs.Notes.{noter, notes_of}
-use Rattle.machine_laws.specs.Homes.{entries_in, holder_of, IsLegal}
+use Rattle.machine_laws.specs.Homes.{layout_of, entries_in, holder_of, IsLegal}
 use Rattle.machine_laws.specs.Sound.{IsSound}
 use Rattle.machine_laws.proofs.Laws.{sound_fetched, holder_more, legal_shard}
 use Rattle.cluster_closing.specs.declared.fetching.Fetched.{Fetched as Taken}
@@ -33,7 +34,7 @@ gate_given b gate h = ap (λ c. down_gate_of c gate) h
 pub none_left : {G : Type 0} (b : Bool) (gate : Option G) → b ≡ false → gate_left b gate ≡ None
 none_left b gate h = ap (λ c. gate_left c gate) h
 
-module _ {G : Type 0} (shut : G → Bool) (faults whose : G → ℕ) (logs : G → Option (List LogRecord) → Type 0) where
+module _ {G : Type 0} (shut : G → Bool) (faults whose : G → ℕ) (logs : G → Layout → Option (List LogRecord) → Type 0) where
   pub sound_given : (o : Origin) (marks marks' : List Mark) (capacity capacity' : ℕ) (s s' : Shard) (gate gate' : Option G) (g : G) (w at : ℕ) → IsSound shut faults whose logs o marks capacity s gate → gate ≡ Some g → s.is_up ≡ false
       → at ≡ length s.journal → marks' ≡ marks ++ FetchedAt at w ∷ [] → capacity' ≡ capacity → s' ≡ s → gate' ≡ None
       → IsSound shut faults whose logs o marks' capacity' s' gate' × (notes_of s'.journal marks' ≡ notes_of s.journal marks ++ Fetched w ∷ [])
@@ -67,7 +68,7 @@ no_entries w (Err Away) s t added h = ap entries_in h.2
 -- what the pass has then seen
 module _ {T D : Type 0} (story : D → Option Story) (faults : D → ℕ) where
   pub pass_taken : (w : ℕ) (q : Pass T Note Origin) (o : Origin) (s t : Shard) (before after added : List Note) (r : Result (Taken D) FetchError) → FetchTold w r s t added → after ≡ before ++ added → IsLegal o after t → seen q ≡ after → pass_origin q ≡ Some o
-      → IfOk r (λ f. (f.shard ≡ s.shard) × DiskFits s (story f.disk) (faults f.disk) × (s.local.epoch ≡ f.epoch)) → (r ≡ Err Away → is_some (holder_of before) ≡ true) → PassTaken story faults w q r
+      → IfOk r (λ f. (f.shard ≡ s.shard) × DiskFits (layout_of o) s (story f.disk) (faults f.disk) × (s.local.epoch ≡ f.epoch)) → (r ≡ Err Away → is_some (holder_of before) ≡ true) → PassTaken story faults w q r
   pass_taken w q o s t before after added (Ok f) told is l sees from disk away = record {
     origin = o;
     has_origin = from;
@@ -81,8 +82,8 @@ module _ {T D : Type 0} (story : D → Option Story) (faults : D → ℕ) where
   pass_taken w q o s t before after added (Err Away) told is l sees from disk away = ap (λ ns. is_some (holder_of ns)) (sees ∙ is ∙ ap (λ a. before ++ a) told.2 ∙ append-nil before) ∙ away refl
 
 -- the shard whose disk it is
-module _ {T D : Type 0} (story : D → Option Story) (faults : D → ℕ) (founds : List (List LogRecord)) (locks : List (TurnLock T Note Origin)) (w n : ℕ) (q : Pass T Note Origin) (at : IsPassAt founds locks w n q) where
-  taken_of : (f : Taken D) → PassTaken story faults w q (Ok f) → (f.shard ≡ n) × Holds w (IsDiskOf faults f) q
+module _ {T D : Type 0} (story : D → Option Story) (faults : D → ℕ) (splits : List ℕ) (founds : List (List LogRecord)) (locks : List (TurnLock T Note Origin)) (w n : ℕ) (q : Pass T Note Origin) (at : IsPassAt splits founds locks w n q) where
+  taken_of : (f : Taken D) → PassTaken story faults w q (Ok f) → (f.shard ≡ n) × Holds w (λ layout. IsDiskOf faults f) q
   taken_of f h =
       let same : h.origin ≡ at.origin = some_inj h.origin at.origin (sym h.has_origin ∙ at.has_origin) in (
         (h.holds).0 ∙ legal_shard h.origin (seen q) h.s h.s_is ∙ ap (λ o. o.shard) same ∙ at.origin_is.shard,
@@ -103,7 +104,7 @@ module _ {T D : Type 0} (story : D → Option Story) (faults : D → ℕ) (found
   shard_taken (Err Away) h = tt
 
   pub disk_held : (passes : List (Option (Pass T Note Origin))) → ((d : Option (Pass T Note Origin)) → get_or passes n d ≡ Some q) → (r : Result (Taken D) FetchError) → PassTaken story faults w q r
-      → IfOk r (λ f. HoldsAt f.shard w (IsDiskOf faults f) passes)
+      → IfOk r (λ f. HoldsAt f.shard w (λ layout. IsDiskOf faults f) passes)
   disk_held passes has (Ok f) h = let t = taken_of f h in (q, (λ d. ap (λ (k : ℕ). get_or passes k d) t.0 ∙ has d), t.1)
   disk_held passes has (Err Up) h = tt
   disk_held passes has (Err Away) h = tt

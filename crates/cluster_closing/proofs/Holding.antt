@@ -141,10 +141,10 @@ module _ {T : Type 0} where
   -- ---- the laws
 
   pub new_walkers_hold_none : NewWalkersHoldNone T
-  new_walkers_hold_none founds locks w passes a k p is = λ apart held. absurd (let e : None ≡ Some w = sym (ap holder_of (new_pass founds locks w passes a k p is).0) ∙ held in cc)
+  new_walkers_hold_none splits founds locks w passes a k p is = λ apart held. absurd (let e : None ≡ Some w = sym (ap holder_of (new_pass splits founds locks w passes a k p is).0) ∙ held in cc)
 
   pub new_walkers_fetched_none : NewWalkersFetchedNone T
-  new_walkers_fetched_none founds locks w passes a k p is = subst AreMade (sym (new_pass founds locks w passes a k p is).1) tt
+  new_walkers_fetched_none splits founds locks w passes a k p is = subst AreMade (sym (new_pass splits founds locks w passes a k p is).1) tt
 
   none_step : (but : Option ℕ) (w : ℕ) (Told : Shard → Shard → List Note → Type 0) (n : ℕ) (before after : List (Option (Pass T Note Origin))) (h : Walked Told n w before after) → AreMade h.turned.added → HoldsNoneBut but w before → HoldsNoneBut but w after
   none_step but w Told n before after h made l = walked_none but h made l

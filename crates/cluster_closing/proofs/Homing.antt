@@ -8,12 +8,13 @@ use native.Mathlib.Decide.{ℕ_discrete}
 use Rattle.clv_base.specs.declared.logs.LogRecord.{LogRecord}
 use Rattle.clv_base.specs.State.{Shard}
 use Rattle.io_model.specs.Story.{Story}
+use Rattle.log_gate.specs.Header.{Layout}
 use Rattle.turn_lock.specs.Journals.{StartsWith, GrownByOthers, entries_by}
 use Rattle.turn_lock.specs.Passes.{seen, own}
 use Rattle.machine_laws.specs.declared.notes.Note.{Note}
 use Rattle.machine_laws.specs.declared.notes.Origin.{Origin}
 use Rattle.machine_laws.specs.Notes.{noter}
-use Rattle.machine_laws.specs.Homes.{holder_of, IsLegal}
+use Rattle.machine_laws.specs.Homes.{layout_of, holder_of, IsLegal}
 use Rattle.machine_laws.specs.Gates.{GateStands}
 use Rattle.machine_laws.proofs.Laws.{held_rests, gate_of_down}
 use Rattle.cluster_turns.specs.declared.shards.Walker.{Walker}
@@ -81,10 +82,10 @@ no_gate : {G : Type 0} (shut : G → Bool) (counts whose : G → ℕ) (logs : G 
 no_gate shut counts whose logs s w None down stands = refl
 no_gate shut counts whose logs s w (Some g) down stands = absurd (both_ways true (gate_of_down s (Some w) false down stands.0) refl)
 
-pub disks_are_found : (M S : Type 0) {G D : Type 0} (shut : G → Bool) (counts whose : G → ℕ) (logs : G → Option (List LogRecord) → Type 0) (story : D → Option Story) (faults : D → ℕ) → DisksAreFound M S shut counts whose logs story faults
+pub disks_are_found : (M S : Type 0) {G D : Type 0} (shut : G → Bool) (counts whose : G → ℕ) (logs : G → Layout → Option (List LogRecord) → Type 0) (story : D → Option Story) (faults : D → ℕ) → DisksAreFound M S shut counts whose logs story faults
 disks_are_found M S {G} {D} shut counts whose logs story faults walkers n o notes s gate fetched c legal stands away have = ⊎_elim by_disk by_gate (among fetched n)
   where
-    by_gate : IsNotAmong n fetched → EndsWith story faults n s gate fetched
+    by_gate : IsNotAmong n fetched → EndsWith story faults n (layout_of o) s gate fetched
     by_gate none = at s.is_up refl
       where
         free : (k : ℕ) (d : Walker M S G) (p : _) → k < length walkers → ((e : _) → get_or (get_or walkers k d).passes.items n e ≡ Some p) → holder_of (seen p) ≢ Some (get_or walkers k d).number
@@ -93,11 +94,11 @@ disks_are_found M S {G} {D} shut counts whose logs story faults walkers n o note
         home : (s.is_up ≡ true → IsThere gate) × (s.is_up ≡ false → holder_of notes ≡ None → IsThere gate)
         home = gates_come_home M S shut counts whose logs walkers n o notes s gate c legal stands (λ k d low. ((away k d low).pass, (away k d low).landed))
 
-        at : (b : Bool) → s.is_up ≡ b → EndsWith story faults n s gate fetched
+        at : (b : Bool) → s.is_up ≡ b → EndsWith story faults n (layout_of o) s gate fetched
         at true up = its_gate (home.0 up) none
         at false down = its_gate (home.1 down (not_held (holder_of notes) (none_holds walkers n o notes c away free))) none
 
-    by_disk : IsAmong n fetched → EndsWith story faults n s gate fetched
+    by_disk : IsAmong n fetched → EndsWith story faults n (layout_of o) s gate fetched
     by_disk (j, low, is) =
         let f = an_elem fetched j low in
         let e = have.each j f low in
@@ -112,8 +113,8 @@ disks_are_found M S {G} {D} shut counts whose logs story faults walkers n o note
         let rests = held_rests o q.s s v.number (seen p) notes (subst (λ (x : Origin). IsLegal x (seen p) q.s) from q.s_is) legal (grown walkers n o notes c k d p e.1 had (away k d e.1).landed) q.down q.held in
         let down : s.is_up ≡ false = ap (λ u. u.is_up) rests.1 ∙ q.down in
         let held : holder_of notes ≡ Some v.number = ap holder_of rests.0 ∙ q.held in
-        a_disk j low (no_gate shut counts whose logs s v.number gate down (subst (λ (x : Option ℕ). GateStands shut counts whose logs s x gate) held stands)) down
-        (λ x. (is x, subst (λ y. HasDisk story faults y s) (get_or_default fetched j f x low) (subst (λ u. HasDisk story faults (get_or fetched j f) u) (sym rests.1) q.holds)))
+        a_disk j low (no_gate shut counts whose (λ h. logs h (layout_of o)) s v.number gate down (subst (λ (x : Option ℕ). GateStands shut counts whose (λ h. logs h (layout_of o)) s x gate) held stands)) down
+        (λ x. (is x, subst (λ y. HasDisk story faults y (layout_of o) s) (get_or_default fetched j f x low) (subst (λ u. HasDisk story faults (get_or fetched j f) (layout_of o) u) (sym rests.1) (subst (λ (z : Origin). HasDisk story faults (get_or fetched j f) (layout_of z) q.s) from q.holds))))
 
 pub no_disks_are_held : (M S G : Type 0) {D : Type 0} (story : D → Option Story) (faults : D → ℕ) → NoDisksAreHeld M S G story faults
 no_disks_are_held M S G story faults walkers none = record {

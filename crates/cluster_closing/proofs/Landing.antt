@@ -141,9 +141,9 @@ module _ {T : Type 0} where
   looked_each {n} {horizon} {before} P h others new = subst (EachPass P) (sym h.after_is) (placed P before n h.p h.q h.had others new)
 
   -- a new pass has seen nothing
-  pub new_pass : (founds : List (List LogRecord)) (locks : List (TurnLock T Note Origin)) (w : ℕ) (passes : List (Option (Pass T Note Origin))) → AreNewPasses founds locks w passes
+  pub new_pass : (splits : List ℕ) (founds : List (List LogRecord)) (locks : List (TurnLock T Note Origin)) (w : ℕ) (passes : List (Option (Pass T Note Origin))) → AreNewPasses splits founds locks w passes
       → (k : ℕ) (p : Pass T Note Origin) → ((d : Option (Pass T Note Origin)) → get_or passes k d ≡ Some p) → (seen p ≡ []) × (own p ≡ [])
-  new_pass founds locks w passes a k p is =
+  new_pass splits founds locks w passes a k p is =
       let low : Rattle.std.specs.Prelude.◌<◌ k (length locks) = (let l = inside passes k p is in let c = a.count in omega arith) in
       let t = a.each k None low in
       let same : t.0 ≡ p = some_inj t.0 p (sym t.2 ∙ is None) in
@@ -151,10 +151,10 @@ module _ {T : Type 0} where
 
   -- ---- the laws
 
-  pub new_have_landed : (founds : List (List LogRecord)) (locks : List (TurnLock T Note Origin)) (w : ℕ) (passes : List (Option (Pass T Note Origin))) → AreNewPasses founds locks w passes → HasLanded w passes
-  new_have_landed founds locks w passes a = record {
-    own = λ k p is. (let t = new_pass founds locks w passes a k p is in t.1 ∙ ap (entries_by noter w) (sym t.0));
-    home = λ k p is. ap (λ l. is_taker (taker None (entries_in l)) w) (new_pass founds locks w passes a k p is).0;
+  pub new_have_landed : (splits : List ℕ) (founds : List (List LogRecord)) (locks : List (TurnLock T Note Origin)) (w : ℕ) (passes : List (Option (Pass T Note Origin))) → AreNewPasses splits founds locks w passes → HasLanded w passes
+  new_have_landed splits founds locks w passes a = record {
+    own = λ k p is. (let t = new_pass splits founds locks w passes a k p is in t.1 ∙ ap (entries_by noter w) (sym t.0));
+    home = λ k p is. ap (λ l. is_taker (taker None (entries_in l)) w) (new_pass splits founds locks w passes a k p is).0;
   }
 
   pub events_land : (clock w n : ℕ) (e : Event) (r : Result Outcome StepError) (clock' : ℕ) (before after : List (Option (Pass T Note Origin))) → Walked (EventTold clock w e r clock') n w before after → is_single e ≡ true → HasLanded w before → HasLanded w after

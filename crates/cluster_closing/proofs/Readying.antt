@@ -1,15 +1,17 @@
 -- The shard whose disk a walker has, and what was recovered of it.
-use Rattle.std.proofs.Common.{◌≡◌, ℕ, suc, ◌≤◌, ◌<◌, Bool, List, length, get_or, sym, ap, ◌∙◌, subst, arith, Option, Some, None}
+use Rattle.std.proofs.Common.{◌≡◌, refl, ℕ, suc, ◌≤◌, ◌<◌, Bool, List, length, get_or, sym, ap, ◌∙◌, subst, arith, Option, Some, None}
 use Rattle.clv_base.specs.declared.logs.LogRecord.{LogRecord}
 use Rattle.clv_base.specs.Needs.{Records}
 use Rattle.clv_base.specs.State.{Shard}
 use Rattle.clv_base.specs.Restarts.{run_after, greatest_epoch}
 use Rattle.shard_recovery.specs.declared.recovering.Recovered.{Recovered}
+use Rattle.log_gate.specs.Header.{Layout}
 use Rattle.turn_lock.specs.declared.pass.TurnLock.{TurnLock}
 use Rattle.turn_lock.specs.declared.pass.Pass.{Pass}
 use Rattle.turn_lock.specs.Passes.{pass_origin, seen}
 use Rattle.machine_laws.specs.declared.notes.Note.{Note}
 use Rattle.machine_laws.specs.declared.notes.Origin.{Origin}
+use Rattle.machine_laws.specs.Homes.{layout_of}
 use Rattle.machine_laws.proofs.Laws.{legal_run}
 use Rattle.cluster_turns.specs.Walkers.{ArePassesOf}
 use Rattle.cluster_turns.proofs.Laws.{some_inj}
@@ -42,22 +44,23 @@ ready_for n run own epoch failed found records r shut whose faults logs is next 
 
 module _ {T D : Type 0} (faults : D → ℕ) where
   -- the state in which a walker's pass has seen the shard
-  pub held_as : (founds : List (List LogRecord)) (locks : List (TurnLock T Note Origin)) (w run : ℕ) (passes : List (Option (Pass T Note Origin))) (f : Fetched D) (Q : Shard → Type 0) → ArePassesOf founds locks w passes → f.shard < length locks → run ≡ run_after founds
-      → HoldsAt f.shard w (IsDiskOf faults f) passes → ((s : Shard) → s.shard ≡ f.shard → s.run ≡ run → s.local.epoch ≡ f.epoch → 1 ≤ faults f.disk → Q s) → HoldsAt f.shard w Q passes
-  held_as founds locks w run passes f Q are low is (p, had, h) to =
+  pub held_as : (splits : List ℕ) (founds : List (List LogRecord)) (locks : List (TurnLock T Note Origin)) (w run : ℕ) (passes : List (Option (Pass T Note Origin))) (f : Fetched D) (Q : Layout → Shard → Type 0) → ArePassesOf splits founds locks w passes → f.shard < length locks → run ≡ run_after founds
+      → HoldsAt f.shard w (λ layout. IsDiskOf faults f) passes → ((s : Shard) → s.shard ≡ f.shard → s.run ≡ run → s.local.epoch ≡ f.epoch → 1 ≤ faults f.disk → Q (record { splits = splits }) s) → HoldsAt f.shard w Q passes
+  held_as splits founds locks w run passes f Q are low is (p, had, h) to =
       let t = are.each f.shard None low in
       let same : t.0 ≡ p = one t.0 p (get_or passes f.shard None) t.1 (had None) in
       let from : pass_origin p ≡ Some t.2.origin = subst (λ q. pass_origin q ≡ Some t.2.origin) same t.2.has_origin in
       let origin : h.origin ≡ t.2.origin = some_inj h.origin t.2.origin (sym h.has_origin ∙ from) in
       let d = h.holds in
       let runs : h.s.run ≡ run = legal_run h.origin (seen p) h.s h.s_is ∙ ap (λ o. o.run) origin ∙ t.2.origin_is.run ∙ sym is in
-      (p, had, record { origin = h.origin; has_origin = h.has_origin; s = h.s; s_is = h.s_is; down = h.down; held = h.held; holds = to h.s (sym d.shard) runs d.epoch d.failed })
+      let told : layout_of h.origin ≡ record { splits = splits } = ap layout_of origin ∙ subst (λ (l : List ℕ). layout_of t.2.origin ≡ record { splits = l }) t.2.origin_is.splits_are refl in
+      (p, had, record { origin = h.origin; has_origin = h.has_origin; s = h.s; s_is = h.s_is; down = h.down; held = h.held; holds = subst (λ l. Q l h.s) (sym told) (to h.s (sym d.shard) runs d.epoch d.failed) })
     where
       one : {P : Type 0} (x y : P) (u : Option P) → u ≡ Some x → u ≡ Some y → x ≡ y
       one {P} x y u a b = let k : ◌≡◌ {A = Option P} (Some x) (Some y) = sym a ∙ b in cc
 
   -- a disk that came back is held as before
-  pub held_still : (w : ℕ) (passes : List (Option (Pass T Note Origin))) (f g : Fetched D) → g.shard ≡ f.shard → g.epoch ≡ f.epoch → (1 ≤ faults f.disk → 1 ≤ faults g.disk) → HoldsAt f.shard w (IsDiskOf faults f) passes → HoldsAt g.shard w (IsDiskOf faults g) passes
+  pub held_still : (w : ℕ) (passes : List (Option (Pass T Note Origin))) (f g : Fetched D) → g.shard ≡ f.shard → g.epoch ≡ f.epoch → (1 ≤ faults f.disk → 1 ≤ faults g.disk) → HoldsAt f.shard w (λ layout. IsDiskOf faults f) passes → HoldsAt g.shard w (λ layout. IsDiskOf faults g) passes
   held_still w passes f g a b failed (p, had, h) =
       let d = h.holds in (
         p,
@@ -74,7 +77,7 @@ module _ {T D : Type 0} (faults : D → ℕ) where
       )
 
   -- where the pass has seen no more
-  pub held_after : (n w : ℕ) (P : Shard → Type 0) (before after : List (Option (Pass T Note Origin))) → HoldsAt n w P before → IsSameSeen n before after → HoldsAt n w P after
+  pub held_after : (n w : ℕ) (P : Layout → Shard → Type 0) (before after : List (Option (Pass T Note Origin))) → HoldsAt n w P before → IsSameSeen n before after → HoldsAt n w P after
   held_after n w P before after (p, had, h) same =
       let is : same.p ≡ p = one same.p p (get_or before n None) (same.had None) (had None) in
       (same.q, same.has, holds_same w P same.p same.q same.same.0 same.same.1 (subst (Holds w P) (sym is) h))

@@ -11,7 +11,11 @@ use Rattle.log_gate.specs.View.{Only, logs_told}
 use Rattle.log_gate.specs.declared.error.OpenLogError.{OpenLogError}
 use Rattle.log_gate.specs.declared.error.OpenLogError.TheVariants.{NotLog as NoLog, Failed as ReadFailed, Memory as NoneToRead}
 use Rattle.shard_recovery.specs.Recovering.{IsBegun}
-use Rattle.cluster_closing.specs.Judging.{RefusesDisk, opening_error}
+use Rattle.log_gate.specs.Header.{Layout}
+use Rattle.cluster_opening.specs.declared.error.At.TheVariants.{Byte, Record}
+use Rattle.cluster_closing.specs.declared.error.RestartError.{RestartError}
+use Rattle.cluster_closing.specs.declared.error.RestartError.TheVariants.{Failed, NotLog, Worn, Memory}
+use Rattle.cluster_closing.specs.Judging.{RefusesDisk, Bars, opening_error}
 use Rattle.cluster_closing.specs.Left.{WasRead, HasBegun, IsLeftBy, begun}
 use Rattle.cluster_closing.proofs.ReviveLeaving.{at_start, in_between, under}
 
@@ -20,6 +24,14 @@ refused_open splits agreed n run own story (NoLog offset) same h = subst (λ (z 
 refused_open splits agreed n run own story ReadFailed same h = record {}
 refused_open splits agreed n run own story NoneToRead same h = record {}
 
+-- a log that was read and judged
+pub refused_judged : (splits : List ℕ) (n run own : ℕ) (story : Option Story) (log : List LogRecord) (e : RestartError) → WasRead story n (record { splits = splits }) log → Bars n run own log e → RefusesDisk splits n run own story e
+refused_judged splits n run own story log Failed read h = absurd h
+refused_judged splits n run own story log (NotLog (Byte offset)) read h = absurd h
+refused_judged splits n run own story log (NotLog (Record lsn)) read h = (log, read, h)
+refused_judged splits n run own story log (Worn at) read h = absurd h
+refused_judged splits n run own story log Memory read h = record {}
+
 -- ---- what is left
 
 module _ {G : Type 0} (logs : G → Option (List LogRecord) → Type 0) where
@@ -27,7 +39,7 @@ module _ {G : Type 0} (logs : G → Option (List LogRecord) → Type 0) where
   left_recovery n run epoch found before now DiskFailed only failed same = in_between n run epoch found (logs now) (failed refl)
   left_recovery n run epoch found before now NoMemory only failed same = subst (λ g. HasBegun n run epoch found (logs g)) (sym (same refl)) (at_start n run epoch found (logs before) only)
 
-pub left_begun : (n run own epoch whose : ℕ) (found : List LogRecord) (logs : Option (List LogRecord) → Type 0) (before now : Option Story) → WasRead before n found → epoch ≡ suc (greatest_epoch run own found) → whose ≡ n
-    → ((log : Option (List LogRecord)) → logs_told now whose log → logs log) → HasBegun n run epoch found logs → IsLeftBy n run own before now
-left_begun n run own epoch whose found logs before now read next own_it told b =
-    begun found read (subst (λ (e : ℕ). HasBegun n run e found (logs_told now n)) next (under n run epoch whose found logs now own_it told b))
+pub left_begun : (n : ℕ) (layout : Layout) (run own epoch whose : ℕ) (found : List LogRecord) (logs : Option (List LogRecord) → Type 0) (before now : Option Story) → WasRead before n layout found → epoch ≡ suc (greatest_epoch run own found) → whose ≡ n
+    → ((log : Option (List LogRecord)) → logs_told now whose layout log → logs log) → HasBegun n run epoch found logs → IsLeftBy n layout run own before now
+left_begun n layout run own epoch whose found logs before now read next own_it told b =
+    begun found read (subst (λ (e : ℕ). HasBegun n run e found (logs_told now n layout)) next (under n layout run epoch whose found logs now own_it told b))

@@ -4,7 +4,6 @@ use Rattle.clv_base.specs.Restarts.{log_after_restart}
 use Rattle.journal_laws.specs.Notes.{ends_holding}
 use Rattle.turn_lock.specs.Passes.{seen}
 use Rattle.machine_laws.specs.declared.notes.Note.TheVariants.{Made}
-use Rattle.machine_laws.specs.Notes.{told}
 use Rattle.machine_laws.specs.Homes.{holder_of}
 use Rattle.cluster_closing.proofs.Landing.{walked_each}
 use Rattle.cluster_closing.specs.Held.{AreMade, HasNoDisk}

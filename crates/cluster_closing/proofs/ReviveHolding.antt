@@ -9,6 +9,7 @@ use Rattle.clv_base.specs.State.{Shard}
 use Rattle.clv_base.specs.Restarts.{log_after_restart}
 use Rattle.clv_base.specs.Journals.{History}
 use Rattle.clv_base.specs.Sessions.{is_session}
+use Rattle.log_gate.specs.Header.{Layout}
 use Rattle.turn_lock.specs.Journals.{GrownBy, GrownByOthers}
 use Rattle.turn_lock.specs.declared.pass.Pass.{Pass}
 use Rattle.turn_lock.specs.Passes.{pass_origin, seen}
@@ -17,7 +18,7 @@ use Rattle.machine_laws.specs.declared.notes.Note.{Note}
 use Rattle.machine_laws.specs.declared.notes.Note.TheVariants.{Made}
 use Rattle.machine_laws.specs.declared.notes.Origin.{Origin}
 use Rattle.machine_laws.specs.Notes.{noter}
-use Rattle.machine_laws.specs.Homes.{holder_of, entries_in, IsLegal}
+use Rattle.machine_laws.specs.Homes.{layout_of, holder_of, entries_in, IsLegal}
 use Rattle.machine_laws.proofs.Laws.{held_rests}
 use Rattle.cluster_turns.specs.Turns.{Turned}
 use Rattle.cluster_turns.specs.Walkers.{Walked}
@@ -28,7 +29,7 @@ use Rattle.cluster_closing.specs.Revived.{ReviveTold}
 use Rattle.cluster_closing.proofs.Adding.{at_later as clock_rises}
 
 module _ {T : Type 0} where
-  pub holds_same : (w : ℕ) (P : Shard → Type 0) (p q : Pass T Note Origin) → seen q ≡ seen p → pass_origin q ≡ pass_origin p → Holds w P p → Holds w P q
+  pub holds_same : (w : ℕ) (P : Layout → Shard → Type 0) (p q : Pass T Note Origin) → seen q ≡ seen p → pass_origin q ≡ pass_origin p → Holds w P p → Holds w P q
   holds_same w P p q same from h = record {
     origin = h.origin;
     has_origin = from ∙ h.has_origin;
@@ -40,20 +41,20 @@ module _ {T : Type 0} where
   }
 
   -- what a turn of the walker finds: nobody changed it
-  pub record Found (w : ℕ) (P : Shard → Type 0) (p : Pass T Note Origin) (notes : List Note) (s : Shard) : Type 0 where
+  pub record Found (w : ℕ) (P : Layout → Shard → Type 0) (p : Pass T Note Origin) (o : Origin) (notes : List Note) (s : Shard) : Type 0 where
     pub down : s.is_up ≡ false
     pub held : holder_of notes ≡ Some w
-    pub holds : P s
+    pub holds : P (layout_of o) s
     pub same : notes ≡ seen p
 
-  pub finds : (w : ℕ) (P : Shard → Type 0) (p : Pass T Note Origin) (o : Origin) (notes : List Note) (s : Shard) → Holds w P p → pass_origin p ≡ Some o → IsLegal o notes s → GrownByOthers noter w (seen p) notes → Found w P p notes s
+  pub finds : (w : ℕ) (P : Layout → Shard → Type 0) (p : Pass T Note Origin) (o : Origin) (notes : List Note) (s : Shard) → Holds w P p → pass_origin p ≡ Some o → IsLegal o notes s → GrownByOthers noter w (seen p) notes → Found w P p o notes s
   finds w P p o notes s h from l others =
       let from_same : h.origin ≡ o = some_inj h.origin o (sym h.has_origin ∙ from) in
       let k = held_rests o h.s s w (seen p) notes (subst (λ x. IsLegal x (seen p) h.s) from_same h.s_is) l others h.down h.held in
       record {
         down = ap (λ u. u.is_up) k.1 ∙ h.down;
         held = ap holder_of k.0 ∙ h.held;
-        holds = subst P (sym k.1) h.holds;
+        holds = subst (P (layout_of o)) (sym k.1) (subst (λ (x : Origin). P (layout_of x) h.s) from_same h.holds);
         same = k.0;
       }
 

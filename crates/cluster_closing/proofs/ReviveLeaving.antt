@@ -1,5 +1,5 @@
 -- What a restart that fails leaves.
-use Rattle.std.proofs.Common.{◌≡◌, ◌⊎◌, ℕ, ◌+◌, false, List, ◌++◌, take, drop, length, Option, Some, refl, inl, inr, ⊎_elim, sym, ◌∙◌, ap, subst, append_assoc, append-nil, arith}
+use Rattle.std.proofs.Common.{◌≡◌, ◌⊎◌, ℕ, ◌+◌, false, List, ◌++◌, take, drop, length, Option, Some, refl, inl, inr, sym, ◌∙◌, ap, subst, append_assoc, append-nil, arith}
 use Rattle.std.proofs.lemmas.List.{take_all}
 use Rattle.clv_base.specs.declared.logs.LogRecord.{LogRecord}
 use Rattle.clv_base.specs.State.{Shard}
@@ -8,7 +8,9 @@ use Rattle.clv_base.specs.Journals.{MayLeave}
 use Rattle.io_model.specs.Story.{Story, reads}
 use Rattle.shard_recovery.specs.Recovering.{IsBegun}
 use Rattle.log_gate.specs.View.{Only, logs_told}
-use Rattle.cluster_closing.specs.Left.{HasBegun, IsLeftBy, unwritten, begun, MayStand}
+use Rattle.log_gate.specs.Header.{Layout}
+use Rattle.cluster_closing.specs.Left.{HasBegun, unwritten, begun, LeftMayStand}
+use Rattle.log_gate.proofs.Laws.{under_from}
 use Rattle.law_base.proofs.Logs.{some_log as some_same}
 use Rattle.law_base.proofs.Lists.{take_plus}
 
@@ -34,9 +36,9 @@ module _ (n run epoch : ℕ) (found : List LogRecord) (logs : Option (List LogRe
       (length R, only log has ∙ ap (λ l. Some l) (is ∙ ap (λ l. found ++ l) (sym (take_all (length R) R (omega arith)))))
 
 -- the gate's logs are those of its disk
-pub under : (n run epoch whose : ℕ) (found : List LogRecord) (logs : Option (List LogRecord) → Type 0) (story : Option Story) → whose ≡ n → ((log : Option (List LogRecord)) → logs_told story whose log → logs log) → HasBegun n run epoch found logs
-    → HasBegun n run epoch found (logs_told story n)
-under n run epoch whose found logs story own told b log has = b log (told log (subst (λ (m : ℕ). logs_told story m log) (sym own) has))
+pub under : (n : ℕ) (layout : Layout) (run epoch whose : ℕ) (found : List LogRecord) (logs : Option (List LogRecord) → Type 0) (story : Option Story) → whose ≡ n → ((log : Option (List LogRecord)) → logs_told story whose layout log → logs log) → HasBegun n run epoch found logs
+    → HasBegun n run epoch found (logs_told story n layout)
+under n layout run epoch whose found logs story own told b log has = b log (told log (subst (λ (m : ℕ). logs_told story m layout log) (sym own) has))
 
 -- ---- what the shard may leave
 
@@ -48,9 +50,11 @@ still_leaves : (s : Shard) (found : List LogRecord) (n : ℕ) → s.is_up ≡ fa
 still_leaves s found n down (b, inl is) = (b, inr (down, subst (λ base. FailedRestarts s base (found ++ take n (restart_records s.shard found s.run (next_epoch s found)))) is (failed_first n untouched)))
 still_leaves s found n down (b, inr (d, rest)) = (b, inr (down, one_more s (log_left s b) found n rest))
 
-pub still_stands : (s : Shard) (t : Story) (before now : Option Story) → s.is_up ≡ false → before ≡ Some t → MayStand s before → IsLeftBy s.shard s.run s.local.epoch before now → MayStand s now
-still_stands s t before now down tells may (unwritten same) log has = may log (same (Some log) has)
-still_stands s t before now down tells may (begun found read left) log has =
-    let stood : logs_told before s.shard (Some found) = subst (λ b. logs_told b s.shard (Some found)) (sym tells) (reads t, inl refl, read t tells) in
-    let l = left (Some log) has in
-    subst (MayLeave s) (sym (some_same l.1)) (still_leaves s found l.0 down (may found stood))
+pub still_stands : LeftMayStand
+still_stands s layout t before now down tells may (unwritten same) log has = may log (same log has)
+still_stands s layout t before now down tells may (begun found read left) log has =
+    let k = read t tells in
+    let stood : logs_told before s.shard layout (Some found) = subst (λ b. logs_told b s.shard layout (Some found)) (sym tells) (reads t, inl refl, under_from s.shard layout found (reads t) k.0 k.1) in
+    let l = left log has in
+    let m = may (Some found) stood in
+    (found ++ take l.0 (restart_records s.shard found s.run (next_epoch s found)), l.1, still_leaves s found l.0 down (subst (MayLeave s) (some_same (sym m.1)) m.2))

@@ -8,6 +8,7 @@ use Rattle.clv_base.specs.declared.events.Outcome.{Outcome}
 use Rattle.clv_base.specs.declared.events.Entry.{Entry}
 use Rattle.clv_base.specs.State.{Shard}
 use Rattle.clv_base.specs.Events.{step}
+use Rattle.log_gate.specs.Header.{Layout}
 use Rattle.turn_lock.specs.declared.pass.Pass.{Pass}
 use Rattle.turn_lock.specs.Passes.{seen}
 use Rattle.machine_calls.specs.declared.machine.StepError.{StepError}
@@ -42,7 +43,7 @@ pub some_origin : (a b : Origin) → Some a ≡ Some b → a ≡ b
 some_origin a b h = cc
 
 module _ {T : Type 0} where
-  turned_holds : {Told : Shard → Shard → List Note → Type 0} {w : ℕ} {p q : Pass T Note Origin} {P : Shard → Type 0} (t : Turned Told w p q) → (t.s.is_up ≡ false → t.added ≡ []) → Holds w P p → Holds w P q
+  turned_holds : {Told : Shard → Shard → List Note → Type 0} {w : ℕ} {p q : Pass T Note Origin} {P : Layout → Shard → Type 0} (t : Turned Told w p q) → (t.s.is_up ≡ false → t.added ≡ []) → Holds w P p → Holds w P q
   turned_holds {Told} {w} {p} {q} {P} t idle h =
       let same_origin : t.origin ≡ h.origin = some_origin t.origin h.origin (sym t.has_origin ∙ h.has_origin) in
       let rests = held_rests h.origin h.s t.s w (seen p) t.before h.s_is (subst (λ (o : Origin). IsLegal o t.before t.s) same_origin t.s_is) t.found h.down h.held in
@@ -58,7 +59,7 @@ module _ {T : Type 0} where
         holds = h.holds;
       }
 
-  looked_holds : {w n horizon : ℕ} {before after : List (Option (Pass T Note Origin))} {P : Shard → Type 0} (l : Looked n before horizon after) → Holds w P l.p → Holds w P l.q
+  looked_holds : {w n horizon : ℕ} {before after : List (Option (Pass T Note Origin))} {P : Layout → Shard → Type 0} (l : Looked n before horizon after) → Holds w P l.p → Holds w P l.q
   looked_holds l h = record {
     origin = h.origin;
     has_origin = l.same.0 ∙ h.has_origin;
@@ -70,7 +71,7 @@ module _ {T : Type 0} where
   }
 
   -- the pass of shard m is replaced
-  replaced : (n m w : ℕ) (P : Shard → Type 0) (before after : List (Option (Pass T Note Origin))) (p q : Pass T Note Origin) → ((d : Option (Pass T Note Origin)) → get_or before m d ≡ Some p) → after ≡ set before m (Some q) → (Holds w P p → Holds w P q) → HoldsAt n w P before
+  replaced : (n m w : ℕ) (P : Layout → Shard → Type 0) (before after : List (Option (Pass T Note Origin))) (p q : Pass T Note Origin) → ((d : Option (Pass T Note Origin)) → get_or before m d ≡ Some p) → after ≡ set before m (Some q) → (Holds w P p → Holds w P q) → HoldsAt n w P before
       → HoldsAt n w P after
   replaced n m w P before after p q had is step (x, at, holds) = dite (ℕ_discrete n m)
       (λ here. (
@@ -80,15 +81,15 @@ module _ {T : Type 0} where
       ))
       (λ other. (x, λ d. ap (λ z. get_or z n d) is ∙ get_or-set_other before m n (Some q) d other ∙ at d, holds))
 
-  event_holds : (n m w clock c : ℕ) (P : Shard → Type 0) (e : Event) (r : Result Outcome StepError) (before after : List (Option (Pass T Note Origin))) → Walked (EventTold clock w e r c) m w before after → HoldsAt n w P before → HoldsAt n w P after
+  event_holds : (n m w clock c : ℕ) (P : Layout → Shard → Type 0) (e : Event) (r : Result Outcome StepError) (before after : List (Option (Pass T Note Origin))) → Walked (EventTold clock w e r c) m w before after → HoldsAt n w P before → HoldsAt n w P after
   event_holds n m w clock c P e r before after h k =
       let t = h.turned in replaced n m w P before after h.p h.q h.had h.after_is (turned_holds t (idle_event clock w c e r t.s t.t t.added t.told)) k
 
-  landing_holds : (n m w clock c upto : ℕ) (P : Shard → Type 0) (pushed : Bool) (before after : List (Option (Pass T Note Origin))) → Walked (LandTold clock w pushed upto c) m w before after → HoldsAt n w P before → HoldsAt n w P after
+  landing_holds : (n m w clock c upto : ℕ) (P : Layout → Shard → Type 0) (pushed : Bool) (before after : List (Option (Pass T Note Origin))) → Walked (LandTold clock w pushed upto c) m w before after → HoldsAt n w P before → HoldsAt n w P after
   landing_holds n m w clock c upto P pushed before after h k =
       let t = h.turned in replaced n m w P before after h.p h.q h.had h.after_is (turned_holds t (idle_landing clock w c upto pushed t.s t.t t.added t.told)) k
 
-  pub still_held : (n w c d : ℕ) (P : Shard → Type 0) (ps qs : List (Option (Pass T Note Origin))) (ts : List Turn) → Took w c ps ts d qs → HoldsAt n w P ps → HoldsAt n w P qs
+  pub still_held : (n w c d : ℕ) (P : Layout → Shard → Type 0) (ps qs : List (Option (Pass T Note Origin))) (ts : List Turn) → Took w c ps ts d qs → HoldsAt n w P ps → HoldsAt n w P qs
   still_held n w _ _ P _ _ _ (no_turn clock ps) k = k
   still_held n w _ _ P _ _ _ (event_turn clock c clock' ps qs rs t ts walked made stays h) k = still_held n w c clock' P qs rs ts h (event_holds n t.shard w clock c P t.event t.answer ps qs walked k)
   still_held n w _ _ P _ _ _ (flush_turns clock c d clock' upto pushed ps ms qs rs t u ts out back is answer made same lands landed entered known h) k =
@@ -97,4 +98,4 @@ module _ {T : Type 0} where
       still_held n w clock clock' P qs rs ts h (replaced n m w P ps qs looked.p looked.q looked.had looked.after_is (looked_holds looked) k)
 
   pub held_disks_stay : {D : Type 0} → HeldDisksStay T D
-  held_disks_stay faults f n w c d ps qs ts took k = still_held n w c d (IsDiskOf faults f) ps qs ts took k
+  held_disks_stay faults f n w c d ps qs ts took k = still_held n w c d (λ layout. IsDiskOf faults f) ps qs ts took k

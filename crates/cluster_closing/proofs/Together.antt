@@ -72,12 +72,12 @@ module _ {M S G : Type 0} where
 
   -- what never changes of a shard, by the first walker's pass
   pub origin_is : (sh : Shards M S G) (vs : List (Walker M S G)) (n : ℕ) (o : Origin) (notes : List Note) → 0 < length vs → n < length sh.locks.items → ((k : ℕ) (d : Walker M S G) → k < length vs → IsWalker sh (get_or vs k d)) → ClosedAt vs n o notes
-      → IsOriginAt (founds_of sh) n o
+      → IsOriginAt sh.splits (founds_of sh) n o
   origin_is sh vs n o notes some low each c =
       let v = some_elem vs 0 some in
       let t = (each 0 v some).walks.are_passes.each n None low in
       let one : pass_origin t.0 ≡ Some o = ap origin_of (sym t.1) ∙ c.origin_is 0 v some in
-      subst (IsOriginAt (founds_of sh) n) (some_inj t.2.origin o (sym t.2.has_origin ∙ one)) t.2.origin_is
+      subst (IsOriginAt sh.splits (founds_of sh) n) (some_inj t.2.origin o (sym t.2.has_origin ∙ one)) t.2.origin_is
 
   module _ {H : Type 0} (state : H → Shard) (origin : H → Origin) (notes : H → List Note) (sh : Shards M S G) (vs : List (Walker M S G)) (homes : List H) where
     pub makes_history : AreShards sh → 0 < length vs → length homes ≡ length sh.locks.items → ((k : ℕ) (d : Walker M S G) → k < length vs → IsWalker sh (get_or vs k d))

@@ -1,5 +1,5 @@
 -- What a cluster leaves.
-use Rattle.std.specs.Prelude.{◌≡◌, ⊤, ℕ, ◌<◌, Bool, true, false, List, map, length, slice_index_or, Option, Some, None, Vec}
+use Rattle.std.specs.Prelude.{◌≡◌, ℕ, ◌<◌, Bool, true, false, List, map, length, slice_index_or, Option, Some, None, Vec}
 use Rattle.std.specs.Global.{Global}
 use Rattle.clv_base.specs.declared.logs.LogRecord.{LogRecord}
 use Rattle.clv_base.specs.declared.events.Entry.{Entry}
@@ -7,11 +7,12 @@ use Rattle.clv_base.specs.State.{Shard}
 use Rattle.io_model.specs.Story.{Story}
 use Rattle.io_model.specs.Disk.{Rose, Adds}
 use Rattle.clv_base.specs.Journals.{MayLeave}
+use Rattle.log_gate.specs.Header.{Layout}
 use Rattle.log_gate.specs.View.{Only, OnlyOrMore, logs_told}
 use Rattle.machine_laws.specs.Homes.{has_failed}
 use Rattle.cluster_closing.specs.declared.fetching.Fetched.{Fetched}
 use Rattle.cluster_closing.specs.Ends.{IsNotAmong}
-use Rattle.machine_laws.specs.Gates.{durable_records, flying_records}
+use Rattle.machine_laws.specs.Gates.{EachLog, durable_records, flying_records}
 
 abbrev pub lists : {A : Type 0} → List (Vec A Global) → List (List A)
 lists vecs = map (λ v. v.items) vecs
@@ -31,13 +32,13 @@ pub record IsLeft (s : Shard) (logs : Option (List LogRecord) → Type 0) : Type
   pub durable : s.is_up ≡ true → Only (durable_records s) logs
   pub either : s.is_up ≡ false → OnlyOrMore (durable_records s) (flying_records s) logs
 
--- the disk of shard n, which is in this state, is in its house again: its count was added, and each log that it tells is one that the shard may leave; no
--- more than a flush left, where no walker had fetched it
-pub record IsBack {D : Type 0} (s : Shard) (n : ℕ) (fetched : List (Fetched D)) (before now : ℕ) (out : Bool) (story : Option Story) : Type 0 where
+-- the disk of shard n, which is in this state, is in its house again: its count was added, and each log that it tells, behind a header of this layout, is
+-- there and one that the shard may leave; no more than a flush left, where no walker had fetched it
+pub record IsBack {D : Type 0} (s : Shard) (n : ℕ) (layout : Layout) (fetched : List (Fetched D)) (before now : ℕ) (out : Bool) (story : Option Story) : Type 0 where
   pub is_in : out ≡ false
   pub counted : CountsBack s.journal before now
-  pub leaves : (log : List LogRecord) → logs_told story n (Some log) → MayLeave s log
-  pub left : IsNotAmong n fetched → IsLeft s (logs_told story n)
+  pub leaves : EachLog (MayLeave s) (logs_told story n layout)
+  pub left : IsNotAmong n fetched → IsLeft s (logs_told story n layout)
 
 -- a disk is in again, with its count added
 pub record Returned {D : Type 0} (story : D → Option Story) (faults : D → ℕ) (disk : D) (before now : ℕ) (out : Bool) (story' : Option Story) : Type 0 where
@@ -46,7 +47,7 @@ pub record Returned {D : Type 0} (story : D → Option Story) (faults : D → �
   pub story_is : story' ≡ story disk
 
 -- a disk that came out of a gate is in again: with the gate's count added, and no log that isn't the gate's
-pub record CameFrom (counts whose : ℕ) (logs : Option (List LogRecord) → Type 0) (before now : ℕ) (out : Bool) (story : Option Story) : Type 0 where
+pub record CameFrom (counts whose : ℕ) (logs : Layout → Option (List LogRecord) → Type 0) (before now : ℕ) (out : Bool) (story : Option Story) : Type 0 where
   pub adds : Adds before counts now
   pub is_in : out ≡ false
-  pub logs_are : (log : Option (List LogRecord)) → logs_told story whose log → logs log
+  pub logs_are : (layout : Layout) (log : Option (List LogRecord)) → logs_told story whose layout log → logs layout log

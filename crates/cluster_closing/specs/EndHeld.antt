@@ -1,24 +1,25 @@
 -- The disk of a shard that is down, which a walker has.
 use Rattle.std.specs.Prelude.{◌≡◌, ⊤, ℕ, ◌≤◌, true, false, List, [], ◌∷◌, Option, Some, Result, Ok, Err, is_some, slice_index_or}
-use Rattle.clv_base.specs.declared.logs.LogRecord.{LogRecord}
 use Rattle.clv_base.specs.State.{Shard}
 use Rattle.clv_base.specs.Journals.{MayLeave}
 use Rattle.io_model.specs.Story.{Story}
+use Rattle.log_gate.specs.Header.{Layout}
 use Rattle.log_gate.specs.View.{logs_told}
 use Rattle.turn_lock.specs.declared.pass.Pass.{Pass}
 use Rattle.turn_lock.specs.Passes.{pass_origin, seen}
 use Rattle.machine_laws.specs.declared.notes.Note.{Note}
 use Rattle.machine_laws.specs.declared.notes.Note.TheVariants.{Fetched as FetchedBy}
 use Rattle.machine_laws.specs.declared.notes.Origin.{Origin}
-use Rattle.machine_laws.specs.Homes.{holder_of, IsLegal}
+use Rattle.machine_laws.specs.Gates.{EachLog}
+use Rattle.machine_laws.specs.Homes.{layout_of, holder_of, IsLegal}
 use Rattle.cluster_closing.specs.declared.fetching.FetchError.{FetchError}
 use Rattle.cluster_closing.specs.declared.fetching.FetchError.TheVariants.{Up, Away}
 use Rattle.cluster_closing.specs.declared.fetching.Fetched.{Fetched}
 
 -- the disk has failed, and each log that it may have is one that the shard may leave
-pub record DiskFits (s : Shard) (story : Option Story) (faults : ℕ) : Type 0 where
+pub record DiskFits (layout : Layout) (s : Shard) (story : Option Story) (faults : ℕ) : Type 0 where
   pub failed : 1 ≤ faults
-  pub leaves : (log : List LogRecord) → logs_told story s.shard (Some log) → MayLeave s log
+  pub leaves : EachLog (MayLeave s) (logs_told story s.shard layout)
 
 -- a disk of the shard in this state: it has failed, and was taken in the shard's epoch
 pub record IsDiskOf {D : Type 0} (faults : D → ℕ) (f : Fetched D) (s : Shard) : Type 0 where
@@ -33,23 +34,23 @@ FetchTold w (Err Up) s t added = (s.is_up ≡ true) × (t ≡ s) × (added ≡ [
 FetchTold w (Err Away) s t added = (s.is_up ≡ false) × (t ≡ s) × (added ≡ [])
 
 module _ {T : Type 0} where
-  -- as the pass has seen the shard, it is down and the walker w has its disk, and P holds of the state
-  pub record Holds (w : ℕ) (P : Shard → Type 0) (p : Pass T Note Origin) : Type 0 where
+  -- as the pass has seen the shard, it is down and the walker w has its disk, and P holds of the state, under the shard's layout
+  pub record Holds (w : ℕ) (P : Layout → Shard → Type 0) (p : Pass T Note Origin) : Type 0 where
     pub origin : Origin
     pub has_origin : pass_origin p ≡ Some origin
     pub s : Shard
     pub s_is : IsLegal origin (seen p) s
     pub down : s.is_up ≡ false
     pub held : holder_of (seen p) ≡ Some w
-    pub holds : P s
+    pub holds : P (layout_of origin) s
 
-  abbrev pub HoldsAt : ℕ → ℕ → (Shard → Type 0) → List (Option (Pass T Note Origin)) → Type 0
+  abbrev pub HoldsAt : ℕ → ℕ → (Layout → Shard → Type 0) → List (Option (Pass T Note Origin)) → Type 0
   HoldsAt n w P passes = (p : Pass T Note Origin) × ((d : Option (Pass T Note Origin)) → slice_index_or passes n d ≡ Some p) × Holds w P p
 
   module _ {D : Type 0} (story : D → Option Story) (faults : D → ℕ) where
     -- what a disk that was fetched is, and what refused it, as the pass has seen it
     abbrev pub PassTaken : ℕ → Pass T Note Origin → Result (Fetched D) FetchError → Type 0
-    PassTaken w p (Ok f) = Holds w (λ s. (f.shard ≡ s.shard) × DiskFits s (story f.disk) (faults f.disk) × (s.local.epoch ≡ f.epoch)) p
+    PassTaken w p (Ok f) = Holds w (λ layout s. (f.shard ≡ s.shard) × DiskFits layout s (story f.disk) (faults f.disk) × (s.local.epoch ≡ f.epoch)) p
     PassTaken w p (Err Up) = ⊤
     PassTaken w p (Err Away) = is_some (holder_of (seen p)) ≡ true
 

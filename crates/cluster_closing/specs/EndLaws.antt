@@ -24,7 +24,7 @@ use Rattle.cluster_closing.specs.Landed.{HasLanded}
 module _ (T : Type 0) where
   -- it begins so
   abbrev pub NewWalkersHaveLanded : Type 0
-  NewWalkersHaveLanded = (founds : List (List LogRecord)) (locks : List (TurnLock T Note Origin)) (w : ℕ) (passes : List (Option (Pass T Note Origin))) → AreNewPasses founds locks w passes → HasLanded w passes
+  NewWalkersHaveLanded = (splits : List ℕ) (founds : List (List LogRecord)) (locks : List (TurnLock T Note Origin)) (w : ℕ) (passes : List (Option (Pass T Note Origin))) → AreNewPasses splits founds locks w passes → HasLanded w passes
 
   -- an event of one call
   abbrev pub EventsLand : Type 0

@@ -4,13 +4,14 @@ use Rattle.clv_base.specs.declared.logs.LogRecord.{LogRecord}
 use Rattle.clv_base.specs.State.{Shard}
 use Rattle.clv_base.specs.Journals.{MayLeave}
 use Rattle.io_model.specs.Story.{Story}
+use Rattle.log_gate.specs.Header.{Layout}
 use Rattle.log_gate.specs.View.{logs_told}
 use Rattle.turn_lock.specs.declared.pass.Pass.{Pass}
 use Rattle.turn_lock.specs.Passes.{seen}
 use Rattle.machine_laws.specs.declared.notes.Note.{Note}
 use Rattle.machine_laws.specs.declared.notes.Origin.{Origin}
-use Rattle.machine_laws.specs.Homes.{holder_of, IsLegal}
-use Rattle.machine_laws.specs.Gates.{GateStands}
+use Rattle.machine_laws.specs.Homes.{layout_of, holder_of, IsLegal}
+use Rattle.machine_laws.specs.Gates.{EachLog, GateStands}
 use Rattle.cluster_turns.specs.declared.shards.Walker.{Walker}
 use Rattle.cluster_closing.specs.Landed.{EachPass, HasLanded}
 use Rattle.cluster_closing.specs.Ending.{ClosedAt, HasPassAt}
@@ -32,10 +33,10 @@ module _ {D : Type 0} where
 
   module _ (story : D → Option Story) (faults : D → ℕ) where
     -- the disk of the shard in this state: it has failed, and each log that it tells is one that the shard may leave
-    pub record HasDisk (f : Fetched D) (s : Shard) : Type 0 where
+    pub record HasDisk (f : Fetched D) (layout : Layout) (s : Shard) : Type 0 where
       pub shard : f.shard ≡ s.shard
       pub failed : 1 ≤ faults f.disk
-      pub leaves : (log : List LogRecord) → logs_told (story f.disk) s.shard (Some log) → MayLeave s log
+      pub leaves : EachLog (MayLeave s) (logs_told (story f.disk) s.shard layout)
 
     module _ {M S G : Type 0} where
       -- the walkers have these disks, each of another shard, and no others
@@ -47,9 +48,9 @@ module _ {D : Type 0} where
         pub no_other : (k : ℕ) (d : Walker M S G) → k < length walkers → EachPass (λ n p. holder_of (seen p) ≡ Some (slice_index_or walkers k d).number → IsAmong n fetched) (slice_index_or walkers k d).passes.items
 
     -- the shard in this state has its gate, or it is down and its disk is among those that were fetched
-    pub data EndsWith {G : Type 0} (n : ℕ) (s : Shard) (gate : Option G) (fetched : List (Fetched D)) : Type 0 where
-      its_gate : IsThere gate → IsNotAmong n fetched → EndsWith n s gate fetched
-      a_disk : (j : ℕ) → j < length fetched → gate ≡ None → s.is_up ≡ false → ((f : Fetched D) → (shard_at fetched j f ≡ n) × HasDisk (slice_index_or fetched j f) s) → EndsWith n s gate fetched
+    pub data EndsWith {G : Type 0} (n : ℕ) (layout : Layout) (s : Shard) (gate : Option G) (fetched : List (Fetched D)) : Type 0 where
+      its_gate : IsThere gate → IsNotAmong n fetched → EndsWith n layout s gate fetched
+      a_disk : (j : ℕ) → j < length fetched → gate ≡ None → s.is_up ≡ false → ((f : Fetched D) → (shard_at fetched j f ≡ n) × HasDisk (slice_index_or fetched j f) layout s) → EndsWith n layout s gate fetched
 
 -- it has a pass of shard n, and the gate of no shard
 module _ {M S G : Type 0} where
@@ -58,10 +59,10 @@ module _ {M S G : Type 0} where
     pub landed : HasLanded v.number v.passes.items
 
 -- at the end of a cluster whose walkers have no gate, each shard has its own, or a walker has its disk
-abbrev pub DisksAreFound : (M S : Type 0) {G D : Type 0} → (G → Bool) → (G → ℕ) → (G → ℕ) → (G → Option (List LogRecord) → Type 0) → (D → Option Story) → (D → ℕ) → Type 0
+abbrev pub DisksAreFound : (M S : Type 0) {G D : Type 0} → (G → Bool) → (G → ℕ) → (G → ℕ) → (G → Layout → Option (List LogRecord) → Type 0) → (D → Option Story) → (D → ℕ) → Type 0
 DisksAreFound M S {G} {D} shut counts whose logs story faults =
     (walkers : List (Walker M S G)) (n : ℕ) (o : Origin) (notes : List Note) (s : Shard) (gate : Option G) (fetched : List (Fetched D)) → ClosedAt walkers n o notes → IsLegal o notes s
-    → GateStands shut counts whose logs s (holder_of notes) gate → ((k : ℕ) (d : Walker M S G) → k < length walkers → HasNoGate n (slice_index_or walkers k d)) → HaveDisks story faults walkers fetched → EndsWith story faults n s gate fetched
+    → GateStands shut counts whose (λ h. logs h (layout_of o)) s (holder_of notes) gate → ((k : ℕ) (d : Walker M S G) → k < length walkers → HasNoGate n (slice_index_or walkers k d)) → HaveDisks story faults walkers fetched → EndsWith story faults n (layout_of o) s gate fetched
 
 -- walkers that have no disk have none of these
 abbrev pub NoDisksAreHeld : (M S G : Type 0) {D : Type 0} → (D → Option Story) → (D → ℕ) → Type 0

@@ -34,7 +34,7 @@ Bars n run own log Memory = Unit {0}
 abbrev pub RefusesDisk : List ℕ → ℕ → ℕ → ℕ → Option Story → RestartError → Type 0
 RefusesDisk splits n run own story Failed = Unit {0}
 RefusesDisk splits n run own story (NotLog (Byte offset)) = IfSome story (λ s. checked_log n (Some splits) (reads s) ≡ Err offset)
-RefusesDisk splits n run own story (NotLog (Record lsn)) = (log : List LogRecord) × WasRead story n log × BarsAt n run own log lsn
+RefusesDisk splits n run own story (NotLog (Record lsn)) = (log : List LogRecord) × WasRead story n (record { splits = splits }) log × BarsAt n run own log lsn
 RefusesDisk splits n run own story (Worn at) = ⊥
 RefusesDisk splits n run own story Memory = Unit {0}
 

@@ -1,5 +1,5 @@
 -- What leaves a walker without a disk.
-use Rattle.std.specs.Prelude.{ℕ, Bool, List, Option, Some, Result, Ok, Err}
+use Rattle.std.specs.Prelude.{ℕ, Bool, List, Option, Some, Result, Err}
 use Rattle.clv_base.specs.declared.logs.LogRecord.{LogRecord}
 use Rattle.turn_lock.specs.declared.pass.TurnLock.{TurnLock}
 use Rattle.turn_lock.specs.declared.pass.Pass.{Pass}
@@ -18,7 +18,7 @@ use Rattle.cluster_closing.specs.Held.{HoldsNone, HoldsNoneBut, FetchedNone}
 module _ (T : Type 0) where
   -- it begins so
   abbrev pub NewWalkersHoldNone : Type 0
-  NewWalkersHoldNone = (founds : List (List LogRecord)) (locks : List (TurnLock T Note Origin)) (w : ℕ) (passes : List (Option (Pass T Note Origin))) → AreNewPasses founds locks w passes → HoldsNone w passes
+  NewWalkersHoldNone = (splits : List ℕ) (founds : List (List LogRecord)) (locks : List (TurnLock T Note Origin)) (w : ℕ) (passes : List (Option (Pass T Note Origin))) → AreNewPasses splits founds locks w passes → HoldsNone w passes
 
   -- whatever turns a call takes
   abbrev pub TurnsHoldNone : Type 0
@@ -37,7 +37,7 @@ module _ (T : Type 0) where
 
   -- a walker that never took a disk hasn't after such calls; it begins so
   abbrev pub NewWalkersFetchedNone : Type 0
-  NewWalkersFetchedNone = (founds : List (List LogRecord)) (locks : List (TurnLock T Note Origin)) (w : ℕ) (passes : List (Option (Pass T Note Origin))) → AreNewPasses founds locks w passes → FetchedNone passes
+  NewWalkersFetchedNone = (splits : List ℕ) (founds : List (List LogRecord)) (locks : List (TurnLock T Note Origin)) (w : ℕ) (passes : List (Option (Pass T Note Origin))) → AreNewPasses splits founds locks w passes → FetchedNone passes
 
   abbrev pub TurnsFetchNone : Type 0
   TurnsFetchNone = (w c d : ℕ) (ps qs : List (Option (Pass T Note Origin))) (ts : List Turn) → Took w c ps ts d qs → FetchedNone ps → FetchedNone qs
@@ -59,4 +59,4 @@ module _ (T : Type 0) where
   -- a walker that has a disk has it still, whatever turns its calls take
   abbrev pub HeldDisksStay : Type 0 → Type 0
   HeldDisksStay D =
-      (faults : D → ℕ) (f : Fetched D) (n w c d : ℕ) (ps qs : List (Option (Pass T Note Origin))) (ts : List Turn) → Took w c ps ts d qs → HoldsAt n w (IsDiskOf faults f) ps → HoldsAt n w (IsDiskOf faults f) qs
+      (faults : D → ℕ) (f : Fetched D) (n w c d : ℕ) (ps qs : List (Option (Pass T Note Origin))) (ts : List Turn) → Took w c ps ts d qs → HoldsAt n w (λ layout. IsDiskOf faults f) ps → HoldsAt n w (λ layout. IsDiskOf faults f) qs

@@ -17,5 +17,5 @@ use Rattle.cluster_closing.specs.Revived.{ReviveTold}
 pub data RestartTold {T D : Type 0} (story : D → Option Story) (splits : List ℕ) (run : ℕ) (f : Fetched D) (w clock : ℕ) (before : List (Option (Pass T Note Origin))) : Result ℕ (RestartError × Fetched D) → ℕ → List (Option (Pass T Note Origin)) → Type 0 where
   no_turn : {e : RestartError} {g : Fetched D} → RefusesDisk splits f.shard run f.epoch (story f.disk) e → RestartTold story splits run f w clock before (Err (e, g)) clock before
   one_turn :
-      {r : Result ℕ (RestartError × Fetched D)} {clock' : ℕ} {after : List (Option (Pass T Note Origin))} (epoch : ℕ) (found : List LogRecord) → WasRead (story f.disk) f.shard found → first_barred run found ≡ None
+      {r : Result ℕ (RestartError × Fetched D)} {clock' : ℕ} {after : List (Option (Pass T Note Origin))} (epoch : ℕ) (found : List LogRecord) → WasRead (story f.disk) f.shard (record { splits = splits }) found → first_barred run found ≡ None
       → Walked (ReviveTold clock w epoch found r clock') f.shard w before after → RestartTold story splits run f w clock before r clock' after

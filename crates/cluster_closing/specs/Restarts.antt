@@ -6,6 +6,7 @@ use Rattle.clv_base.specs.declared.events.Outcome.{Outcome}
 use Rattle.clv_base.specs.declared.events.Entry.{Entry}
 use Rattle.clv_base.specs.State.{Shard}
 use Rattle.clv_base.specs.Restarts.{misfit}
+use Rattle.log_gate.specs.Header.{Layout}
 use Rattle.log_gate.specs.View.{Only}
 use Rattle.turn_lock.specs.Journals.{GrownByOthers}
 use Rattle.machine_calls.specs.Steps.{Made as IsMade}
@@ -15,7 +16,7 @@ use Rattle.machine_laws.specs.declared.notes.Note.TheVariants.{Made}
 use Rattle.machine_laws.specs.declared.notes.Origin.{Origin}
 use Rattle.machine_laws.specs.declared.notes.Mark.{Mark}
 use Rattle.machine_laws.specs.Notes.{noter, notes_of, IsLeft}
-use Rattle.machine_laws.specs.Homes.{holder_of, IsLegal}
+use Rattle.machine_laws.specs.Homes.{layout_of, holder_of, IsLegal}
 use Rattle.machine_laws.specs.Sound.{IsSound}
 
 -- while a walker has the disk of a shard nobody else notes anything there
@@ -31,8 +32,8 @@ pub record Recovers (s : Shard) (log : List LogRecord) (shut : Bool) (faults who
   pub log_is : Only log logs
 
 -- the restart of a shard by the walker that has its disk keeps what holds of a value in a lock, where there is room for its mark and the next walker's
-abbrev pub RestartsAreSound : {G : Type 0} → (G → Bool) → (G → ℕ) → (G → ℕ) → (G → Option (List LogRecord) → Type 0) → Type 0
+abbrev pub RestartsAreSound : {G : Type 0} → (G → Bool) → (G → ℕ) → (G → ℕ) → (G → Layout → Option (List LogRecord) → Type 0) → Type 0
 RestartsAreSound {G} shut faults whose logs =
     (o : Origin) (marks : List Mark) (capacity more : ℕ) (s : Shard) (clock w epoch : ℕ) (log : List LogRecord) (out : Outcome) (t : Shard) (x : Entry) (m : Mark) (g : G) → IsSound shut faults whose logs o marks capacity s None
     → IsMade (revives s clock w epoch log) s clock w Restart out t x → s.is_up ≡ false → misfit s log epoch ≡ None → holder_of (notes_of s.journal marks) ≡ Some w → IsLeft (length s.journal) log m → length (marks ++ m ∷ []) < more
-    → Recovers s log (shut g) (faults g) (whose g) (logs g) → IsSound shut faults whose logs o (marks ++ m ∷ []) more t (Some g) × (notes_of t.journal (marks ++ m ∷ []) ≡ notes_of s.journal marks ++ Made x log ∷ [])
+    → Recovers s log (shut g) (faults g) (whose g) (logs g (layout_of o)) → IsSound shut faults whose logs o (marks ++ m ∷ []) more t (Some g) × (notes_of t.journal (marks ++ m ∷ []) ≡ notes_of s.journal marks ++ Made x log ∷ [])

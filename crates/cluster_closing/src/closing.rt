@@ -65,7 +65,7 @@ pub fn close<H: House, M: OverDisks<H::Disk>>(
         → MakesHistory shards.splits (founds_of shards) after (lists result.journals.items) (state_at (λ h. M.shard h.machine) (founds_of shards) result.ends.value.items) (λ w. entries_of (views_of walkers.items w)) }
 
     // All disks are in again.
-    ensures disks { (n : ℕ) (d : _) → n < vec_len shards.locks → IsBack (M.shard (slice_index_or result.ends.value.items n d).machine) n fetched.items (H.faults house.old n) (H.faults house.new n) (H.is_out house.new n) (H.story house.new n) }
+    ensures disks { (n : ℕ) (d : _) → n < vec_len shards.locks → IsBack (M.shard (slice_index_or result.ends.value.items n d).machine) n (record { splits = shards.splits }) fetched.items (H.faults house.old n) (H.faults house.new n) (H.is_out house.new n) (H.story house.new n) }
     ensures others { (n : ℕ) → vec_len shards.locks ≤ n → (H.faults house.new n ≡ H.faults house.old n) × (H.is_out house.new n ≡ H.is_out house.old n) × (H.story house.new n ≡ H.story house.old n) }
 {
     let Room {

@@ -37,7 +37,7 @@ pub fn fetch<M: Reopener, R: Wait>(
     ensures walker { IsWalker shards.now walker.new × IsSameWalker walker.old walker.new × (walker.new.clock ≡ walker.old.clock) }
     ensures fetch { Walked (FetchTold walker.old.number result) shard walker.old.number walker.old.passes.items walker.new.passes.items }
     ensures disk { DiskTaken M.Disk.story M.Disk.faults shard walker.old.number walker.new.passes.items result }
-    ensures held { IfOk result (λ f. HoldsAt f.shard walker.old.number (IsDiskOf M.Disk.faults f) walker.new.passes.items) }
+    ensures held { IfOk result (λ f. HoldsAt f.shard walker.old.number (λ layout. IsDiskOf M.Disk.faults f) walker.new.passes.items) }
     ensures shard { IfOk result (λ f. f.shard ≡ shard) }
 {
     let place = shard as usize;

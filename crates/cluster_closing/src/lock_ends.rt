@@ -9,8 +9,8 @@ ghost use Rattle.history_replay.specs.Entries.{entries_of};
 ghost use Rattle.journal_laws.specs.Gathered.{MakesHistory};
 ghost use Rattle.turn_lock.specs.Passes.{passes_of};
 ghost use Rattle.machine_laws.specs.Notes.{notes_of};
-ghost use Rattle.machine_laws.specs.Homes.{never_stops};
-ghost use Rattle.machine_laws.specs.Gates.{IsCounted};
+ghost use Rattle.machine_laws.specs.Homes.{layout_of, never_stops};
+ghost use Rattle.machine_laws.specs.Gates.{EachLog, IsCounted};
 ghost use Rattle.machine_laws.specs.Sound.{IsSound};
 ghost use Rattle.cluster_turns.specs.Walkers.{IsWalker, IsOriginAt, founds_of};
 ghost use Rattle.cluster_closing.specs.Ending.{ClosedAt};
@@ -45,6 +45,7 @@ fn close_all<M: Machine>(
         batches: _,
         lacking: _,
         left: _,
+        staying: _,
         found: _,
     } = shards;
     let count = locks.len();
@@ -75,10 +76,10 @@ pub fn close<M: Machine>(
     ensures len { vec_len result ≡ vec_len shards.locks }
     ensures closed { (n : ℕ) (d : _) → n < vec_len result → ClosedAt walkers.items n (slice_index_or result.items n d).origin (notes_of (M.shard (slice_index_or result.items n d).machine).journal (slice_index_or result.items n d).marks.items) }
     ensures sound { (n : ℕ) (d : _) → n < vec_len result → IsSound M.Gate.is_shut M.Gate.faults M.Gate.shard M.Gate.logs (slice_index_or result.items n d).origin (slice_index_or result.items n d).marks.items (vec_capacity (slice_index_or result.items n d).marks) (M.shard (slice_index_or result.items n d).machine) (M.gate (slice_index_or result.items n d).machine) }
-    // Of a gate that is home each log that it may have is one that its shard may leave; its disk has failed exactly where a flush has.
-    ensures leaves { (n : ℕ) (d : _) (gate : _) (log : List LogRecord) → n < vec_len result → M.gate (slice_index_or result.items n d).machine ≡ Some gate → M.Gate.logs gate (Some log) → MayLeave (M.shard (slice_index_or result.items n d).machine) log }
+    // Of a gate that is home each log that it may have is there, and one that its shard may leave; its disk has failed exactly where a flush has.
+    ensures leaves { (n : ℕ) (d : _) (gate : _) → n < vec_len result → M.gate (slice_index_or result.items n d).machine ≡ Some gate → EachLog (MayLeave (M.shard (slice_index_or result.items n d).machine)) (M.Gate.logs gate (layout_of (slice_index_or result.items n d).origin)) }
     ensures counted { (n : ℕ) (d : _) (gate : _) → n < vec_len result → M.gate (slice_index_or result.items n d).machine ≡ Some gate → IsCounted (M.shard (slice_index_or result.items n d).machine).journal (M.Gate.faults gate) }
-    ensures origin { (n : ℕ) (d : _) → n < vec_len result → IsOriginAt (founds_of shards) n (slice_index_or result.items n d).origin }
+    ensures origin { (n : ℕ) (d : _) → n < vec_len result → IsOriginAt shards.splits (founds_of shards) n (slice_index_or result.items n d).origin }
     ensures shard { (n : ℕ) (d : _) → n < vec_len result → (M.shard (slice_index_or result.items n d).machine).shard ≡ n }
     ensures no_stop { (n : ℕ) (d : _) → n < vec_len result → never_stops (M.shard (slice_index_or result.items n d).machine).journal ≡ true }
     ensures legal { (after : List (List LogRecord)) → length after ≡ shard_count shards.splits → ((n : ℕ) → n < shard_count shards.splits → MayLeave (state_at (λ h. M.shard h.machine) (founds_of shards) result.items n) (log_of after n))

@@ -15,5 +15,5 @@ pub fn take_apart<M: Machine>(home: Home<M>) -> Parts<M::Store, M::Gate>
         origin: _,
         marks: _,
     } = home;
-    machine.into_parts()
+    machine.into_inner().into_parts()
 }

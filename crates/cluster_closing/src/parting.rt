@@ -57,7 +57,7 @@ fn part_home<H: House, M: OverDisks<H::Disk>>(
         gate,
         store,
         journal,
-    } = machine.into_parts();
+    } = machine.into_inner().into_parts();
     if let Some(gate) = gate {
         house.give_back(shard, M::disk_under(gate));
     }

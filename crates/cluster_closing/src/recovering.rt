@@ -5,6 +5,7 @@ ghost use Rattle.clv_base.specs.FileRules.{has_spelling};
 ghost use Rattle.clv_base.specs.LogRules.{disorder};
 ghost use Rattle.clv_base.specs.Restarts.{first_barred, greatest_epoch};
 ghost use Rattle.log_analysis.specs.Facts.{Knows};
+ghost use Rattle.log_gate.specs.Header.{Layout};
 ghost use Rattle.log_gate.specs.View.{Only};
 ghost use Rattle.cluster_closing.specs.Judging.{RefusesDisk, CountsRestart, IsRecoveryError, opening_error, recovery_error};
 ghost use Rattle.cluster_closing.specs.Left.{IsLeftBy, HasBegun, WasRead};
@@ -76,13 +77,13 @@ fn recover_log<M: Reopener>(
     requires knows { Knows facts log.items }
     requires run { 1 ≤ run }
     requires open { M.Gate.is_shut gate ≡ false }
-    requires log { Only log.items (M.Gate.logs gate) }
+    requires log { (layout : Layout) × Only log.items (M.Gate.logs gate layout) }
     requires spelled { list_all has_spelling log.items ≡ true }
     requires in_order { disorder shard log.items ≡ None }
     ensures ready { IfOk result (λ r. IsReady shard run epoch log.items (M.Store.records r.store) r.recovered) }
-    ensures gate { IfOk result (λ r. HasGate (M.Gate.shard gate) (M.Gate.faults gate) r.recovered (M.Gate.is_shut r.gate) (M.Gate.shard r.gate) (M.Gate.faults r.gate) (M.Gate.logs r.gate)) }
+    ensures gate { IfOk result (λ r. (layout : Layout) → Only log.items (M.Gate.logs gate layout) → HasGate (M.Gate.shard gate) (M.Gate.faults gate) r.recovered (M.Gate.is_shut r.gate) (M.Gate.shard r.gate) (M.Gate.faults r.gate) (M.Gate.logs r.gate layout)) }
     ensures same { IfOk result (λ r. (r.epoch ≡ epoch) × (r.found.value ≡ log)) }
-    ensures left { IfErr result (λ e. HasBegun shard run epoch log.items (M.Gate.logs e.1)) }
+    ensures left { IfErr result (λ e. (layout : Layout) → Only log.items (M.Gate.logs gate layout) → HasBegun shard run epoch log.items (M.Gate.logs e.1 layout)) }
     ensures shard { IfErr result (λ e. M.Gate.shard e.1 ≡ M.Gate.shard gate) }
     ensures told { IfErr result (λ e. IsRecoveryError e.0) }
     ensures counts { IfErr result (λ e. CountsRestart (M.Gate.faults gate) (M.Gate.faults e.1) e.0) }
@@ -118,14 +119,14 @@ pub fn recover_disk<M: Reopener>(
 ) -> Result<Ready<M::Store, M::Gate>, (RestartError, M::Disk)>
     requires run { 1 ≤ run }
     ensures ready { IfOk result (λ r. IsReady shard run r.epoch r.found.value.items (M.Store.records r.store) r.recovered) }
-    ensures gate { IfOk result (λ r. HasGate shard (M.Disk.faults disk) r.recovered (M.Gate.is_shut r.gate) (M.Gate.shard r.gate) (M.Gate.faults r.gate) (M.Gate.logs r.gate)) }
+    ensures gate { IfOk result (λ r. HasGate shard (M.Disk.faults disk) r.recovered (M.Gate.is_shut r.gate) (M.Gate.shard r.gate) (M.Gate.faults r.gate) (M.Gate.logs r.gate (record { splits = splits.now }))) }
     ensures epoch { IfOk result (λ r. r.epoch ≡ suc (greatest_epoch run own r.found.value.items)) }
     ensures free { IfOk result (λ r. first_barred run r.found.value.items ≡ None) }
 
     // So had what a read gave before.
-    ensures read { IfOk result (λ r. WasRead (M.Disk.story disk) shard r.found.value.items) }
+    ensures read { IfOk result (λ r. WasRead (M.Disk.story disk) shard (record { splits = splits.now }) r.found.value.items) }
     ensures refused { IfErr result (λ e. RefusesDisk splits.now shard run own (M.Disk.story disk) e.0) }
-    ensures left { IfErr result (λ e. IsLeftBy shard run own (M.Disk.story disk) (M.Disk.story e.1)) }
+    ensures left { IfErr result (λ e. IsLeftBy shard (record { splits = splits.now }) run own (M.Disk.story disk) (M.Disk.story e.1)) }
     ensures counts { IfErr result (λ e. CountsRestart (M.Disk.faults disk) (M.Disk.faults e.1) e.0) }
 {
     let header = header_of(shard, splits);

@@ -29,7 +29,7 @@ fn bring_back<M: Reopener, R: Wait>(
 ) -> Result<u64, (RestartError, M::Gate)>
     requires walker { IsWalker shards.now walker.old }
     requires shard { shard < length shards.now.locks.items }
-    requires held { HoldsAt shard walker.old.number (λ s. IsReadyFor s ready.epoch ready.found.value.items (M.Store.records ready.store) ready.recovered × Recovers s ready.recovered.buffer.records (M.Gate.is_shut ready.gate) (M.Gate.faults ready.gate) (M.Gate.shard ready.gate) (M.Gate.logs ready.gate)) walker.old.passes.items }
+    requires held { HoldsAt shard walker.old.number (λ layout s. IsReadyFor s ready.epoch ready.found.value.items (M.Store.records ready.store) ready.recovered × Recovers s ready.recovered.buffer.records (M.Gate.is_shut ready.gate) (M.Gate.faults ready.gate) (M.Gate.shard ready.gate) (M.Gate.logs ready.gate layout)) walker.old.passes.items }
     ensures walker { IsWalker shards.now walker.new × IsSameWalker walker.old walker.new }
     ensures walked { Walked (ReviveTold walker.old.clock walker.old.number ready.epoch ready.found.value.items result walker.new.clock) shard walker.old.number walker.old.passes.items walker.new.passes.items }
     ensures same { OnErr result (IsSameSeen shard walker.old.passes.items walker.new.passes.items) }
@@ -66,14 +66,14 @@ pub fn restart<M: Reopener, R: Wait>(
 ) -> Result<u64, (RestartError, Fetched<M::Disk>)>
     requires walker { IsWalker shards.now walker.old }
     requires shard { fetched.shard < length shards.now.locks.items }
-    requires held { HoldsAt fetched.shard walker.old.number (IsDiskOf M.Disk.faults fetched) walker.old.passes.items }
+    requires held { HoldsAt fetched.shard walker.old.number (λ layout. IsDiskOf M.Disk.faults fetched) walker.old.passes.items }
     ensures walker { IsWalker shards.now walker.new × IsSameWalker walker.old walker.new }
     ensures restart { RestartTold M.Disk.story shards.now.splits shards.now.run fetched walker.old.number walker.old.clock walker.old.passes.items result walker.new.clock walker.new.passes.items }
 
     // After an error the walker still has the disk.
-    ensures held { IfErr result (λ e. HoldsAt e.1.shard walker.old.number (IsDiskOf M.Disk.faults e.1) walker.new.passes.items) }
+    ensures held { IfErr result (λ e. HoldsAt e.1.shard walker.old.number (λ layout. IsDiskOf M.Disk.faults e.1) walker.new.passes.items) }
     ensures back { IfErr result (λ e. (e.1.shard ≡ fetched.shard) × (e.1.epoch ≡ fetched.epoch)) }
-    ensures left { IfErr result (λ e. IsLeftBy fetched.shard shards.now.run fetched.epoch (M.Disk.story fetched.disk) (M.Disk.story e.1.disk)) }
+    ensures left { IfErr result (λ e. IsLeftBy fetched.shard (record { splits = shards.now.splits }) shards.now.run fetched.epoch (M.Disk.story fetched.disk) (M.Disk.story e.1.disk)) }
     ensures counts { IfErr result (λ e. CountsRestart (M.Disk.faults fetched.disk) (M.Disk.faults e.1.disk) e.0) }
 {
     let Fetched { shard, epoch, disk } = fetched;

@@ -3,7 +3,7 @@ ghost use Rattle.std.specs.Prelude.{◌≡◌, ◌≤◌, ◌<◌, ◌+◌, ◌+
 ghost use Rattle.clv_base.specs.Restarts.{misfit};
 ghost use Rattle.machine_laws.specs.declared.notes.Note.{Note as NoteIs};
 ghost use Rattle.machine_laws.specs.Notes.{notes_of};
-ghost use Rattle.machine_laws.specs.Homes.{holder_of};
+ghost use Rattle.machine_laws.specs.Homes.{layout_of, holder_of};
 ghost use Rattle.machine_laws.specs.Sound.{IsSound};
 ghost use Rattle.cluster_closing.specs.Restarts.{Recovers};
 ghost use Rattle.cluster_closing.specs.Revived.{IsReadyFor, ReviveTold, StepTold};
@@ -58,7 +58,7 @@ fn revive<M: Reopener>(
     requires held { holder_of (notes_of (M.shard home.old.machine).journal home.old.marks.items) ≡ Some walker }
     requires down { (M.shard home.old.machine).is_up ≡ false }
     requires ready { IsReadyFor (M.shard home.old.machine) ready.epoch ready.found.value.items (M.Store.records ready.store) ready.recovered }
-    requires gate { Recovers (M.shard home.old.machine) ready.recovered.buffer.records (M.Gate.is_shut ready.gate) (M.Gate.faults ready.gate) (M.Gate.shard ready.gate) (M.Gate.logs ready.gate) }
+    requires gate { Recovers (M.shard home.old.machine) ready.recovered.buffer.records (M.Gate.is_shut ready.gate) (M.Gate.faults ready.gate) (M.Gate.shard ready.gate) (M.Gate.logs ready.gate (layout_of home.old.origin)) }
     requires fits { misfit (M.shard home.old.machine) ready.recovered.buffer.records ready.epoch ≡ None }
     requires room { length home.old.marks.items + 2 ≤ vec_capacity home.old.marks }
     ensures sound { IsSound M.Gate.is_shut M.Gate.faults M.Gate.shard M.Gate.logs home.new.origin home.new.marks.items (vec_capacity home.new.marks) (M.shard home.new.machine) (M.gate home.new.machine) }
@@ -102,7 +102,7 @@ pub(crate) fn bring_up<M: Reopener>(
     requires held { holder_of (notes_of (M.shard home.old.machine).journal home.old.marks.items) ≡ Some walker }
     requires down { (M.shard home.old.machine).is_up ≡ false }
     requires ready { IsReadyFor (M.shard home.old.machine) ready.epoch ready.found.value.items (M.Store.records ready.store) ready.recovered }
-    requires gate { Recovers (M.shard home.old.machine) ready.recovered.buffer.records (M.Gate.is_shut ready.gate) (M.Gate.faults ready.gate) (M.Gate.shard ready.gate) (M.Gate.logs ready.gate) }
+    requires gate { Recovers (M.shard home.old.machine) ready.recovered.buffer.records (M.Gate.is_shut ready.gate) (M.Gate.faults ready.gate) (M.Gate.shard ready.gate) (M.Gate.logs ready.gate (layout_of home.old.origin)) }
     ensures sound { IsSound M.Gate.is_shut M.Gate.faults M.Gate.shard M.Gate.logs home.new.origin home.new.marks.items (vec_capacity home.new.marks) (M.shard home.new.machine) (M.gate home.new.machine) }
     ensures told { (added : List NoteIs) × ReviveTold clock walker ready.epoch ready.found.value.items result.1 result.0 (M.shard home.old.machine) (M.shard home.new.machine) added × (notes_of (M.shard home.new.machine).journal home.new.marks.items ≡ notes_of (M.shard home.old.machine).journal home.old.marks.items ++ added) }
     ensures back { IfErr result.1 (λ e. e.1 ≡ ready.gate) }

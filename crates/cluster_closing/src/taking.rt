@@ -3,7 +3,7 @@ ghost use Rattle.std.specs.Prelude.{◌≡◌, ◌++◌, List, Err, IfOk, true, 
 ghost use Rattle.turn_lock.specs.Passes.{number, IsPassOf};
 ghost use Rattle.machine_laws.specs.declared.notes.Note.{Note as NoteIs};
 ghost use Rattle.machine_laws.specs.Notes.{notes_of};
-ghost use Rattle.machine_laws.specs.Homes.{holder_of};
+ghost use Rattle.machine_laws.specs.Homes.{layout_of, holder_of};
 ghost use Rattle.machine_laws.specs.Sound.{IsSound};
 ghost use Rattle.cluster_turns.specs.Turns.{Turned};
 ghost use Rattle.cluster_closing.specs.EndHeld.{FetchTold, DiskFits, PassTaken};
@@ -22,7 +22,7 @@ fn give_disk<M: Reopener>(home: &mut Home<M>, walker: u32) -> Result<Fetched<M::
     requires sound { IsSound M.Gate.is_shut M.Gate.faults M.Gate.shard M.Gate.logs home.old.origin home.old.marks.items (vec_capacity home.old.marks) (M.shard home.old.machine) (M.gate home.old.machine) }
     ensures sound { IsSound M.Gate.is_shut M.Gate.faults M.Gate.shard M.Gate.logs home.new.origin home.new.marks.items (vec_capacity home.new.marks) (M.shard home.new.machine) (M.gate home.new.machine) }
     ensures told { (added : List NoteIs) × FetchTold walker result (M.shard home.old.machine) (M.shard home.new.machine) added × (notes_of (M.shard home.new.machine).journal home.new.marks.items ≡ notes_of (M.shard home.old.machine).journal home.old.marks.items ++ added) }
-    ensures disk { IfOk result (λ f. (f.shard ≡ (M.shard home.old.machine).shard) × DiskFits (M.shard home.old.machine) (M.Disk.story f.disk) (M.Disk.faults f.disk) × ((M.shard home.old.machine).local.epoch ≡ f.epoch)) }
+    ensures disk { IfOk result (λ f. (f.shard ≡ (M.shard home.old.machine).shard) × DiskFits (layout_of home.old.origin) (M.shard home.old.machine) (M.Disk.story f.disk) (M.Disk.faults f.disk) × ((M.shard home.old.machine).local.epoch ≡ f.epoch)) }
     ensures away { result ≡ Err IsAway → is_some (holder_of (notes_of (M.shard home.old.machine).journal home.old.marks.items)) ≡ true }
     ensures origin { home.new.origin ≡ home.old.origin }
 {

@@ -32,7 +32,7 @@ pub(crate) fn take_up<M: Reopener, R: Wait>(
     Result<u64, (RestartError, M::Gate)>,
 )
     requires pass { IsPassOf lock.now pass × (number pass ≡ walker) }
-    requires held { Holds walker (λ s. IsReadyFor s ready.epoch ready.found.value.items (M.Store.records ready.store) ready.recovered × Recovers s ready.recovered.buffer.records (M.Gate.is_shut ready.gate) (M.Gate.faults ready.gate) (M.Gate.shard ready.gate) (M.Gate.logs ready.gate)) pass }
+    requires held { Holds walker (λ layout s. IsReadyFor s ready.epoch ready.found.value.items (M.Store.records ready.store) ready.recovered × Recovers s ready.recovered.buffer.records (M.Gate.is_shut ready.gate) (M.Gate.faults ready.gate) (M.Gate.shard ready.gate) (M.Gate.logs ready.gate layout)) pass }
     ensures pass { IsPassOf lock.now result.0 }
     ensures turned { Turned (ReviveTold clock walker ready.epoch ready.found.value.items result.2 result.1) walker pass result.0 }
     ensures same { OnErr result.2 ((seen result.0 ≡ seen pass) × (pass_origin result.0 ≡ pass_origin pass)) }

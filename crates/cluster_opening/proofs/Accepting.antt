@@ -1,15 +1,16 @@
 -- Logs that may be opened together aren't refused.
-use Rattle.std.proofs.Common.{◌≡◌, sym, ◌∙◌, ap, subst, arith, ℕ, zero, suc, ◌<◌, true, List, [], length, get_or, Option, Some, None, IfSome, Result, Ok, Err}
-use Rattle.std.specs.Prelude.{is_none, IsSome}
+use Rattle.std.proofs.Common.{◌≡◌, refl, sym, ◌∙◌, ap, subst, arith, ℕ, zero, suc, ◌+◌, ◌<◌, true, List, [], length, get_or, Option, Some, None, IfSome, Result, Ok, Err}
+use Rattle.std.specs.Prelude.{is_none, IsSome, IsSomeAnd}
+use Rattle.std.specs.List.{list_all}
 use Rattle.std.proofs.lemmas.Bool.{and_parts}
 use Rattle.std.proofs.lemmas.List.{ext_get_or}
 use Rattle.std.proofs.lemmas.Option.{slice_get-get_or}
 use Rattle.clv_base.specs.declared.logs.LogRecord.{LogRecord}
 use Rattle.clv_base.specs.Shards.{shard_count}
 use Rattle.clv_base.specs.LogRules.{log_of, disorder, apart, all_logs_from}
-use Rattle.clv_base.specs.FileRules.{log_passes}
+use Rattle.clv_base.specs.FileRules.{log_passes, passes_file_rules}
 use Rattle.io_model.specs.Story.{Story, reads}
-use Rattle.log_gate.specs.Image.{checked_log}
+use Rattle.log_gate.specs.Image.{checked_log, HasLog, HasHeader}
 use Rattle.cluster_opening.specs.declared.error.At.TheVariants.{Byte, Record}
 use Rattle.cluster_opening.specs.declared.error.OpenError.{OpenError}
 use Rattle.cluster_opening.specs.declared.error.OpenError.TheVariants.{Failed, NotLog, Apart, Worn, Memory}
@@ -17,7 +18,8 @@ use Rattle.cluster_opening.specs.Logs.{HoldsLog, LogsBelow, LogsOfAll}
 use Rattle.cluster_opening.specs.Opening.{Refuses}
 use Rattle.cluster_opening.specs.Accepted.{AreGoodLogs, IsOfNoLog, GoodLogsAreNotRefused}
 use Rattle.cluster_opening.proofs.Unagreed.{read_unagreed}
-use Rattle.law_base.proofs.Logs.{splits_in}
+use Rattle.cluster_opening.proofs.Checked.{checked}
+use Rattle.law_base.proofs.Logs.{passes_at, splits_in}
 
 abbrev Reads : ℕ → Option (List ℕ) → Result (List ℕ × List LogRecord) ℕ → Story → Type 0
 Reads n agreed r s = checked_log n agreed (reads s) ≡ r
@@ -53,17 +55,30 @@ module _ (n : ℕ) where
   reads_own None sp log at some h k = absurd cc
   reads_own (Some s) sp log at some h k = no_log sp log at (sym h ∙ k)
 
+  -- a disk that is read as a log whose records pass
+  is_told : (story : Option Story) (sp : List ℕ) (log : List LogRecord) → IsSomeAnd story (λ s. HasLog n log (reads s) × HasHeader n sp (reads s)) → IsSome story
+  is_told None sp log h = absurd h
+  is_told (Some s) sp log h = refl
+
+  was_checked : (story : Option Story) (sp : List ℕ) (log : List LogRecord) → IsSomeAnd story (λ s. HasLog n log (reads s) × HasHeader n sp (reads s)) → list_all (passes_file_rules sp n) log ≡ true → IfSome story (Reads n (Some sp) (is_log sp log))
+  was_checked None sp log h fits = absurd h
+  was_checked (Some s) sp log h fits = checked n sp log (reads s) h.0 h.1 fits
+
 -- ---- lists of logs
 
 log_is : (logs : List (List LogRecord)) (n : ℕ) → n < length logs → log_of logs n ≡ get_or logs n []
 log_is logs n l = ap (λ o. elim o [ Some log ↦ log | None ↦ [] ]) (slice_get-get_or logs n [] l)
 
-same_logs : (logs others : List (List LogRecord)) → length logs ≡ length others → ((n : ℕ) → n < length logs → log_of logs n ≡ log_of others n) → logs ≡ others
+pub same_logs : (logs others : List (List LogRecord)) → length logs ≡ length others → ((n : ℕ) → n < length logs → log_of logs n ≡ log_of others n) → logs ≡ others
 same_logs logs others long each = ext_get_or [] logs others long (λ n l. sym (log_is logs n l) ∙ each n l ∙ log_is others n (omega (arith, l, long)))
 
 ordered : (o : Option ℕ) (lsn : ℕ) → o ≡ None → o ≡ Some lsn → ⊥
 ordered None lsn e f = cc
 ordered (Some m) lsn e f = cc
+
+none_of : {X : Type 0} (o : Option X) → is_none o ≡ true → o ≡ None
+none_of None e = refl
+none_of (Some x) e = absurd (cc)
 
 agree : {X : Type 0} (o : Option X) (x : X) → is_none o ≡ true → o ≡ Some x → ⊥
 agree None x e f = cc
@@ -75,10 +90,22 @@ module _ (stories : ℕ → Option Story) (good : AreGoodLogs stories) where
   first_is : 0 < shard_count good.splits
   first_is = omega arith
 
+  passing : (n : ℕ) → n < shard_count good.splits → (list_all (passes_file_rules good.splits n) (log_of good.logs n) ≡ true) × (disorder n (log_of good.logs n) ≡ None)
+  passing n l =
+      let all = (and_parts (all_logs_from 0 (log_passes good.splits) good.logs) (is_none (apart good.logs)) good.may).0 in
+      let k = and_parts (list_all (passes_file_rules good.splits n) (log_of good.logs n)) (is_none (disorder n (log_of good.logs n))) (subst (λ (m : ℕ). log_passes good.splits m (log_of good.logs n) ≡ true) (let e : 0 + n ≡ n = omega arith in e) (passes_at (log_passes good.splits) 0 n good.logs all (let c = good.count in omega arith))) in
+      (k.0, none_of (disorder n (log_of good.logs n)) k.1)
+
+  told : (n : ℕ) → n < shard_count good.splits → IsSome (stories n)
+  told n l = is_told n (stories n) good.splits (log_of good.logs n) (good.read n l)
+
+  reads_as : (n : ℕ) → n < shard_count good.splits → IfSome (stories n) (Reads n (Some good.splits) (is_log n good.splits (log_of good.logs n)))
+  reads_as n l = was_checked n (stories n) good.splits (log_of good.logs n) (good.read n l) (passing n l).0
+
   -- disks of which the first holds a log have the splits of these
   one_header : (splits : List ℕ) (log : List LogRecord) → HoldsLog splits 0 log (stories 0) → good.splits ≡ splits
   one_header splits log holds =
-      splits_same 0 good.splits splits (log_of good.logs 0) log (one_log 0 (stories 0) good.splits splits (log_of good.logs 0) log (good.told 0 first_is) (good.held.each 0 first_is).told holds.told)
+      splits_same 0 good.splits splits (log_of good.logs 0) log (one_log 0 (stories 0) good.splits splits (log_of good.logs 0) log (told 0 first_is) (reads_as 0 first_is) holds.told)
 
   -- a shard above those of other logs is one of these
   within : (splits : List ℕ) (logs : List (List LogRecord)) (shard : ℕ) → LogsBelow splits logs shard stories → shard < shard_count good.splits
@@ -86,29 +113,28 @@ module _ (stories : ℕ → Option Story) (good : AreGoodLogs stories) where
   within splits logs (suc m) b = subst (λ (l : List ℕ). suc m < shard_count l) (sym (one_header splits (log_of logs 0) (b.each 0 (omega arith)))) b.is_shard
 
   at_byte : (shard offset : ℕ) → Refuses stories (NotLog shard (Byte offset)) → ⊥
-  at_byte zero offset (splits, logs, b, read) = reads_any 0 (stories 0) good.splits (log_of good.logs 0) offset (good.told 0 first_is) (good.held.each 0 first_is).told read
+  at_byte zero offset (splits, logs, b, read) = reads_any 0 (stories 0) good.splits (log_of good.logs 0) offset (told 0 first_is) (reads_as 0 first_is) read
   at_byte (suc m) offset (splits, logs, b, read) =
       let l = within splits logs (suc m) b in
       let same = one_header splits (log_of logs 0) (b.each 0 (omega arith)) in
-      reads_own (suc m) (stories (suc m)) good.splits (log_of good.logs (suc m)) offset (good.told (suc m) l) (good.held.each (suc m) l).told
+      reads_own (suc m) (stories (suc m)) good.splits (log_of good.logs (suc m)) offset (told (suc m) l) (reads_as (suc m) l)
       (subst (λ (x : List ℕ). IfSome (stories (suc m)) (Reads (suc m) (Some x) (Err offset))) (sym same) read)
 
   at_record : (shard lsn : ℕ) → Refuses stories (NotLog shard (Record lsn)) → ⊥
   at_record shard lsn (splits, logs, b, (log, read, is)) =
       let l = within splits logs shard b in
-      let h = good.held.each shard l in
-      let same = logs_same shard good.splits splits (log_of good.logs shard) log (one_log shard (stories shard) good.splits splits (log_of good.logs shard) log (good.told shard l) h.told read) in
-      ordered (disorder shard log) lsn (subst (λ (x : List LogRecord). disorder shard x ≡ None) same h.in_order) is
+      let same = logs_same shard good.splits splits (log_of good.logs shard) log (one_log shard (stories shard) good.splits splits (log_of good.logs shard) log (told shard l) (reads_as shard l) read) in
+      ordered (disorder shard log) lsn (subst (λ (x : List LogRecord). disorder shard x ≡ None) same (passing shard l).1) is
 
   apart_from : (splits : List ℕ) (logs : List (List LogRecord)) → LogsOfAll splits logs stories → good.logs ≡ logs
   apart_from splits logs all =
       let same = one_header splits (log_of logs 0) (all.each 0 (omega arith)) in
-      let mine = good.held.count in
+      let mine = good.count in
       let long : length good.logs ≡ length logs = mine ∙ ap shard_count same ∙ sym all.count in
       same_logs good.logs logs long
       (λ n l. (let k : n < shard_count good.splits = omega (arith, l, mine) in
       logs_same n good.splits splits (log_of good.logs n) (log_of logs n)
-      (one_log n (stories n) good.splits splits (log_of good.logs n) (log_of logs n) (good.told n k) (good.held.each n k).told (all.each n (subst (λ (x : List ℕ). n < shard_count x) same k)).told)))
+      (one_log n (stories n) good.splits splits (log_of good.logs n) (log_of logs n) (told n k) (reads_as n k) (all.each n (subst (λ (x : List ℕ). n < shard_count x) same k)).told)))
 
   at_tx : (tx : _) → Refuses stories (Apart tx) → ⊥
   at_tx tx (splits, logs, all, is) =

@@ -1,11 +1,12 @@
 -- Disks that come back.
-use Rattle.std.proofs.Common.{◌≡◌, ℕ, ◌<◌, List, [], length, get_or, sym, ◌∙◌, subst, Option, Some, None, Vec, Global, Bool, false, MatchOption}
+use Rattle.std.proofs.Common.{◌≡◌, ℕ, ◌<◌, List, length, get_or, sym, ◌∙◌, subst, Option, Some, None, Vec, Global, Bool, false, MatchOption}
 use Rattle.clv_base.specs.declared.logs.LogRecord.{LogRecord}
 use Rattle.clv_base.specs.LogRules.{log_of}
 use Rattle.io_model.specs.Story.{Story}
 use Rattle.io_model.specs.Disk.{Adds}
 use Rattle.turn_lock.specs.declared.pass.TurnLock.{TurnLock}
 use Rattle.turn_lock.specs.declared.pass.Pass.{Pass}
+use Rattle.log_gate.specs.Header.{Layout}
 use Rattle.machine_laws.specs.declared.notes.Note.{Note}
 use Rattle.machine_laws.specs.declared.notes.Origin.{Origin}
 use Rattle.cluster_opening.specs.AllOpened.{IsOpenedAt}
@@ -27,8 +28,8 @@ none_case None X Y e h = h
 none_case {A} (Some x) X Y e h = absurd (let k : ◌≡◌ {A = Option A} (Some x) None = e in cc)
 
 module _ {T : Type 0} where
-  pub opened_at : (run walkers : ℕ) (logs : List (List LogRecord)) (locks : List (TurnLock T Note Origin)) (passes : List (Vec (Pass T Note Origin) Global)) → AreOpened run walkers logs locks passes
-      → (k : ℕ) (lock : TurnLock T Note Origin) (mine : Vec (Pass T Note Origin) Global) → k < length locks → lock ≡ get_or locks k lock → mine ≡ get_or passes k mine → IsOpenedAt run walkers k (log_of logs k) lock mine.items
-  opened_at run walkers logs locks passes all k lock mine l a b =
-      subst (λ (z : TurnLock T Note Origin). IsOpenedAt run walkers k (log_of logs k) z mine.items) (sym a)
-      (subst (λ (z : Vec (Pass T Note Origin) Global). IsOpenedAt run walkers k (log_of logs k) (get_or locks k lock) z.items) (sym b) (all k lock mine l))
+  pub opened_at : (layout : Layout) (run walkers : ℕ) (logs : List (List LogRecord)) (locks : List (TurnLock T Note Origin)) (passes : List (Vec (Pass T Note Origin) Global)) → AreOpened layout run walkers logs locks passes
+      → (k : ℕ) (lock : TurnLock T Note Origin) (mine : Vec (Pass T Note Origin) Global) → k < length locks → lock ≡ get_or locks k lock → mine ≡ get_or passes k mine → IsOpenedAt layout run walkers k (log_of logs k) lock mine.items
+  opened_at layout run walkers logs locks passes all k lock mine l a b =
+      subst (λ (z : TurnLock T Note Origin). IsOpenedAt layout run walkers k (log_of logs k) z mine.items) (sym a)
+      (subst (λ (z : Vec (Pass T Note Origin) Global). IsOpenedAt layout run walkers k (log_of logs k) (get_or locks k lock) z.items) (sym b) (all k lock mine l))

@@ -9,5 +9,6 @@ pub mod DisksStopping
 pub mod OneDisk
 pub mod Disks
 pub mod Unagreed
+pub mod Checked
 pub mod Accepting
 pub mod Laws

@@ -1,20 +1,21 @@
 -- Disks that an opening accepts.
-use Rattle.std.specs.Prelude.{◌≡◌, ℕ, ◌<◌, true, List, Option, IsSome}
+use Rattle.std.specs.Prelude.{◌≡◌, ℕ, ◌<◌, true, List, length, Option, IsSomeAnd}
 use Rattle.clv_base.specs.declared.logs.LogRecord.{LogRecord}
 use Rattle.clv_base.specs.Shards.{shard_count}
+use Rattle.clv_base.specs.LogRules.{log_of}
 use Rattle.clv_base.specs.FileRules.{may_open}
-use Rattle.io_model.specs.Story.{Story}
+use Rattle.io_model.specs.Story.{Story, reads}
+use Rattle.log_gate.specs.Image.{HasLog, HasHeader}
 use Rattle.cluster_opening.specs.declared.error.OpenError.{OpenError}
 use Rattle.cluster_opening.specs.declared.error.OpenError.TheVariants.{Failed, NotLog, Apart, Worn, Memory}
-use Rattle.cluster_opening.specs.Logs.{LogsOfAll}
 use Rattle.cluster_opening.specs.Opening.{Refuses}
 
--- the disks tell that they hold the logs of a cluster, which may be opened together
+-- the disks tell their bytes: each has the header of its shard, with these splits, and a log, and these logs may be opened together
 pub record AreGoodLogs (stories : ℕ → Option Story) : Type 0 where
   pub splits : List ℕ
   pub logs : List (List LogRecord)
-  pub held : LogsOfAll splits logs stories
-  pub told : (n : ℕ) → n < shard_count splits → IsSome (stories n)
+  pub count : length logs ≡ shard_count splits
+  pub read : (n : ℕ) → n < shard_count splits → IsSomeAnd (stories n) (λ s. HasLog n (log_of logs n) (reads s) × HasHeader n splits (reads s))
   pub may : may_open splits logs ≡ true
 
 -- a refusal that isn't for what the disks hold

@@ -8,7 +8,7 @@ use Rattle.clv_base.specs.FileRules.{has_spelling, passes_file_rules, may_open, 
 use Rattle.clv_base.specs.Restarts.{run_after}
 use Rattle.io_model.specs.Story.{Story, reads}
 use Rattle.io_model.specs.Disk.{Tells}
-use Rattle.log_gate.specs.Image.{checked_log, HasLog}
+use Rattle.log_gate.specs.Image.{checked_log, HasLog, HasHeader}
 use Rattle.log_gate.specs.Opening.{IsUnchanged}
 use Rattle.log_gate.specs.View.{View, IsLogOf, IsHeaderOf}
 
@@ -19,7 +19,7 @@ pub record HoldsLog (splits : List ℕ) (n : ℕ) (log : List LogRecord) (story 
   pub fits : list_all (passes_file_rules splits n) log ≡ true
   pub spelled : list_all has_spelling log ≡ true
   pub told : IfSome story (λ s. checked_log n (Some splits) (reads s) ≡ Ok (splits, log))
-  pub read_as : IfSome story (λ s. HasLog n log (reads s))
+  pub read_as : IfSome story (λ s. HasLog n log (reads s) × HasHeader n splits (reads s))
 
 -- the gate is over it, and nothing was written
 pub record IsGateAt (splits : List ℕ) (n : ℕ) (log : List LogRecord) (story : Option Story) (g : View) : Type 0 where

@@ -11,4 +11,4 @@ module _ {M S G : Type 0} where
     pub number_is : w.number ≡ number
     pub clock_is : w.clock ≡ first
     pub none_begun : w.serial ≡ 0
-    pub new : AreNewPasses (founds_of sh) sh.locks.items number w.passes.items
+    pub new : AreNewPasses sh.splits (founds_of sh) sh.locks.items number w.passes.items

@@ -7,6 +7,7 @@ use Rattle.io_model.specs.Story.{Story}
 use Rattle.io_model.specs.Disk.{Rose, Adds}
 use Rattle.shard_recovery.specs.declared.recovering.RecoverError.{RecoverError}
 use Rattle.shard_recovery.specs.declared.recovering.RecoverError.TheVariants.{Failed, Memory}
+use Rattle.log_gate.specs.Header.{Layout}
 use Rattle.turn_lock.specs.declared.pass.TurnLock.{TurnLock}
 use Rattle.turn_lock.specs.declared.pass.Pass.{Pass}
 use Rattle.machine_laws.specs.declared.notes.Note.{Note}
@@ -16,9 +17,9 @@ use Rattle.cluster_opening.specs.AllOpened.{IsOpenedAt}
 
 module _ {T : Type 0} where
   -- each lock is round its shard, which opened its log, and these are its passes, which had no turn
-  abbrev pub AreOpened : ℕ → ℕ → List (List LogRecord) → List (TurnLock T Note Origin) → List (Vec (Pass T Note Origin) Global) → Type 0
-  AreOpened run walkers logs locks passes =
-      (n : ℕ) (d : TurnLock T Note Origin) (e : Vec (Pass T Note Origin) Global) → n < length locks → IsOpenedAt run walkers n (log_of logs n) (slice_index_or locks n d) (slice_index_or passes n e).items
+  abbrev pub AreOpened : Layout → ℕ → ℕ → List (List LogRecord) → List (TurnLock T Note Origin) → List (Vec (Pass T Note Origin) Global) → Type 0
+  AreOpened layout run walkers logs locks passes =
+      (n : ℕ) (d : TurnLock T Note Origin) (e : Vec (Pass T Note Origin) Global) → n < length locks → IsOpenedAt layout run walkers n (log_of logs n) (slice_index_or locks n d) (slice_index_or passes n e).items
 
 module _ {G : Type 0} (faults : G → ℕ) where
   -- the disks of the gates had not failed
@@ -27,9 +28,9 @@ module _ {G : Type 0} (faults : G → ℕ) where
 
 module _ {G : Type 0} (told : G → Option Story) where
   -- all disks of the gates are in again: none was written but by what a restart adds to its log
-  pub record AreBack (run : ℕ) (logs : List (List LogRecord)) (gates : List G) (out' : ℕ → Bool) (stories' : ℕ → Option Story) : Type 0 where
+  pub record AreBack (layout : Layout) (run : ℕ) (logs : List (List LogRecord)) (gates : List G) (out' : ℕ → Bool) (stories' : ℕ → Option Story) : Type 0 where
     pub are_in : (n : ℕ) → n < length gates → out' n ≡ false
-    pub left : (n : ℕ) (d : G) → n < length gates → IsLeft n (log_of logs n) run (told (slice_index_or gates n d)) (stories' n)
+    pub left : (n : ℕ) (d : G) → n < length gates → IsLeft n layout (log_of logs n) run (told (slice_index_or gates n d)) (stories' n)
 
 module _ {G : Type 0} (told : G → Option Story) (faults : G → ℕ) where
   -- the disk under a gate came back

@@ -7,6 +7,7 @@ ghost use Rattle.cluster_opening.specs.AllOpened.{IsOpenedAt, AreOpenGates, Stop
 use crate::open_shard;
 use cluster_turns::Home;
 use clv_base::logs::LogRecord;
+use clv_base::splits::Splits;
 use io_model::Disk;
 use log_analysis::LogFacts;
 use log_gate::Gate;
@@ -31,12 +32,13 @@ pub fn open_shards<D: Disk, M: OverDisks<D>>(
     gates: Vec<M::Gate>,
     logs: Vec<Vec<LogRecord>>,
     facts: Vec<LogFacts>,
+    splits: &Splits,
     run: u32,
     walkers: usize,
     locks: &mut Vec<TurnLock<Home<M>>>,
     passes: &mut Vec<Vec<Pass<Home<M>, Note, Origin>>>,
 ) -> Result<(), Stopped<D, M::Gate>>
-    requires gates { AreOpenGates M.Gate.is_shut M.Gate.faults M.Gate.shard M.Gate.logs (map (λ l. l.items) logs.items) gates.items }
+    requires gates { AreOpenGates M.Gate.is_shut M.Gate.faults M.Gate.shard M.Gate.logs (record { splits = splits.now }) (map (λ l. l.items) logs.items) gates.items }
     requires known { KnowAll facts.items (map (λ l. l.items) logs.items) }
     requires run { 1 ≤ run }
     requires few { vec_len gates ≤ 16 }
@@ -45,8 +47,8 @@ pub fn open_shards<D: Disk, M: OverDisks<D>>(
     requires room { (vec_len gates ≤ vec_capacity locks.old) × (vec_len gates ≤ vec_capacity passes.old) }
     ensures all { OnOk result (length locks.new.items ≡ vec_len gates) }
     ensures len { length passes.new.items ≡ length locks.new.items }
-    ensures opened { (n : ℕ) (d : _) (e : _) → n < length locks.new.items → IsOpenedAt run walkers n (log_of (map (λ l. l.items) logs.items) n) (slice_index_or locks.new.items n d) (slice_index_or passes.new.items n e).items }
-    ensures stopped { IfErr result (λ s. (length locks.new.items ≡ s.shard) × StoppedAt M.story run (map (λ l. l.items) logs.items) gates.items s.shard s.error (D.story s.disk) (D.faults s.disk) s.rest.items) }
+    ensures opened { (n : ℕ) (d : _) (e : _) → n < length locks.new.items → IsOpenedAt (record { splits = splits.now }) run walkers n (log_of (map (λ l. l.items) logs.items) n) (slice_index_or locks.new.items n d) (slice_index_or passes.new.items n e).items }
+    ensures stopped { IfErr result (λ s. (length locks.new.items ≡ s.shard) × StoppedAt M.story (record { splits = splits.now }) run (map (λ l. l.items) logs.items) gates.items s.shard s.error (D.story s.disk) (D.faults s.disk) s.rest.items) }
 {
     let count = gates.len() as u32;
     let mut rest = gates;
@@ -58,7 +60,7 @@ pub fn open_shards<D: Disk, M: OverDisks<D>>(
         let gate = rest.pop().unwrap();
         let log = later.pop().unwrap();
         let facts = said.remove(0);
-        match open_shard(alloc, gate, log, facts, shard, run, walkers) {
+        match open_shard(alloc, gate, log, facts, splits, shard, run, walkers) {
             Ok((lock, mine)) => {
                 locks.push_reserved(lock);
                 passes.push_reserved(mine);

@@ -4,6 +4,7 @@ ghost use Rattle.clv_base.specs.declared.logs.LogRecord.{LogRecord};
 ghost use Rattle.io_model.specs.Story.{Story};
 ghost use Rattle.turn_lock.specs.Passes.{passes_of, IsNewPass};
 ghost use Rattle.machine_laws.specs.declared.notes.Origin.{Origin as OriginIs};
+ghost use Rattle.log_gate.specs.Header.{Layout};
 ghost use Rattle.machine_calls.specs.Recovered.{IsLeft};
 ghost use Rattle.cluster_opening.specs.Opened.{IsOriginOf};
 
@@ -21,7 +22,7 @@ pub fn close_unused<D: Disk, M: OverDisks<D>>(
     requires some { 0 < vec_len passes }
     requires all { vec_len passes ≡ passes_of lock }
     requires unused { (o : OriginIs) × ((k : ℕ) (d : _) → k < vec_len passes → IsNewPass lock o k (slice_index_or passes.items k d)) }
-    ensures left { (o : OriginIs) (n run : ℕ) (found : List LogRecord) (before : Option Story) → ((k : ℕ) (d : _) → k < vec_len passes → IsNewPass lock o k (slice_index_or passes.items k d)) → IsOriginOf n run found o → IsLeft n found run before (D.story result) }
+    ensures left { (o : OriginIs) (n : ℕ) (layout : Layout) (run : ℕ) (found : List LogRecord) (before : Option Story) → ((k : ℕ) (d : _) → k < vec_len passes → IsNewPass lock o k (slice_index_or passes.items k d)) → IsOriginOf n layout run found o → IsLeft n layout found run before (D.story result) }
     ensures fine { D.faults result ≡ 0 }
 {
     let Home {
@@ -29,5 +30,5 @@ pub fn close_unused<D: Disk, M: OverDisks<D>>(
         origin: _,
         marks: _,
     } = lock.close(passes);
-    take_apart(machine)
+    take_apart(machine.into_inner())
 }

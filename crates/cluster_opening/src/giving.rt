@@ -3,6 +3,7 @@ ghost use Rattle.std.specs.Prelude.{◌≡◌, ◌<◌, ◌≤◌, ◌+◌, ℕ,
 ghost use Rattle.clv_base.specs.declared.logs.LogRecord.{LogRecord};
 ghost use Rattle.clv_base.specs.LogRules.{log_of};
 ghost use Rattle.io_model.specs.Story.{Story};
+ghost use Rattle.log_gate.specs.Header.{Layout};
 ghost use Rattle.machine_calls.specs.Recovered.{IsLeft};
 ghost use Rattle.cluster_opening.specs.Undone.{AreOpened, CameBack};
 
@@ -23,10 +24,10 @@ pub fn give_back_locks<H: House, M: OverDisks<H::Disk>>(
 )
     requires few { vec_len locks ≤ 16 }
     requires len { vec_len passes ≡ vec_len locks }
-    requires opened { (run : ℕ) × (walkers : ℕ) × (logs : List (List LogRecord)) × (0 < walkers) × AreOpened run walkers logs locks.items passes.items }
+    requires opened { (layout : Layout) × (run : ℕ) × (walkers : ℕ) × (logs : List (List LogRecord)) × (0 < walkers) × AreOpened layout run walkers logs locks.items passes.items }
     requires out { (n : ℕ) → n < vec_len locks → H.is_out house.old n ≡ true }
     ensures back { (n : ℕ) → n < vec_len locks → (H.faults house.new n ≡ H.faults house.old n) × (H.is_out house.new n ≡ false) }
-    ensures left { (run walkers : ℕ) (logs : List (List LogRecord)) → AreOpened run walkers logs locks.items passes.items → (n : ℕ) (before : Option Story) → n < vec_len locks → IsLeft n (log_of logs n) run before (H.story house.new n) }
+    ensures left { (layout : Layout) (run walkers : ℕ) (logs : List (List LogRecord)) → AreOpened layout run walkers logs locks.items passes.items → (n : ℕ) (before : Option Story) → n < vec_len locks → IsLeft n layout (log_of logs n) run before (H.story house.new n) }
     ensures others { (n : ℕ) → vec_len locks ≤ n → (H.faults house.new n ≡ H.faults house.old n) × (H.is_out house.new n ≡ H.is_out house.old n) × (H.story house.new n ≡ H.story house.old n) }
 {
     let mut locks = locks;

@@ -4,7 +4,7 @@ ghost use Rattle.turn_lock.specs.Passes.{passes_of, IsNewPass};
 ghost use Rattle.machine_laws.specs.Homes.{start};
 ghost use Rattle.cluster_opening.specs.Opened.{HasOpenGate};
 
-use cluster_turns::Home;
+use cluster_turns::{Home, OnHeap};
 use log_gate::Gate;
 use machine_calls::Machine;
 use machine_laws::{Mark, Note, Origin};
@@ -30,6 +30,10 @@ pub fn lock_shard<M: Machine>(
     if marks.reserve(1).is_err() {
         return Err(machine);
     }
+    let machine = match OnHeap::new(alloc, machine) {
+        Ok(machine) => machine,
+        Err(machine) => return Err(machine),
+    };
     let home = Home {
         machine,
         origin,
@@ -44,7 +48,7 @@ pub fn lock_shard<M: Machine>(
                 origin: _,
                 marks: _,
             } = home;
-            Err(machine)
+            Err(machine.into_inner())
         }
     }
 }

@@ -59,7 +59,7 @@ fn make_all<M: Machine>(
     requires few { vec_len rooms ≤ 65 }
     requires shards { (length shards.now.locks.items ≡ shard_count shards.now.splits) × (shards.now.run ≡ run_after (founds_of shards.now)) }
     requires len { vec_len passes.old ≡ vec_len shards.now.locks }
-    requires opened { (n : ℕ) (d : _) (e : _) → n < length shards.now.locks.items → IsOpenedAt shards.now.run (vec_len rooms) n (log_of (founds_of shards.now) n) (slice_index_or shards.now.locks.items n d) (slice_index_or passes.old.items n e).items }
+    requires opened { (n : ℕ) (d : _) (e : _) → n < length shards.now.locks.items → IsOpenedAt (record { splits = shards.now.splits }) shards.now.run (vec_len rooms) n (log_of (founds_of shards.now) n) (slice_index_or shards.now.locks.items n d) (slice_index_or passes.old.items n e).items }
     requires rooms { All (λ r. (vec_len r ≡ 0) × (vec_len passes.old ≤ vec_capacity r)) rooms.items }
     requires walkers { (vec_len walkers ≡ 0) × (vec_len rooms ≤ vec_capacity walkers) }
     ensures len { vec_len result ≡ vec_len rooms }
@@ -91,7 +91,7 @@ pub fn make_walkers<M: Machine>(
     requires few { count ≤ 65 }
     requires shards { (length shards.now.locks.items ≡ shard_count shards.now.splits) × (shards.now.run ≡ run_after (founds_of shards.now)) }
     requires len { vec_len passes.old ≡ vec_len shards.now.locks }
-    requires opened { (n : ℕ) (d : _) (e : _) → n < length shards.now.locks.items → IsOpenedAt shards.now.run count n (log_of (founds_of shards.now) n) (slice_index_or shards.now.locks.items n d) (slice_index_or passes.old.items n e).items }
+    requires opened { (n : ℕ) (d : _) (e : _) → n < length shards.now.locks.items → IsOpenedAt (record { splits = shards.now.splits }) shards.now.run count n (log_of (founds_of shards.now) n) (slice_index_or shards.now.locks.items n d) (slice_index_or passes.old.items n e).items }
     ensures len { IfOk result (λ w. vec_len w ≡ count) }
     ensures made { IfOk result (λ w. (k : ℕ) (d : _) → k < count → IsNewWalker shards.now k first (slice_index_or w.items k d)) }
     ensures rooms { OnOk result ((vec_len passes.new ≡ vec_len passes.old) × All (λ r. (vec_len r ≡ 0) × (count ≤ vec_capacity r)) passes.new.items) }

@@ -13,6 +13,7 @@ ghost use Rattle.cluster_opening.specs.Opened.{IsOriginOf};
 use crate::locking::lock_shard;
 use cluster_turns::Home;
 use clv_base::logs::LogRecord;
+use clv_base::splits::Splits;
 use io_model::Disk;
 use log_analysis::LogFacts;
 use log_gate::Gate;
@@ -23,13 +24,15 @@ use std::alloc::Global;
 use std::snapshot::Snapshot;
 use turn_lock::{Pass, TurnLock};
 
-/// Recovers a shard from its log, which is in order, and of which it is known what it says of each transaction, and puts its machine into a lock with so many
-/// passes, numbered from 0. What a restart adds to the log is durable at `Ok`. An `Err` gives the disk back.
+/// Recovers a shard from its log, which is in order and stands behind a header with these splits, and of which it is known what it says of each
+/// transaction, and puts its machine into a lock with so many passes, numbered from 0. What a restart adds to the log is durable at `Ok`. An `Err` gives
+/// the disk back.
 pub fn open_shard<D: Disk, M: OverDisks<D>>(
     alloc: Global,
     gate: M::Gate,
     log: Vec<LogRecord>,
     facts: LogFacts,
+    splits: &Splits,
     shard: u32,
     run: u32,
     walkers: usize,
@@ -39,20 +42,26 @@ pub fn open_shard<D: Disk, M: OverDisks<D>>(
     requires shard { (shard < 16) × (M.Gate.shard gate ≡ shard) }
     requires run { 1 ≤ run }
     requires open { (M.Gate.is_shut gate ≡ false) × (M.Gate.faults gate ≡ 0) }
-    requires log { Only log.items (M.Gate.logs gate) }
+    requires log { Only log.items (M.Gate.logs gate (record { splits = splits.now })) }
     requires spelled { list_all has_spelling log.items ≡ true }
     requires in_order { disorder shard log.items ≡ None }
     ensures lock { IfOk result (λ r. passes_of r.0 ≡ walkers) }
-    ensures passes { IfOk result (λ r. (o : OriginIs) × IsOriginOf shard run log.items o × (vec_len r.1 ≡ walkers) × ((k : ℕ) (d : _) → k < walkers → IsNewPass r.0 o k (slice_index_or r.1.items k d))) }
-    ensures left { IfErr result (λ e. IsLeft shard log.items run (M.story gate) (D.story e.1)) }
+    ensures passes { IfOk result (λ r. (o : OriginIs) × IsOriginOf shard (record { splits = splits.now }) run log.items o × (vec_len r.1 ≡ walkers) × ((k : ℕ) (d : _) → k < walkers → IsNewPass r.0 o k (slice_index_or r.1.items k d))) }
+    ensures left { IfErr result (λ e. IsLeft shard (record { splits = splits.now }) log.items run (M.story gate) (D.story e.1)) }
     ensures cause { IfErr result (λ e. CountsLeft 0 (D.faults e.1) e.0) }
 {
     let found = Snapshot::of(&log);
+    let splits = Snapshot::of(splits);
     let machine: M = match recover_shard(alloc, gate, log, facts, shard, run) {
         Ok(machine) => machine,
         Err(error) => return Err(error),
     };
-    let origin = Origin { shard, run, found };
+    let origin = Origin {
+        shard,
+        run,
+        found,
+        splits,
+    };
     match lock_shard(alloc, machine, origin, walkers) {
         Ok(made) => Ok(made),
         Err(machine) => Err((RecoverError::Memory, take_apart(machine))),

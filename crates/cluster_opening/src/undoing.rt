@@ -1,6 +1,7 @@
 // An opening that stopped.
 ghost use Rattle.std.specs.Prelude.{◌≡◌, ◌<◌, ◌≤◌, ◌+◌, ℕ, suc, true, List, vec_len};
 ghost use Rattle.clv_base.specs.declared.logs.LogRecord.{LogRecord};
+ghost use Rattle.log_gate.specs.Header.{Layout};
 ghost use Rattle.cluster_opening.specs.AllOpened.{StoppedAt};
 ghost use Rattle.cluster_opening.specs.Undone.{AreOpened, AreFine, AreBack, CountsBack};
 
@@ -25,13 +26,13 @@ pub fn undo<H: House, M: OverDisks<H::Disk>>(
     requires few { stopped.shard + vec_len stopped.rest < 16 }
     requires locks { vec_len locks ≡ stopped.shard }
     requires len { vec_len passes ≡ vec_len locks }
-    requires opened { (run : ℕ) × (walkers : ℕ) × (logs : List (List LogRecord)) × (0 < walkers) × AreOpened run walkers logs locks.items passes.items }
+    requires opened { (layout : Layout) × (run : ℕ) × (walkers : ℕ) × (logs : List (List LogRecord)) × (0 < walkers) × AreOpened layout run walkers logs locks.items passes.items }
     requires out { (n : ℕ) → n < stopped.shard + suc (vec_len stopped.rest) → H.is_out house.old n ≡ true }
     ensures error { result ≡ stopped.error }
 
     // Whatever the logs and gates were that stopped so; the counts where no disk of a gate had failed.
-    ensures back { (run walkers : ℕ) (logs : List (List LogRecord)) (gates : List _) → AreOpened run walkers logs locks.items passes.items → StoppedAt M.story run logs gates stopped.shard stopped.error (H.Disk.story stopped.disk) (H.Disk.faults stopped.disk) stopped.rest.items → AreBack M.story run logs gates (H.is_out house.new) (H.story house.new) }
-    ensures counts { (run : ℕ) (logs : List (List LogRecord)) (gates : List _) → AreFine M.Gate.faults gates → StoppedAt M.story run logs gates stopped.shard stopped.error (H.Disk.story stopped.disk) (H.Disk.faults stopped.disk) stopped.rest.items → CountsBack stopped.shard (H.faults house.old) (H.faults house.new) stopped.error }
+    ensures back { (layout : Layout) (run walkers : ℕ) (logs : List (List LogRecord)) (gates : List _) → AreOpened layout run walkers logs locks.items passes.items → StoppedAt M.story layout run logs gates stopped.shard stopped.error (H.Disk.story stopped.disk) (H.Disk.faults stopped.disk) stopped.rest.items → AreBack M.story layout run logs gates (H.is_out house.new) (H.story house.new) }
+    ensures counts { (layout : Layout) (run : ℕ) (logs : List (List LogRecord)) (gates : List _) → AreFine M.Gate.faults gates → StoppedAt M.story layout run logs gates stopped.shard stopped.error (H.Disk.story stopped.disk) (H.Disk.faults stopped.disk) stopped.rest.items → CountsBack stopped.shard (H.faults house.old) (H.faults house.new) stopped.error }
     ensures others { (n : ℕ) → stopped.shard + suc (vec_len stopped.rest) ≤ n → (H.faults house.new n ≡ H.faults house.old n) × (H.is_out house.new n ≡ H.is_out house.old n) × (H.story house.new n ≡ H.story house.old n) }
 {
     let Stopped {

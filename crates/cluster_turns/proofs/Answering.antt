@@ -176,7 +176,7 @@ module _ {T : Type 0} where
 
 -- ---- a clock at its end
 
-worn_told : (s t : Shard) (clock w c at : ℕ) (e : Event) (r : Result Outcome StepError) (made : Option Entry) → Tells (step s clock w e) s clock w e r t made → r ≡ Err (Worn at) → c ≡ clock_after clock r made → (at ≡ 2 ^ 48) × (2 ^ 48 - 1 ≤ c)
+pub worn_told : (s t : Shard) (clock w c at : ℕ) (e : Event) (r : Result Outcome StepError) (made : Option Entry) → Tells (step s clock w e) s clock w e r t made → r ≡ Err (Worn at) → c ≡ clock_after clock r made → (at ≡ 2 ^ 48) × (2 ^ 48 - 1 ≤ c)
 worn_told s t clock w c at e r (Some x) (o, is, m) worn k = let wrong = sym is ∙ worn in absurd cc
 worn_told s t clock w c at e r None h worn k =
     let answer = subst (NoEntry (step s clock w e) s e) worn h.0 in let clock_is = k ∙ ap (λ y. clock_after clock y None) worn in (answer.1, omega arith)

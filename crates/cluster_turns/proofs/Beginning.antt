@@ -24,7 +24,7 @@ module _ {T : Type 0} where
   nothing_kept n (p ∷ ps) h =
       ap (λ own_entries. Rattle.history_replay.specs.Entries.merged (Rattle.history_replay.specs.Entries.on_shard n own_entries) (merged_from (suc n) (own_lists ps))) (h 0 p (omega arith)) ∙ nothing_kept (suc n) ps (λ k d l. h (suc k) d (omega arith))
 
-  pub new_walker : (splits : List ℕ) (founds : List (List LogRecord)) (locks : List (TurnLock T Note Origin)) (w clock : ℕ) (ps : List (Option (Pass T Note Origin))) → AreNewPasses founds locks w ps → IsWalkerOf splits founds locks w clock ps
+  pub new_walker : (splits : List ℕ) (founds : List (List LogRecord)) (locks : List (TurnLock T Note Origin)) (w clock : ℕ) (ps : List (Option (Pass T Note Origin))) → AreNewPasses splits founds locks w ps → IsWalkerOf splits founds locks w clock ps
   new_walker splits founds locks w clock ps a =
       let empty : kept ps ≡ [] = nothing_kept 0 ps (λ k d l. (let t = a.each k d (let c = a.count in omega arith) in none_own t.0 (get_or ps k d) t.2 (t.3 (first k (let c = a.count in omega arith))).4)) in
       record {

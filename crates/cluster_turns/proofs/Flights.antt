@@ -7,6 +7,7 @@ use Rattle.clv_base.specs.declared.events.Outcome.TheVariants.{Durable}
 use Rattle.clv_base.specs.declared.events.Entry.{Entry}
 use Rattle.clv_base.specs.State.{Shard}
 use Rattle.clv_base.specs.Events.{step, land, landed}
+use Rattle.log_gate.specs.Header.{Layout}
 use Rattle.turn_lock.specs.Journals.{durable_of}
 use Rattle.turn_lock.specs.declared.pass.Pass.{Pass}
 use Rattle.turn_lock.specs.Passes.{pass_origin, seen}
@@ -23,7 +24,7 @@ use Rattle.machine_laws.specs.Sound.{IsSound}
 use Rattle.machine_laws.proofs.Laws.{gone, landing}
 use Rattle.cluster_turns.specs.Flights.{landed_as, FlightTold, FlightTaken}
 
-module _ {T G : Type 0} (shut : G → Bool) (faults whose : G → ℕ) (logs : G → Option (List LogRecord) → Type 0) where
+module _ {T G : Type 0} (shut : G → Bool) (faults whose : G → ℕ) (logs : G → Layout → Option (List LogRecord) → Type 0) where
   pub flight_told : (o : Origin) (marks : List Mark) (capacity : ℕ) (s : Shard) (gate after : Option G) (clock w clock' : ℕ) (t : Shard) (x : Option Entry) (q : Pass T Note Origin) (r : Result (Outcome × Option (Flight G)) StepError)
       → IsSound shut faults whose logs o marks capacity s gate → Tells (step s clock w FlushOut) s clock w FlushOut (outcome_in r) t x → Departs t gate after r → clock' ≡ clock_after clock (outcome_in r) x
       → IsSound shut faults whose logs o marks capacity t after → pass_origin q ≡ Some o → seen q ≡ notes_of t.journal marks → FlightTold shut faults whose logs w clock' q r

@@ -186,7 +186,7 @@ module _ {T : Type 0} where
 
 module _ {T : Type 0} where
   pub new_are_informed : NewAreInformed T
-  new_are_informed founds locks w clock ps new n p had =
+  new_are_informed splits founds locks w clock ps new n p had =
       let l = past ps n p had in
       let low : n < length locks = (let c = new.count in omega arith) in
       let t = new.each n None low in

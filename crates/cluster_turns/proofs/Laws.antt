@@ -6,6 +6,7 @@ pub use Rattle.cluster_turns.proofs.Keeping.{informed_stay, informed_later, new_
 pub use Rattle.cluster_turns.proofs.Unbearing.{unborn_stays, unless_stays, answered_is_in_epoch, dies_at_request, ends_unbear, new_is_unborn, unborn_is_free, unborn_unless_none, unborn_unless_any, head_same, tail_same}
 pub use Rattle.cluster_turns.proofs.Taking.{turns_follow, kept_grows, entries_are_made, clock_rises}
 pub use Rattle.cluster_turns.proofs.Answering.{answers_have_entries, outcomes_fit, down_is_seen, worn_is_last, sessions_grow}
+pub use Rattle.cluster_turns.proofs.Dating.{dated_on, turns_are_dated, drains_are_dated, drains_wear_out, rounds_dated, state_last, notes_left, latest_left, latest_right}
 pub use Rattle.cluster_turns.proofs.States.{sessions_have_states, states_go_on, states_tell_may_make, others_leave_states, states_bear_walkers}
 pub use Rattle.cluster_turns.proofs.BirthsGoing.{ops_go_on, touched_are_last}
 pub use Rattle.cluster_turns.proofs.Within.{touched_are_shards, homes_are_shards}

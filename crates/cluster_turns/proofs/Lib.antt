@@ -16,3 +16,4 @@ pub mod Touching
 pub mod BirthsGoing
 pub mod Within
 pub mod Laws
+pub mod Dating

@@ -59,19 +59,19 @@ module _ {T : Type 0} where
   own_length [] = refl
   own_length (x ∷ xs) = ap suc (own_length xs)
 
-  still_passes : (founds : List (List LogRecord)) (locks : List (TurnLock T Note Origin)) (n w : ℕ) (ps : List (Option (Pass T Note Origin))) (q : Pass T Note Origin) → n < length locks → ArePassesOf founds locks w ps
-      → IsPassAt founds locks w n q → ArePassesOf founds locks w (set ps n (Some q))
-  still_passes founds locks n w ps q l is new = record {
+  still_passes : (splits : List ℕ) (founds : List (List LogRecord)) (locks : List (TurnLock T Note Origin)) (n w : ℕ) (ps : List (Option (Pass T Note Origin))) (q : Pass T Note Origin) → n < length locks → ArePassesOf splits founds locks w ps
+      → IsPassAt splits founds locks w n q → ArePassesOf splits founds locks w (set ps n (Some q))
+  still_passes splits founds locks n w ps q l is new = record {
     count = length-set ps n (Some q) ∙ is.count;
     each = λ k d lk. dite (ℕ_discrete k n)
-        (λ same. (q, ap (λ j. get_or (set ps n (Some q)) j d) same ∙ get_or-set_same ps n (Some q) d (let h = is.count in omega arith), subst (λ (j : ℕ). IsPassAt founds locks w j q) (sym same) new))
+        (λ same. (q, ap (λ j. get_or (set ps n (Some q)) j d) same ∙ get_or-set_same ps n (Some q) d (let h = is.count in omega arith), subst (λ (j : ℕ). IsPassAt splits founds locks w j q) (sym same) new))
         (λ other. let t = is.each k d lk in (t.0, get_or-set_other ps n k (Some q) d other ∙ t.1, t.2));
   }
 
   -- the pass after a turn is one of the walker's
-  pub still_pass : (founds : List (List LogRecord)) (locks : List (TurnLock T Note Origin)) (w n : ℕ) (Told : Shard → Shard → List Note → Type 0) (p q : Pass T Note Origin) → IsPassAt founds locks w n p → Turned Told w p q
-      → ((l : TurnLock T Note Origin) → IsPassOf (get_or locks n l) q) → IsPassAt founds locks w n q
-  still_pass founds locks w n Told p q a t ours = record { ours = ours; number_is = t.number_is ∙ a.number_is; origin = a.origin; has_origin = t.origin_is ∙ a.has_origin; origin_is = a.origin_is }
+  pub still_pass : (splits : List ℕ) (founds : List (List LogRecord)) (locks : List (TurnLock T Note Origin)) (w n : ℕ) (Told : Shard → Shard → List Note → Type 0) (p q : Pass T Note Origin) → IsPassAt splits founds locks w n p → Turned Told w p q
+      → ((l : TurnLock T Note Origin) → IsPassOf (get_or locks n l) q) → IsPassAt splits founds locks w n q
+  still_pass splits founds locks w n Told p q a t ours = record { ours = ours; number_is = t.number_is ∙ a.number_is; origin = a.origin; has_origin = t.origin_is ∙ a.has_origin; origin_is = a.origin_is }
 
   module _ (splits : List ℕ) (founds : List (List LogRecord)) (locks : List (TurnLock T Note Origin)) (n w clock clock' : ℕ) (Told : Shard → Shard → List Note → Type 0) (ps : List (Option (Pass T Note Origin))) (p q : Pass T Note Origin) where
     own_after : Turned Told w p q → own_lists (set ps n (Some q)) ≡ set (own_lists ps) n (entries_in (own q))
@@ -81,14 +81,14 @@ module _ {T : Type 0} where
     own_grows t had = ap entries_in t.own_is ∙ entries_append (own p) t.added ∙ ap (λ l. l ++ entries_in t.added) (sym (at_own ps n p had))
 
     walks_by : (added : List Entry) → Adds splits (run_after founds) w n clock clock' (kept ps) added → IsWalkerOf splits founds locks w clock ps → length locks ≡ shard_count splits → n < length locks → (t : Turned Told w p q)
-        → IsPassAt founds locks w n q → own_lists (set ps n (Some q)) ≡ set (own_lists ps) n (journal_at (own_lists ps) n ++ added)
+        → IsPassAt splits founds locks w n q → own_lists (set ps n (Some q)) ≡ set (own_lists ps) n (journal_at (own_lists ps) n ++ added)
         → IsWalkerOf splits founds locks w clock' (set ps n (Some q)) × (kept (set ps n (Some q)) ≡ kept ps ++ on_shard n added)
     walks_by [] (none rise) is count l t new own_is =
         let low : n < length (own_lists ps) = (let h = is.are_passes.count in let k = own_length ps in omega arith) in
         let same : own_lists (set ps n (Some q)) ≡ own_lists ps = own_is ∙ ap (set (own_lists ps) n) (append-nil (journal_at (own_lists ps) n)) ∙ set_same (own_lists ps) n (journal_at (own_lists ps) n) low refl in
         let k : kept (set ps n (Some q)) ≡ kept ps = ap entries_of same in (
           record {
-            are_passes = still_passes founds locks n w ps q l is.are_passes new;
+            are_passes = still_passes splits founds locks n w ps q l is.are_passes new;
             keeps = subst (Rattle.journal_laws.specs.Walkers.WalkerKeeps splits (run_after founds) w) (sym k) is.keeps;
             in_time = subst (AllByRecursion (λ f. (f.1).stamp ≤ clock')) (sym k) (all_mono (λ f. (f.1).stamp ≤ clock) (λ f. (f.1).stamp ≤ clock') (λ f h. omega arith) (kept ps) is.in_time);
           },
@@ -100,14 +100,14 @@ module _ {T : Type 0} where
         let before = all_mono (λ f. (f.1).stamp ≤ clock) (λ f. (f.1).stamp < x.stamp) (λ f h. omega arith) (kept ps) is.in_time in
         let k : kept (set ps n (Some q)) ≡ kept ps ++ (n, x) ∷ [] = ap entries_of own_is ∙ own_entries_go_on (own_lists ps) n x low is.keeps.stamps before in (
           record {
-            are_passes = still_passes founds locks n w ps q l is.are_passes new;
+            are_passes = still_passes splits founds locks n w ps q l is.are_passes new;
             keeps = subst (Rattle.journal_laws.specs.Walkers.WalkerKeeps splits (run_after founds) w) (sym k) (walkers_go_on splits (run_after founds) w (kept ps) (n, x) is.keeps (omega arith) before session numbered sent);
             in_time = subst (AllByRecursion (λ f. (f.1).stamp ≤ clock')) (sym k) (all_push (λ f. (f.1).stamp ≤ clock') (kept ps) (n, x) (all_mono (λ f. (f.1).stamp ≤ clock) (λ f. (f.1).stamp ≤ clock') (λ f h. omega arith) (kept ps) is.in_time) upto);
           },
           k,
         )
 
-    pub walks : IsWalkerOf splits founds locks w clock ps → length locks ≡ shard_count splits → n < length locks → ((d : Option (Pass T Note Origin)) → get_or ps n d ≡ Some p) → (t : Turned Told w p q) → IsPassAt founds locks w n q
+    pub walks : IsWalkerOf splits founds locks w clock ps → length locks ≡ shard_count splits → n < length locks → ((d : Option (Pass T Note Origin)) → get_or ps n d ≡ Some p) → (t : Turned Told w p q) → IsPassAt splits founds locks w n q
         → Adds splits (run_after founds) w n clock clock' (kept ps) (entries_in t.added) → IsWalkerOf splits founds locks w clock' (set ps n (Some q)) × Walked Told n w ps (set ps n (Some q))
     walks is count l had t new adds =
         let h = walks_by (entries_in t.added) adds is count l t new (own_after t ∙ ap (set (own_lists ps) n) (own_grows t had)) in
@@ -116,13 +116,13 @@ module _ {T : Type 0} where
 module _ {T : Type 0} where
   -- a pass that made no entry, back in its place
   pub looks : (splits : List ℕ) (founds : List (List LogRecord)) (locks : List (TurnLock T Note Origin)) (n w clock : ℕ) (ps : List (Option (Pass T Note Origin))) (p q : Pass T Note Origin) → IsWalkerOf splits founds locks w clock ps → n < length locks
-      → ((d : Option (Pass T Note Origin)) → get_or ps n d ≡ Some p) → IsPassAt founds locks w n q → own q ≡ own p → IsWalkerOf splits founds locks w clock (set ps n (Some q))
+      → ((d : Option (Pass T Note Origin)) → get_or ps n d ≡ Some p) → IsPassAt splits founds locks w n q → own q ≡ own p → IsWalkerOf splits founds locks w clock (set ps n (Some q))
   looks splits founds locks n w clock ps p q is l had new own_is =
       let low : n < length (own_lists ps) = (let h = is.are_passes.count in let k = own_length ps in omega arith) in
       let same : own_lists (set ps n (Some q)) ≡ own_lists ps = map-set own_of ps n (Some q) ∙ ap (λ o. set (own_lists ps) n (entries_in o)) own_is ∙ set_same (own_lists ps) n (entries_in (own p)) low (at_own ps n p had) in
       let k : kept (set ps n (Some q)) ≡ kept ps = ap entries_of same in
       record {
-        are_passes = still_passes founds locks n w ps q l is.are_passes new;
+        are_passes = still_passes splits founds locks n w ps q l is.are_passes new;
         keeps = subst (Rattle.journal_laws.specs.Walkers.WalkerKeeps splits (run_after founds) w) (sym k) is.keeps;
         in_time = subst (AllByRecursion (λ f. (f.1).stamp ≤ clock)) (sym k) is.in_time;
       }

@@ -30,7 +30,7 @@ InformedLater T = (w c d : ℕ) (ps : List (Option (Pass T Note Origin))) → c 
 
 -- new ones are
 abbrev pub NewAreInformed : Type 0 → Type 0
-NewAreInformed T = (founds : List (List LogRecord)) (locks : List (TurnLock T Note Origin)) (w clock : ℕ) (ps : List (Option (Pass T Note Origin))) → AreNewPasses founds locks w ps → AreInformed w clock ps
+NewAreInformed T = (splits : List ℕ) (founds : List (List LogRecord)) (locks : List (TurnLock T Note Origin)) (w clock : ℕ) (ps : List (Option (Pass T Note Origin))) → AreNewPasses splits founds locks w ps → AreInformed w clock ps
 
 -- a birth past the clock is free
 abbrev pub NewIsFree : Type 0 → Type 0

@@ -13,3 +13,4 @@ pub mod WalkerLaws
 pub mod Stages
 pub mod States
 pub mod Laws
+pub mod Dates

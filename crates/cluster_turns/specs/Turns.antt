@@ -4,7 +4,7 @@ use Rattle.clv_base.specs.declared.events.Event.{Event}
 use Rattle.clv_base.specs.declared.events.Outcome.{Outcome}
 use Rattle.clv_base.specs.declared.events.Entry.{Entry}
 use Rattle.clv_base.specs.State.{Shard}
-use Rattle.clv_base.specs.Events.{step}
+use Rattle.clv_base.specs.Events.{step, message_stamp}
 use Rattle.turn_lock.specs.Journals.{GrownByOthers}
 use Rattle.turn_lock.specs.declared.pass.Pass.{Pass}
 use Rattle.turn_lock.specs.Passes.{number, pass_origin, seen, own, known}
@@ -16,12 +16,14 @@ use Rattle.machine_laws.specs.declared.notes.Origin.{Origin}
 use Rattle.machine_laws.specs.Notes.{noter, plain}
 use Rattle.machine_laws.specs.Homes.{IsLegal}
 
--- an event of the walker w with this clock: the answer and the clock after it, from the state s to t, with the notes that it added
+-- an event of the walker w with this clock: the answer and the clock after it, from the state s to t, with the notes that it added. What it delivers has no
+-- stamp past the clock
 pub record EventTold (clock w : ℕ) (e : Event) (r : Result Outcome StepError) (clock' : ℕ) (s t : Shard) (added : List Note) : Type 0 where
   pub made : Option Entry
   pub added_is : added ≡ map plain (listed made)
   pub tells : Tells (step s clock w e) s clock w e r t made
   pub clock_is : clock' ≡ clock_after clock r made
+  pub in_time : message_stamp e ≤ clock
 
 -- a look at the state, which makes no entry
 pub record SettledTold (answer : Bool) (s t : Shard) (added : List Note) : Type 0 where

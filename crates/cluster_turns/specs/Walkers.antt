@@ -29,11 +29,12 @@ use Rattle.cluster_turns.specs.declared.shards.Walker.{Walker}
 use Rattle.cluster_turns.specs.declared.shards.WornClock.{WornClock}
 use Rattle.cluster_turns.specs.Turns.{Turned}
 
--- what never changes of shard n of a cluster that found these logs
-pub record IsOriginAt (founds : List (List LogRecord)) (n : ℕ) (o : Origin) : Type 0 where
+-- what never changes of shard n of a cluster with these splits that found these logs
+pub record IsOriginAt (splits : List ℕ) (founds : List (List LogRecord)) (n : ℕ) (o : Origin) : Type 0 where
   pub shard : o.shard ≡ n
   pub run : o.run ≡ run_after founds
   pub found : o.found.value.items ≡ log_of founds n
+  pub splits_are : o.splits.value ≡ splits
 
 -- after the walker's entries its session goes on by the event, whatever comes of it; the walker may make it, and what it delivers it sent
 pub record GoesOn (splits : List ℕ) (run w : ℕ) (es : History) (n : ℕ) (e : Event) : Type 0 where
@@ -43,24 +44,24 @@ pub record GoesOn (splits : List ℕ) (run w : ℕ) (es : History) (n : ℕ) (e 
 
 module _ {T : Type 0} where
   -- p is a pass of the number w of the lock at k
-  pub record IsPassAt (founds : List (List LogRecord)) (locks : List (TurnLock T Note Origin)) (w k : ℕ) (p : Pass T Note Origin) : Type 0 where
+  pub record IsPassAt (splits : List ℕ) (founds : List (List LogRecord)) (locks : List (TurnLock T Note Origin)) (w k : ℕ) (p : Pass T Note Origin) : Type 0 where
     pub ours : (l : TurnLock T Note Origin) → IsPassOf (slice_index_or locks k l) p
     pub number_is : number p ≡ w
     pub origin : Origin
     pub has_origin : pass_origin p ≡ Some origin
-    pub origin_is : IsOriginAt founds k origin
+    pub origin_is : IsOriginAt splits founds k origin
 
   -- the passes are of the number w, one for each lock
-  pub record ArePassesOf (founds : List (List LogRecord)) (locks : List (TurnLock T Note Origin)) (w : ℕ) (passes : List (Option (Pass T Note Origin))) : Type 0 where
+  pub record ArePassesOf (splits : List ℕ) (founds : List (List LogRecord)) (locks : List (TurnLock T Note Origin)) (w : ℕ) (passes : List (Option (Pass T Note Origin))) : Type 0 where
     pub count : length passes ≡ length locks
-    pub each : (k : ℕ) (d : Option (Pass T Note Origin)) → k < length locks → (p : Pass T Note Origin) × (slice_index_or passes k d ≡ Some p) × IsPassAt founds locks w k p
+    pub each : (k : ℕ) (d : Option (Pass T Note Origin)) → k < length locks → (p : Pass T Note Origin) × (slice_index_or passes k d ≡ Some p) × IsPassAt splits founds locks w k p
 
   -- they are new ones
-  pub record AreNewPasses (founds : List (List LogRecord)) (locks : List (TurnLock T Note Origin)) (w : ℕ) (passes : List (Option (Pass T Note Origin))) : Type 0 where
+  pub record AreNewPasses (splits : List ℕ) (founds : List (List LogRecord)) (locks : List (TurnLock T Note Origin)) (w : ℕ) (passes : List (Option (Pass T Note Origin))) : Type 0 where
     pub count : length passes ≡ length locks
     pub each :
         (k : ℕ) (d : Option (Pass T Note Origin)) → k < length locks
-        → (p : Pass T Note Origin) × (o : Origin) × (slice_index_or passes k d ≡ Some p) × ((l : TurnLock T Note Origin) → IsNewPass (slice_index_or locks k l) o w p) × IsOriginAt founds k o
+        → (p : Pass T Note Origin) × (o : Origin) × (slice_index_or passes k d ≡ Some p) × ((l : TurnLock T Note Origin) → IsNewPass (slice_index_or locks k l) o w p) × IsOriginAt splits founds k o
 
   -- the walker's own entries on one shard, on all, and by stamp, then shard
   abbrev pub own_of : Option (Pass T Note Origin) → List Entry
@@ -75,7 +76,7 @@ module _ {T : Type 0} where
 
   -- passes of one number; what the walker keeps is a walker's, and none of it has a stamp past the clock
   pub record IsWalkerOf (splits : List ℕ) (founds : List (List LogRecord)) (locks : List (TurnLock T Note Origin)) (w clock : ℕ) (passes : List (Option (Pass T Note Origin))) : Type 0 where
-    pub are_passes : ArePassesOf founds locks w passes
+    pub are_passes : ArePassesOf splits founds locks w passes
     pub keeps : WalkerKeeps splits (run_after founds) w (kept passes)
     pub in_time : AllByRecursion (λ f. (f.1).stamp ≤ clock) (kept passes)
 

@@ -59,7 +59,7 @@ fn fly<M: Flier, P: Pace, R: Wait>(
 ) -> Result<Flushed, FlushError>
     requires walker { IsWalker shards.now walker.old }
     requires shard { shard < length shards.now.locks.items }
-    requires away { AwayAt shard walker.old.number (λ s. InAir s flight.upto flight.payload.items (M.Gate.faults flight.as_taken.value) (M.Gate.is_shut flight.gate) (M.Gate.faults flight.gate) (M.Gate.shard flight.gate) (M.Gate.logs flight.gate)) walker.old.passes.items }
+    requires away { AwayAt shard walker.old.number (λ layout s. InAir s flight.upto flight.payload.items (M.Gate.faults flight.as_taken.value) (M.Gate.is_shut flight.gate) (M.Gate.faults flight.gate) (M.Gate.shard flight.gate) (M.Gate.logs flight.gate layout)) walker.old.passes.items }
     requires clock { walker.old.clock < 2 ^ 48 }
     ensures walker { IsWalker shards.now walker.new × IsSameWalker walker.old walker.new }
     ensures walked { (pushed : Bool) × (result ≡ flown pushed flight.upto) × Walked (LandTold walker.old.clock walker.old.number pushed flight.upto walker.new.clock) shard walker.old.number walker.old.passes.items walker.new.passes.items × (pushed ≡ true → KnownAt shard flight.upto walker.new.passes.items) }

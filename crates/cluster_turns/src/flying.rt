@@ -26,6 +26,7 @@ pub(crate) fn depart<M: Flier, R: Wait>(
     ensures walked { Walked (EventTold walker.old.clock walker.old.number FlushOut (outcome_in result) walker.new.clock) shard walker.old.number walker.old.passes.items walker.new.passes.items }
     ensures flight { FlightTaken M.Gate.is_shut M.Gate.faults M.Gate.shard M.Gate.logs shard walker.old.number walker.new.clock walker.new.passes.items result }
 {
+    shards.go_out(walker.number);
     let place = shard as usize;
     let pass = walker.passes[place].take().unwrap();
     let (pass, clock, answer) = take_off(
@@ -51,7 +52,7 @@ pub(crate) fn arrive<M: Flier, R: Wait>(
 )
     requires walker { IsWalker shards.now walker.old }
     requires shard { shard < length shards.now.locks.items }
-    requires away { AwayAt shard walker.old.number (λ s. Landable pushed s flight.upto (M.Gate.faults flight.as_taken.value) (M.Gate.is_shut flight.gate) (M.Gate.faults flight.gate) (M.Gate.shard flight.gate) (M.Gate.logs flight.gate)) walker.old.passes.items }
+    requires away { AwayAt shard walker.old.number (λ layout s. Landable pushed s flight.upto (M.Gate.faults flight.as_taken.value) (M.Gate.is_shut flight.gate) (M.Gate.faults flight.gate) (M.Gate.shard flight.gate) (M.Gate.logs flight.gate layout)) walker.old.passes.items }
     requires clock { walker.old.clock < 2 ^ 48 + 15 }
     ensures walker { IsWalker shards.now walker.new × IsSameWalker walker.old walker.new }
     ensures walked { Walked (LandTold walker.old.clock walker.old.number pushed flight.upto walker.new.clock) shard walker.old.number walker.old.passes.items walker.new.passes.items }

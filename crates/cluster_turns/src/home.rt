@@ -7,6 +7,7 @@ ghost use Rattle.machine_calls.specs.Steps.{Tells, clock_by, clock_after};
 ghost use Rattle.machine_laws.specs.Homes.{is_single, is_named, IsFree};
 ghost use Rattle.machine_laws.specs.Sound.{IsSound};
 
+use crate::heap::OnHeap;
 use clv_base::events::{Event, Outcome};
 use log_gate::Gate;
 use machine_calls::{Machine, StepError};
@@ -19,7 +20,7 @@ const WORN: u64 = (1 << 48) - 1;
 
 /// A machine with its origin, and what its journal alone doesn't tell.
 pub struct Home<M: Machine> {
-    pub machine: M,
+    pub machine: OnHeap<M>,
     pub origin: Origin,
     pub marks: Vec<Mark>,
 }

@@ -93,7 +93,7 @@ pub(crate) fn touch_down<M: Flier, R: Wait>(
     pushed: bool,
 ) -> (Pass<Home<M>, Note, Origin>, u64)
     requires pass { IsPassOf lock.now pass × (number pass ≡ walker) }
-    requires away { Away walker (λ s. Landable pushed s flight.upto (M.Gate.faults flight.as_taken.value) (M.Gate.is_shut flight.gate) (M.Gate.faults flight.gate) (M.Gate.shard flight.gate) (M.Gate.logs flight.gate)) pass }
+    requires away { Away walker (λ layout s. Landable pushed s flight.upto (M.Gate.faults flight.as_taken.value) (M.Gate.is_shut flight.gate) (M.Gate.faults flight.gate) (M.Gate.shard flight.gate) (M.Gate.logs flight.gate layout)) pass }
     requires clock { clock < 2 ^ 48 + 15 }
     ensures pass { IsPassOf lock.now result.0 }
     ensures turned { Turned (LandTold clock walker pushed flight.upto result.1) walker pass result.0 }

@@ -37,6 +37,8 @@ pub struct Shards<M: Machine> {
     pub lacking: AtomicU64,
     /// Not 0 once a request was left standing, as a shard was down: others may wait for it for ever, so who waits looks from then on for a shard that is down.
     pub left: AtomicU64,
+    /// Sessions up to this number stay behind a shard's door between two of their events, 0 where none does. Their threads wait for nothing in between.
+    pub staying: AtomicU64,
     /// Each shard's log as opening found it.
     pub found: Snapshot<Vec<Vec<LogRecord>>>,
 }
@@ -65,7 +67,7 @@ impl<M: Machine> Walker<M> {
         passes: Vec<Option<Pass<Home<M>, Note, Origin>>>,
     ) -> Walker<M>
         requires shards { (length shards.now.locks.items ≡ shard_count shards.now.splits) × (shards.now.run ≡ run_after (founds_of shards.now)) }
-        requires passes { AreNewPasses (founds_of shards.now) shards.now.locks.items number passes.items }
+        requires passes { AreNewPasses shards.now.splits (founds_of shards.now) shards.now.locks.items number passes.items }
         ensures walker { IsWalker shards.now result }
         ensures begins { (result.number ≡ number) × (result.clock ≡ clock) × (result.serial ≡ 0) × (result.passes ≡ passes) }
     {
@@ -99,6 +101,33 @@ impl<M: Machine> Shards<M> {
         self.left.load(Ordering::SeqCst) != 0
     }
 
+    /// Lets the sessions up to this number stay behind a shard's door after an operation that was answered and a request that stands, so that their next turn
+    /// there needs no wait; 0 lets none. Whoever lets them sees to it that their threads wait for nothing between two of their calls, and calls `go_out` where
+    /// no further one follows at once.
+    pub fn let_stay(&self, upto: usize) {
+        self.staying.store(upto as u64, Ordering::SeqCst);
+    }
+
+    fn may_stay(&self, walker: u32) -> bool {
+        0 < walker && walker as u64 <= self.staying.load(Ordering::SeqCst)
+    }
+
+    /// Leaves the door behind which this walker stayed, if it did: before its thread waits for anything.
+    pub fn go_out(&self, walker: u32) {
+        for lock in &self.locks {
+            lock.go_out_if(walker);
+        }
+    }
+
+    // The same, but for this shard's door. So who waits for a door is behind none.
+    fn go_out_but(&self, walker: u32, shard: u32) {
+        for (other, lock) in self.locks.iter().enumerate() {
+            if other != shard as usize {
+                lock.go_out_if(walker);
+            }
+        }
+    }
+
     /// One event of a walker on a shard, in one turn.
     pub fn event<R: Wait>(
         &self,
@@ -118,6 +147,8 @@ impl<M: Machine> Shards<M> {
         ensures event { Walked (EventTold walker.old.clock walker.old.number event result walker.new.clock) shard walker.old.number walker.old.passes.items walker.new.passes.items }
         ensures sends { IfOk result (λ o. sends_fit o ≡ true) }
     {
+        self.go_out_but(walker.number, shard);
+        let stays = self.may_stay(walker.number);
         let place = shard as usize;
         let pass = walker.passes[place].take().unwrap();
         let (pass, clock, answer) = turn(
@@ -128,6 +159,7 @@ impl<M: Machine> Shards<M> {
             walker.clock,
             walker.number,
             event,
+            stays,
         );
         walker.passes[place] = Some(pass);
         walker.clock = clock;
@@ -164,6 +196,7 @@ impl<M: Machine> Shards<M> {
         ensures walker { IsWalker self.now walker.new × IsSameWalker walker.old walker.new × (walker.new.clock ≡ walker.old.clock) }
         ensures settled { Walked (SettledTold result) shard walker.old.number walker.old.passes.items walker.new.passes.items }
     {
+        self.go_out(walker.number);
         let place = shard as usize;
         let pass = walker.passes[place].take().unwrap();
         let (pass, settled) = survey(rt, &self.locks[place], pass, walker.number);

@@ -1,6 +1,7 @@
 // What turns make of what a walker keeps.
 ghost use Rattle.cluster_turns.specs.WalkerLaws.{TurnsFollow, KeptGrows, EntriesAreMade, ClockRises};
 ghost use Rattle.cluster_turns.specs.Answers.{AnswersHaveEntries, OutcomesFit, DownIsSeen, WornIsLast, SessionsGrow};
+ghost use Rattle.cluster_turns.specs.Dates.{TurnsAreDated, DrainsAreDated, DrainsWearOut};
 
 /// Turns after turns are turns.
 pub fn turns_follow<T>()
@@ -45,4 +46,19 @@ pub fn worn_is_last<T>()
 /// What the walker keeps of its session grows by the entries of those turns that only sessions take.
 pub fn sessions_grow<T>()
     ensures { SessionsGrow T }
+{}
+
+/// The clock rises no further than the stamps that the walker has seen.
+pub fn turns_are_dated<T>()
+    ensures { TurnsAreDated T }
+{}
+
+/// So it does in a drain.
+pub fn drains_are_dated<T>()
+    ensures { DrainsAreDated T }
+{}
+
+/// Where a drain found a stamp past the last, the clock is at its end.
+pub fn drains_wear_out<T>()
+    ensures { DrainsWearOut T }
 {}

@@ -14,7 +14,7 @@ use Rattle.cluster_closing.specs.Ends.{shard_at}
 use Rattle.cluster_closing.proofs.Homing.{disks_are_found}
 use Rattle.cluster_closing.proofs.Restarting.{unfetched_never_restart}
 use Rattle.cluster_closing.specs.Closing.{IsBack, IsLowestDown, lists, Returned}
-use Rattle.cluster_closing.proofs.ComingBack.{no_gate_away, of_shards, lists_are, is_back, gate_is_away}
+use Rattle.cluster_closing.proofs.ComingBack.{no_gate_away, of_shards, lists_are, is_back, back_under, gate_is_away}
 use Rattle.cluster_closing.proofs.closing.close.Goals as goal
 use Rattle.law_base.proofs.Lists.{few_shards, elem_at as some_elem}
 
@@ -23,13 +23,14 @@ returns-clause-disks g c =
     let sh = c.args.shards in let W = c.args.walkers in let F = c.args.fetched in let H = c.close-homes.result in let okW = W.ok in let okL = sh.locks.ok in let okH = H.ok in let okF = F.ok in let long = c.close-homes.ensures.len in
     let story = g.H.Disk.Disk.story in let faults = g.H.Disk.Disk.faults in let mid = c.part_all-journals.new.house in let new = c.give_back_held.new.house in
     λ n d l. (let h = get_or H.items n d in let s = g.M.Machine.shard h.machine in let notes = notes_of s.journal h.marks.items in let k = c.close-homes.ensures.sound n d (omega arith) in
-    let found = disks_are_found _ _ _ _ _ _ story faults W.items n h.origin notes s (g.M.Machine.gate h.machine) F.items (c.close-homes.ensures.closed n d (omega arith)) k.legal k.gated
+    let found = disks_are_found _ _ g.M.Gate.Gate.is_shut g.M.Gate.Gate.faults g.M.Gate.Gate.shard g.M.Gate.Gate.logs story faults W.items n h.origin notes s (g.M.Machine.gate h.machine) F.items (c.close-homes.ensures.closed n d (omega arith)) k.legal k.gated
     (λ j e m. no_gate_away sh (get_or W.items j e) n (c.requires.walkers j e m) (omega arith) (c.requires.landed j e m)) c.requires.fetched in
-    subst (λ v. IsBack (g.M.Machine.shard (get_or v.items n d).machine) n F.items (g.H.House.faults c.args.house.now n) (g.H.House.faults new n) (g.H.House.is_out new n) (g.H.House.story new n)) (sym c.of-ends.ensures)
+    subst (λ v. IsBack (g.M.Machine.shard (get_or v.items n d).machine) n (record { splits = sh.splits }) F.items (g.H.House.faults c.args.house.now n) (g.H.House.faults new n) (g.H.House.is_out new n) (g.H.House.story new n)) (sym c.of-ends.ensures)
+    (back_under sh.splits (founds_of sh) h.origin s n F.items _ _ _ _ (c.close-homes.ensures.origin n d (omega arith))
     (is_back story faults h.origin notes s n k.legal (c.close-homes.ensures.shard n d (omega arith)) g.M.Gate.Gate.is_shut g.M.Gate.Gate.faults g.M.Gate.Gate.shard g.M.Gate.Gate.logs (g.M.Machine.gate h.machine) F.items (g.H.House.faults c.args.house.now n) (g.H.House.faults mid n) (g.H.House.faults new n) (g.H.House.is_out mid n) (g.H.House.is_out new n) (g.H.House.story mid n) (g.H.House.story new n)
     k.gated found (λ gate is. c.part_all-journals.ensures.back n d gate (omega arith) is) (λ no. c.part_all-journals.ensures.away n d (omega arith) no)
     (λ j f m e. subst (λ x. Returned story faults (get_or F.items j f).disk (g.H.House.faults mid x) (g.H.House.faults new x) (g.H.House.is_out new x) (g.H.House.story new x)) e (c.give_back_held.ensures.back j f (omega arith)))
-    (λ none. c.give_back_held.ensures.others n none)))
+    (λ none. c.give_back_held.ensures.others n none))))
 
 pub returns-clause-others : goal.returns-clause-others
 returns-clause-others g c =
@@ -46,9 +47,9 @@ give_back_held-requires g c =
       apart = λ i j f m l. c.requires.fetched.apart i j f m (omega arith);
       out = λ j f m. (let n = shard_at F.items j f in let low = of_shards story faults sh W.items F.items c.requires.walkers c.requires.fetched j f (omega arith) in
           let d = some_elem H.items n (omega arith) in let h = get_or H.items n d in let s = g.M.Machine.shard h.machine in let notes = notes_of s.journal h.marks.items in let k = c.close-homes.ensures.sound n d (omega arith) in
-          let found = disks_are_found _ _ _ _ _ _ story faults W.items n h.origin notes s (g.M.Machine.gate h.machine) F.items (c.close-homes.ensures.closed n d (omega arith)) k.legal k.gated
+          let found = disks_are_found _ _ g.M.Gate.Gate.is_shut g.M.Gate.Gate.faults g.M.Gate.Gate.shard g.M.Gate.Gate.logs story faults W.items n h.origin notes s (g.M.Machine.gate h.machine) F.items (c.close-homes.ensures.closed n d (omega arith)) k.legal k.gated
           (λ i e q. no_gate_away sh (get_or W.items i e) n (c.requires.walkers i e q) (omega arith) (c.requires.landed i e q)) c.requires.fetched in
-          (c.part_all-journals.ensures.away n d (omega arith) (gate_is_away story faults n s (g.M.Machine.gate h.machine) F.items found j f (omega arith) refl)).1);
+          (c.part_all-journals.ensures.away n d (omega arith) (gate_is_away story faults n _ s (g.M.Machine.gate h.machine) F.items found j f (omega arith) refl)).1);
     }
 
 pub returns-clause-journals : goal.returns-clause-journals

@@ -25,7 +25,7 @@ returns g c = let w = c.args.walker.now in let sh = c.args.shards.now in let loc
     let long : n < length w.passes.items = (let h = is_walker.walks.are_passes.count in omega arith) in
     let told = FetchTold w.number r.1 in
     let turned : Turned told w.number t.0 r.0 = subst (λ p. Turned told w.number p r.0) (sym same) c.take_disk-pass.ensures.turned in
-    let new = still_pass (founds_of sh) locks w.number n told t.0 r.0 t.2 turned (λ l. subst (λ x. IsPassOf x r.0) (c.index.ensures ∙ get_or_default locks n c.index.result.now l low) c.take_disk-pass.ensures.pass) in
+    let new = still_pass sh.splits (founds_of sh) locks w.number n told t.0 r.0 t.2 turned (λ l. subst (λ x. IsPassOf x r.0) (c.index.ensures ∙ get_or_default locks n c.index.result.now l low) c.take_disk-pass.ensures.pass) in
     let adds = subst (λ es. Adds sh.splits (run_after (founds_of sh)) w.number n w.clock w.clock (kept w.passes.items) es) (sym (no_entries w.number r.1 turned.s turned.t turned.added turned.told)) (none (omega arith)) in
     let h = walks sh.splits (founds_of sh) locks n w.number w.clock w.clock told w.passes.items t.0 r.0 is_walker.walks is_walker.count low (λ d. get_or_default w.passes.items n d c.index_mut.result.now long ∙ t.1) turned new adds in
     let twice = sym (set-set w.passes.items n c.take.new.self (Some r.0)) in
@@ -33,7 +33,7 @@ returns g c = let w = c.args.walker.now in let sh = c.args.shards.now in let loc
       walker = (record { count = is_walker.count; run = is_walker.run; walks = subst (λ ps. IsWalkerOf sh.splits (founds_of sh) locks w.number w.clock ps) twice h.0; serials = is_walker.serials }, (refl, refl), refl);
       fetch = subst (λ ps. Walked told n w.number w.passes.items ps) twice h.1;
       disk = (r.0, (λ d. subst (λ ps. get_or ps n d ≡ Some r.0) twice (get_or-set_same w.passes.items n (Some r.0) d long)), c.take_disk-pass.ensures.disk);
-      held = subst (λ ps. IfOk r.1 (λ f. HoldsAt f.shard w.number (IsDiskOf g.M.Disk.Disk.faults f) ps)) twice
-          (disk_held g.M.Disk.Disk.story g.M.Disk.Disk.faults (founds_of sh) locks w.number n r.0 new (set w.passes.items n (Some r.0)) (λ d. get_or-set_same w.passes.items n (Some r.0) d long) r.1 c.take_disk-pass.ensures.disk);
-      shard = shard_taken g.M.Disk.Disk.story g.M.Disk.Disk.faults (founds_of sh) locks w.number n r.0 new r.1 c.take_disk-pass.ensures.disk;
+      held = subst (λ ps. IfOk r.1 (λ f. HoldsAt f.shard w.number (λ layout. IsDiskOf g.M.Disk.Disk.faults f) ps)) twice
+          (disk_held g.M.Disk.Disk.story g.M.Disk.Disk.faults sh.splits (founds_of sh) locks w.number n r.0 new (set w.passes.items n (Some r.0)) (λ d. get_or-set_same w.passes.items n (Some r.0) d long) r.1 c.take_disk-pass.ensures.disk);
+      shard = shard_taken g.M.Disk.Disk.story g.M.Disk.Disk.faults sh.splits (founds_of sh) locks w.number n r.0 new r.1 c.take_disk-pass.ensures.disk;
     }

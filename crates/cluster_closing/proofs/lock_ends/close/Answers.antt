@@ -1,5 +1,5 @@
 use Rattle.std.proofs.Common.{arith, get_or, None, ◌∙◌}
-use Rattle.machine_laws.specs.Homes.{holder_of}
+use Rattle.machine_laws.specs.Homes.{layout_of, holder_of}
 use Rattle.machine_laws.proofs.Laws.{fits_leaves, none_stops, gate_at_home, legal_shard}
 use Rattle.machine_laws.specs.Notes.{notes_of}
 use Rattle.cluster_closing.proofs.Together.{makes_history, origin_is}
@@ -12,14 +12,14 @@ returns-clause-legal g c = let sh = c.args.shards in let W = c.args.walkers in l
 
 pub returns-clause-leaves : goal.returns-clause-leaves
 returns-clause-leaves g c = let okH = c.close_all.result.ok in let long = c.close_all.ensures.len in
-    λ n d a log l is told. (let k = c.close_all.ensures.sound n d (omega arith) in let h = get_or c.close_all.result.items n d in let s = g.M.Machine.shard h.machine in
-    fits_leaves h.origin (notes_of s.journal h.marks.items) s (g.M.Gate.Gate.is_shut a) (g.M.Gate.Gate.faults a) (g.M.Gate.Gate.shard a) (g.M.Gate.Gate.logs a) k.legal
-    (gate_at_home g.M.Gate.Gate.is_shut g.M.Gate.Gate.faults g.M.Gate.Gate.shard g.M.Gate.Gate.logs s (holder_of (notes_of s.journal h.marks.items)) (g.M.Machine.gate h.machine) a k.gated is) log told)
+    λ n d a l is. (let k = c.close_all.ensures.sound n d (omega arith) in let h = get_or c.close_all.result.items n d in let s = g.M.Machine.shard h.machine in
+    fits_leaves h.origin (notes_of s.journal h.marks.items) s (g.M.Gate.Gate.is_shut a) (g.M.Gate.Gate.faults a) (g.M.Gate.Gate.shard a) (g.M.Gate.Gate.logs a (layout_of h.origin)) k.legal
+    (gate_at_home g.M.Gate.Gate.is_shut g.M.Gate.Gate.faults g.M.Gate.Gate.shard (λ b. g.M.Gate.Gate.logs b (layout_of h.origin)) s (holder_of (notes_of s.journal h.marks.items)) (g.M.Machine.gate h.machine) a k.gated is))
 
 pub returns-clause-counted : goal.returns-clause-counted
 returns-clause-counted g c = let okH = c.close_all.result.ok in let long = c.close_all.ensures.len in
     λ n d a l is. (let k = c.close_all.ensures.sound n d (omega arith) in let h = get_or c.close_all.result.items n d in let s = g.M.Machine.shard h.machine in
-    (gate_at_home g.M.Gate.Gate.is_shut g.M.Gate.Gate.faults g.M.Gate.Gate.shard g.M.Gate.Gate.logs s (holder_of (notes_of s.journal h.marks.items)) (g.M.Machine.gate h.machine) a k.gated is).counted)
+    (gate_at_home g.M.Gate.Gate.is_shut g.M.Gate.Gate.faults g.M.Gate.Gate.shard (λ b. g.M.Gate.Gate.logs b (layout_of h.origin)) s (holder_of (notes_of s.journal h.marks.items)) (g.M.Machine.gate h.machine) a k.gated is).counted)
 
 pub returns-clause-no_stop : goal.returns-clause-no_stop
 returns-clause-no_stop g c = let okH = c.close_all.result.ok in let long = c.close_all.ensures.len in

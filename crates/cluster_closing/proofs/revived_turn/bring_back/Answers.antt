@@ -23,7 +23,7 @@ take_up-pass-requires-clause-pass g c = let t = c.requires.walker.walks.are_pass
 pub take_up-pass-requires-clause-held : goal.take_up-pass-requires-clause-held
 take_up-pass-requires-clause-held g c = let a = c.requires.held in let is : c.take.result ≡ Some a.0 = c.take.ensures.value ∙ (c.index_mut.ensures.value ∙ a.1 c.index_mut.result.now) in
     let same : a.0 ≡ c.unwrap-pass.result = ap (the a.0) (sym is ∙ c.unwrap-pass.ensures) in let y = c.args.ready in let G = g.M.Gate.Gate in
-    subst (λ p. Holds c.args.walker.now.number (λ s. IsReadyFor s y.epoch y.found.value.items (g.M.Store.Store.records y.store) y.recovered × Recovers s y.recovered.buffer.records (G.is_shut y.gate) (G.faults y.gate) (G.shard y.gate) (G.logs y.gate)) p) same a.2
+    subst (λ p. Holds c.args.walker.now.number (λ layout s. IsReadyFor s y.epoch y.found.value.items (g.M.Store.Store.records y.store) y.recovered × Recovers s y.recovered.buffer.records (G.is_shut y.gate) (G.faults y.gate) (G.shard y.gate) (G.logs y.gate layout)) p) same a.2
 
 pub returns : goal.returns
 returns g c = let w = c.args.walker.now in let sh = c.args.shards.now in let locks = sh.locks.items in let n = c.args.shard in let low = c.requires.shard in let is_walker = c.requires.walker in let r = c.take_up-pass.result in let y = c.args.ready in
@@ -32,7 +32,7 @@ returns g c = let w = c.args.walker.now in let sh = c.args.shards.now in let loc
     let long : n < length w.passes.items = (let h = is_walker.walks.are_passes.count in omega arith) in
     let told = ReviveTold w.clock w.number y.epoch y.found.value.items r.2 r.1 in
     let turned : Turned told w.number t.0 r.0 = subst (λ p. Turned told w.number p r.0) (sym same) c.take_up-pass.ensures.turned in
-    let new = still_pass (founds_of sh) locks w.number n told t.0 r.0 t.2 turned (λ l. subst (λ x. IsPassOf x r.0) (c.index.ensures ∙ get_or_default locks n c.index.result.now l low) c.take_up-pass.ensures.pass) in
+    let new = still_pass sh.splits (founds_of sh) locks w.number n told t.0 r.0 t.2 turned (λ l. subst (λ x. IsPassOf x r.0) (c.index.ensures ∙ get_or_default locks n c.index.result.now l low) c.take_up-pass.ensures.pass) in
     let adds = revive_adds sh.splits (run_after (founds_of sh)) w.number n w.clock r.1 y.epoch (kept w.passes.items) y.found.value.items r.2 turned.s turned.t turned.added turned.told is_walker.walks.keeps.session in
     let h = walks sh.splits (founds_of sh) locks n w.number w.clock r.1 told w.passes.items t.0 r.0 is_walker.walks is_walker.count low (λ d. get_or_default w.passes.items n d c.index_mut.result.now long ∙ t.1) turned new adds in
     let twice = sym (set-set w.passes.items n c.take.new.self (Some r.0)) in

@@ -25,8 +25,8 @@ returns-in-Err-clause-held g c = let F = g.M.Disk.Disk.faults in let f = c.args.
 
 pub bring_back-requires-clause-held : goal.bring_back-requires-clause-held
 bring_back-requires-clause-held g c = let F = g.M.Disk.Disk.faults in let f = c.args.fetched in let sh = c.args.shards.now in let w = c.args.walker.now in let y = c.in-Ok.ready in let e = c.in-Ok.ensures in let G = g.M.Gate.Gate in let records = g.M.Store.Store.records y.store in
-    held_as F (founds_of sh) sh.locks.items w.number sh.run w.passes.items f (λ s. IsReadyFor s y.epoch y.found.value.items records y.recovered × Recovers s y.recovered.buffer.records (G.is_shut y.gate) (G.faults y.gate) (G.shard y.gate) (G.logs y.gate)) c.requires.walker.walks.are_passes c.requires.shard c.requires.walker.run c.requires.held
-    (λ s a b d l. ready_for f.shard sh.run f.epoch y.epoch (F f.disk) y.found.value.items records y.recovered (G.is_shut y.gate) (G.shard y.gate) (G.faults y.gate) (G.logs y.gate) e.ready e.epoch e.gate l s a b d)
+    held_as F sh.splits (founds_of sh) sh.locks.items w.number sh.run w.passes.items f (λ layout s. IsReadyFor s y.epoch y.found.value.items records y.recovered × Recovers s y.recovered.buffer.records (G.is_shut y.gate) (G.faults y.gate) (G.shard y.gate) (G.logs y.gate layout)) c.requires.walker.walks.are_passes c.requires.shard c.requires.walker.run c.requires.held
+    (λ s a b d l. ready_for f.shard sh.run f.epoch y.epoch (F f.disk) y.found.value.items records y.recovered (G.is_shut y.gate) (G.shard y.gate) (G.faults y.gate) (G.logs y.gate (record { splits = sh.splits })) e.ready e.epoch e.gate l s a b d)
 
 pub returns-in-Ok-bring_back-clause-restart : goal.returns-in-Ok-bring_back-clause-restart
 returns-in-Ok-bring_back-clause-restart g c = let f = c.args.fetched in let w = c.args.walker.now in let v = c.bring_back.new.walker in let y = c.in-Ok.ready in let e = c.in-Ok.ensures in
@@ -42,9 +42,9 @@ returns-in-Err-bring_back-clause-restart g c = let f = c.args.fetched in let w =
 pub returns-in-Err-bring_back-clause-held : goal.returns-in-Err-bring_back-clause-held
 returns-in-Err-bring_back-clause-held g c = let F = g.M.Disk.Disk.faults in let f = c.args.fetched in let w = c.args.walker.now in let v = c.bring_back.new.walker in let e = c.in-Ok.ensures in let G = g.M.Gate.Gate in
     let same : F c.disk_of-disk.result ≡ F f.disk = c.disk_of-disk.ensures.faults ∙ ap G.faults c.in-Err-bring_back.ensures.back ∙ e.gate.count in
-    held_still F w.number v.passes.items f (record { shard = f.shard; epoch = f.epoch; disk = c.disk_of-disk.result }) refl refl (λ l. omega arith) (held_after F f.shard w.number (IsDiskOf F f) w.passes.items v.passes.items c.requires.held c.in-Err-bring_back.ensures.same)
+    held_still F w.number v.passes.items f (record { shard = f.shard; epoch = f.epoch; disk = c.disk_of-disk.result }) refl refl (λ l. omega arith) (held_after F f.shard w.number (λ layout. IsDiskOf F f) w.passes.items v.passes.items c.requires.held c.in-Err-bring_back.ensures.same)
 
 pub returns-in-Err-bring_back-clause-left : goal.returns-in-Err-bring_back-clause-left
 returns-in-Err-bring_back-clause-left g c = let f = c.args.fetched in let y = c.in-Ok.ready in let e = c.in-Ok.ensures in let G = g.M.Gate.Gate in let gate = c.in-Err-bring_back.gate in let run = c.args.shards.now.run in let records = y.recovered.buffer.records in
-    left_begun f.shard run f.epoch y.epoch (G.shard gate) y.found.value.items (G.logs gate) (g.M.Disk.Disk.story f.disk) (g.M.Disk.Disk.story c.disk_of-disk.result) e.read e.epoch (ap G.shard c.in-Err-bring_back.ensures.back ∙ e.gate.own) c.disk_of-disk.ensures.logs
-    (at_end f.shard run y.epoch y.found.value.items (G.logs gate) records e.ready.log (subst (λ z. Only records (G.logs z)) (sym c.in-Err-bring_back.ensures.back) e.gate.log_is))
+    left_begun f.shard (record { splits = c.args.shards.now.splits }) run f.epoch y.epoch (G.shard gate) y.found.value.items (G.logs gate (record { splits = c.args.shards.now.splits })) (g.M.Disk.Disk.story f.disk) (g.M.Disk.Disk.story c.disk_of-disk.result) e.read e.epoch (ap G.shard c.in-Err-bring_back.ensures.back ∙ e.gate.own) (c.disk_of-disk.ensures.logs (record { splits = c.args.shards.now.splits }))
+    (at_end f.shard run y.epoch y.found.value.items (G.logs gate (record { splits = c.args.shards.now.splits })) records e.ready.log (subst (λ z. Only records (G.logs z (record { splits = c.args.shards.now.splits }))) (sym c.in-Err-bring_back.ensures.back) e.gate.log_is))

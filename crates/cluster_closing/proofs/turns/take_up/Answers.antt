@@ -11,22 +11,22 @@ use Rattle.cluster_closing.proofs.turns.take_up.Goals as goal
 
 pub bring_up-clock-requires-clause-held : goal.bring_up-clock-requires-clause-held
 bring_up-clock-requires-clause-held g c = let home = c.enter-turn.result.1 in let s = g.M.Machine.shard home.machine in let a = c.args.ready in let G = g.M.Gate.Gate in let notes = notes_of s.journal home.marks.items in
-    (finds c.args.walker (λ u. IsReadyFor u a.epoch a.found.value.items (g.M.Store.Store.records a.store) a.recovered × Recovers u a.recovered.buffer.records (G.is_shut a.gate) (G.faults a.gate) (G.shard a.gate) (G.logs a.gate)) c.args.pass home.origin notes s c.requires.held c.enter-turn.ensures.origin c.enter-turn.ensures.sound.legal
+    (finds c.args.walker (λ layout u. IsReadyFor u a.epoch a.found.value.items (g.M.Store.Store.records a.store) a.recovered × Recovers u a.recovered.buffer.records (G.is_shut a.gate) (G.faults a.gate) (G.shard a.gate) (G.logs a.gate layout)) c.args.pass home.origin notes s c.requires.held c.enter-turn.ensures.origin c.enter-turn.ensures.sound.legal
     (subst (λ w. GrownByOthers noter w (seen c.args.pass) notes) c.requires.pass.1 c.enter-turn.ensures.grown)).held
 
 pub bring_up-clock-requires-clause-down : goal.bring_up-clock-requires-clause-down
 bring_up-clock-requires-clause-down g c = let home = c.enter-turn.result.1 in let s = g.M.Machine.shard home.machine in let a = c.args.ready in let G = g.M.Gate.Gate in let notes = notes_of s.journal home.marks.items in
-    (finds c.args.walker (λ u. IsReadyFor u a.epoch a.found.value.items (g.M.Store.Store.records a.store) a.recovered × Recovers u a.recovered.buffer.records (G.is_shut a.gate) (G.faults a.gate) (G.shard a.gate) (G.logs a.gate)) c.args.pass home.origin notes s c.requires.held c.enter-turn.ensures.origin c.enter-turn.ensures.sound.legal
+    (finds c.args.walker (λ layout u. IsReadyFor u a.epoch a.found.value.items (g.M.Store.Store.records a.store) a.recovered × Recovers u a.recovered.buffer.records (G.is_shut a.gate) (G.faults a.gate) (G.shard a.gate) (G.logs a.gate layout)) c.args.pass home.origin notes s c.requires.held c.enter-turn.ensures.origin c.enter-turn.ensures.sound.legal
     (subst (λ w. GrownByOthers noter w (seen c.args.pass) notes) c.requires.pass.1 c.enter-turn.ensures.grown)).down
 
 pub bring_up-clock-requires-clause-ready : goal.bring_up-clock-requires-clause-ready
 bring_up-clock-requires-clause-ready g c = let home = c.enter-turn.result.1 in let s = g.M.Machine.shard home.machine in let a = c.args.ready in let G = g.M.Gate.Gate in let notes = notes_of s.journal home.marks.items in
-    (finds c.args.walker (λ u. IsReadyFor u a.epoch a.found.value.items (g.M.Store.Store.records a.store) a.recovered × Recovers u a.recovered.buffer.records (G.is_shut a.gate) (G.faults a.gate) (G.shard a.gate) (G.logs a.gate)) c.args.pass home.origin notes s c.requires.held c.enter-turn.ensures.origin c.enter-turn.ensures.sound.legal
+    (finds c.args.walker (λ layout u. IsReadyFor u a.epoch a.found.value.items (g.M.Store.Store.records a.store) a.recovered × Recovers u a.recovered.buffer.records (G.is_shut a.gate) (G.faults a.gate) (G.shard a.gate) (G.logs a.gate layout)) c.args.pass home.origin notes s c.requires.held c.enter-turn.ensures.origin c.enter-turn.ensures.sound.legal
     (subst (λ w. GrownByOthers noter w (seen c.args.pass) notes) c.requires.pass.1 c.enter-turn.ensures.grown)).holds.0
 
 pub bring_up-clock-requires-clause-gate : goal.bring_up-clock-requires-clause-gate
 bring_up-clock-requires-clause-gate g c = let home = c.enter-turn.result.1 in let s = g.M.Machine.shard home.machine in let a = c.args.ready in let G = g.M.Gate.Gate in let notes = notes_of s.journal home.marks.items in
-    (finds c.args.walker (λ u. IsReadyFor u a.epoch a.found.value.items (g.M.Store.Store.records a.store) a.recovered × Recovers u a.recovered.buffer.records (G.is_shut a.gate) (G.faults a.gate) (G.shard a.gate) (G.logs a.gate)) c.args.pass home.origin notes s c.requires.held c.enter-turn.ensures.origin c.enter-turn.ensures.sound.legal
+    (finds c.args.walker (λ layout u. IsReadyFor u a.epoch a.found.value.items (g.M.Store.Store.records a.store) a.recovered × Recovers u a.recovered.buffer.records (G.is_shut a.gate) (G.faults a.gate) (G.shard a.gate) (G.logs a.gate layout)) c.args.pass home.origin notes s c.requires.held c.enter-turn.ensures.origin c.enter-turn.ensures.sound.legal
     (subst (λ w. GrownByOthers noter w (seen c.args.pass) notes) c.requires.pass.1 c.enter-turn.ensures.grown)).holds.1
 
 pub leave-requires-clause-grown : goal.leave-requires-clause-grown
@@ -60,6 +60,6 @@ returns-clause-turned g c = let t = c.enter-turn.ensures.turn in let l = c.leave
 pub returns-clause-same : goal.returns-clause-same
 returns-clause-same g c = let t = c.enter-turn.ensures.turn in let l = c.leave.ensures in let home = c.enter-turn.result.1 in let after = c.bring_up-clock.new.home in let s = g.M.Machine.shard home.machine in let u = g.M.Machine.shard after.machine in let h = c.bring_up-clock.ensures.told in
     let a = c.args.ready in let G = g.M.Gate.Gate in let notes = notes_of s.journal home.marks.items in
-    let f = finds c.args.walker (λ v. IsReadyFor v a.epoch a.found.value.items (g.M.Store.Store.records a.store) a.recovered × Recovers v a.recovered.buffer.records (G.is_shut a.gate) (G.faults a.gate) (G.shard a.gate) (G.logs a.gate)) c.args.pass home.origin notes s c.requires.held c.enter-turn.ensures.origin c.enter-turn.ensures.sound.legal
+    let f = finds c.args.walker (λ layout v. IsReadyFor v a.epoch a.found.value.items (g.M.Store.Store.records a.store) a.recovered × Recovers v a.recovered.buffer.records (G.is_shut a.gate) (G.faults a.gate) (G.shard a.gate) (G.logs a.gate layout)) c.args.pass home.origin notes s c.requires.held c.enter-turn.ensures.origin c.enter-turn.ensures.sound.legal
     (subst (λ w. GrownByOthers noter w (seen c.args.pass) notes) c.requires.pass.1 c.enter-turn.ensures.grown) in
     same_seen c.args.clock c.args.walker a.epoch a.found.value.items c.bring_up-clock.result.1 c.bring_up-clock.result.0 s u (seen c.args.pass) notes h.0 (seen c.leave.result) _ _ h.1 f.same (l.seen ∙ h.2) (l.pass.3 ∙ t.5)

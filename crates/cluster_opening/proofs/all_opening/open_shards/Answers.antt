@@ -27,7 +27,7 @@ open_shard-requires g c =
     let log_same : log_of L k ≡ y.items = log_at W.items k y (omega arith) ∙ ap (λ v. v.items) (sym log_is) in
     let facts = know_first c.loop-shard.said.items c.remove-facts.result c.remove-facts.new.self.items _ _ c.remove-facts.ensures.value c.remove-facts.ensures.by_index.2
     (know_left c.loop-shard.said.items W.items k y (omega arith) inv.known) in
-    let at : IsOpenGate G.is_shut G.faults G.shard G.logs k y.items x = subst (λ z. IsOpenGate G.is_shut G.faults G.shard G.logs k z x) log_same (subst (λ z. IsOpenGate G.is_shut G.faults G.shard G.logs k (log_of L k) z) (sym gate_is) (F.each k x (omega arith))) in
+    let at : IsOpenGate G.is_shut G.faults G.shard G.logs (record { splits = c.args.splits.now }) k y.items x = subst (λ z. IsOpenGate G.is_shut G.faults G.shard G.logs (record { splits = c.args.splits.now }) k z x) log_same (subst (λ z. IsOpenGate G.is_shut G.faults G.shard G.logs (record { splits = c.args.splits.now }) k (log_of L k) z) (sym gate_is) (F.each k x (omega arith))) in
     record {
       some = c.requires.some;
       knows = subst (λ v. Knows c.remove-facts.result v.items) (sym log_is) facts.0;
@@ -53,8 +53,8 @@ returns-in-Err-clause-stopped g c =
       inv.locks,
       record {
         is_shard = omega arith;
-        left = λ d. subst (λ z. IsLeft k z c.args.run (g.M.OverDisks.story (get_or V.items k d)) (g.D.Disk.story c.in-Err.disk)) (sym log_same)
-            (subst (λ z. IsLeft k y.items c.args.run (g.M.OverDisks.story z) (g.D.Disk.story c.in-Err.disk)) (gate_is ∙ get_or_default V.items k x d (omega arith)) c.in-Err.ensures.left);
+        left = λ d. subst (λ z. IsLeft k (record { splits = c.args.splits.now }) z c.args.run (g.M.OverDisks.story (get_or V.items k d)) (g.D.Disk.story c.in-Err.disk)) (sym log_same)
+            (subst (λ z. IsLeft k (record { splits = c.args.splits.now }) y.items c.args.run (g.M.OverDisks.story z) (g.D.Disk.story c.in-Err.disk)) (gate_is ∙ get_or_default V.items k x d (omega arith)) c.in-Err.ensures.left);
         counts = c.in-Err.ensures.cause;
         above = omega arith;
         rest_are = λ n j d h l. ap (λ z. get_or z j d) c.pop.ensures.rest ∙ get_or-take last c.loop-shard.rest.items j d (omega arith) ∙ inv.gate n j d (omega arith) (omega arith);
@@ -75,11 +75,11 @@ loop-shard-preserved g c =
     let facts = know_first c.loop-shard.said.items c.remove-facts.result c.remove-facts.new.self.items _ _ c.remove-facts.ensures.value c.remove-facts.ensures.by_index.2
     (know_left c.loop-shard.said.items W.items k y (omega arith) inv.known) in
     let made = c.in-Ok.ensures.passes in let okM = c.in-Ok.mine.ok in let put = c.push_reserved.ensures in let put2 = c.push_reserved-in-Ok.ensures in
-    let here : IsOpenedAt c.args.run c.args.walkers k (log_of L k) c.in-Ok.lock c.in-Ok.mine.items = record {
+    let here : IsOpenedAt (record { splits = c.args.splits.now }) c.args.run c.args.walkers k (log_of L k) c.in-Ok.lock c.in-Ok.mine.items = record {
       many = c.in-Ok.ensures.lock;
       all = (let m = made.2 in omega arith);
       origin = made.0;
-      origin_is = record { shard_is = (made.1).shard_is; run_is = (made.1).run_is; found_is = (made.1).found_is ∙ sym log_same };
+      origin_is = record { shard_is = (made.1).shard_is; run_is = (made.1).run_is; found_is = (made.1).found_is ∙ sym log_same; layout_is = (made.1).layout_is };
       new = made.3;
     } in
     let il = inv.locks in let ip = inv.passes in let r1 = inv.room in let r2 = inv.room_too in let c1 = put.capacity in let c2 = put2.capacity in record {
@@ -92,7 +92,7 @@ loop-shard-preserved g c =
       passes = ap length put2.items ∙ length_push c.loop-shard.passes.items c.in-Ok.mine ∙ ap (λ n. n + 1) ip;
       room = omega arith;
       room_too = omega arith;
-      opened = λ n d e l. subst (λ z. IsOpenedAt c.args.run c.args.walkers n (log_of L n) (get_or z n d) (get_or c.push_reserved-in-Ok.new.self.items n e).items) (sym put.items)
-          (subst (λ z. IsOpenedAt c.args.run c.args.walkers n (log_of L n) (get_or (c.loop-shard.locks.items ++ c.in-Ok.lock ∷ []) n d) (get_or z n e).items) (sym put2.items)
-          (pushed_two (λ i a b. IsOpenedAt c.args.run c.args.walkers i (log_of L i) a b.items) c.loop-shard.locks.items c.loop-shard.passes.items c.in-Ok.lock c.in-Ok.mine k il ip inv.opened here n d e l));
+      opened = λ n d e l. subst (λ z. IsOpenedAt (record { splits = c.args.splits.now }) c.args.run c.args.walkers n (log_of L n) (get_or z n d) (get_or c.push_reserved-in-Ok.new.self.items n e).items) (sym put.items)
+          (subst (λ z. IsOpenedAt (record { splits = c.args.splits.now }) c.args.run c.args.walkers n (log_of L n) (get_or (c.loop-shard.locks.items ++ c.in-Ok.lock ∷ []) n d) (get_or z n e).items) (sym put2.items)
+          (pushed_two (λ i a b. IsOpenedAt (record { splits = c.args.splits.now }) c.args.run c.args.walkers i (log_of L i) a b.items) c.loop-shard.locks.items c.loop-shard.passes.items c.in-Ok.lock c.in-Ok.mine k il ip inv.opened here n d e l));
     }

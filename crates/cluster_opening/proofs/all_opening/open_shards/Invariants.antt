@@ -15,5 +15,5 @@ invariant-loop-shard g l = record {
   passes : length l.passes.items ≡ l.shard;
   room : vec_len l.fn.gates ≤ vec_capacity l.locks;
   room_too : vec_len l.fn.gates ≤ vec_capacity l.passes;
-  opened : (n : ℕ) (d : _) (e : _) → n < l.shard → IsOpenedAt l.run l.walkers n (log_of (map (λ v. v.items) l.fn.logs.items) n) (get_or l.locks.items n d) (get_or l.passes.items n e).items;
+  opened : (n : ℕ) (d : _) (e : _) → n < l.shard → IsOpenedAt (record { splits = l.splits }) l.run l.walkers n (log_of (map (λ v. v.items) l.fn.logs.items) n) (get_or l.locks.items n d) (get_or l.passes.items n e).items;
 }

@@ -1,6 +1,6 @@
 use Rattle.std.proofs.Common.{◌∙◌, ap, sym}
 use Rattle.clv_base.specs.LogRules.{disorder}
-use Rattle.cluster_opening.proofs.OneDisk.{told_own, first_of, faults_refuse, refused_as}
+use Rattle.cluster_opening.proofs.OneDisk.{told_own, faults_refuse, refused_as}
 use Rattle.cluster_opening.proofs.finding.find.Goals as goal
 
 pub returns-in-Ok-judge-clause-found : goal.returns-in-Ok-judge-clause-found
@@ -12,7 +12,7 @@ returns-in-Ok-judge-clause-found g c =
         fits = found.fits;
         spelled = found.spelled;
         told = told_own c.args.shard _ c.in-Ok.header.splits c.in-Ok.log.items (g.D.Disk.story c.args.disk) c.in-Ok-judge.ensures.fine.0 found.found;
-        read_as = first_of (g.D.Disk.story c.args.disk) _ _ found.before;
+        read_as = found.before;
       };
       is_open = found.opened.0;
       shard = found.opened.1;

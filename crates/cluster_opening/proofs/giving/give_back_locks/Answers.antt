@@ -18,8 +18,8 @@ close_unused-requires-clause-some g c =
     ∙ ap (λ z. get_or z last x) inv.front ∙ get_or-take (vec_len c.loop-lock.locks) V.items last x (omega arith) ∙ ap (λ m. get_or V.items m x) (sym one) in
     let mine_is : y ≡ get_or W.items k y = some_same y (get_or c.loop-lock.passes.items last2 y) c.pop-in-Some.result c.unwrap-mine.ensures (c.pop-in-Some.ensures.value y (omega arith))
     ∙ ap (λ z. get_or z last2 y) inv.front_too ∙ get_or-take (vec_len c.loop-lock.locks) W.items last2 y (omega arith) ∙ ap (λ m. get_or W.items m y) same in
-    let r = c.requires.opened in let at = opened_at r.0 r.1 r.2 V.items W.items r.4 k x y (omega arith) lock_is mine_is in
-    (let a = at.all in let pos = r.3 in omega arith)
+    let r = c.requires.opened in let at = opened_at r.0 r.1 r.2 r.3 V.items W.items r.5 k x y (omega arith) lock_is mine_is in
+    (let a = at.all in let pos = r.4 in omega arith)
 
 pub close_unused-requires-clause-all : goal.close_unused-requires-clause-all
 close_unused-requires-clause-all g c =
@@ -31,7 +31,7 @@ close_unused-requires-clause-all g c =
     ∙ ap (λ z. get_or z last x) inv.front ∙ get_or-take (vec_len c.loop-lock.locks) V.items last x (omega arith) ∙ ap (λ m. get_or V.items m x) (sym one) in
     let mine_is : y ≡ get_or W.items k y = some_same y (get_or c.loop-lock.passes.items last2 y) c.pop-in-Some.result c.unwrap-mine.ensures (c.pop-in-Some.ensures.value y (omega arith))
     ∙ ap (λ z. get_or z last2 y) inv.front_too ∙ get_or-take (vec_len c.loop-lock.locks) W.items last2 y (omega arith) ∙ ap (λ m. get_or W.items m y) same in
-    let r = c.requires.opened in let at = opened_at r.0 r.1 r.2 V.items W.items r.4 k x y (omega arith) lock_is mine_is in
+    let r = c.requires.opened in let at = opened_at r.0 r.1 r.2 r.3 V.items W.items r.5 k x y (omega arith) lock_is mine_is in
     (let a = at.all in let m = at.many in omega arith)
 
 pub close_unused-requires-clause-unused : goal.close_unused-requires-clause-unused
@@ -44,7 +44,7 @@ close_unused-requires-clause-unused g c =
     ∙ ap (λ z. get_or z last x) inv.front ∙ get_or-take (vec_len c.loop-lock.locks) V.items last x (omega arith) ∙ ap (λ m. get_or V.items m x) (sym one) in
     let mine_is : y ≡ get_or W.items k y = some_same y (get_or c.loop-lock.passes.items last2 y) c.pop-in-Some.result c.unwrap-mine.ensures (c.pop-in-Some.ensures.value y (omega arith))
     ∙ ap (λ z. get_or z last2 y) inv.front_too ∙ get_or-take (vec_len c.loop-lock.locks) W.items last2 y (omega arith) ∙ ap (λ m. get_or W.items m y) same in
-    let r = c.requires.opened in let at = opened_at r.0 r.1 r.2 V.items W.items r.4 k x y (omega arith) lock_is mine_is in
+    let r = c.requires.opened in let at = opened_at r.0 r.1 r.2 r.3 V.items W.items r.5 k x y (omega arith) lock_is mine_is in
     (at.origin, λ j d l. at.new j d (let a = at.all in omega arith))
 
 pub loop-lock-preserved : goal.loop-lock-preserved
@@ -67,17 +67,17 @@ loop-lock-preserved g c =
           (λ is. subst (λ m. (g.H.House.faults c.give_back.new.self m ≡ g.H.House.faults c.args.house.now m) × (g.H.House.is_out c.give_back.new.self m ≡ false)) (here ∙ sym is)
           (back.adds.none c.close_unused.ensures.fine ∙ (inv.todo n0 (omega arith)).1, back.back))
           (λ other. (let t = back.others n (λ e. absurd (other (e ∙ here))) in let w = inv.done n (omega arith) h in (t.0 ∙ w.0, t.1 ∙ w.1)));
-      left = λ run walkers logs all n before l h. dite (ℕ_discrete n k)
-          (λ is. (let q = opened_at run walkers logs V.items W.items all k x y (omega arith) lock_is mine_is in
-          subst (λ m. IsLeft m (log_of logs m) run before (g.H.House.story c.give_back.new.self m)) (sym is)
-          (subst (λ m. IsLeft k (log_of logs k) run before (g.H.House.story c.give_back.new.self m)) here
-          (subst (λ z. IsLeft k (log_of logs k) run before z) (sym back.story)
-          (c.close_unused.ensures.left q.origin k run (log_of logs k) before (λ j d i. q.new j d (let a = q.all in omega arith)) q.origin_is)))))
-          (λ other. subst (λ z. IsLeft n (log_of logs n) run before z) (sym (back.others n (λ e. absurd (other (e ∙ here)))).2) (inv.left run walkers logs all n before (omega arith) h));
+      left = λ layout run walkers logs all n before l h. dite (ℕ_discrete n k)
+          (λ is. (let q = opened_at layout run walkers logs V.items W.items all k x y (omega arith) lock_is mine_is in
+          subst (λ m. IsLeft m layout (log_of logs m) run before (g.H.House.story c.give_back.new.self m)) (sym is)
+          (subst (λ m. IsLeft k layout (log_of logs k) run before (g.H.House.story c.give_back.new.self m)) here
+          (subst (λ z. IsLeft k layout (log_of logs k) run before z) (sym back.story)
+          (c.close_unused.ensures.left q.origin k layout run (log_of logs k) before (λ j d i. q.new j d (let a = q.all in omega arith)) q.origin_is)))))
+          (λ other. subst (λ z. IsLeft n layout (log_of logs n) run before z) (sym (back.others n (λ e. absurd (other (e ∙ here)))).2) (inv.left layout run walkers logs all n before (omega arith) h));
       todo = λ n l. (let t = back.others n (λ e. absurd (omega (arith, e, here))) in let w = inv.todo n (omega arith) in (t.1 ∙ w.0, t.0 ∙ w.1));
       others = λ n l. (let t = back.others n (λ e. absurd (omega (arith, e, here))) in let w = inv.others n l in (t.0 ∙ w.0, t.1 ∙ w.1, t.2 ∙ w.2));
     }
 
 pub returns-clause-left : goal.returns-clause-left
 returns-clause-left g c = let inv = c.loop-lock.invariant in let none = none_case c.pop.result _ _ c.in_default.is c.pop.ensures.cases in let zero = none.0 in
-    λ run walkers logs all n before l. inv.left run walkers logs all n before (omega arith) l
+    λ layout run walkers logs all n before l. inv.left layout run walkers logs all n before (omega arith) l

@@ -2,6 +2,7 @@ use Rattle.std.proofs.Common.{◌≡◌, ◌<◌, ◌≤◌, ℕ, true, false, t
 use Rattle.clv_base.specs.declared.logs.LogRecord.{LogRecord}
 use Rattle.clv_base.specs.LogRules.{log_of}
 use Rattle.io_model.specs.Story.{Story}
+use Rattle.log_gate.specs.Header.{Layout}
 use Rattle.machine_calls.specs.Recovered.{IsLeft}
 use Rattle.cluster_opening.specs.Undone.{AreOpened}
 use Rattle.cluster_opening.proofs.giving.give_back_locks.Given as goal
@@ -13,8 +14,8 @@ invariant-loop-lock g l = record {
   passes : vec_len l.passes ≡ vec_len l.locks;
   front_too : l.passes.items ≡ take (vec_len l.locks) l.initial.passes.items;
   done : (n : ℕ) → vec_len l.locks ≤ n → n < vec_len l.initial.locks → (g.H.House.faults l.house n ≡ g.H.House.faults l.initial.house n) × (g.H.House.is_out l.house n ≡ false);
-  left : (run walkers : ℕ) (logs : List (List LogRecord)) → AreOpened run walkers logs l.initial.locks.items l.initial.passes.items
-      → (n : ℕ) (before : Option Story) → vec_len l.locks ≤ n → n < vec_len l.initial.locks → IsLeft n (log_of logs n) run before (g.H.House.story l.house n);
+  left : (layout : Layout) (run walkers : ℕ) (logs : List (List LogRecord)) → AreOpened layout run walkers logs l.initial.locks.items l.initial.passes.items
+      → (n : ℕ) (before : Option Story) → vec_len l.locks ≤ n → n < vec_len l.initial.locks → IsLeft n layout (log_of logs n) run before (g.H.House.story l.house n);
   todo : (n : ℕ) → n < vec_len l.locks → (g.H.House.is_out l.house n ≡ true) × (g.H.House.faults l.house n ≡ g.H.House.faults l.initial.house n);
   others : (n : ℕ) → vec_len l.initial.locks ≤ n → (g.H.House.faults l.house n ≡ g.H.House.faults l.initial.house n) × (g.H.House.is_out l.house n ≡ g.H.House.is_out l.initial.house n) × (g.H.House.story l.house n ≡ g.H.House.story l.initial.house n);
 }

@@ -39,7 +39,7 @@ pub new-requires-clause-passes : goal.new-requires-clause-passes
 new-requires-clause-passes g c = let inv = c.loop-i.invariant in let low = c.loop-i-test.true in let P = c.args.passes.now in let L = c.args.shards.now.locks in let okP = P.ok in let okL = L.ok in let cnt = c.len-count.ensures in
     let long = c.requires.len in let il = inv.len in let tl = c.take_column-mine.ensures.len.0 in let Q = c.loop-i.passes in let okQ = Q.ok in let mine = c.take_column-mine.result in let okM = mine.ok in
     let number = c.len-count.result - 1 - c.loop-i.i in let run = c.requires.shards.1 in
-    column_is_new _ c.args.shards.now.run (vec_len c.args.rooms) number L.items P.items mine.items run (omega arith) (omega arith) (omega arith) c.requires.opened
+    column_is_new _ _ c.args.shards.now.run (vec_len c.args.rooms) number L.items P.items mine.items run (omega arith) (omega arith) (omega arith) c.requires.opened
     (λ n d e f l. (let h = inv.left n d (omega arith) in let at : vec_len (get_or Q.items n d) - 1 ≡ number = omega arith in
     c.take_column-mine.ensures.taken n d e f (omega arith) ∙ ap Some (ap (λ m. get_or (get_or Q.items n d).items m f) at ∙ inv.same n number d f (omega arith) (omega arith))))
 
@@ -65,8 +65,8 @@ loop-i-preserved g c = let inv = c.loop-i.invariant in let low = c.loop-i-test.t
             number_is = (let e = begins.0 in omega arith);
             clock_is = begins.1;
             none_begun = begins.2;
-            new = subst (λ z. AreNewPasses (founds_of c.args.shards.now) L.items m z.items) (sym begins.3)
-                (column_is_new _ c.args.shards.now.run (vec_len c.args.rooms) m L.items P.items mine.items run (omega arith) (omega arith) (omega arith) c.requires.opened
+            new = subst (λ z. AreNewPasses c.args.shards.now.splits (founds_of c.args.shards.now) L.items m z.items) (sym begins.3)
+                (column_is_new _ _ c.args.shards.now.run (vec_len c.args.rooms) m L.items P.items mine.items run (omega arith) (omega arith) (omega arith) c.requires.opened
                 (λ n d e f l. (let h = inv.left n d (omega arith) in let at : vec_len (get_or Q.items n d) - 1 ≡ m = omega arith in
                 col.taken n d e f (omega arith) ∙ ap Some (ap (λ m. get_or (get_or Q.items n d).items m f) at ∙ inv.same n m d f (omega arith) (omega arith)))));
           }) j d l);

@@ -6,14 +6,14 @@ use Rattle.cluster_opening.proofs.undoing.undo.Goals as goal
 pub returns-clause-back : goal.returns-clause-back
 returns-clause-back g c = let s = c.args.stopped in let many = c.requires.locks in let okR = s.rest.ok in let out = g.H.House.is_out in let story = g.H.House.story in
     let h1 = c.give_back_locks.new.house in let h2 = c.give_back.new.self in let h3 = c.give_back_above.new.house in let one = c.give_back_locks.ensures in let two = c.give_back.ensures in let three = c.give_back_above.ensures in
-    λ run walkers logs gates all st. all_back g.M.OverDisks.story g.M.Gate.Gate.faults run logs gates s.shard s.error (g.H.Disk.Disk.story s.disk) (g.H.Disk.Disk.faults s.disk) s.rest.items st (out h1) (out h2) (out h3) (story h1) (story h2) (story h3)
-    (λ n l. (one.back n (omega arith)).1) (λ n b l. one.left run walkers logs all n b (omega arith)) two.back two.story (λ n d. (let t = two.others n d in (t.1, t.2)))
+    λ layout run walkers logs gates all st. all_back g.M.OverDisks.story g.M.Gate.Gate.faults layout run logs gates s.shard s.error (g.H.Disk.Disk.story s.disk) (g.H.Disk.Disk.faults s.disk) s.rest.items st (out h1) (out h2) (out h3) (story h1) (story h2) (story h3)
+    (λ n l. (one.back n (omega arith)).1) (λ n b l. one.left layout run walkers logs all n b (omega arith)) two.back two.story (λ n d. (let t = two.others n d in (t.1, t.2)))
     (λ n j d a b. (let t = three.back n j d (omega arith) (omega arith) in (t.is_in, t.story_is))) (λ n l. (let t = three.below n (omega arith) in (t.1, t.2)))
 
 pub returns-clause-counts : goal.returns-clause-counts
 returns-clause-counts g c = let s = c.args.stopped in let many = c.requires.locks in let okR = s.rest.ok in let faults = g.H.House.faults in
     let h0 = c.args.house.now in let h1 = c.give_back_locks.new.house in let h2 = c.give_back.new.self in let h3 = c.give_back_above.new.house in let one = c.give_back_locks.ensures in let two = c.give_back.ensures in let three = c.give_back_above.ensures in
-    λ run logs gates fine st. counts_back g.M.OverDisks.story g.M.Gate.Gate.faults run logs gates s.shard s.error (g.H.Disk.Disk.story s.disk) (g.H.Disk.Disk.faults s.disk) s.rest.items st (faults h0) (faults h1) (faults h2) (faults h3) fine
+    λ layout run logs gates fine st. counts_back g.M.OverDisks.story g.M.Gate.Gate.faults layout run logs gates s.shard s.error (g.H.Disk.Disk.story s.disk) (g.H.Disk.Disk.faults s.disk) s.rest.items st (faults h0) (faults h1) (faults h2) (faults h3) fine
     (λ n. elim (cases_lt n s.shard) [ inl l ↦ (one.back n (omega arith)).0 | inr l ↦ (one.others n (omega arith)).0 ]) two.adds (λ n d. (two.others n d).0)
     (λ n j d a b. (three.back n j d (omega arith) (omega arith)).adds) (λ n l. (three.below n (omega arith)).0) (λ n l. (three.above n (omega arith)).0)
 

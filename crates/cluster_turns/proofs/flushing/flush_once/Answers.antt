@@ -10,7 +10,7 @@ use Rattle.cluster_turns.proofs.flushing.flush_once.Goals as goal
 pub fly-requires-clause-away : goal.fly-requires-clause-away
 fly-requires-clause-away g c = let w = c.args.walker.now in let u = c.depart.new.walker in let e = c.in-Ok.ensures in
     let k = subst (λ o. FlightTaken g.M.Gate.Gate.is_shut g.M.Gate.Gate.faults g.M.Gate.Gate.shard g.M.Gate.Gate.logs c.args.shard w.number u.clock u.passes.items (Ok (c.in-Ok.taken.0, o))) c.in-Some.is e.flight in
-    subst (λ n. AwayAt c.args.shard n (λ s. InAir s c.in-Some.flight.upto c.in-Some.flight.payload.items (g.M.Gate.Gate.faults c.in-Some.flight.as_taken.value) (g.M.Gate.Gate.is_shut c.in-Some.flight.gate) (g.M.Gate.Gate.faults c.in-Some.flight.gate) (g.M.Gate.Gate.shard c.in-Some.flight.gate) (g.M.Gate.Gate.logs c.in-Some.flight.gate)) u.passes.items) (sym e.walker.1.0) k.2
+    subst (λ n. AwayAt c.args.shard n (λ layout s. InAir s c.in-Some.flight.upto c.in-Some.flight.payload.items (g.M.Gate.Gate.faults c.in-Some.flight.as_taken.value) (g.M.Gate.Gate.is_shut c.in-Some.flight.gate) (g.M.Gate.Gate.faults c.in-Some.flight.gate) (g.M.Gate.Gate.shard c.in-Some.flight.gate) (g.M.Gate.Gate.logs c.in-Some.flight.gate layout)) u.passes.items) (sym e.walker.1.0) k.2
 
 pub fly-requires-clause-clock : goal.fly-requires-clause-clock
 fly-requires-clause-clock g c = let w = c.args.walker.now in let u = c.depart.new.walker in let e = c.in-Ok.ensures in

@@ -25,7 +25,7 @@ touch_down-pass-requires-clause-pass g c = let t = c.requires.walker.walks.are_p
 pub touch_down-pass-requires-clause-away : goal.touch_down-pass-requires-clause-away
 touch_down-pass-requires-clause-away g c = let a = c.requires.away in let is : c.take.result ≡ Some a.0 = c.take.ensures.value ∙ (c.index_mut.ensures.value ∙ a.1 c.index_mut.result.now) in
     let same : a.0 ≡ c.unwrap-pass.result = ap (the a.0) (sym is ∙ c.unwrap-pass.ensures) in
-    subst (λ p. Away c.args.walker.now.number (λ s. Landable c.args.pushed s c.args.flight.upto (g.M.Gate.Gate.faults c.args.flight.as_taken.value) (g.M.Gate.Gate.is_shut c.args.flight.gate) (g.M.Gate.Gate.faults c.args.flight.gate) (g.M.Gate.Gate.shard c.args.flight.gate) (g.M.Gate.Gate.logs c.args.flight.gate)) p) same a.2
+    subst (λ p. Away c.args.walker.now.number (λ layout s. Landable c.args.pushed s c.args.flight.upto (g.M.Gate.Gate.faults c.args.flight.as_taken.value) (g.M.Gate.Gate.is_shut c.args.flight.gate) (g.M.Gate.Gate.faults c.args.flight.gate) (g.M.Gate.Gate.shard c.args.flight.gate) (g.M.Gate.Gate.logs c.args.flight.gate layout)) p) same a.2
 
 pub returns : goal.returns
 returns g c = let w = c.args.walker.now in let sh = c.args.shards.now in let locks = sh.locks.items in let n = c.args.shard in let low = c.requires.shard in let is_walker = c.requires.walker in let r = c.touch_down-pass.result in
@@ -35,7 +35,7 @@ returns g c = let w = c.args.walker.now in let sh = c.args.shards.now in let loc
     let long : n < length w.passes.items = (let h = is_walker.walks.are_passes.count in omega arith) in
     let told = LandTold w.clock w.number pushed upto r.1 in
     let turned : Turned told w.number t.0 r.0 = subst (λ p. Turned told w.number p r.0) (sym same) c.touch_down-pass.ensures.turned in
-    let new = still_pass (founds_of sh) locks w.number n told t.0 r.0 t.2 turned (λ l. subst (λ x. IsPassOf x r.0) (c.index.ensures ∙ get_or_default locks n c.index.result.now l low) c.touch_down-pass.ensures.pass) in
+    let new = still_pass sh.splits (founds_of sh) locks w.number n told t.0 r.0 t.2 turned (λ l. subst (λ x. IsPassOf x r.0) (c.index.ensures ∙ get_or_default locks n c.index.result.now l low) c.touch_down-pass.ensures.pass) in
     let v = turned.told in
     let adds = subst (λ l. Adds sh.splits (run_after (founds_of sh)) w.number n w.clock r.1 (kept w.passes.items) (entries_in l)) (sym v.added_is)
     (made_adds sh.splits (run_after (founds_of sh)) w.number n w.clock r.1 (kept w.passes.items) FlushIn (land turned.s w.clock w.number pushed) turned.s turned.t (landed_as pushed upto) v.made v.made_is (let k = v.clock_is in omega arith) is_walker.walks.keeps.session refl tt) in

@@ -25,7 +25,7 @@ returns g c = let w = c.args.walker.now in let sh = c.args.shards.now in let loc
     let long : n < length w.passes.items = (let h = is_walker.walks.are_passes.count in omega arith) in
     let told = EventTold w.clock w.number FlushOut (outcome_in r.2) r.1 in
     let turned : Turned told w.number t.0 r.0 = subst (λ p. Turned told w.number p r.0) (sym same) c.take_off-pass.ensures.turned in
-    let new = still_pass (founds_of sh) locks w.number n told t.0 r.0 t.2 turned (λ l. subst (λ x. IsPassOf x r.0) (c.index.ensures ∙ get_or_default locks n c.index.result.now l low) c.take_off-pass.ensures.pass) in
+    let new = still_pass sh.splits (founds_of sh) locks w.number n told t.0 r.0 t.2 turned (λ l. subst (λ x. IsPassOf x r.0) (c.index.ensures ∙ get_or_default locks n c.index.result.now l low) c.take_off-pass.ensures.pass) in
     let adds = event_adds sh.splits _ w.number n w.clock r.1 (kept w.passes.items) FlushOut (outcome_in r.2) turned.s turned.t turned.added turned.told
     (other_goes_on sh.splits _ w.number (kept w.passes.items) n FlushOut is_walker.walks.keeps.session refl tt) in
     let h = walks sh.splits (founds_of sh) locks n w.number w.clock r.1 told w.passes.items t.0 r.0 is_walker.walks is_walker.count low (λ d. get_or_default w.passes.items n d c.index_mut.result.now long ∙ t.1) turned new adds in

@@ -5,6 +5,7 @@ use Rattle.machine_calls.specs.Events.{event_fits}
 use Rattle.cluster_turns.specs.Turns.{Turned, EventTold}
 use Rattle.cluster_turns.specs.Walkers.{IsWalkerOf, Walked, GoesOn, kept, founds_of}
 use Rattle.cluster_turns.proofs.Walking.{walks, still_pass, event_adds, event_rises}
+use Rattle.cluster_turns.proofs.Dating.{sent_in_time}
 use Rattle.cluster_turns.proofs.shards.Shards.event.Goals as goal
 use Rattle.law_base.proofs.Options.{value_or as the, some_inj}
 
@@ -22,6 +23,9 @@ turn-pass-requires-clause-fits g c = let t = c.requires.walker.walks.are_passes.
     λ o h. (let one : t.2.origin ≡ o = some_inj t.2.origin o (sym t.2.has_origin ∙ (ap (λ p. pass_origin p) same ∙ h)) in
     subst (λ n. event_fits n c.args.event ≡ true) (sym t.2.origin_is.shard ∙ ap (λ x. x.shard) one) c.requires.fits)
 
+pub turn-pass-requires-clause-in_time : goal.turn-pass-requires-clause-in_time
+turn-pass-requires-clause-in_time g c = sent_in_time c.args.walker.now.clock (kept c.args.walker.now.passes.items) c.args.event c.requires.walker.walks.in_time c.requires.goes.sent
+
 pub turn-pass-requires-clause-named : goal.turn-pass-requires-clause-named
 turn-pass-requires-clause-named g c = c.requires.free.named
 
@@ -38,7 +42,7 @@ returns g c = let w = c.args.walker.now in let sh = c.args.self.now in let locks
     let long : n < length w.passes.items = (let h = is_walker.walks.are_passes.count in omega arith) in
     let told = EventTold w.clock w.number c.args.event c.turn-pass.result.2 c.turn-pass.result.1 in
     let turned : Turned told w.number t.0 c.turn-pass.result.0 = subst (λ p. Turned told w.number p c.turn-pass.result.0) (sym same) c.turn-pass.ensures.turned in
-    let new = still_pass (founds_of sh) locks w.number n told t.0 c.turn-pass.result.0 t.2 turned (λ l. subst (λ x. IsPassOf x c.turn-pass.result.0) (c.index.ensures ∙ get_or_default locks n c.index.result.now l low) c.turn-pass.ensures.pass) in
+    let new = still_pass sh.splits (founds_of sh) locks w.number n told t.0 c.turn-pass.result.0 t.2 turned (λ l. subst (λ x. IsPassOf x c.turn-pass.result.0) (c.index.ensures ∙ get_or_default locks n c.index.result.now l low) c.turn-pass.ensures.pass) in
     let adds = event_adds sh.splits _ w.number n w.clock c.turn-pass.result.1 (kept w.passes.items) c.args.event c.turn-pass.result.2 turned.s turned.t turned.added turned.told
     (subst (λ run. GoesOn sh.splits run w.number (kept w.passes.items) n c.args.event) is_walker.run c.requires.goes) in
     let h = walks sh.splits (founds_of sh) locks n w.number w.clock c.turn-pass.result.1 told w.passes.items t.0 c.turn-pass.result.0 is_walker.walks is_walker.count low

@@ -22,7 +22,7 @@ returns g c = let w = c.args.walker.now in let sh = c.args.self.now in let locks
     let q = c.horizon-horizon.new.pass in
     let e = c.horizon-horizon.ensures in
     let like : IsSamePass t.0 q = subst (λ p. IsSamePass p q) (sym same) e.pass.1 in
-    let new : IsPassAt (founds_of sh) locks w.number n q = record {
+    let new : IsPassAt sh.splits (founds_of sh) locks w.number n q = record {
       ours = λ l. subst (λ x. IsPassOf x q) (c.index.ensures ∙ get_or_default locks n c.index.result.now l low) e.pass.0;
       number_is = like.1 ∙ t.2.number_is;
       origin = t.2.origin;
