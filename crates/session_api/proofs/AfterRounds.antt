@@ -1,5 +1,9 @@
 -- What a round leaves of a session.
-use Rattle.std.proofs.Common.{◌≡◌, ◌∙◌, refl, subst, ℕ, List, [], ◌∷◌, Option, Some, None, Result, Err, arith}
+use Rattle.std.proofs.Common.{◌≡◌, ◌∙◌, refl, subst, ℕ, zero, suc, Bool, true, false, not, List, [], ◌∷◌, slice_get, Option, Some, None, Result, Err, arith}
+use Rattle.std.specs.List.{list_all}
+use Rattle.std.proofs.lemmas.Bool.{both_ways}
+use Rattle.law_base.proofs.Options.{some_inj}
+use Rattle.law_base.proofs.Changed.{none_some}
 use Rattle.cluster_turns.specs.declared.shards.Shards.{Shards}
 use Rattle.cluster_turns.specs.declared.shards.Walker.{Walker}
 use Rattle.cluster_turns.specs.Walkers.{IsWalker, IsSameWalker}
@@ -45,3 +49,12 @@ module _ {T A : Type 0} (w c d : ℕ) (ps qs : List (Option (Pass T Note Origin)
 
 pub no_round : {T : Type 0} (w c : ℕ) (ps : List (Option (Pass T Note Origin))) → Rounded w c ps (found_in None) c ps
 no_round w c ps = record { turns = []; took = no_turn c ps; others = tt; ended = tt }
+
+-- ---- whose shards it needs
+
+pub none_true : (xs : List Bool) (n : ℕ) → list_all not xs ≡ true → slice_get xs n ≡ Some true → ⊥
+none_true [] zero all h = none_some true h
+none_true [] (suc n) all h = none_some true h
+none_true (true ∷ xs) n all h = both_ways false refl all
+none_true (false ∷ xs) zero all h = both_ways false refl (some_inj false true h)
+none_true (false ∷ xs) (suc n) all h = none_true xs n all h

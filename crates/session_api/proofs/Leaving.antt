@@ -16,6 +16,7 @@ use Rattle.clv_base.specs.Shards.{shard_count}
 use Rattle.clv_base.proofs.SameNames.{or_left, or_right}
 use Rattle.machine_calls.specs.declared.machine.StepError.{StepError}
 use Rattle.machine_calls.specs.declared.machine.StepError.TheVariants.{Memory as NoMemory, Worn as IsWorn}
+use Rattle.cluster_turns.specs.Dates.{last_seen}
 use Rattle.cluster_turns.specs.declared.shards.Shards.{Shards}
 use Rattle.cluster_turns.specs.declared.shards.Walker.{Walker}
 use Rattle.cluster_turns.specs.declared.shards.WornClock.{WornClock}
@@ -141,7 +142,9 @@ begun_begins M S G sh w v p birth st place walker_is =
             walker_is = ap (λ z. z.number) walker_is;
             entries_are = ap (λ z. session_entries (kept z.passes.items)) walker_is ∙ sym (append-nil _);
             clock_rises = (omega arith);
-            serial_rises = (omega arith);
+            serial_is = (omega arith);
+            latest_rises = (let l = ap (λ z. last_seen z.passes.items) walker_is in omega arith);
+            dated = (omega arith);
             stamped = tt;
           };
       active = ap (λ z. Active p.tx birth z.nth (touched_in z.touched)) place;

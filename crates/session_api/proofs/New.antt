@@ -45,32 +45,32 @@ module _ {T : Type 0} where
   none_own p o is empty = ap own_of is ∙ ap entries_in empty
 
 module _ {M S G : Type 0} where
-  keeps_nothing : (sh : Shards M S G) (number : ℕ) (w : Walker M S G) → AreNewPasses (founds_of sh) sh.locks.items number w.passes.items → kept w.passes.items ≡ []
+  keeps_nothing : (sh : Shards M S G) (number : ℕ) (w : Walker M S G) → AreNewPasses sh.splits (founds_of sh) sh.locks.items number w.passes.items → kept w.passes.items ≡ []
   keeps_nothing sh number w new =
       nothing_kept 0 w.passes.items
       (λ k d l. let low : k < length sh.locks.items = (let c = new.count in omega arith) in let t = new.each k d low in none_own t.0 (get_or w.passes.items k d) t.2 (t.3 (a_lock sh.locks.items (omega arith))).4)
 
-  new_landed : (sh : Shards M S G) (number : ℕ) (w : Walker M S G) → AreNewPasses (founds_of sh) sh.locks.items number w.passes.items → HasLanded number w.passes.items
+  new_landed : (sh : Shards M S G) (number : ℕ) (w : Walker M S G) → AreNewPasses sh.splits (founds_of sh) sh.locks.items number w.passes.items → HasLanded number w.passes.items
   new_landed sh number w new = record {
-    own = λ k p is. (let t = new_pass (founds_of sh) sh.locks.items number w.passes.items new k p is in t.1 ∙ ap (entries_by noter number) (sym t.0));
-    home = λ k p is. ap (λ l. is_taker (taker None (entries_in l)) number) (new_pass (founds_of sh) sh.locks.items number w.passes.items new k p is).0;
+    own = λ k p is. (let t = new_pass sh.splits (founds_of sh) sh.locks.items number w.passes.items new k p is in t.1 ∙ ap (entries_by noter number) (sym t.0));
+    home = λ k p is. ap (λ l. is_taker (taker None (entries_in l)) number) (new_pass sh.splits (founds_of sh) sh.locks.items number w.passes.items new k p is).0;
   }
 
-  ready_new : (sh : Shards M S G) (w : Walker M S G) → IsWalker sh w → AreNewPasses (founds_of sh) sh.locks.items w.number w.passes.items → is_session_number w.number ≡ true → IsReady sh w (no_session sh.run w.number)
+  ready_new : (sh : Shards M S G) (w : Walker M S G) → IsWalker sh w → AreNewPasses sh.splits (founds_of sh) sh.locks.items w.number w.passes.items → is_session_number w.number ≡ true → IsReady sh w (no_session sh.run w.number)
   ready_new sh w is_walker new number = record {
     walker = is_walker;
     number = number;
     state = ap (session_of sh.splits sh.run w.number) (keeps_nothing sh w.number w new);
     serial = omega arith;
     old = tt;
-    informed = new_are_informed (founds_of sh) sh.locks.items w.number w.clock w.passes.items new;
+    informed = new_are_informed sh.splits (founds_of sh) sh.locks.items w.number w.clock w.passes.items new;
   }
 
-  landed_new : (sh : Shards M S G) (number : ℕ) (w : Walker M S G) → w.number ≡ number → AreNewPasses (founds_of sh) sh.locks.items number w.passes.items → HasLanded w.number w.passes.items
+  landed_new : (sh : Shards M S G) (number : ℕ) (w : Walker M S G) → w.number ≡ number → AreNewPasses sh.splits (founds_of sh) sh.locks.items number w.passes.items → HasLanded w.number w.passes.items
   landed_new sh number w is new = subst (λ k. HasLanded k w.passes.items) (sym is) (new_landed sh number w new)
 
-  none_new : (sh : Shards M S G) (number : ℕ) (w : Walker M S G) → w.number ≡ number → AreNewPasses (founds_of sh) sh.locks.items number w.passes.items → HoldsNone w.number w.passes.items
-  none_new sh number w is new = subst (λ k. HoldsNone k w.passes.items) (sym is) (new_walkers_hold_none (founds_of sh) sh.locks.items number w.passes.items new)
+  none_new : (sh : Shards M S G) (number : ℕ) (w : Walker M S G) → w.number ≡ number → AreNewPasses sh.splits (founds_of sh) sh.locks.items number w.passes.items → HoldsNone w.number w.passes.items
+  none_new sh number w is new = subst (λ k. HoldsNone k w.passes.items) (sym is) (new_walkers_hold_none sh.splits (founds_of sh) sh.locks.items number w.passes.items new)
 
 -- ---- new walkers
 
@@ -83,12 +83,12 @@ new_walkers_are_sessions M S G sh number first w new splits low high = record {
       record {
         stands = (
           no_session sh.run w.number,
-          ready_new sh w new.walker (subst (λ k. AreNewPasses (founds_of sh) sh.locks.items k w.passes.items) (sym new.number_is) new.new) (ap is_session_number new.number_is ∙ numbers_sessions number low high),
+          ready_new sh w new.walker (subst (λ k. AreNewPasses sh.splits (founds_of sh) sh.locks.items k w.passes.items) (sym new.number_is) new.new) (ap is_session_number new.number_is ∙ numbers_sessions number low high),
         );
         landed = landed_new sh number w new.number_is new.new;
       };
   splits = splits;
-  fetched = new_walkers_fetched_none (founds_of sh) sh.locks.items number w.passes.items new.new;
+  fetched = new_walkers_fetched_none sh.splits (founds_of sh) sh.locks.items number w.passes.items new.new;
   disks = none_new sh number w new.number_is new.new;
 }
 
@@ -100,7 +100,7 @@ new_walkers_rest M S G sh number first w new = record {
   walker = new.walker;
   number_is = new.number_is;
   landed = landed_new sh number w new.number_is new.new;
-  fetched = new_walkers_fetched_none (founds_of sh) sh.locks.items number w.passes.items new.new;
+  fetched = new_walkers_fetched_none sh.splits (founds_of sh) sh.locks.items number w.passes.items new.new;
   disks = none_new sh number w new.number_is new.new;
 }
 
@@ -134,7 +134,7 @@ all_its splits run walker number clock most bodies cause missed es fs is same f 
     (subst (λ l. (g : FollowsScript splits run walker most bodies cause l) × AllLetGo missed clock (tries_of g.transactions)) (sym same) (f, dropped))
 
 pub scripts_follow : (M S G : Type 0) → ScriptsFollow M S G
-scripts_follow M S G sh number first w v s t bodies most cause new f =
+scripts_follow M S G sh number first base w v s t bodies most cause new f =
     let g = f.2 in (
       g.walker_is ∙ new.number_is,
       all_its sh.splits sh.run w.number number v.clock most bodies cause (HasMissed v) f.0 (session_entries (kept v.passes.items)) new.number_is

@@ -28,7 +28,7 @@ use Rattle.cluster_turns.specs.Walkers.{IsSameWalker, kept}
 use Rattle.cluster_turns.specs.States.{after_from, session_of, GoesOnBy}
 use Rattle.cluster_turns.specs.CallTurns.{Turn, Took, entry_on}
 use Rattle.cluster_turns.specs.Answers.{is_kept, may_answer, may_come_to}
-use Rattle.cluster_turns.proofs.Laws.{clock_rises, sessions_grow}
+use Rattle.cluster_turns.proofs.Laws.{clock_rises, sessions_grow, turns_are_dated}
 use Rattle.session_ops.specs.declared.operating.OpError.{OpError}
 use Rattle.session_ops.specs.declared.operating.OpError.TheVariants as op
 use Rattle.session_ops.specs.Standing.{IsActive}
@@ -161,7 +161,9 @@ module _ {M S G : Type 0} (sh : Shards M S G) where
     walker_is = same.0;
     entries_are = sessions_grow w.number w.clock v.clock w.passes.items v.passes.items ts took;
     clock_rises = clock_rises w.number w.clock v.clock w.passes.items v.passes.items ts took;
-    serial_rises = (let k = same.1 in omega arith);
+    serial_is = (let k = same.1 in omega arith);
+    latest_rises = (turns_are_dated w.number w.clock v.clock w.passes.items v.passes.items ts took).0;
+    dated = (let d = (turns_are_dated w.number w.clock v.clock w.passes.items v.passes.items ts took).1 in omega arith);
     stamped = made_stamped w.number w.clock v.clock w.passes.items v.passes.items ts took;
   }
 

@@ -19,6 +19,7 @@ use Rattle.clv_base.specs.Shards.{shard_of, shard_count, span, lies_within, in_s
 use Rattle.clv_base.specs.Sessions.{SessionState, lies_in}
 use Rattle.clv_base.proofs.Spans.{span_keys}
 use Rattle.clv_base.proofs.SameNames.{or_left, or_right}
+use Rattle.cluster_turns.specs.Dates.{IsDated}
 use Rattle.cluster_turns.specs.declared.shards.Shards.{Shards}
 use Rattle.cluster_turns.specs.declared.shards.Walker.{Walker}
 use Rattle.cluster_turns.specs.Walkers.{IsSameWalker, kept}
@@ -170,6 +171,7 @@ module _ {M S G : Type 0} (sh : Shards M S G) (birth : Birth) (lo hi : ℕ) (w :
     pub same : IsSameWalker w u
     pub clock : w.clock ≤ u.clock
     pub stamped : AreStamped w.clock u.clock es
+    pub dated : IsDated w.clock w.passes.items u.clock u.passes.items
     pub parts : ArePartsAnswered p.tx birth (suc p.nth) (scan_parts sh.splits lo hi 0 n) answers es
     pub touches : TouchesJust (touched_in p.touched) es (touched_in m.touched)
     pub tx : m.tx ≡ p.tx
@@ -208,7 +210,9 @@ module _ {M S G : Type 0} (sh : Shards M S G) (birth : Birth) (lo hi : ℕ) (w :
           entries_are = g.entries_are ∙ ap (λ l. l ++ made_in (made.turns.asking ++ made.turns.leaving)) s.entries ∙ append_assoc (session_entries (kept w.passes.items)) s.es (made_in (made.turns.asking ++ made.turns.leaving))
               ∙ ap (λ l. session_entries (kept w.passes.items) ++ (s.es ++ l)) is;
           clock_rises = (omega arith);
-          serial_rises = (omega arith);
+          serial_is = (omega arith);
+          latest_rises = (let a = s.dated.0 in let b = g.latest_rises in omega arith);
+          dated = (let a = s.dated.1 in let b = g.dated in let l = g.latest_rises in omega arith);
           stamped = stamped_on s.es fs w.clock u.clock v.clock s.clock g.clock_rises s.stamped (subst (AreStamped u.clock v.clock) is g.stamped);
         }
 
@@ -227,6 +231,7 @@ module _ {M S G : Type 0} (sh : Shards M S G) (birth : Birth) (lo hi : ℕ) (w :
               same = (made.same.0 ∙ s.same.0, made.same.1 ∙ s.same.1);
               clock = g.clock_rises;
               stamped = g.stamped;
+              dated = (g.latest_rises, (let d = g.dated in omega arith));
               parts =
                   subst (λ l. ArePartsAnswered p.tx birth (suc p.nth) l (answers ++ answer ∷ []) (s.es ++ (n, y) ∷ [])) (sym (parts_upto sh.splits lo hi n ∙ ap (λ l. scan_parts sh.splits lo hi 0 n ++ l) (part_is sh.splits n lo hi x meets)))
                   (parts_push p.tx birth (suc p.nth) (scan_parts sh.splits lo hi 0 n) answers s.es (n, Scan x.0 x.1) answer epoch (n, y) s.parts (its_part y (Answered answer epoch) event outcome));
@@ -244,6 +249,7 @@ module _ {M S G : Type 0} (sh : Shards M S G) (birth : Birth) (lo hi : ℕ) (w :
         same = (refl, refl);
         clock = (omega arith);
         stamped = tt;
+        dated = (omega arith, omega arith);
         parts = no_part;
         touches = touches_just_none (touched_in p.touched);
         tx = refl;
@@ -258,6 +264,7 @@ module _ {M S G : Type 0} (sh : Shards M S G) (birth : Birth) (lo hi : ℕ) (w :
         same = s.same;
         clock = s.clock;
         stamped = s.stamped;
+        dated = s.dated;
         parts =
             subst (λ l. ArePartsAnswered p.tx birth (suc p.nth) l answers s.es)
             (sym (parts_upto sh.splits lo hi n ∙ ap (λ l. scan_parts sh.splits lo hi 0 n ++ l) (part_none sh.splits n lo hi none) ∙ append-nil (scan_parts sh.splits lo hi 0 n))) s.parts;
@@ -287,7 +294,7 @@ module _ {M S G : Type 0} (sh : Shards M S G) (birth : Birth) (lo hi : ℕ) (w :
       last (inr k) = k
 
       whole_grows : (s : SoFar (shard_count sh.splits) answers v q) (en : Standing) → Grows s.es (seen_as sh w (is_active p birth)) (seen_as sh v en)
-      whole_grows s en = let k = s.same.1 in record { splits_are = refl; run_is = refl; walker_is = s.same.0; entries_are = s.entries; clock_rises = s.clock; serial_rises = (omega arith); stamped = s.stamped }
+      whole_grows s en = let k = s.same.1 in record { splits_are = refl; run_is = refl; walker_is = s.same.0; entries_are = s.entries; clock_rises = s.clock; serial_is = (omega arith); latest_rises = s.dated.0; dated = (let d = s.dated.1 in omega arith); stamped = s.stamped }
 
   -- one part failed
   module _ (v : Walker M S G) (q : SessionState) (n : ℕ) (x : ℕ × ℕ) (answers : List Answer) (u : Walker M S G) (m : SessionState) (s : SoFar n answers u m) (meets : part_on sh.splits n lo hi ≡ Some x)
@@ -352,7 +359,7 @@ module _ {M S G : Type 0} (sh : Shards M S G) (birth : Birth) (lo hi : ℕ) (w :
     forgotten answer made t = (t.es, at (scan_parts sh.splits lo hi (suc n) (shard_count sh.splits - suc n)) refl, whole)
       where
         whole : Grows t.es (seen_as sh w (is_active p birth)) (seen_as sh v (is_active q birth))
-        whole = let k = t.same.1 in record { splits_are = refl; run_is = refl; walker_is = t.same.0; entries_are = t.entries; clock_rises = t.clock; serial_rises = (omega arith); stamped = t.stamped }
+        whole = let k = t.same.1 in record { splits_are = refl; run_is = refl; walker_is = t.same.0; entries_are = t.entries; clock_rises = t.clock; serial_is = (omega arith); latest_rises = t.dated.0; dated = (let d = t.dated.1 in omega arith); stamped = t.stamped }
 
         at : (l : List (ℕ × Operation)) → scan_parts sh.splits lo hi (suc n) (shard_count sh.splits - suc n) ≡ l
             → IsBegun sh.splits p.tx birth (suc p.nth) (Scan lo hi) t.es ⊎ IsUnanswered sh.splits p.tx birth (suc p.nth) (Scan lo hi) t.es

@@ -11,7 +11,7 @@ use Rattle.script_runs.specs.declared.ends.StopCause.{StopCause}
 use Rattle.script_runs.specs.declared.ends.StopCause.TheVariants.{Down, Unsettled, Worn, Memory}
 use Rattle.script_runs.specs.Seen.{Idle, Seen, Grows}
 use Rattle.script_runs.specs.Told.{Begins, RetryTold}
-use Rattle.script_runs.proofs.Laws.{grows_on}
+use Rattle.script_runs.proofs.Laws.{grows_on, grows_over}
 use Rattle.session_api.specs.declared.progress.Progress.{Progress}
 use Rattle.session_api.specs.declared.retrying.RetryError.{RetryError}
 use Rattle.session_api.specs.Sessions.{IsSession, RetryCalled, found_in}
@@ -29,8 +29,8 @@ begins_later birth u m v g b = record {
   run_is = b.run_is ∙ g.run_is;
   session_is = b.session_is ∙ g.walker_is;
   serial_is = b.serial_is;
-  rises = (let up = g.serial_rises in let y = b.rises in omega arith);
-  grows = grows_on [] [] u m v g b.grows;
+  rises = (let up = g.serial_is in let y = b.rises in omega arith);
+  grows = grows_over u.clock 0 1 [] [] u m v g b.grows;
   active = b.active;
 }
 

@@ -5,7 +5,7 @@ use Rattle.script_lang.specs.Bodies.{Body}
 use Rattle.script_runs.specs.declared.ends.StopCause.{StopCause}
 use Rattle.script_runs.specs.Sessions.{FollowsScript, session_entries, tries_of}
 use Rattle.script_runs.specs.Seen.{Standing}
-use Rattle.script_runs.specs.Ran.{Follows}
+use Rattle.script_runs.specs.Ran.{FollowsFrom}
 use Rattle.script_runs.specs.Dropped.{AllLetGo}
 use Rattle.cluster_turns.specs.declared.shards.Shards.{Shards}
 use Rattle.cluster_turns.specs.declared.shards.Walker.{Walker}
@@ -37,6 +37,6 @@ SessionsRest M S G = (sh : Shards M S G) (w : Walker M S G) (s : Progress) → H
 -- try that was given up let go of its parts
 abbrev pub ScriptsFollow : (M S G : Type 0) → Type 0
 ScriptsFollow M S G =
-    (sh : Shards M S G) (number first : ℕ) (w v : Walker M S G) (s t : Standing) (bodies : List Body) (most : Option ℕ) (cause : Option StopCause) → IsNewWalker sh number first w
-    → Follows (HasMissed v) bodies most cause (seen_as sh w s) (seen_as sh v t) → (v.number ≡ number)
+    (sh : Shards M S G) (number first base : ℕ) (w v : Walker M S G) (s t : Standing) (bodies : List Body) (most : Option ℕ) (cause : Option StopCause) → IsNewWalker sh number first w
+    → FollowsFrom base (HasMissed v) bodies most cause (seen_as sh w s) (seen_as sh v t) → (v.number ≡ number)
     × ((f : FollowsScript sh.splits sh.run number most bodies cause (session_entries (kept v.passes.items))) × AllLetGo (HasMissed v) v.clock (tries_of f.transactions))

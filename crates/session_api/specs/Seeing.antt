@@ -8,6 +8,7 @@ use Rattle.clv_base.specs.Sessions.{SessionState, Phase, Touching, Ended, Standi
 use Rattle.cluster_turns.specs.declared.shards.Shards.{Shards}
 use Rattle.cluster_turns.specs.declared.shards.Walker.{Walker}
 use Rattle.cluster_turns.specs.declared.shards.WornClock.{WornClock}
+use Rattle.cluster_turns.specs.Dates.{last_seen}
 use Rattle.cluster_turns.specs.Walkers.{kept}
 use Rattle.session_ops.specs.declared.operating.OpError.{OpError}
 use Rattle.session_ops.specs.declared.operating.OpError.TheVariants as op
@@ -23,10 +24,10 @@ use Rattle.script_runs.specs.Sessions.{session_entries}
 use Rattle.script_runs.specs.Seen.{Standing, Idle, Active, Asked, Seen}
 
 module _ {M S G : Type 0} where
-  -- its walker's entries that only sessions make, and how its last transaction stands
+  -- its walker's entries that only sessions make, the greatest stamp that its passes have seen, and how its last transaction stands
   abbrev pub seen_as : Shards M S G → Walker M S G → Standing → Seen
   seen_as sh w st =
-      record { splits = sh.splits; run = sh.run; walker = w.number; entries = session_entries (kept w.passes.items); clock = w.clock; serial = w.serial; standing = st }
+      record { splits = sh.splits; run = sh.run; walker = w.number; entries = session_entries (kept w.passes.items); clock = w.clock; latest = last_seen w.passes.items; serial = w.serial; standing = st }
 
 -- the touched shards
 abbrev pub touched_in : List (ℕ × ℕ) → ℕ → Bool

@@ -43,10 +43,12 @@ impl<'a, M: Flier, P: Pace, R: Wait> SessionCalls for ScriptSession<'a, M, P, R>
     }
 
     fn begin(&mut self) -> Result<(), StopCause> {
+        self.session.shards.go_out(self.session.walker.number);
         begun(self.session.begin())
     }
 
     fn retry(&mut self, alloc: Global) -> Result<(), StopCause> {
+        self.session.shards.go_out(self.session.walker.number);
         match self.session.shard_down(alloc) {
             Some(shard) => Err(StopCause::Down { shard }),
             None => retried(self.session.retry()),
@@ -55,20 +57,24 @@ impl<'a, M: Flier, P: Pace, R: Wait> SessionCalls for ScriptSession<'a, M, P, R>
 
     fn operate(&mut self, alloc: Global, op: Op) -> Result<Answer, TryEnd> {
         let shards = self.session.shards;
+        let walker = self.session.walker.number;
         match op {
-            Op::Get(key) => value_told(shards, self.session.get(alloc, key)),
-            Op::Put(key, value) => value_told(shards, self.session.put(alloc, key, value)),
-            Op::Del(key) => value_told(shards, self.session.del(alloc, key)),
-            Op::Scan(lo, hi) => pairs_told(shards, self.session.scan(alloc, lo, bound(hi))),
+            Op::Get(key) => value_told(shards, walker, self.session.get(alloc, key)),
+            Op::Put(key, value) => value_told(shards, walker, self.session.put(alloc, key, value)),
+            Op::Del(key) => value_told(shards, walker, self.session.del(alloc, key)),
+            Op::Scan(lo, hi) => pairs_told(shards, walker, self.session.scan(alloc, lo, bound(hi))),
         }
     }
 
     fn commit(&mut self, alloc: Global) -> TryEnd {
         let shards = self.session.shards;
-        committed(shards, self.session.commit(alloc))
+        let walker = self.session.walker.number;
+        committed(shards, walker, self.session.commit(alloc))
     }
 
     fn abort(&mut self, alloc: Global) -> Result<(), StopCause> {
-        aborted(self.session.abort(alloc))
+        let shards = self.session.shards;
+        let walker = self.session.walker.number;
+        aborted(shards, walker, self.session.abort(alloc))
     }
 }

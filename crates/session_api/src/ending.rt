@@ -27,8 +27,8 @@ pub enum CommitError {
     Aborted(AbortCause),
     /// The home was found down before the request was made. The transaction stays active.
     Down { shard: u32 },
-    /// A turn after the request found the shard down: the home, or after a wait any. The request stands, and a commit called again looks
-    /// again.
+    /// A turn after the request found the shard down: the home or a touched one, or after a long wait any, where nothing else moved. The
+    /// request stands, and a commit called again looks again.
     Unsettled { shard: u32 },
     Worn { at: u64 },
     Memory,
@@ -169,10 +169,11 @@ impl<'a, M: Flier, P: Pace, R: Wait> Session<'a, M, P, R> {
     }
 
     /// Commits the active transaction, or looks again where its request stands. `NoTx` comes exactly where neither is so, `Empty` only
-    /// where it touched nothing; every other answer is told by the turns of the call. After `Down` the transaction is active, after
-    /// `Unsettled` its request stands; after `Worn` and `Memory` it stands where it was made, else the transaction is active. The point
-    /// of an acknowledged one is that of its request, which is among the walker's entries: so the points of two sessions' answers order
-    /// as their transactions do in the serial history.
+    /// where it touched nothing; every other answer is told by the turns of the call. `Unsettled` comes only where one found that shard
+    /// down: the home, or, in a round after a wait, one that the transaction touched, or any where that round found each shard down, or
+    /// with nothing buffered and no message. After `Down` the transaction is active, after `Unsettled` its request stands; after `Worn`
+    /// and `Memory` it stands where it was made, else the transaction is active. The point of an acknowledged one is that of its request,
+    /// which is among the walker's entries: so the points of two sessions' answers order as their transactions do in the serial history.
     pub fn commit(&mut self, alloc: Global) -> Result<Settled, CommitError>
         requires session { IsSession self.old.shards.now self.old.walker self.old.progress }
         ensures session { IsSession self.new.shards.now self.new.walker self.new.progress }

@@ -43,11 +43,12 @@ pub(crate) fn retried(answer: Result<TxId, RetryError>) -> Result<(), StopCause>
     }
 }
 
-// An operation that was made has failed. Want of memory is told to all sessions.
-fn failed<M: Machine>(shards: &Shards<M>, error: OpError) -> TryEnd
+// An operation of this walker that was made has failed: no further one follows at once. Want of memory is told to all sessions.
+fn failed<M: Machine>(shards: &Shards<M>, walker: u32, error: OpError) -> TryEnd
     requires made { (e : Failure) × (error ≡ failure_told e) }
     ensures told { (e : Failure) → error ≡ failure_told e → result ≡ op_end e }
 {
+    shards.go_out(walker);
     match error {
         OpError::Aborted(cause) => TryEnd::Aborted(cause),
         OpError::Down { shard } => TryEnd::Stopped(StopCause::Down { shard }),
@@ -64,6 +65,7 @@ fn failed<M: Machine>(shards: &Shards<M>, error: OpError) -> TryEnd
 // An operation at a key was made.
 pub(crate) fn value_told<M: Machine>(
     shards: &Shards<M>,
+    walker: u32,
     answer: Result<Option<u64>, OpError>,
 ) -> Result<Answer, TryEnd>
     requires made { (e : Result (Option ℕ) Failure) × (answer ≡ answer_told e) }
@@ -71,13 +73,14 @@ pub(crate) fn value_told<M: Machine>(
 {
     match answer {
         Ok(value) => Ok(Answer::Value(value)),
-        Err(error) => Err(failed(shards, error)),
+        Err(error) => Err(failed(shards, walker, error)),
     }
 }
 
 // A scan was made.
 pub(crate) fn pairs_told<M: Machine>(
     shards: &Shards<M>,
+    walker: u32,
     answer: Result<Pairs, OpError>,
 ) -> Result<Answer, TryEnd>
     requires made { (e : Result (List (ℕ × ℕ)) Failure) × (answer ≡ answer_told e) }
@@ -85,18 +88,20 @@ pub(crate) fn pairs_told<M: Machine>(
 {
     match answer {
         Ok(pairs) => Ok(Answer::Pairs(pairs)),
-        Err(error) => Err(failed(shards, error)),
+        Err(error) => Err(failed(shards, walker, error)),
     }
 }
 
 // A commit was made. Want of memory is told to all sessions, and so is a request that was left standing.
 pub(crate) fn committed<M: Machine>(
     shards: &Shards<M>,
+    walker: u32,
     answer: Result<Settled, CommitError>,
 ) -> TryEnd
     requires made { (e : Result SettledIs CommitFailure) × (answer ≡ commit_told e) }
     ensures told { (e : Result SettledIs CommitFailure) → answer ≡ commit_told e → result ≡ commit_end e }
 {
+    shards.go_out(walker);
     match answer {
         Ok(Settled::Committed { .. }) => TryEnd::Acknowledged,
         Ok(Settled::Empty) => TryEnd::Empty,
@@ -116,10 +121,15 @@ pub(crate) fn committed<M: Machine>(
 }
 
 // An abort was made.
-pub(crate) fn aborted(answer: Result<(), AbortError>) -> Result<(), StopCause>
+pub(crate) fn aborted<M: Machine>(
+    shards: &Shards<M>,
+    walker: u32,
+    answer: Result<(), AbortError>,
+) -> Result<(), StopCause>
     requires made { (e : Result Unit WornClock) × (answer ≡ abort_told e) }
     ensures told { (e : Result Unit WornClock) → answer ≡ abort_told e → result ≡ abort_end e }
 {
+    shards.go_out(walker);
     match answer {
         Ok(()) => Ok(()),
         Err(AbortError::Worn { at }) => Err(StopCause::Worn { at }),

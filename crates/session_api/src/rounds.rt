@@ -1,8 +1,8 @@
 // A round of a session.
-ghost use Rattle.std.specs.Prelude.{◌≡◌, ℕ, Some, Err};
+ghost use Rattle.std.specs.Prelude.{◌≡◌, ℕ, length, Some, Err};
 ghost use Rattle.cluster_turns.specs.Walkers.{IsSameWalker};
 ghost use Rattle.session_ops.specs.declared.parts.RoundError.TheVariants.{Down};
-ghost use Rattle.session_ops.specs.Rounds.{Rounded};
+ghost use Rattle.session_ops.specs.Rounds.{Rounded, RoundTold, Every, NoShard};
 ghost use Rattle.session_api.specs.Sessions.{IsSession, found_in};
 
 use crate::progress::Progress;
@@ -13,6 +13,7 @@ use machine_calls::Flier;
 use session_ops::{RoundError, round};
 use std::alloc::Global;
 use std::sync::Wait;
+use turn_lock::Batch;
 
 // After each so many tries of a transaction its session makes a round. The naps before the first one are of two milliseconds in all.
 const TRIES_PER_ROUND: u64 = 8;
@@ -50,7 +51,7 @@ fn patience_of(is_left: bool) -> u64 {
 }
 
 // The shard that a round found down, where no patience is left.
-fn found_by(answer: Result<(), RoundError>, waits: bool) -> Option<u32>
+fn found_by(answer: Result<Option<Batch>, RoundError>, waits: bool) -> Option<u32>
     ensures { (n : ℕ) → result ≡ Some n → answer ≡ Err (Down n) }
 {
     match answer {
@@ -60,18 +61,20 @@ fn found_by(answer: Result<(), RoundError>, waits: bool) -> Option<u32>
 }
 
 impl<'a, M: Flier, P: Pace, R: Wait> Session<'a, M, P, R> {
-    /// Makes one round over all shards, in rising order, for whoever has nothing else to do: flushes each once, unless another walker writes a batch of it,
-    /// and carries its messages. Where nothing moved it sleeps until the other's batch is written, or, where nobody writes, asks once for what is missing.
-    /// The session's last transaction stands as before, and no entry of the round is a session's. A shard that is down is passed over: `Down` comes only
-    /// where a turn of the round found that shard down, while it moved nothing and nobody else wrote. `Worn` comes only where a turn would have had a stamp
-    /// past the last, and `Memory` at want of memory; the round ends there.
-    pub fn round(&mut self, alloc: Global) -> Result<(), RoundError>
+    /// Makes one round over all shards, in rising order, for whoever has nothing else to do: flushes each once, unless another walker writes a batch
+    /// of it, and carries its messages. Where nothing moved it sleeps until the other's batch is written, or, where nobody writes, asks once for what
+    /// is missing. The session's last transaction stands as before, and no entry of the round is a session's. One that ends well has found each shard
+    /// with no message left, or down, and has tried to flush each, unless it answers a batch that another walker writes. A shard that is down is
+    /// passed over: `Down` comes only where a turn of the round found that shard down, and each other one down or with nothing buffered and no
+    /// message. `Worn` comes only where a turn would have had a stamp past the last, and `Memory` at want of memory; the round ends there.
+    pub fn round(&mut self, alloc: Global) -> Result<Option<Batch>, RoundError>
         requires session { IsSession self.old.shards.now self.old.walker self.old.progress }
         ensures session { IsSession self.new.shards.now self.new.walker self.new.progress }
         ensures shards { self.new.shards ≡ self.old.shards }
         ensures progress { self.new.progress ≡ self.old.progress }
         ensures walker { IsSameWalker self.old.walker self.new.walker }
         ensures round { Rounded self.old.walker.number self.old.walker.clock self.old.walker.passes.items result self.new.walker.clock self.new.walker.passes.items }
+        ensures told { RoundTold (length self.old.shards.now.locks.items) NoShard Every self.old.walker.number self.old.walker.clock self.old.walker.passes.items result self.new.walker.clock self.new.walker.passes.items }
     {
         round(
             self.rt,

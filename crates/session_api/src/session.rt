@@ -47,11 +47,12 @@ impl<'a, M: Flier, P: Pace, R: Wait> Session<'a, M, P, R> {
     {
         let Session {
             rt: _,
-            shards: _,
+            shards,
             pace: _,
             walker,
             progress: _,
         } = self;
+        shards.go_out(walker.number);
         walker
     }
 }

@@ -113,7 +113,7 @@ module _ {M S G : Type 0} (sh : Shards M S G) where
   left_over w p q n (Err Memory) place h = tt
 
   abbrev Settles : Walker M S G → Walker M S G → ℕ → SessionState → Result Point SettleError → Type 0
-  Settles w u n p r = Settling w.number w.clock w.passes.items n p.tx (settled_in r) u.clock u.passes.items
+  Settles w u n p r = Settling (length sh.locks.items) w.number w.clock w.passes.items n p (settled_in r) u.clock u.passes.items
 
   abbrev Decides : Walker M S G → Walker M S G → ℕ → SessionState → Result Point SettleError → SessionState → Type 0
   Decides w v n p r q = Deciding (length sh.locks.items) w.number w.clock w.passes.items n p r v.clock v.passes.items q

@@ -1,5 +1,5 @@
 -- What a drop's answer makes of a session.
-use Rattle.std.proofs.Common.{◌≡◌, ◌∙◌, refl, ap, subst, ℕ, ◌==◌, nat_lt, Bool, true, false, cond, not, ◌&&◌, [], Option, Some, None, Result, Ok, Err, eq-eqb}
+use Rattle.std.proofs.Common.{◌≡◌, ◌∙◌, refl, ap, subst, ℕ, ◌==◌, nat_lt, Bool, true, false, cond, not, ◌&&◌, Option, Some, None, Result, Ok, Err, eq-eqb}
 use Rattle.std.specs.Prelude.{is_some, IfOk}
 use Rattle.std.proofs.lemmas.Bool.{both_ways, and_from, and_parts, ne_eqb}
 use Rattle.clv_base.specs.declared.names.TxId.{TxId}

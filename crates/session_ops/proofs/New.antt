@@ -26,7 +26,7 @@ module _ {T : Type 0} where
   none_own p o is empty = ap own_of is ∙ ap entries_in empty
 
 module _ {M S G : Type 0} where
-  keeps_nothing : (sh : Shards M S G) (w : Walker M S G) → AreNewPasses (founds_of sh) sh.locks.items w.number w.passes.items → kept w.passes.items ≡ []
+  keeps_nothing : (sh : Shards M S G) (w : Walker M S G) → AreNewPasses sh.splits (founds_of sh) sh.locks.items w.number w.passes.items → kept w.passes.items ≡ []
   keeps_nothing sh w new =
       nothing_kept 0 w.passes.items
       (λ k d l. let low : k < length sh.locks.items = (let c = new.count in omega arith) in let t = new.each k d low in none_own t.0 (get_or w.passes.items k d) t.2 (t.3 (a_lock sh.locks.items (omega arith))).4)
@@ -38,5 +38,5 @@ new_walkers_are_ready M S G sh w is_walker new number = record {
   state = ap (session_of sh.splits sh.run w.number) (keeps_nothing sh w new);
   serial = omega arith;
   old = tt;
-  informed = new_are_informed (founds_of sh) sh.locks.items w.number w.clock w.passes.items new;
+  informed = new_are_informed sh.splits (founds_of sh) sh.locks.items w.number w.clock w.passes.items new;
 }

@@ -32,7 +32,7 @@ use Rattle.cluster_turns.specs.CallTurns.{Turn, no_turn, event_turn, flush_turns
 use Rattle.cluster_turns.proofs.Laws.{turns_follow}
 use Rattle.session_ops.specs.declared.parts.RoundError.{RoundError}
 use Rattle.session_ops.specs.declared.parts.RoundError.TheVariants.{Down as RoundDown, Worn as RoundWorn, Memory as RoundMemory}
-use Rattle.session_ops.specs.Rounds.{EndedBy, Rounded, refusal_of, FindsFlushed, FindsCarried}
+use Rattle.session_ops.specs.Rounds.{EndedBy, Rounded, refusal_of, FindsFlushed, FindsCarried, TriesFlush}
 use Rattle.session_ops.proofs.Outcomes.{fits_by, fits_flush, fits_send, fits_remind, flush_fits, send_fits, remind_fits}
 use Rattle.session_ops.proofs.Parting.{any_after}
 
@@ -133,14 +133,17 @@ module _ {T A : Type 0} where
       (λ t s h. stayed_ended a n x t none (fits_by fits_flush FlushOut flush_fits walked.turned.s walked.turned.t c w x walked.turned.told.made walked.turned.told.tells) s h)
   flush_rounds a n w c _ ps _ _ (two_turns upto c1 d pushed qs rs out land known) = flown_so a n w c d upto c1 pushed ps qs rs out land known
 
-  -- and that nothing was buffered
-  pub flush_finds : (a : A) (n w c d : ℕ) (ps qs : List (Option (Pass T Note Origin))) (r : Result Flushed FlushError) → FlushTold n w c ps r d qs → (h : Rounded w c ps (after_flush a n r) d qs) × BufferedBy n r h.turns
-  unfolding flush_rounds one
-  flush_finds a n w c _ ps _ _ (one_turn x d qs none walked) = (flush_rounds a n w c d ps qs (stayed x) (one_turn x d qs none walked), stayed_finds n x (record { shard = n; event = FlushOut; answer = x; made = walked.turned.told.made }) refl refl refl)
-  flush_finds a n w c _ ps _ _ (two_turns upto c1 d pushed qs rs out land known) = (flush_rounds a n w c d ps rs (flown pushed upto) (two_turns upto c1 d pushed qs rs out land known), flown_finds n upto pushed _)
+  -- and that nothing was buffered, and a turn of it tried to flush
+  pub flush_finds : (a : A) (n w c d : ℕ) (ps qs : List (Option (Pass T Note Origin))) (r : Result Flushed FlushError) → FlushTold n w c ps r d qs → (h : Rounded w c ps (after_flush a n r) d qs) × BufferedBy n r h.turns × AnyTurn (TriesFlush n) h.turns
+  unfolding flush_rounds one flown_so
+  flush_finds a n w c _ ps _ _ (one_turn x d qs none walked) =
+      (flush_rounds a n w c d ps qs (stayed x) (one_turn x d qs none walked), stayed_finds n x (record { shard = n; event = FlushOut; answer = x; made = walked.turned.told.made }) refl refl refl, inl (refl, refl))
+  flush_finds a n w c _ ps _ _ (two_turns upto c1 d pushed qs rs out land known) =
+      (flush_rounds a n w c d ps rs (flown pushed upto) (two_turns upto c1 d pushed qs rs out land known), flown_finds n upto pushed _, inl (refl, refl))
 
-  pub flush_fails : (a : A) (n w c d : ℕ) (ps qs : List (Option (Pass T Note Origin))) (e f : FlushError) → FlushTold n w c ps (Err e) d qs → e ≡ f → Rounded w c ps (after_flush a n (Err f)) d qs
-  flush_fails a n w c d ps qs e f told is = subst (λ x. Rounded w c ps (after_flush a n (Err x)) d qs) is (flush_rounds a n w c d ps qs (Err e) told)
+  pub flush_fails : (a : A) (n w c d : ℕ) (ps qs : List (Option (Pass T Note Origin))) (e f : FlushError) → FlushTold n w c ps (Err e) d qs → e ≡ f → (h : Rounded w c ps (after_flush a n (Err f)) d qs) × AnyTurn (TriesFlush n) h.turns
+  flush_fails a n w c d ps qs e f told is =
+      subst (λ x. (h : Rounded w c ps (after_flush a n (Err x)) d qs) × AnyTurn (TriesFlush n) h.turns) is (let k = flush_finds a n w c d ps qs (Err e) told in (k.0, k.2))
 
 -- ---- a message
 

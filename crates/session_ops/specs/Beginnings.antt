@@ -29,5 +29,5 @@ module _ {M S G : Type 0} where
 -- a walker without a turn so far is ready for its first transaction
 abbrev pub NewWalkersAreReady : (M S G : Type 0) → Type 0
 NewWalkersAreReady M S G =
-    (sh : Shards M S G) (w : Walker M S G) → IsWalker sh w → AreNewPasses (founds_of sh) sh.locks.items w.number w.passes.items → is_session_number w.number ≡ true
+    (sh : Shards M S G) (w : Walker M S G) → IsWalker sh w → AreNewPasses sh.splits (founds_of sh) sh.locks.items w.number w.passes.items → is_session_number w.number ≡ true
     → IsReady sh w (no_session sh.run w.number)

@@ -4,7 +4,7 @@ use Rattle.std.specs.List.{AllByRecursion}
 use Rattle.clv_base.specs.declared.names.TxId.{TxId}
 use Rattle.clv_base.specs.declared.names.Point.{Point}
 use Rattle.clv_base.specs.declared.events.Event.TheVariants.{Look, Drop}
-use Rattle.clv_base.specs.declared.events.Outcome.TheVariants.{Aborted as AbortedOut, NotYet}
+use Rattle.clv_base.specs.declared.events.Outcome.TheVariants.{Aborted as AbortedOut}
 use Rattle.clv_base.specs.Sessions.{SessionState, Standing, Told, Refused, is_of_session, after_drop}
 use Rattle.turn_lock.specs.declared.pass.Pass.{Pass}
 use Rattle.machine_laws.specs.declared.notes.Note.{Note}
@@ -14,7 +14,7 @@ use Rattle.cluster_turns.specs.declared.shards.Walker.{Walker}
 use Rattle.cluster_turns.specs.CallTurns.{Turn, Took, AnyTurn, FoundDown, FoundWorn}
 use Rattle.session_ops.specs.declared.settled_looking.SettleError.{SettleError}
 use Rattle.session_ops.specs.declared.settled_looking.SettleError.TheVariants.{Aborted, Unsettled, Worn, Memory}
-use Rattle.session_ops.specs.Settled.{IsLook, Acknowledges}
+use Rattle.session_ops.specs.Settled.{IsLook, Acknowledges, IsHeldUp}
 use Rattle.session_ops.specs.Dropped.{is_to_drop, Drops, IsEnding}
 use Rattle.session_ops.specs.declared.committing.Settled.{Settled}
 use Rattle.session_ops.specs.declared.committing.Settled.TheVariants.{Committed}
@@ -58,7 +58,7 @@ IsLookOrDrop tx touched home t = (is_of_session t.event ≡ false) ⊎ ((t.event
 abbrev pub DecidedBy : ℕ → ℕ → SessionState → Result Point SettleError → List Turn → SessionState → Type 0
 DecidedBy count n p (Ok point) ts q = AnyTurn (Acknowledges n p.tx point) ts × (q ≡ record p { phase = Told })
 DecidedBy count n p (Err (Aborted cause)) ts q = AnyTurn (IsLook n p.tx (AbortedOut cause)) ts × DropsOthers count p.tx p.touched n ts × (q ≡ record p { phase = Refused })
-DecidedBy count n p (Err (Unsettled m)) ts q = FoundDown m ts × ((m ≡ n) ⊎ AnyTurn (IsLook n p.tx NotYet) ts) × (q ≡ record p { phase = Standing n })
+DecidedBy count n p (Err (Unsettled m)) ts q = FoundDown m ts × ((m ≡ n) ⊎ IsHeldUp count n p.tx p.touched m ts) × (q ≡ record p { phase = Standing n })
 DecidedBy count n p (Err (Worn at)) ts q = FoundWorn at ts × (q ≡ record p { phase = Standing n })
 DecidedBy count n p (Err Memory) ts q = q ≡ record p { phase = Standing n }
 

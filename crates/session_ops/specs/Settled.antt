@@ -1,6 +1,7 @@
 -- What the looks at a request tell, with their rounds, until it is decided.
-use Rattle.std.specs.Prelude.{◌≡◌, ◌⊎◌, ⊤, ℕ, false, List, Option, Some, None, Result, Ok, Err}
+use Rattle.std.specs.Prelude.{◌≡◌, ◌⊎◌, ⊤, ℕ, ◌==◌, true, false, is_some, List, ◌++◌, Option, Some, None, Result, Ok, Err}
 use Rattle.std.specs.List.{AllByRecursion}
+use Rattle.std.specs.Map.{lookup}
 use Rattle.clv_base.specs.declared.names.TxId.{TxId}
 use Rattle.clv_base.specs.declared.names.Point.{Point}
 use Rattle.clv_base.specs.declared.events.Event.TheVariants.{Look}
@@ -15,9 +16,10 @@ use Rattle.machine_laws.specs.declared.notes.Note.{Note}
 use Rattle.machine_laws.specs.declared.notes.Origin.{Origin}
 use Rattle.cluster_turns.specs.declared.shards.Shards.{Shards}
 use Rattle.cluster_turns.specs.declared.shards.Walker.{Walker}
-use Rattle.cluster_turns.specs.CallTurns.{Turn, Took, AnyTurn, FoundDown, FoundWorn}
+use Rattle.cluster_turns.specs.CallTurns.{Turn, Took, AreOthers, AnyTurn, FoundDown, FoundWorn}
 use Rattle.session_ops.specs.declared.parts.RoundError.{RoundError}
 use Rattle.session_ops.specs.declared.parts.RoundError.TheVariants.{Down as RoundDown, Worn as RoundWorn, Memory as RoundMemory}
+use Rattle.session_ops.specs.Rounds.{AllFoundAtRest}
 use Rattle.session_ops.specs.Standing.{IsReady, IsOver, IsGoneAt}
 use Rattle.session_ops.specs.Requested.{IsStanding}
 use Rattle.session_ops.specs.declared.settled_looking.SettleError.{SettleError}
@@ -40,14 +42,29 @@ IsLook n tx o t = (t.shard ≡ n) × (t.event ≡ Look tx) × (t.answer ≡ Ok o
 abbrev pub Acknowledges : ℕ → TxId → Point → Turn → Type 0
 Acknowledges n tx point t = IsLook n tx Acknowledged t × ((x : Entry) × (t.made ≡ Some x) × (point ≡ record { stamp = x.stamp; shard = n }))
 
--- what an answer tells of the turns of its call; none yet tells that it waits
-abbrev pub SettledBy : ℕ → TxId → Result (Option Point) SettleError → List Turn → Type 0
-SettledBy n tx (Ok (Some point)) ts = AnyTurn (Acknowledges n tx point) ts
-SettledBy n tx (Ok None) ts = AnyTurn (IsLook n tx NotYet) ts
-SettledBy n tx (Err (Aborted cause)) ts = AnyTurn (IsLook n tx (AbortedOut cause)) ts
-SettledBy n tx (Err (Unsettled m)) ts = FoundDown m ts × ((m ≡ n) ⊎ AnyTurn (IsLook n tx NotYet) ts)
-SettledBy n tx (Err (Worn at)) ts = FoundWorn at ts
-SettledBy n tx (Err Memory) ts = ⊤
+-- the transaction touched the shard
+abbrev pub IsTouched : List (ℕ × ℕ) → ℕ → Type 0
+IsTouched touched m = is_some (lookup (◌==◌ m) touched) ≡ true
+
+-- behind a look that was told to wait, turns of a round found the shard down, and the decision needs it: the transaction touched it, or nothing moves
+-- without it, as the round found each shard down or at rest
+pub record IsHeldUp (count n : ℕ) (tx : TxId) (touched : List (ℕ × ℕ)) (m : ℕ) (ts : List Turn) : Type 0 where
+  pub before : List Turn
+  pub round : List Turn
+  pub are : ts ≡ before ++ round
+  pub waits : AnyTurn (IsLook n tx NotYet) before
+  pub others : AreOthers round
+  pub down : FoundDown m round
+  pub needs : IsTouched touched m ⊎ AllFoundAtRest count round
+
+-- what an answer tells of the turns of its call, of a request of p whose home is shard n; none yet tells that it waits
+abbrev pub SettledBy : ℕ → ℕ → SessionState → Result (Option Point) SettleError → List Turn → Type 0
+SettledBy count n p (Ok (Some point)) ts = AnyTurn (Acknowledges n p.tx point) ts
+SettledBy count n p (Ok None) ts = AnyTurn (IsLook n p.tx NotYet) ts
+SettledBy count n p (Err (Aborted cause)) ts = AnyTurn (IsLook n p.tx (AbortedOut cause)) ts
+SettledBy count n p (Err (Unsettled m)) ts = FoundDown m ts × ((m ≡ n) ⊎ IsHeldUp count n p.tx p.touched m ts)
+SettledBy count n p (Err (Worn at)) ts = FoundWorn at ts
+SettledBy count n p (Err Memory) ts = ⊤
 
 -- and of the place
 abbrev pub PlacedBy : SessionState → Result (Option Point) SettleError → SessionState → Type 0
@@ -62,11 +79,11 @@ PlacedBy p (Err Memory) q = q ≡ p
 abbrev pub OnlyLooks : TxId → List Turn → Type 0
 OnlyLooks tx ts = AllByRecursion (λ t. (is_of_session t.event ≡ false) ⊎ (t.event ≡ Look tx)) ts
 
-pub record Settling {T : Type 0} (w clock : ℕ) (before : List (Option (Pass T Note Origin))) (n : ℕ) (tx : TxId) (r : Result (Option Point) SettleError) (clock' : ℕ) (after : List (Option (Pass T Note Origin))) : Type 0 where
+pub record Settling {T : Type 0} (count w clock : ℕ) (before : List (Option (Pass T Note Origin))) (n : ℕ) (p : SessionState) (r : Result (Option Point) SettleError) (clock' : ℕ) (after : List (Option (Pass T Note Origin))) : Type 0 where
   pub turns : List Turn
   pub took : Took w clock before turns clock' after
-  pub only : OnlyLooks tx turns
-  pub told : SettledBy n tx r turns
+  pub only : OnlyLooks p.tx turns
+  pub told : SettledBy count n p r turns
 
 -- why a round ended early, as a commit tells it
 abbrev pub refusal_of : RoundError → SettleError

@@ -34,7 +34,8 @@ pub enum CommitError {
     Aborted(AbortCause),
     /// The home was found down before the request was made. The transaction stays active.
     Down { shard: u32 },
-    /// A turn after the request found the shard down: the home or a touched one, or after a long wait any. The request stands.
+    /// A turn after the request found the shard down: the home or a touched one, or after a long wait any, where nothing else moved. The request
+    /// stands.
     Unsettled { shard: u32 },
     Worn { at: u64 },
     Memory,
@@ -136,11 +137,13 @@ fn commit_at<M: Flier, P: Pace, R: Wait>(
     CommitEnd { answer, stamp }
 }
 
-/// Commits the active transaction: one request at the lowest shard that it touched, then looks there until it is decided, with a wait and a round after
-/// each that finds nothing decided; where it died or is aborted, its other parts are dropped. `Empty` comes exactly where it touched nothing. Each answer is
-/// told by the turns of the call: `Down` only where the request found the home down, and `Unsettled` only after the request. After these two, `Worn` and
-/// `Memory` the transaction is active or its request stands, as the place tells; [`finish`] goes on with a request that stands. The point of an
-/// acknowledged one is that of its request: members of the serial history stand in the order of these.
+/// Commits the active transaction: one request at the lowest shard that it touched, then looks there until it is decided, with a wait and a round
+/// after each that finds nothing decided; where it died or is aborted, its other parts are dropped. `Empty` comes exactly where it touched nothing.
+/// Each answer is told by the turns of the call: `Down` only where the request found the home down. `Unsettled` comes only after the request, where a
+/// turn found that shard down: the home, or, in a round after a wait, one that the transaction touched, or any where that round found each shard
+/// down, or with nothing buffered and no message. After these two, `Worn` and `Memory` the transaction is active or its request stands, as the place
+/// tells; [`finish`] goes on with a request that stands. The point of an acknowledged one is that of its request: members of the serial history stand
+/// in the order of these.
 pub fn commit<M: Flier, P: Pace, R: Wait>(
     rt: &R,
     alloc: Global,

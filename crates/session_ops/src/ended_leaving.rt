@@ -63,9 +63,9 @@ pub fn leave_if<M: Machine, R: Wait>(
     }
 }
 
-/// Looks at the home until the request is decided, and drops the other parts where it is aborted. Of a session's turns it takes only looks and, after the one
-/// that was told of the abort, drops. The point is that of the entry that acknowledges it; each error comes only where the turns of the call say so. After
-/// `Unsettled`, `Worn` and `Memory` the request stands.
+/// Looks at the home until the request is decided, and drops the other parts where it is aborted. Of a session's turns it takes only looks and, after
+/// the one that was told of the abort, drops. The point is that of the entry that acknowledges it; each error comes only where the turns of the call
+/// say so, `Unsettled` as from [`settle`]. After that, `Worn` and `Memory` the request stands.
 pub fn finish<M: Flier, P: Pace, R: Wait>(
     rt: &R,
     alloc: Global,

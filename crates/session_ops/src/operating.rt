@@ -22,6 +22,7 @@ use machine_calls::{Flier, Machine, StepError};
 use std::alloc::Global;
 use std::array;
 use std::sync::Wait;
+use turn_lock::Batch;
 
 /// Why an operation wasn't answered.
 #[derive(Clone, Copy, PartialEq, Eq)]
@@ -100,7 +101,7 @@ fn pass_round<M: Flier, P: Pace, R: Wait>(
     shard: u32,
     pace: &P,
     is_time: bool,
-) -> Result<(), RoundError>
+) -> Result<Option<Batch>, RoundError>
     requires active { IsActive shards.now walker.old place.now }
     ensures walker { IsSameWalker walker.old walker.new }
     ensures round { Rounded walker.old.number walker.old.clock walker.old.passes.items result walker.new.clock walker.new.passes.items }
@@ -110,7 +111,7 @@ fn pass_round<M: Flier, P: Pace, R: Wait>(
         let own = needed_by(place, shard);
         return round(rt, alloc, shards, walker, &own, pace);
     }
-    Ok(())
+    Ok(None)
 }
 
 // One try, and where it has to wait a round, once it is time for one.
@@ -137,7 +138,7 @@ fn try_and_pass<M: Flier, P: Pace, R: Wait>(
 {
     match try_once(rt, alloc, shards, walker, place, shard, nth, op) {
         Ok(None) => match pass_round(rt, alloc, shards, walker, place, shard, pace, is_time) {
-            Ok(()) => Ok(None),
+            Ok(_) => Ok(None),
             Err(error) => Err(refused(error)),
         },
         Ok(Some(answer)) => Ok(Some(answer)),

@@ -1,7 +1,7 @@
 // The parts of a round on one shard.
 ghost use Rattle.std.specs.Prelude.{◌≡◌, ◌<◌, true, length, None};
 ghost use Rattle.cluster_turns.specs.Walkers.{IsWalker, IsSameWalker};
-ghost use Rattle.session_ops.specs.Rounds.{IsOwn, IsQuiet, PassedOver, Passed, EndsAt, Whatever, FoundFlushed, FoundCarried, CarriedAs, met_flush};
+ghost use Rattle.session_ops.specs.Rounds.{IsOwn, IsAlone, IsQuiet, PassedOver, Passed, EndsAt, Whatever, FlushedOn, CarriedOn, CarriedAs, met_flush};
 
 use cluster_turns::{
     Carry, CarryError, FlushError, Flushed, Shards, Walker, carry_once, flush_once, remind_once,
@@ -34,7 +34,8 @@ pub(crate) struct Met {
 
 // Whether the caller needs a shard.
 pub(crate) fn is_own(own: &[bool; 16], shard: u32) -> bool
-    ensures { result ≡ true → IsOwn own.now shard }
+    ensures own { result ≡ true → IsOwn own.now shard }
+    ensures all { IsOwn own.now shard → result ≡ true }
 {
     match own.get(shard as usize) {
         Some(needs) => *needs,
@@ -80,21 +81,31 @@ impl Met {
     // Another walker writes this batch of a shard.
     fn note_away(&mut self, shard: u32, batch: Batch)
         ensures down { self.new.down ≡ self.old.down }
-        ensures away { IsQuiet self.new → ⊥ }
+        ensures away { IsAlone self.new → ⊥ }
     {
         self.away = Some((shard, batch));
     }
 
+    // The batch that another walker writes, if one was found writing.
+    pub(crate) fn batch(&self) -> Option<Batch>
+        ensures { result ≡ None → IsAlone self.now }
+    {
+        match self.away {
+            Some((_shard, batch)) => Some(batch),
+            None => None,
+        }
+    }
+
     // How a round ends whose own shards are up: at one that was passed over, where it moved nothing and nobody else writes.
-    pub(crate) fn end(self) -> Result<(), RoundError>
+    pub(crate) fn end(self) -> Result<Option<Batch>, RoundError>
         ensures ended { EndsAt self result }
     {
         if self.moves || self.away.is_some() {
-            return Ok(());
+            return Ok(self.batch());
         }
         match self.down {
             Some(shard) => Err(RoundError::Down { shard }),
-            None => Ok(()),
+            None => Ok(None),
         }
     }
 }
@@ -113,7 +124,7 @@ fn flush_now<M: Flier, P: Pace, R: Wait>(
     requires walker { IsWalker shards.now walker.old }
     requires shard { shard < length shards.now.locks.items }
     ensures walker { IsWalker shards.now walker.new × IsSameWalker walker.old walker.new }
-    ensures flush { Passed own.now (FoundFlushed shard) walker.old.number walker.old.clock walker.old.passes.items met.old result walker.new.clock walker.new.passes.items met.new }
+    ensures flush { Passed own.now (FlushedOn shard) walker.old.number walker.old.clock walker.old.passes.items met.old result walker.new.clock walker.new.passes.items met.new }
 {
     match flush_once(rt, alloc, shards, walker, shard, pace) {
         Ok(flushed) => {
@@ -142,7 +153,7 @@ pub(crate) fn flush<M: Flier, P: Pace, R: Wait>(
     requires walker { IsWalker shards.now walker.old }
     requires shard { shard < length shards.now.locks.items }
     ensures walker { IsWalker shards.now walker.new × IsSameWalker walker.old walker.new }
-    ensures flush { Passed own.now (FoundFlushed shard) walker.old.number walker.old.clock walker.old.passes.items met.old result walker.new.clock walker.new.passes.items met.new }
+    ensures flush { Passed own.now (FlushedOn shard) walker.old.number walker.old.clock walker.old.passes.items met.old result walker.new.clock walker.new.passes.items met.new }
 {
     let Some(gate) = shards.batches.get(shard as usize) else {
         return flush_now(rt, alloc, shards, walker, shard, own, pace, met);
@@ -216,7 +227,7 @@ pub(crate) fn carry_all<M: Machine, R: Wait>(
     requires walker { IsWalker shards.now walker.old }
     requires shard { shard < length shards.now.locks.items }
     ensures walker { IsWalker shards.now walker.new × IsSameWalker walker.old walker.new }
-    ensures carried { Passed own.now (FoundCarried shard) walker.old.number walker.old.clock walker.old.passes.items met.old result walker.new.clock walker.new.passes.items met.new }
+    ensures carried { Passed own.now (CarriedOn shard) walker.old.number walker.old.clock walker.old.passes.items met.old result walker.new.clock walker.new.passes.items met.new }
 {
     for _ in rt.forever() {
         match carry(rt, alloc, shards, walker, shard, own, met) {

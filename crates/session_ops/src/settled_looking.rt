@@ -18,7 +18,7 @@ use std::sync::Wait;
 pub enum SettleError {
     /// It was told that it is aborted.
     Aborted(AbortCause),
-    /// A turn found the shard down: the home or a touched one, or after a long wait any. The request stands.
+    /// A turn found the shard down: the home or a touched one, or after a long wait any, where nothing else moved. The request stands.
     Unsettled { shard: u32 },
     Worn { at: u64 },
     Memory,
@@ -59,7 +59,7 @@ pub(crate) fn look_once<M: Machine, R: Wait>(
     requires standing { IsStanding shards.now walker.old place.old home }
     requires shard { home < length shards.now.locks.items }
     ensures walker { IsSameWalker walker.old walker.new }
-    ensures turns { Settling walker.old.number walker.old.clock walker.old.passes.items home place.old.tx result walker.new.clock walker.new.passes.items }
+    ensures turns { Settling (length shards.now.locks.items) walker.old.number walker.old.clock walker.old.passes.items home place.old result walker.new.clock walker.new.passes.items }
     ensures place { PlacedBy place.old result place.new }
     ensures stands { StandsBy shards.now walker.new place.new home result }
 {

@@ -1,26 +1,26 @@
 use Rattle.std.proofs.Common.{◌∙◌, ◌+◌, length, Ok, refl, ap, arith}
 use Rattle.clv_base.specs.Shards.{shard_count}
-use Rattle.session_ops.specs.Rounds.{FoundAtRest, AllFoundAtRest}
-use Rattle.session_ops.proofs.Noting.{none_passed, passes_on, passes_to_error, let_go, next_rests}
+use Rattle.session_ops.specs.Rounds.{MovedOn, AllMoved}
+use Rattle.session_ops.proofs.Noting.{same_met, none_passed, passes_on, passes_to_error, let_go, next_moved}
 use Rattle.session_ops.proofs.rounds.move_all.Goals as goal
 
 pub loop-shard-init : goal.loop-shard-init
 loop-shard-init g c = let w = c.args.walker.now in let x = c.args.met.now in
-    (c.requires.walker, (refl, refl), none_passed {A = Unit {0}} c.args.own.now (AllFoundAtRest 0) w.number w.clock w.passes.items x x tt refl (λ q. q) (λ q n low. absurd (omega arith)))
+    (c.requires.walker, (refl, refl), none_passed {A = Unit {0}} c.args.own.now (AllMoved 0) w.number w.clock w.passes.items x x tt refl (same_met x) (λ n low. absurd (omega arith)))
 
 pub returns-in-Err-clause-round : goal.returns-in-Err-clause-round
 returns-in-Err-clause-round g c = let w = c.args.walker.now in let u = c.loop-shard.walker in let v = c.move_one.new.walker in let i = c.loop-shard.invariant in let k = c.loop-shard.shard in
-    passes_to_error {A = Unit {0}} {B = Unit {0}} c.args.own.now (AllFoundAtRest k) (FoundAtRest k) (AllFoundAtRest (length c.args.shards.now.locks.items)) w.number u.number w.clock u.clock v.clock w.passes.items u.passes.items v.passes.items c.args.met.now c.loop-shard.met c.move_one.new.met tt
+    passes_to_error {A = Unit {0}} {B = Unit {0}} c.args.own.now (AllMoved k) (MovedOn k) (AllMoved (length c.args.shards.now.locks.items)) w.number u.number w.clock u.clock v.clock w.passes.items u.passes.items v.passes.items c.args.met.now c.loop-shard.met c.move_one.new.met tt
     c.in-Err.error i.1.0 i.2 c.in-Err.ensures.round
 
 pub loop-shard-preserved : goal.loop-shard-preserved
 loop-shard-preserved g c = let w = c.args.walker.now in let u = c.loop-shard.walker in let v = c.move_one.new.walker in let i = c.loop-shard.invariant in let e = c.in-Ok.ensures in let k = c.loop-shard.shard in (
   e.walker.0,
   (e.walker.1.0 ∙ i.1.0, e.walker.1.1 ∙ i.1.1),
-  passes_on {A = Unit {0}} {B = Unit {0}} c.args.own.now (AllFoundAtRest k) (FoundAtRest k) (AllFoundAtRest (k + 1)) w.number u.number w.clock u.clock v.clock w.passes.items u.passes.items v.passes.items c.args.met.now c.loop-shard.met c.move_one.new.met tt (Ok tt) (next_rests k) i.1.0 i.2 e.round,
+  passes_on {A = Unit {0}} {B = Unit {0}} c.args.own.now (AllMoved k) (MovedOn k) (AllMoved (k + 1)) w.number u.number w.clock u.clock v.clock w.passes.items u.passes.items v.passes.items c.args.met.now c.loop-shard.met c.move_one.new.met tt (Ok tt) (λ xs ys l f h. next_moved k c.loop-shard.met c.move_one.new.met xs ys l f h) i.1.0 i.2 e.round,
 )
 
 pub returns-clause-round : goal.returns-clause-round
 returns-clause-round g c = let w = c.args.walker.now in let u = c.loop-shard.walker in let i = c.loop-shard.invariant in
-    let_go {A = Unit {0}} c.args.own.now (AllFoundAtRest c.loop-shard.shard) (AllFoundAtRest (length c.args.shards.now.locks.items)) w.number w.clock u.clock w.passes.items u.passes.items c.args.met.now c.loop-shard.met (Ok tt)
+    let_go {A = Unit {0}} c.args.own.now (AllMoved c.loop-shard.shard) (AllMoved (length c.args.shards.now.locks.items)) w.number w.clock u.clock w.passes.items u.passes.items c.args.met.now c.loop-shard.met (Ok tt)
     (λ ts f n low. f n (let h = c.loop-shard-test.false in let e = c.shards-shard-end.ensures.shards ∙ ap shard_count c.splits.ensures in let k = c.requires.walker.count in omega arith)) i.2
