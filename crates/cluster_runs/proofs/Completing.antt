@@ -1,24 +1,20 @@
 -- How the transactions of a session that went through ended.
-use Rattle.std.proofs.Common.{◌≡◌, ◌≢◌, refl, sym, ap, ◌∙◌, subst, inl, inr, ℕ, suc, ◌<◌, ◌≤◌, true, false, List, [], ◌∷◌, ◌++◌, length, map, append_assoc, Option, Some, None, slice_get, arith}
+use Rattle.std.proofs.Common.{◌≡◌, refl, sym, ap, ◌∙◌, subst, inl, inr, ℕ, suc, ◌≤◌, true, false, List, [], ◌∷◌, ◌++◌, length, map, append_assoc, Option, Some, None, arith}
 use Rattle.std.specs.List.{AllByRecursion}
 use Rattle.std.proofs.lemmas.Bool.{both_ways, ltb-false}
 use Rattle.clv_base.specs.declared.names.TxId.{TxId}
 use Rattle.clv_base.specs.declared.names.Birth.{Birth}
 use Rattle.clv_base.specs.declared.causes.AbortCause.{AbortCause}
-use Rattle.clv_base.specs.declared.causes.AbortCause.TheVariants.{Asked, Died, Predecessor, NoVote, Restarted}
+use Rattle.clv_base.specs.declared.causes.AbortCause.TheVariants.{Asked, Died}
 use Rattle.clv_base.specs.declared.ops.Answer.{Answer}
 use Rattle.clv_base.specs.declared.logs.LogRecord.{LogRecord}
-use Rattle.clv_base.specs.declared.events.Event.TheVariants.{Op as OpEvent, Request, Look}
-use Rattle.clv_base.specs.declared.events.Outcome.TheVariants.{Dead, Aborted}
 use Rattle.clv_base.specs.declared.events.Entry.{Entry}
 use Rattle.clv_base.specs.Restarts.{run_after}
 use Rattle.clv_base.specs.Journals.{History, own}
-use Rattle.clv_base.specs.History.{Legal, ops_in}
+use Rattle.clv_base.specs.History.{Legal}
 use Rattle.fate_laws.specs.Causes.{TellsCause, op_died, request_died, look_found}
 use Rattle.history_cases.proofs.Merging.{Among, among_left, among_right}
-use Rattle.history_laws.proofs.Laws.{walker_of}
-use Rattle.protocol_laws.specs.SessionLaws.{tx_of}
-use Rattle.history_replay.specs.Entries.{Kept}
+use Rattle.settled_laws.proofs.Laws.{aborts_are_deaths}
 use Rattle.cluster_runs.specs.Histories.{entries}
 use Rattle.script_lang.specs.Bodies.{Body}
 use Rattle.script_lang.specs.Following.{next_op}
@@ -30,10 +26,12 @@ use Rattle.script_runs.specs.Tries as tries
 use Rattle.script_runs.specs.Sessions.{Transaction, IsTransaction, IsNamed, AreTransactions, FollowsScript, all_done, not_begun, stopped, done, is_to_retry, has_left, tries_of, entries_of, session_entries}
 use Rattle.script_runs.specs.TriesLaws.{Completes, IsComplete}
 use Rattle.script_runs.specs.TriesLaws as laws
-use Rattle.script_runs.proofs.Laws.{sessions_go_through, sessions_tell_their_tries, tries_are_few, acknowledged_did_their_lines, entries_tell_their_lines, tries_more as tries_append}
-use Rattle.cluster_runs.specs.PromisedSessions.{Went, Begun, SessionWent}
+use Rattle.script_runs.proofs.Laws.{sessions_go_through, tries_are_few, acknowledged_did_their_lines, entries_tell_their_lines, tries_more as tries_append}
+use Rattle.cluster_runs.specs.PromisedSessions.{SessionWent}
 use Rattle.cluster_runs.specs.Completing.{HasEnded, acknowledged, empty, by_line, given_up, IsWanted, TransactionEnded, SessionEnded, SessionsHaveEnded}
-use Rattle.cluster_runs.proofs.Entries.{from_session, from_own, all_from, split, acknowledged_by, session_ops, own_ops}
+use Rattle.cluster_runs.proofs.Beginnings.{begins_settled}
+use Rattle.cluster_runs.proofs.Entries.{from_session, from_own, split, acknowledged_by}
+use Rattle.cluster_runs.proofs.Scripted.{whole_ops}
 
 -- ---- the cause that a try's entries tell
 
@@ -134,41 +132,37 @@ no_more (Some m) count none few =
     let high = ltb-false count m none in
     ap (λ n. Some n) (let same : m ≡ count = omega arith in same)
 
-abbrev IsOwnCause : TryEnd → Type 0
-IsOwnCause e = (cause : AbortCause) × (e ≡ end.Aborted cause) × (cause ≢ Asked)
+-- a try that is followed by another where one is left was aborted
+was_aborted : (e : TryEnd) → is_to_retry e ≡ true → (cause : AbortCause) × (e ≡ end.Aborted cause)
+was_aborted end.Acknowledged h = absurd (both_ways false refl h)
+was_aborted end.Empty h = absurd (both_ways false refl h)
+was_aborted end.Asked h = absurd (both_ways false refl h)
+was_aborted (end.Stopped c) h = absurd (both_ways false refl h)
+was_aborted (end.Aborted c) h = (c, refl)
 
-own_cause : (e : TryEnd) → is_to_retry e ≡ true → IsOwnCause e
-own_cause end.Acknowledged h = absurd (both_ways false refl h)
-own_cause end.Empty h = absurd (both_ways false refl h)
-own_cause end.Asked h = absurd (both_ways false refl h)
-own_cause (end.Stopped c) h = absurd (both_ways false refl h)
-own_cause (end.Aborted Asked) h = absurd (both_ways false refl h)
-own_cause (end.Aborted (Died older)) h = (Died older, refl, λ s. absurd cc)
-own_cause (end.Aborted (Predecessor tx)) h = (Predecessor tx, refl, λ s. absurd cc)
-own_cause (end.Aborted (NoVote shard why)) h = (NoVote shard why, refl, λ s. absurd cc)
-own_cause (end.Aborted (Restarted shard seen now)) h = (Restarted shard seen now, refl, λ s. absurd cc)
+-- ---- a session of a legal history in which each abort is a death
 
--- ---- a session of a legal history that never tells who asked
-
-abbrev NeverAsked : History → Type 0
-NeverAsked h = (e : ℕ × Entry) (tx : TxId) → Among e h → TellsCause (e.1).event (e.1).outcome tx Asked → ⊥
+abbrev AreDeaths : History → Type 0
+AreDeaths h = (e : ℕ × Entry) (tx : TxId) (cause : AbortCause) → Among e h → TellsCause (e.1).event (e.1).outcome tx cause → (older : TxId) × (cause ≡ Died older)
 
 wanted : (most : Option ℕ) (m : ℕ) → IsWanted most → most ≡ Some m → 1 ≤ m
 wanted None m h is = absurd cc
 wanted (Some n) m h is = subst (λ k. 1 ≤ k) (let e : n ≡ m = cc in e) h
 
 module _
-    (splits : List ℕ) (before after : List (List LogRecord)) (h : History) (legal : Legal splits before h after) (never : NeverAsked h) (w : ℕ) (most : Option ℕ) (some : IsWanted most) (bodies : List Body)
+    (splits : List ℕ) (before after : List (List LogRecord)) (h : History) (legal : Legal splits before h after) (deaths : AreDeaths h) (w : ℕ) (most : Option ℕ) (some : IsWanted most) (bodies : List Body)
     (f : FollowsScript splits (run_after before) w most bodies None (session_entries (own w h))) where
   in_history : (x : ℕ × Entry) (front behind : List Try) (t : Try) → tries_of f.transactions ≡ front ++ t ∷ behind → Among x t.entries → Among x h
   in_history x front behind t is m =
       from_own w x h (from_session x (own w h) (subst (Among x) (sym (f.entries_are ∙ ap entries_of is)) (among_tries x front behind t m)))
 
-  whole_ops : (front behind : List Try) (t : Try) → tries_of f.transactions ≡ front ++ t ∷ behind → IsNamed (run_after before) w t → ops_in t.tx h ≡ ops_in t.tx t.entries
-  whole_ops front behind t is named =
-      own_ops w t.tx h (all_from _ h (λ x m of_tx. sym (walker_of splits before after h x t.tx legal m of_tx).1 ∙ named.session_is))
-      ∙ session_ops t.tx (own w h)
-      ∙ sessions_tell_their_tries splits (run_after before) w most bodies None (session_entries (own w h)) f front behind t is
+  died : (tr : Transaction) (front behind : List Try) (t : Try) → tries_of f.transactions ≡ front ++ t ∷ behind → IsTry splits tr.body tr.birth t → (cause : AbortCause) → t.end ≡ end.Aborted cause → (older : TxId) × (cause ≡ Died older)
+  died tr front behind t at tried cause same =
+      let a = aborts splits tr.body t.tx tr.birth t.answers tried.before t.end tried.behind cause tried.ends same in
+      deaths a.entry t.tx cause (in_history a.entry front behind t at (subst (Among a.entry) (sym tried.entries_are) (among_right a.entry tried.before tried.behind a.among))) a.tells
+
+  asked_not : (older : TxId) → Asked ≡ Died older → ⊥
+  asked_not older is = absurd cc
 
   last_ended :
       (tr : Transaction) (front behind : List Try) (t : Try) → tries_of f.transactions ≡ front ++ t ∷ behind → IsTransaction splits (run_after before) w most tr None → IsTry splits tr.body tr.birth t
@@ -179,17 +173,16 @@ module _
       acknowledged ending same
       (record {
         told = acknowledged_by t.tx d.told h (in_history d.told front behind t at among) (d.told_is).event (d.told_is).outcome;
-        operations = ap (map (λ p. p.0)) (whole_ops front behind t at named) ∙ entries_tell_their_lines splits tr.body tr.birth t tried same;
+        operations = ap (map (λ p. p.0)) (whole_ops splits before after h legal w most bodies f front behind t at named) ∙ entries_tell_their_lines splits tr.body tr.birth t tried same;
       })
   last_ended tr front behind t at is tried named _ (laws.empty ending) same = empty ending same (has_none splits tr.body t.tx tr.birth t.answers tried.before t.end tried.behind tried.ends same)
   last_ended tr front behind t at is tried named _ (laws.by_line ending) same = by_line ending same (lines_done splits tr.body t.tx tr.birth t.answers tried.before t.end tried.behind tried.ends same)
-  last_ended tr front behind t at is tried named _ laws.was_asked same =
-      let a = aborts splits tr.body t.tx tr.birth t.answers tried.before t.end tried.behind Asked tried.ends same in
-      absurd
-      (never a.entry t.tx (in_history a.entry front behind t at (subst (Among a.entry) (sym tried.entries_are) (among_right a.entry tried.before tried.behind a.among))) a.tells)
+  last_ended tr front behind t at is tried named _ laws.was_asked same = absurd (let d = died tr front behind t at tried Asked same in asked_not d.0 d.1)
   last_ended tr front behind t at is tried named _ (laws.no_try_left e retry none) same =
-      let c = own_cause e retry in
-      given_up c.0 (same ∙ c.1) c.2 (no_more most (length tr.tries) none (λ m is_m. tries_are_few splits (run_after before) w m tr None (subst (λ k. IsTransaction splits (run_after before) w k tr None) is_m is) (wanted most m some is_m)))
+      let c = was_aborted e retry in
+      let d = died tr front behind t at tried c.0 (same ∙ c.1) in
+      given_up d.0 (same ∙ c.1 ∙ ap (λ x. end.Aborted x) d.1)
+      (no_more most (length tr.tries) none (λ m is_m. tries_are_few splits (run_after before) w m tr None (subst (λ k. IsTransaction splits (run_after before) w k tr None) is_m is) (wanted most m some is_m)))
 
   transaction_ended :
       (tr : Transaction) (front behind : List Transaction) → f.transactions ≡ front ++ tr ∷ behind → IsTransaction splits (run_after before) w most tr None → IsComplete most tr → TransactionEnded splits h most tr
@@ -221,9 +214,11 @@ module _
 -- ---- a run
 
 pub sessions_have_ended : SessionsHaveEnded
-sessions_have_ended splits before now counts counts_now most script went kept k bodies some p at through =
+sessions_have_ended splits before now counts counts_now most script went kept k bodies some opens p at through drained =
     let keeps = p.keeps in
-    session_ended splits kept.found keeps.left (entries kept) (keeps.legal).legal
-    (λ e tx m tells. let s = split e (entries kept) m in (((keeps.promised (λ n. false)).causes s.so_far s.rest e tx Asked s.whole tells).0))
+    let legal = (keeps.legal).legal in
+    session_ended splits kept.found keeps.left (entries kept) legal
+    (λ e tx cause m tells. let s = split e (entries kept) m in
+    aborts_are_deaths splits kept.found (entries kept) keeps.left s.so_far s.rest e tx cause (record { opens = opens; legal = legal }) (λ n low. begins_settled n kept (p.on n low) (drained n low)) s.whole tells)
     (suc k) most some bodies
     (subst (λ x. SessionWent splits (run_after kept.found) (suc k) most bodies x (own (suc k) (entries kept))) through ((p.sessions).each k bodies at))

@@ -19,8 +19,8 @@ use Rattle.session_api.specs.Standing.{IsAtRest}
 use Rattle.law_base.proofs.Lists.{all_mono}
 
 pub drained : {M S G : Type 0} → DrainsLand (Home M S G) → DrainsHoldNone (Home M S G) → DrainsFetchNone (Home M S G) → (sh : Shards M S G) (w v : Walker M S G) (r : Result Unit DrainError)
-    → IsAtRest sh 0 w → IsWalker sh v × IsSameWalker w v → DrainTold (length sh.locks.items) w.number w.clock w.passes.items r v.clock v.passes.items → IsAtRest sh 0 v
-drained lands holds fetches sh w v r rest walks told = record {
+    → (number : ℕ) → IsAtRest sh number w → IsWalker sh v × IsSameWalker w v → DrainTold (length sh.locks.items) w.number w.clock w.passes.items r v.clock v.passes.items → IsAtRest sh number v
+drained lands holds fetches sh w v r number rest walks told = record {
   walker = walks.0;
   number_is = walks.1.0 ∙ rest.number_is;
   landed = subst (λ n. HasLanded n v.passes.items) (sym walks.1.0) (lands (length sh.locks.items) w.number w.clock w.passes.items r v.clock v.passes.items told rest.landed);

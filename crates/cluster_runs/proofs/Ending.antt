@@ -1,5 +1,5 @@
 -- What a cluster that was opened and closed leaves.
-use Rattle.std.proofs.Common.{◌≡◌, ◌≢◌, refl, sym, ap, ◌∙◌, subst, inl, ℕ, zero, suc, ◌+◌, ◌<◌, ◌≤◌, ◌^◌, Bool, true, false, not, ◌&&◌, cond, nat_lt, List, [], ◌∷◌, ◌++◌, append_assoc, length, map, get_or, Option, Some, None, Ok, Err, IfSome, arith}
+use Rattle.std.proofs.Common.{◌≡◌, ◌≢◌, refl, sym, ap, ◌∙◌, subst, inl, ℕ, zero, suc, ◌+◌, ◌-◌, ◌<◌, ◌≤◌, ◌^◌, Bool, true, false, not, ◌&&◌, cond, nat_lt, List, [], ◌∷◌, ◌++◌, append_assoc, length, map, get_or, Option, Some, None, Ok, Err, IfSome, arith}
 use Rattle.std.specs.Prelude.{slice_get}
 use Rattle.std.specs.List.{AllByRecursion}
 use Rattle.std.proofs.lemmas.Bool.{and_parts, and_from, ltb-true, ltb-false, eq-eqb, ne_eqb}
@@ -11,13 +11,15 @@ use Rattle.clv_base.specs.declared.events.Entry.{Entry}
 use Rattle.clv_base.specs.Shards.{shard_count}
 use Rattle.clv_base.specs.LogRules.{log_of}
 use Rattle.clv_base.specs.FileRules.{may_open}
+use Rattle.clv_base.specs.Sessions.{is_of_session}
 use Rattle.clv_base.specs.State.{Shard}
 use Rattle.clv_base.specs.Restarts.{run_after, log_left, opened}
-use Rattle.clv_base.specs.Journals.{own, journal_of, start_of, logs_left_from}
+use Rattle.clv_base.specs.Journals.{History, own, journal_of, start_of, logs_left_from}
 use Rattle.clv_base.specs.Machines.{Runs}
 use Rattle.io_model.specs.Story.{Story, reads}
 use Rattle.io_model.specs.Disk.{Rose}
-use Rattle.log_gate.specs.Image.{HasLog}
+use Rattle.log_gate.specs.Header.{Layout}
+use Rattle.log_gate.specs.Image.{HasHeader, HasLog}
 use Rattle.log_gate.specs.Gate.{EachNow}
 use Rattle.history_laws.proofs.Laws.{left_at}
 use Rattle.journal_laws.proofs.Laws.{run_made}
@@ -27,10 +29,10 @@ use Rattle.journal_laws.specs.Notes.{ends_holding, MayNotes, after_notes, holder
 use Rattle.journal_laws.specs.Gathered.{MakesHistory, journal_at}
 use Rattle.turn_lock.specs.declared.pass.Pass.{Pass}
 use Rattle.turn_lock.specs.Passes.{seen, pass_origin}
-use Rattle.turn_lock.specs.Journals.{StartsWith}
+use Rattle.turn_lock.specs.Journals.{StartsWith, entries_by}
 use Rattle.machine_laws.specs.declared.notes.Note.{Note}
 use Rattle.machine_laws.specs.declared.notes.Origin.{Origin}
-use Rattle.machine_laws.specs.Notes.{notes_of, told}
+use Rattle.machine_laws.specs.Notes.{notes_of, noter, told}
 use Rattle.machine_laws.specs.Homes.{is_stop, never_stops, has_failed, start, state_of, entries_in, IsLegal}
 use Rattle.machine_laws.proofs.Laws.{entries_append, notes_are_runs}
 use Rattle.journal_laws.proofs.Laws.{notes_are_seen}
@@ -42,7 +44,9 @@ use Rattle.cluster_turns.specs.Walkers.{IsWalker, own_lists, kept as kept_by, fo
 use Rattle.cluster_closing.specs.declared.fetching.Fetched.{Fetched}
 use Rattle.cluster_closing.specs.Held.{never_restarts}
 use Rattle.cluster_closing.specs.Legal.{views_of}
-use Rattle.cluster_closing.specs.Ending.{seen_of, origin_of}
+use Rattle.cluster_closing.specs.Ending.{seen_of, own_notes, origin_of}
+use Rattle.cluster_closing.specs.Landed.{HasLanded}
+use Rattle.cluster_turns.specs.Rounds.{SettledAt}
 use Rattle.cluster_closing.specs.Closing.{IsBack}
 use Rattle.cluster_closing.specs.Closing as closing
 use Rattle.cluster_runs.specs.Disks.{HoldsLog, flush_failed}
@@ -57,8 +61,13 @@ use Rattle.cluster_runs.proofs.Promising.{runs_are_promised}
 use Rattle.cluster_runs.proofs.Down.{failed_are_down, down_stays, lowest_down_is_fault}
 use Rattle.command_line.specs.Running.{End, IsOk, status_by}
 use Rattle.cluster_runs.specs.Ends.{end_of, walked_by, IsClosedRun}
-use Rattle.cluster_runs.specs.Statuses.{StatusTold, FlushesTold}
-use Rattle.cluster_runs.specs.Drained.{WasSettled}
+use Rattle.cluster_turns.specs.Dates.{latest, seen_by, last_seen}
+use Rattle.cluster_turns.proofs.Laws.{notes_left}
+use Rattle.cluster_runs.specs.Sessions.{AreCounted, seen_by_all, begun_by_all}
+use Rattle.cluster_runs.specs.Statuses.{StatusTold, FlushesTold, AreWorn, transactions, last_stamp}
+use Rattle.cluster_runs.proofs.Wearing.{owned_few, begun_few, filter_below, journal_below}
+use Rattle.cluster_runs.specs.Drained.{WasSettled, IsSettledAtEnd}
+use Rattle.cluster_runs.proofs.Seeing.{whole_seen}
 use Rattle.cluster_runs.specs.Laws.{ClustersEnd, OthersStand, AllAreIn, RunsKeep, SessionsHaveGone, StatusesTell, FlushesTell, DownsTell}
 use Rattle.law_base.proofs.Lists.{elem_at, all_mono}
 use Rattle.law_base.proofs.Restarts.{left_length as length_left}
@@ -72,9 +81,9 @@ inside (y ∷ xs) zero x h = omega arith
 inside (y ∷ xs) (suc n) x h = let l = inside xs n x h in omega arith
 
 -- a disk that came back where none was fetched
-pub none_fetched : {D : Type 0} (s : Shard) (n : ℕ) (fetched : List (Fetched D)) (before now : ℕ) (out : Bool) (story : Option Story) → length fetched ≡ 0 → IsBack s n fetched before now out story → IsBack {D = D} s n [] before now out story
-none_fetched s n [] before now out story none back = back
-none_fetched s n (f ∷ fs) before now out story none back = absurd (omega arith)
+pub none_fetched : {D : Type 0} (s : Shard) (n : ℕ) (layout : Layout) (fetched : List (Fetched D)) (before now : ℕ) (out : Bool) (story : Option Story) → length fetched ≡ 0 → IsBack s n layout fetched before now out story → IsBack {D = D} s n layout [] before now out story
+none_fetched s n layout [] before now out story none back = back
+none_fetched s n layout (f ∷ fs) before now out story none back = absurd (omega arith)
 
 -- ---- no stop and no restart
 
@@ -165,16 +174,16 @@ module _
   state_is : (n : ℕ) (d : Home M S G) → n < count → states n ≡ made (get_or homes n d)
   state_is n d l = state_here made (founds_of sh) homes n d (there n l)
 
-  back : (n : ℕ) (l : n < count) (d : Home M S G) → IsBack {D = D} (made (get_or homes n d)) n [] (r.counts_open n) (counts_now n) (out_now n) (now n)
+  back : (n : ℕ) (l : n < count) (d : Home M S G) → IsBack {D = D} (made (get_or homes n d)) n (record { splits = sh.splits }) [] (r.counts_open n) (counts_now n) (out_now n) (now n)
   back n l d = r.closed.disks n d (low n l)
 
-  holds_at : (n : ℕ) → n < count → Home M S G → IfSome (now n) (EachNow (HoldsLog (flush_failed (journal_at kept.journals n)) (states n) n))
+  holds_at : (n : ℕ) → n < count → Home M S G → IfSome (now n) (EachNow (HoldsLog sh.splits (flush_failed (journal_at kept.journals n)) (states n) n))
   holds_at n l d =
       let h = get_or homes n d in
       let s = made h in
-      subst (λ j. IfSome (now n) (EachNow (HoldsLog (flush_failed j) (states n) n))) (sym (journal_is n d l))
-      (subst (λ t. IfSome (now n) (EachNow (HoldsLog (flush_failed s.journal) t n))) (sym (state_is n d l))
-      (left_disks_hold n h.origin (notes_of s.journal h.marks.items) s (now n) (r.closed.noted n d (low n l)) ((back n l d).left (λ j f e. absurd (omega arith)))))
+      subst (λ j. IfSome (now n) (EachNow (HoldsLog sh.splits (flush_failed j) (states n) n))) (sym (journal_is n d l))
+      (subst (λ t. IfSome (now n) (EachNow (HoldsLog sh.splits (flush_failed s.journal) t n))) (sym (state_is n d l))
+      (left_disks_hold sh.splits n h.origin (notes_of s.journal h.marks.items) s (now n) (r.closed.noted n d (low n l)) ((back n l d).left (λ j f e. absurd (omega arith)))))
 
   rose_at : (n : ℕ) → n < count → Home M S G → has_failed (journal_at kept.journals n) ≡ true → Rose (counts n) (counts_now n)
   rose_at n l d failed = subst (λ m. Rose m (counts_now n)) (r.went_out.counts n) ((back n l d).counted.rose (sym (ap has_failed (journal_is n d l)) ∙ failed))
@@ -203,7 +212,7 @@ module _
 
   pub ended : ClusterEnded sh.splits before now counts counts_now kept states (walked_by walkers)
   ended = record {
-    found = λ n l. subst (λ logs. IfSome (before n) (λ s. HasLog n (log_of logs n) (reads s))) (sym r.closed.founds_are) (r.begun.held.each n l).read_as;
+    found = λ n l. subst (λ logs. IfSome (before n) (λ s. HasLog n (log_of logs n) (reads s) × HasHeader n sh.splits (reads s))) (sym r.closed.founds_are) (r.begun.held.each n l).read_as;
     opens = ap (may_open sh.splits) r.closed.founds_are ∙ r.begun.may;
     legal = λ left many leaves. subst (λ logs. MakesHistory sh.splits logs left kept.journals states (walked_by walkers)) (sym r.closed.founds_are) (r.closed.legal left many leaves);
     holds = λ n l. holds_at n l (home n l);
@@ -286,6 +295,33 @@ module _
       (subst (λ x. (state_of x first).is_up ≡ false) (sym same) down) in
       (l, failed_at n l ∙ ap not (ap (λ t. t.is_up) (state_is n (home n l) l) ∙ fell))
 
+  -- ---- what walkers have seen is in the history
+
+  seen_below : (k n : ℕ) → k < length walkers → n < count → (d : Walker M S G) → seen_by (get_or (get_or walkers k d).passes.items n None) ≤ last_stamp (entries_of kept.journals)
+  seen_below k n few l d =
+      let h = get_or homes n (home n l) in
+      let s = made h in
+      let begins = r.closed.seen n (home n l) (low n l) in
+      let more = begins.seen_is k d few in
+      let noted = r.closed.noted n (home n l) (low n l) in
+      let same : journal_of n (entries_of kept.journals) ≡ entries_in (notes_of s.journal h.marks.items) = history.same_journals n l ∙ journal_is n (home n l) l ∙ noted.entries in
+      let first = ap (λ x. latest (entries_in x)) more.1 in
+      let a = notes_left (seen_of (get_or (get_or walkers k d).passes.items n None)) more.0 in
+      let top = journal_below n (entries_of kept.journals) in
+      let is = ap latest same in
+      by_pass (get_or (get_or walkers k d).passes.items n None) (omega arith)
+    where
+      by_pass : (p : Option (Pass (Home M S G) Note Origin)) → latest (entries_in (seen_of p)) ≤ last_stamp (entries_of kept.journals) → seen_by p ≤ last_stamp (entries_of kept.journals)
+      by_pass None low = omega arith
+      by_pass (Some p) low = low
+
+  pub walker_below : (k : ℕ) (d : Walker M S G) → k < length walkers → last_seen (get_or walkers k d).passes.items ≤ last_stamp (entries_of kept.journals)
+  walker_below k d few = each_below (get_or walkers k d).passes.items (λ n l. seen_below k n few (let b = r.closed.passes k d few in let c = r.begun.count in omega arith) d)
+    where
+      each_below : (ps : List (Option (Pass (Home M S G) Note Origin))) → ((n : ℕ) → n < length ps → seen_by (get_or ps n None) ≤ last_stamp (entries_of kept.journals)) → last_seen ps ≤ last_stamp (entries_of kept.journals)
+      each_below [] all = omega arith
+      each_below (p ∷ ps) all = let a = all 0 (omega arith) in let b = each_below ps (λ n l. all (suc n) (omega arith)) in omega arith
+
   -- ---- drained shards
 
   begins_there : (n : ℕ) (d : Walker M S G) (w : Walker M S G) (p : Pass (Home M S G) Note Origin) (o : Origin) → n < count → IsWalker sh w → ((e : Option (Pass (Home M S G) Note Origin)) → get_or w.passes.items n e ≡ Some p) → pass_origin p ≡ Some o
@@ -318,6 +354,33 @@ module _
         early = all_mono (λ e. e.stamp ≤ (q.s).last) (λ e. e.stamp ≤ clock) (λ e m. (let f = q.early in omega arith)) (entries_in q.first) (stamps_rise (start_of kept.found n) q.s (entries_in q.first) at).1;
       }
 
+  -- ---- a shard that each walker has seen settled, after all that it has seen
+
+  -- one of them has seen all notes
+  pub settled_at_end : ((k : ℕ) (d : Walker M S G) → k < length walkers → (get_or walkers k d).number ≡ k) → ((k : ℕ) (d : Walker M S G) → k < length walkers → HasLanded k (get_or walkers k d).passes.items) → Walker M S G → 0 < length walkers
+      → (n : ℕ) → n < count → ((k : ℕ) (d : Walker M S G) → k < length walkers → SettledAt n (get_or walkers k d).passes.items) → IsSettledAtEnd n kept
+  settled_at_end numbers landed d some n l sees =
+      let h = get_or homes n (home n l) in
+      let s = made h in
+      let notes = notes_of s.journal h.marks.items in
+      let closed = r.closed.seen n (home n l) (low n l) in
+      let pass : ℕ → Option (Pass (Home M S G) Note Origin) = λ k. get_or (get_or walkers k d).passes.items n None in
+      let own : (k : ℕ) → k < length walkers → entries_by noter k notes ≡ entries_by noter k (seen_of (pass k)) =
+      λ k few. (let at = sees k d few in
+      ap (λ w. entries_by noter w notes) (sym (numbers k d few)) ∙ closed.own_is k d few ∙ ap own_notes (at.had None) ∙ (landed k d few).own n at.p at.had ∙ ap (λ q. entries_by noter k (seen_of q)) (sym (at.had None))) in
+      let one = whole_seen noter (length walkers) notes (λ k. seen_of (pass k)) some (λ k few. closed.seen_is k d few) own
+      (λ w past. closed.others w (λ k e few is. (let same = numbers k e few in absurd (omega arith)))) in
+      let k = one.0 in
+      let at = sees k d one.1 in
+      let same : h.origin ≡ at.origin = same_origin (sym (closed.origin_is k d one.1) ∙ (ap origin_of (at.had None) ∙ at.has_origin)) in
+      let whole : notes ≡ seen at.p = one.2 ∙ ap seen_of (at.had None) in
+      let is : states n ≡ at.s = state_is n (home n l) l ∙ (r.closed.noted n (home n l) (low n l)).is ∙ ap (state_of h.origin) whole ∙ ap (λ o. state_of o (seen at.p)) same ∙ sym at.s_is.is in
+      record {
+        state = states n;
+        runs = subst (λ es. Runs (start_of kept.found n) es (states n)) (sym (history.same_journals n l)) (runs_at n l);
+        settled = ap is_settled is ∙ at.settled;
+      }
+
 pub clusters_end : {M S G D : Type 0} → ClustersEnd M S G D
 clusters_end shard sh walkers homes kept down counts counts_now out out_now before now r = ended shard sh walkers homes kept down counts counts_now out out_now before now r
 
@@ -333,20 +396,6 @@ runs_keep {D = D} shard sh walkers homes kept down counts counts_now out out_now
     (subst (λ f. SessionsWent sh.splits (run_after f) most script went (walked_by walkers)) (sym r.closed.founds_are) sessions)
 
 -- ---- statuses
-
-tells :
-    (shards : ℕ) (counts counts_now : ℕ → ℕ) (sessions : ℕ) (went : ℕ → Went) (down : Option ℕ) (end : End) → IsLowestFault counts counts_now shards down → (IsOk end → (k : ℕ) → k < sessions → went k ≡ Begun None)
-    → ((at : ℕ) → end ≡ Err (stop.Worn at) → at ≡ 2 ^ 48) → StatusTold shards counts counts_now sessions went (status_by down end)
-tells shards counts counts_now sessions went (Some m) end fault fine worn = fault
-tells shards counts counts_now sessions went None (Ok a) fault fine worn = (fault, fine tt)
-tells shards counts counts_now sessions went None (Err (stop.Worn at)) fault fine worn = (worn at refl, fault)
-tells shards counts counts_now sessions went None (Err stop.Memory) fault fine worn = fault
-tells shards counts counts_now sessions went None (Err (stop.Down n)) fault fine worn = fault
-tells shards counts counts_now sessions went None (Err (stop.Unsettled n)) fault fine worn = fault
-
-pub statuses_tell : {M S G D : Type 0} → StatusesTell M S G D
-statuses_tell shard sh walkers homes kept down counts counts_now out out_now before now sessions went end r fine worn =
-    tells (shard_count sh.splits) counts counts_now sessions went down end (fault shard sh walkers homes kept down counts counts_now out out_now before now r) fine worn
 
 pub flushes_tell : {M S G D : Type 0} → FlushesTell M S G D
 flushes_tell shard sh walkers homes kept down counts counts_now out out_now before now end r = flushes shard sh walkers homes kept down counts counts_now out out_now before now r end
@@ -392,3 +441,43 @@ pub own_is_kept :
 own_is_kept {D = D} shard sh walkers homes kept down counts counts_now out out_now before now r numbers k d l =
     (history {D = D} shard sh walkers homes kept down counts counts_now out out_now before now r).same_own k
     ∙ ap entries_of (view_at walkers k k d l (numbers k d l) (λ j e low same. (let n = numbers j e (omega arith) in omega arith)))
+
+-- where the walkers came to the last stamp, an entry is so near it
+all_below : {M S G : Type 0} (top : ℕ) (ws : List (Walker M S G)) → ((k : ℕ) (d : Walker M S G) → k < length ws → last_seen (get_or ws k d).passes.items ≤ top) → seen_by_all ws ≤ top
+all_below top [] all = omega arith
+all_below top (w ∷ ws) all = let a = all 0 w (omega arith) in let b = all_below top ws (λ k d l. all (suc k) d (omega arith)) in omega arith
+
+begun_by_sessions : {M S G : Type 0} (script : List (List Body)) (ws : List (Walker M S G)) (h : History) → length ws ≡ suc (length script) → AreCounted script ws
+    → ((k : ℕ) (d : Walker M S G) → k < length ws → own k h ≡ kept_by (get_or ws k d).passes.items) → begun_by_all ws ≤ transactions script + length h
+begun_by_sessions script [] h many counted same = absurd (omega arith)
+begun_by_sessions script (w ∷ ws) h many counted same =
+    let none = counted.none w in
+    let few = begun_few script ws 1 h (omega arith) (λ k bodies d is. (let c = counted.few k bodies d is in let low = inside script k bodies is in
+    let e = ap length (same (suc k) d (omega arith)) in let f = filter_below (λ x. is_of_session (x.1).event) (kept_by (get_or ws k d).passes.items) in let n : 1 + k ≡ suc k = omega arith in
+    let g = ap (λ j. length (own j h)) n in omega arith)) in
+    let all = owned_few h 1 (length ws) in
+    omega arith
+
+worn_by :
+    {M S G D : Type 0} (shard : M → Shard) (sh : Shards M S G) (walkers : List (Walker M S G)) (homes : List (Home M S G)) (kept : Kept) (down : Option ℕ) (counts counts_now : ℕ → ℕ) (out out_now : ℕ → Bool) (before now : ℕ → Option Story)
+    (script : List (List Body)) → IsClosedRun D shard sh walkers homes kept down counts counts_now out out_now before now → ((k : ℕ) (d : Walker M S G) → k < length walkers → (get_or walkers k d).number ≡ k) → length walkers ≡ suc (length script)
+    → AreCounted script walkers → 2 ^ 48 - 1 ≤ seen_by_all walkers + begun_by_all walkers → AreWorn script (entries_of kept.journals)
+worn_by {D = D} shard sh walkers homes kept down counts counts_now out out_now before now script r numbers many counted worn =
+    let top = all_below (last_stamp (entries_of kept.journals)) walkers (walker_below {D = D} shard sh walkers homes kept down counts counts_now out out_now before now r) in
+    let few = begun_by_sessions script walkers (entries_of kept.journals) many counted (own_is_kept {D = D} shard sh walkers homes kept down counts counts_now out out_now before now r numbers) in
+    omega arith
+
+tells :
+    (shards : ℕ) (counts counts_now : ℕ → ℕ) (script : List (List Body)) (h : History) (went : ℕ → Went) (down : Option ℕ) (end : End) → IsLowestFault counts counts_now shards down → (IsOk end → (k : ℕ) → k < length script → went k ≡ Begun None)
+    → ((at : ℕ) → end ≡ Err (stop.Worn at) → (at ≡ 2 ^ 48) × AreWorn script h) → StatusTold shards counts counts_now script h went (status_by down end)
+tells shards counts counts_now script h went (Some m) end fault fine worn = fault
+tells shards counts counts_now script h went None (Ok a) fault fine worn = (fault, fine tt)
+tells shards counts counts_now script h went None (Err (stop.Worn at)) fault fine worn = ((worn at refl).0, (worn at refl).1, fault)
+tells shards counts counts_now script h went None (Err stop.Memory) fault fine worn = fault
+tells shards counts counts_now script h went None (Err (stop.Down n)) fault fine worn = fault
+tells shards counts counts_now script h went None (Err (stop.Unsettled n)) fault fine worn = fault
+
+pub statuses_tell : {M S G D : Type 0} → StatusesTell M S G D
+statuses_tell shard sh walkers homes kept down counts counts_now out out_now before now script went end r fine numbers many counted worn =
+    tells (shard_count sh.splits) counts counts_now script (entries_of kept.journals) went down end (fault shard sh walkers homes kept down counts counts_now out out_now before now r) fine
+    (λ at is. ((worn at is).0, worn_by shard sh walkers homes kept down counts counts_now out out_now before now script r numbers many counted (worn at is).1))

@@ -26,7 +26,7 @@ found_in splits logs run gates f f' o o' s s' found went inside =
           is_open = at.is_open;
           fine = at.fine;
           own = at.shard;
-          log_is = only_from (get_or gates n d) (log_of logs n) at.log_is;
+          log_is = only_from (get_or gates n d) (record { splits = splits }) (log_of logs n) at.log_is at.header;
           in_order = at.holds.in_order;
           spelled = at.holds.spelled;
         });

@@ -1,5 +1,5 @@
 -- A session that went through: each request was told how its transaction ended.
-use Rattle.std.proofs.Common.{◌≡◌, refl, sym, ap, subst, ◌∙◌, ◌⊎◌, inl, inr, ⊎_elim, ℕ, zero, suc, ◌<◌, ◌≤◌, ◌==◌, Bool, true, false, cond, List, [], ◌∷◌, ◌++◌, length, Option, Some, None, slice_get, get_or, arith}
+use Rattle.std.proofs.Common.{◌≡◌, refl, sym, ap, subst, ◌∙◌, ◌⊎◌, inl, inr, ⊎_elim, ℕ, zero, suc, ◌<◌, ◌≤◌, Bool, true, false, cond, List, [], ◌∷◌, length, Option, Some, None, slice_get, get_or, arith}
 use Rattle.std.specs.List.{AllByRecursion, list_any}
 use Rattle.std.proofs.lemmas.Bool.{both_ways}
 use Rattle.std.proofs.lemmas.Option.{slice_get_cases}
@@ -92,7 +92,7 @@ of_session FlushIn o t h = none_some t h
 of_session Stop o t h = none_some t h
 of_session Restart o t h = none_some t h
 
-any_of : {A : Type 0} (test : A → Bool) (x : A) (xs : List A) → Among x xs → test x ≡ true → list_any test xs ≡ true
+pub any_of : {A : Type 0} (test : A → Bool) (x : A) (xs : List A) → Among x xs → test x ≡ true → list_any test xs ≡ true
 any_of test x [] m p = absurd m
 any_of test x (y ∷ ys) (inl same) p = or_left (test y) (list_any test ys) (ap test same ∙ p)
 any_of test x (y ∷ ys) (inr m) p = or_right (test y) (list_any test ys) (any_of test x ys m p)

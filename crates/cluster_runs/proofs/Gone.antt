@@ -15,7 +15,7 @@ use Rattle.session_api.specs.Grounds.{Grounds}
 use Rattle.session_api.proofs.Laws.{new_walkers_rest, new_walkers_keep_none}
 use Rattle.cluster_runs.specs.PromisedSessions.{Went, NotBegun, Begun, SessionWent}
 use Rattle.cluster_runs.specs.Drained.{WasSettled, AreDrained}
-use Rattle.cluster_runs.specs.Sessions.{HasSat, HasGrounds, SessionsGone, went_to, went_by}
+use Rattle.cluster_runs.specs.Sessions.{HasSat, base_from, HasGrounds, SessionsGone, went_to, went_by}
 use Rattle.law_base.proofs.Lists.{some_at as at_slice}
 
 fine_went : (end : End) → IsOk end → went_to (Some end) ≡ Begun None
@@ -27,10 +27,10 @@ stopped w (Ok u) grounds = tt
 stopped w (Err cause) grounds = grounds
 
 module _ {M S G : Type 0} (sh : Shards M S G) (most : Option ℕ) (script : List (List Body)) where
-  pub gone : (clock : ℕ) (walkers : List (Walker M S G)) (ends : List End) (end : End) → length ends ≡ length script
-      → ((k : ℕ) (d : Walker M S G) (e : End) → k < length script → HasSat sh clock most script k (get_or walkers (suc k) d) (get_or ends k e)) → (IsOk end → (k : ℕ) (e : End) → k < length script → IsOk (get_or ends k e))
+  pub gone : (clock base : ℕ) (walkers : List (Walker M S G)) (ends : List End) (end : End) → length ends ≡ length script
+      → ((k : ℕ) (d : Walker M S G) (e : End) → k < length script → HasSat sh clock (base_from clock base k) most script k (get_or walkers (suc k) d) (get_or ends k e)) → (IsOk end → (k : ℕ) (e : End) → k < length script → IsOk (get_or ends k e))
       → SessionsGone sh most script walkers (went_by ends) end
-  gone clock walkers ends end many sat fine = record {
+  gone clock base walkers ends end many sat fine = record {
     each = λ k bodies d at. (let low = slice_get_within script k bodies at in let e : End = Ok tt in
         subst (λ x. SessionWent sh.splits sh.run (suc k) most bodies (went_to x) (kept (get_or walkers (suc k) d).passes.items)) (sym (at_slice ends k e (omega arith))) ((sat k d e low).went bodies at));
     grounds = λ k d low. (let e : End = Ok tt in
@@ -60,6 +60,12 @@ module _ {M S G : Type 0} (sh : Shards M S G) (most : Option ℕ) (script : List
   all_rest [] w many rest others k d low = absurd (omega arith)
   all_rest (x ∷ xs) w many rest others zero d low = rest
   all_rest (x ∷ xs) w many rest others (suc k) d low = others k d (omega arith)
+
+  -- each of them, walker 0 this one
+  pub each_rest : (walkers : List (Walker M S G)) (w : Walker M S G) → length walkers ≡ length script + 1 → ((d : Walker M S G) → get_or walkers 0 d ≡ w) → IsAtRest sh 0 w → ((k : ℕ) (d : Walker M S G) → k < length script → IsAtRest sh (suc k) (get_or walkers (suc k) d))
+      → (k : ℕ) (d : Walker M S G) → k < length walkers → IsAtRest sh k (get_or walkers k d)
+  each_rest walkers w many same rest others zero d low = subst (IsAtRest sh 0) (sym (same d)) rest
+  each_rest walkers w many same rest others (suc k) d low = others k d (omega arith)
 
   pub goes_on : (walkers : List (Walker M S G)) (w : Walker M S G) (went : ℕ → Went) (end last : End) → (IsOk last → IsOk end) → SessionsGone sh most script walkers went end → SessionsGone sh most script (set walkers 0 w) went last
   goes_on walkers w went end last ok gone = record {

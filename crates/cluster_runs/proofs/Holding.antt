@@ -1,31 +1,32 @@
 -- What the disk of a shard holds at its end.
 use Rattle.std.proofs.Common.{◌≡◌, ◌∙◌, refl, sym, ap, subst, ℕ, ◌≤◌, Bool, true, false, not, List, [], ◌∷◌, ◌++◌, map, inl, inr, ⊎_elim, arith, Option, Some, None}
-use Rattle.std.specs.Prelude.{◌⊎◌, unwrap_or, IfSome}
+use Rattle.std.specs.Prelude.{unwrap_or, IfSome}
 use Rattle.std.proofs.lemmas.Bool.{both_ways, and_parts}
-use Rattle.clv_base.specs.declared.logs.LogRecord.{LogRecord}
 use Rattle.clv_base.specs.declared.events.Event.{Event}
 use Rattle.clv_base.specs.declared.events.Event.TheVariants.{Op, Request, Look, Drop, Send, Deliver, Remind, FlushOut, FlushIn, Stop, Restart}
 use Rattle.clv_base.specs.declared.events.Outcome.{Outcome}
 use Rattle.clv_base.specs.declared.events.Outcome.TheVariants.{Durable, Failed}
 use Rattle.clv_base.specs.State.{Shard}
 use Rattle.clv_base.specs.Events.{with_durable}
-use Rattle.clv_base.specs.Journals.{History, final_of, after_entry, flush_state, FlushMay}
+use Rattle.clv_base.specs.Journals.{final_of, after_entry, flush_state, FlushMay}
 use Rattle.clv_base.specs.Machines.{BecomesBy}
-use Rattle.io_model.specs.Story.{Story, reads, IsImage}
+use Rattle.io_model.specs.Story.{Story, reads}
 use Rattle.history_cases.proofs.Durability.{framed_finish, Counted}
 use Rattle.journal_laws.specs.Notes.{Note as Told, made, fetched, MayNotes, after_notes, entries_of_notes}
-use Rattle.log_gate.specs.Image.{log_of, records_of}
+use Rattle.log_gate.specs.Header.{Layout}
+use Rattle.log_gate.specs.Image.{log_under, HasLog, HasHeader}
+use Rattle.log_gate.proofs.Laws.{from_under}
 use Rattle.log_gate.specs.Gate.{EachNow}
 use Rattle.log_gate.specs.View.{logs_told}
 use Rattle.machine_laws.specs.declared.notes.Note.{Note}
 use Rattle.machine_laws.specs.declared.notes.Origin.{Origin}
 use Rattle.machine_laws.specs.Notes.{told}
 use Rattle.machine_laws.specs.Homes.{start, is_stop, never_stops, IsLegal}
-use Rattle.machine_laws.specs.Gates.{durable_records}
+use Rattle.machine_laws.specs.Gates.{durable_records, flying_records}
 use Rattle.machine_laws.proofs.Laws.{does_calm, does_fly, legal_counted, none_stops, whole}
 use Rattle.cluster_closing.specs.Closing.{IsLeft}
 use Rattle.cluster_runs.specs.Disks.{flush_after, flush_failed_from, flush_failed, HoldsLog}
-use Rattle.cluster_runs.specs.ClusterLaws.{DownAfterFailed, LeftDisksHold, IsEnd, ClosedDisksHold}
+use Rattle.cluster_runs.specs.ClusterLaws.{DownAfterFailed, LeftDisksHold, ClosedDisksHold}
 use Rattle.law_base.proofs.Bools.{not_true as not_stop}
 
 -- ---- the last flush of a shard that is down failed
@@ -75,27 +76,35 @@ at_least : (s : Shard) (f : Option ℕ) → Counted s → s.flight ≡ f → s.d
 at_least s None c e = omega arith
 at_least s (Some n) c e = (c.flying n e).0
 
-only_durable : (b : Bool) (s : Shard) (n : ℕ) (image : List ℕ) → records_of (log_of n image) ≡ Some (durable_records s) → HoldsLog b s n image
-only_durable true s n image h = inl h
-only_durable false s n image h = h
+only_durable : (splits : List ℕ) (b : Bool) (s : Shard) (n : ℕ) (image : List ℕ) → HasHeader n splits image → HasLog n (durable_records s) image → HoldsLog splits b s n image
+only_durable splits true s n image header h = (inl h, header)
+only_durable splits false s n image header h = (h, header)
 
-holds_image : (o : Origin) (notes : List Note) (s : Shard) (story : Option Story) (n : ℕ) → IsLegal o notes s → IsLeft s (logs_told story n) → (image : List ℕ) → logs_told story n (records_of (log_of n image)) → HoldsLog (flush_failed s.journal) s n image
-holds_image o notes s story n l left image has = at s.is_up refl
+holds_image : (splits : List ℕ) (o : Origin) (notes : List Note) (s : Shard) (story : Option Story) (n : ℕ) → IsLegal o notes s → IsLeft s (logs_told story n (record { splits = splits })) → (image : List ℕ)
+    → logs_told story n (record { splits = splits }) (log_under n (record { splits = splits }) image) → HoldsLog splits (flush_failed s.journal) s n image
+holds_image splits o notes s story n l left image has = at s.is_up refl
   where
-    at : (u : Bool) → s.is_up ≡ u → HoldsLog (flush_failed s.journal) s n image
-    at true up = only_durable (flush_failed s.journal) s n image (left.durable up (records_of (log_of n image)) has)
-    at false down = subst (λ b. HoldsLog b s n image) (sym (down_after_failed o notes s l down))
-        (⊎_elim (λ h. inl h) (λ h. inr (h ∙ ap (λ z. Some z) (whole s (legal_counted o notes s l)))) (left.either down (records_of (log_of n image)) has))
+    under : Layout
+    under = record { splits = splits }
+
+    at : (u : Bool) → s.is_up ≡ u → HoldsLog splits (flush_failed s.journal) s n image
+    at true up =
+        let k = from_under n under (durable_records s) image (left.durable up (log_under n under image) has) in
+        only_durable splits (flush_failed s.journal) s n image k.1 k.0
+    at false down = subst (λ b. HoldsLog splits b s n image) (sym (down_after_failed o notes s l down))
+        (⊎_elim (λ h. (let k = from_under n under (durable_records s) image h in (inl k.0, k.1)))
+        (λ h. (let k = from_under n under (durable_records s ++ flying_records s) image h in (inr (k.0 ∙ ap (λ z. Some z) (whole s (legal_counted o notes s l))), k.1)))
+        (left.either down (log_under n under image) has))
 
 pub left_disks_hold : LeftDisksHold
-left_disks_hold n o notes s None l left = tt
-left_disks_hold n o notes s (Some t) l left = record {
-  read = holds_image o notes s (Some t) n l left (reads t) (reads t, inl refl, refl);
-  images = λ image is. holds_image o notes s (Some t) n l left image (image, inr is, refl);
+left_disks_hold splits n o notes s None l left = tt
+left_disks_hold splits n o notes s (Some t) l left = record {
+  read = holds_image splits o notes s (Some t) n l left (reads t) (reads t, inl refl, refl);
+  images = λ image is. holds_image splits o notes s (Some t) n l left image (image, inr is, refl);
 }
 
 pub closed_disks_hold : ClosedDisksHold
 closed_disks_hold splits found h left now ends each n low =
     let k = each n low in
-    subst (λ j. IfSome (now n) (EachNow (HoldsLog (flush_failed j) (final_of found h left n) n))) (sym k.journal)
-    (subst (λ s. IfSome (now n) (EachNow (HoldsLog (flush_failed (ends n).journal) s n))) (sym k.final) (left_disks_hold n k.origin k.notes (ends n) (now n) k.noted k.left_is))
+    subst (λ j. IfSome (now n) (EachNow (HoldsLog splits (flush_failed j) (final_of found h left n) n))) (sym k.journal)
+    (subst (λ s. IfSome (now n) (EachNow (HoldsLog splits (flush_failed (ends n).journal) s n))) (sym k.final) (left_disks_hold splits n k.origin k.notes (ends n) (now n) k.noted k.left_is))

@@ -1,6 +1,8 @@
 mod Promised
+mod Wearing
 mod Drained
 mod Settled
+mod Seeing
 mod Gone
 pub mod Sending
 mod Sitting
@@ -15,12 +17,15 @@ pub mod Undoing
 pub mod Undone
 pub mod Down
 mod Choosing
+mod Following
 pub mod Promising
 mod Entries
+mod Beginnings
 mod Completing
 mod Telling
 mod Going
 mod Before
 mod Alone
 mod Replaying
+mod Scripted
 pub mod Laws

@@ -1,27 +1,24 @@
 -- The end of a cluster, with how its sessions went, keeps the promise.
-use Rattle.std.proofs.Common.{◌≡◌, refl, sym, ap, ◌∙◌, subst, ◌⊎◌, inl, inr, ℕ, suc, ◌<◌, Bool, true, false, cond, ◌||◌, ◌==◌, eqb-true, List, [], ◌∷◌, length, Option, None, IfSome}
+use Rattle.std.proofs.Common.{◌≡◌, refl, sym, ap, ◌∙◌, subst, ◌⊎◌, inl, inr, ℕ, suc, ◌<◌, Bool, true, false, cond, ◌||◌, ◌==◌, eqb-true, [], ◌∷◌, length, IfSome}
 use Rattle.std.specs.Prelude.{not}
 use Rattle.std.specs.List.{list_all}
 use Rattle.std.proofs.lemmas.Bool.{both_ways, and_parts}
 use Rattle.clv_base.specs.Shards.{shard_count}
-use Rattle.clv_base.specs.LogRules.{log_of}
 use Rattle.clv_base.specs.Restarts.{log_left, run_after}
-use Rattle.clv_base.specs.State.{Shard}
 use Rattle.clv_base.specs.Sessions.{is_of_session, is_session_number}
 use Rattle.clv_base.specs.Journals.{History, own, journal_of}
 use Rattle.journal_laws.specs.Gathered.{journal_at}
-use Rattle.io_model.specs.Story.{Story, reads}
+use Rattle.io_model.specs.Story.{reads}
 use Rattle.log_gate.specs.Gate.{EachNow}
-use Rattle.log_gate.specs.Image.{HasLog}
-use Rattle.history_replay.specs.Entries.{Kept, entries_of}
+use Rattle.log_gate.specs.Image.{HasHeader, HasLog}
+use Rattle.history_replay.specs.Entries.{entries_of}
 use Rattle.headline_laws.proofs.Laws.{promise}
 use Rattle.machine_laws.specs.Homes.{has_failed}
 use Rattle.cluster_runs.specs.Disks.{HoldsLog, flush_failed}
-use Rattle.script_lang.specs.Bodies.{Body}
 use Rattle.script_runs.specs.Sessions.{session_entries}
-use Rattle.cluster_runs.specs.Ended.{ClusterEnded, runs_on}
-use Rattle.cluster_runs.specs.PromisedSessions.{Went, SessionWent, SessionsWent}
-use Rattle.cluster_runs.specs.Promises.{RunPromised, RunsArePromised}
+use Rattle.cluster_runs.specs.Ended.{runs_on}
+use Rattle.cluster_runs.specs.PromisedSessions.{SessionWent}
+use Rattle.cluster_runs.specs.Promises.{RunsArePromised}
 use Rattle.cluster_runs.proofs.Choosing.{Picked, picked, choice, choice_reads, left, left_is, left_length}
 
 -- ---- walker 0 makes no entry that only sessions make
@@ -50,12 +47,12 @@ none_of_zero (e ∷ es) all =
 pub runs_are_promised : RunsArePromised
 runs_are_promised splits before now counts counts_now most script went kept states own_of ended sessions =
     let count = shard_count splits in
-    let picks : (n : ℕ) → n < count → Picked (states n) n (now n) = λ n l. picked (flush_failed (journal_at kept.journals n)) (states n) n (now n) (ended.holds n l) in
-    let c = choice count states now picks in
-    let logs = left count states now picks in
-    let is = left_is count states now picks in
-    let reads_so = choice_reads count states now picks in
-    let made = ended.legal logs (left_length count states now picks) (λ n l. (c n, inl (is n l))) in
+    let picks : (n : ℕ) → n < count → Picked splits (states n) n (now n) = λ n l. picked splits (flush_failed (journal_at kept.journals n)) (states n) n (now n) (ended.holds n l) in
+    let c = choice splits count states now picks in
+    let logs = left splits count states now picks in
+    let is = left_is splits count states now picks in
+    let reads_so = choice_reads splits count states now picks in
+    let made = ended.legal logs (left_length splits count states now picks) (λ n l. (c n, inl (is n l))) in
     let h = entries_of kept.journals in
     record {
       keeps =
@@ -64,14 +61,14 @@ runs_are_promised splits before now counts counts_now most script went kept stat
             legal =
                 record {
                   found = ended.found;
-                  left_is_read = λ n l. subst (λ log. IfSome (now n) (λ s. HasLog n log (reads s))) (sym (is n l)) (reads_so n l).read;
+                  left_is_read = λ n l. subst (λ log. IfSome (now n) (λ s. HasLog n log (reads s) × HasHeader n splits (reads s))) (sym (is n l)) (reads_so n l).read;
                   untold = λ n l none. is n l ∙ ap (λ b. log_left (states n) b) ((reads_so n l).untold none) ∙ ap (λ s. log_left s false) (sym (made.same_states n l));
                   legal = made.legal;
                 };
             disks =
                 λ n l.
-                subst (λ s. IfSome (now n) (EachNow (HoldsLog (flush_failed (journal_of n h)) s n))) (sym (made.same_states n l))
-                (subst (λ j. IfSome (now n) (EachNow (HoldsLog (flush_failed j) (states n) n))) (sym (made.same_journals n l)) (ended.holds n l));
+                subst (λ s. IfSome (now n) (EachNow (HoldsLog splits (flush_failed (journal_of n h)) s n))) (sym (made.same_states n l))
+                (subst (λ j. IfSome (now n) (EachNow (HoldsLog splits (flush_failed j) (states n) n))) (sym (made.same_journals n l)) (ended.holds n l));
             promised = λ by. promise splits kept.found h logs by (record { opens = ended.opens; legal = made.legal });
           };
       sessions =

@@ -7,6 +7,7 @@ use Rattle.clv_base.specs.declared.ops.Op.{Op}
 use Rattle.clv_base.specs.declared.events.Entry.{Entry}
 use Rattle.clv_base.specs.Logs.{stands, committed_in}
 use Rattle.clv_base.specs.LogRules.{log_of}
+use Rattle.clv_base.specs.FileRules.{may_open}
 use Rattle.clv_base.specs.Maps.{replay_map}
 use Rattle.clv_base.specs.Journals.{History}
 use Rattle.clv_base.specs.History.{Member, members, serial_ops, logs_left, acknowledged_in, ops_in, request_of}
@@ -15,11 +16,16 @@ use Rattle.history_cases.proofs.Worlds.{in_a_shard}
 use Rattle.fate_laws.proofs.Laws.{aborted_are_committed_nowhere}
 use Rattle.history_replay.specs.Replayed.{operations_at, acknowledged_ops}
 use Rattle.cluster_runs.specs.Histories.{entries}
-use Rattle.cluster_runs.specs.Replays.{RunsReplay}
+use Rattle.cluster_runs.specs.PromisedSessions.{Went}
+use Rattle.cluster_runs.specs.Promises.{RunPromised}
+use Rattle.cluster_runs.specs.Replays.{HaveGone, RunsReplay}
+use Rattle.history_replay.specs.Entries.{Kept}
+use Rattle.io_model.specs.Story.{Story}
+use Rattle.script_lang.specs.Bodies.{Body}
 use Rattle.cluster_runs.proofs.Going.{requests_are_told}
 
 -- where a COMMIT at the entry's shard tells that its transaction is acknowledged
-abbrev IsKnown : List (List LogRecord) → History → ℕ × Entry → Type 0
+abbrev pub IsKnown : List (List LogRecord) → History → ℕ × Entry → Type 0
 IsKnown logs h e = (t : TxId) → request_of (e.1).event (e.1).outcome ≡ Some t → committed_in (log_of logs e.0) t ≡ true → acknowledged_in h t ≡ true
 
 chosen : (c a : Bool) (m : Member) (ms : List Member) (rest : List (List Op)) → (c ≡ true → a ≡ true) → serial_ops ms ≡ rest
@@ -45,16 +51,20 @@ module _ (logs : List (List LogRecord)) (h : History) where
   members_are (e ∷ es) known =
       at e (members logs h es) (acknowledged_ops h es) (request_of (e.1).event (e.1).outcome) (known e (inl refl)) (members_are es (λ x m. known x (inr m)))
 
-pub runs_replay : RunsReplay
-runs_replay splits before now counts counts_now most script went kept may p gone choice =
+pub known_all :
+    (splits : List ℕ) (before now : ℕ → Option Story) (counts counts_now : ℕ → ℕ) (most : Option ℕ) (script : List (List Body)) (went : ℕ → Went) (kept : Kept) → may_open splits kept.found ≡ true
+    → (p : RunPromised splits before now counts counts_now most script went kept) → HaveGone script went → (choice : ℕ → Bool) (e : ℕ × Entry) → Among e (entries kept)
+    → IsKnown (logs_left splits kept.found (entries kept) (p.keeps).left choice) (entries kept) e
+known_all splits before now counts counts_now most script went kept may p gone choice e m t some committed =
     let h = entries kept in
     let left = (p.keeps).left in
     let legal = ((p.keeps).legal).legal in
     let logs = logs_left splits kept.found h left choice in
-    let told = requests_are_told splits before now counts counts_now most script went kept p gone in
-    let known : (e : ℕ × Entry) → Among e h → IsKnown logs h e =
-    λ e m t some committed.
     ⊎_elim (λ a. a)
     (λ b. absurd (both_ways (committed_in (log_of logs e.0) t) (aborted_are_committed_nowhere splits kept.found h left choice e.0 t (record { opens = may; legal = legal }) (in_a_shard splits kept.found left h e legal m) b) committed))
-    (told e.0 e.1 t (among_is e.0 e.1 h m) some) in
-    sym ((p.keeps).promised choice).map ∙ ap (replay_map (stands kept.found)) (members_are logs h h known)
+    (requests_are_told splits before now counts counts_now most script went kept p gone e.0 e.1 t (among_is e.0 e.1 h m) some)
+
+pub runs_replay : RunsReplay
+runs_replay splits before now counts counts_now most script went kept may p gone choice =
+    sym ((p.keeps).promised choice).map
+    ∙ ap (replay_map (stands kept.found)) (members_are (logs_left splits kept.found (entries kept) (p.keeps).left choice) (entries kept) (entries kept) (known_all splits before now counts counts_now most script went kept may p gone choice))

@@ -13,6 +13,7 @@ use Rattle.machine_laws.specs.contracts.notes.Origin as Origin
 use Rattle.machine_laws.specs.contracts.notes.Note as Note
 use Rattle.turn_lock.specs.contracts.pass.Pass as Pass
 use Rattle.cluster_turns.specs.contracts.home.Home as home
+use Rattle.cluster_turns.proofs.heap.OnHeap.TheSendSync as heap
 use Rattle.cluster_turns.specs.contracts.shards.Walker as walker
 use denote.Param.Send.{struct_sync, recorded_sync}
 use Rattle.std.proofs.Crossing.{Vec-sync}
@@ -23,13 +24,13 @@ use Rattle.session_api.proofs.progress.Progress.TheSendSync as progress
 use Rattle.session_api.specs.contracts.script_session.ScriptSession as script
 
 pub origin_send : IsSend Origin.the_field.row
-origin_send = struct_send (shape Origin.the_type) (search sendable, (search sendable, (search (sendable, crosses) depth 20, tt)))
+origin_send = struct_send (shape Origin.the_type) (search sendable, (search sendable, (search (sendable, crosses) depth 20, (search (sendable, crosses) depth 20, tt))))
 
 pub home_send : (M S G : RattleType) → IsSend M → IsSend (home.the_field M S G).row
-home_send M S G m = search (origin_send, sendable, crosses) depth 30 fits 20000
+home_send M S G m = search (origin_send, heap.the_send, sendable, crosses) depth 30 fits 20000
 
 pub home_row_send : (M S G : RattleType) → IsSend M → IsSend (home.the_row M S G)
-home_row_send M S G m = search (origin_send, sendable, crosses) depth 30 fits 20000
+home_row_send M S G m = search (origin_send, heap.the_send, sendable, crosses) depth 30 fits 20000
 
 pub pass_send : (M S G : RattleType) → IsSend M → IsSend (Pass.the_row (home.the_row M S G) Note.the_row Origin.the_row)
 pass_send M S G m = pass.the_send (home.the_row M S G) Note.the_row Origin.the_row (home_row_send M S G m)
@@ -49,7 +50,7 @@ pub shards_sync : (M S G : RattleType) (a : _) (b : _) (c : _) → IsSend M → 
 shards_sync M S G a b c m =
     let h = home_row_send M S G m in
     let W = shards.the_type M S G a b c in
-    struct_sync (shape W) (search (h, lock.the_sync, Vec-sync, sendable) depth 20, (splits.the_sync, (search sendable, (search (gate.the_sync, crosses, sendable) depth 20, (search (crosses, sendable) depth 20, (search (crosses, sendable) depth 20, (search (crosses, sendable) depth 20, tt)))))))
+    struct_sync (shape W) (search (h, lock.the_sync, Vec-sync, sendable) depth 20, (splits.the_sync, (search sendable, (search (gate.the_sync, crosses, sendable) depth 20, (search (crosses, sendable) depth 20, (search (crosses, sendable) depth 20, (search (crosses, sendable) depth 20, (search (crosses, sendable) depth 20, tt))))))))
 
 pub shards_row_sync : (M S G : RattleType) (a : _) (b : _) (c : _) → IsSend M → IsSync (shards.the_row M S G a b c)
 shards_row_sync M S G a b c m = let W = shards.the_type M S G a b c in recorded_sync (Struct (shape W)) W.D W.to W.to_one (shards_sync M S G a b c m)

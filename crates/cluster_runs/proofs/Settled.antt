@@ -1,5 +1,5 @@
 -- What a walker has seen settled stays seen.
-use Rattle.std.proofs.Common.{◌≡◌, ◌∙◌, sym, ap, subst, ℕ, ◌≤◌, Bool, true, List, [], ◌++◌, set, get_or, append_assoc, append-nil, get_or-set_same, get_or-set_other, Option, Some, None, Result, Ok, Err, arith}
+use Rattle.std.proofs.Common.{◌≡◌, ◌∙◌, sym, ap, subst, ℕ, zero, suc, ◌≤◌, Bool, true, List, [], ◌∷◌, ◌++◌, set, get_or, append_assoc, append-nil, get_or-set_same, get_or-set_other, Option, Some, None, Result, Ok, Err, arith}
 use mathlib.Core.Logic.{dite}
 use native.Mathlib.Decide.{ℕ_discrete}
 use Rattle.clv_base.specs.State.{Shard}
@@ -8,6 +8,9 @@ use Rattle.turn_lock.specs.Passes.{seen}
 use Rattle.machine_calls.specs.Settled.{is_settled}
 use Rattle.machine_laws.specs.declared.notes.Note.{Note}
 use Rattle.machine_laws.specs.declared.notes.Origin.{Origin}
+use Rattle.machine_laws.specs.Homes.{entries_in}
+use Rattle.cluster_turns.specs.Dates.{latest, seen_by, last_seen}
+use Rattle.cluster_turns.proofs.Laws.{state_last}
 use Rattle.cluster_turns.specs.Turns.{Turned, SettledTold}
 use Rattle.cluster_turns.specs.Walkers.{Walked}
 use Rattle.cluster_turns.specs.declared.flushing.Flushed.{Flushed}
@@ -99,6 +102,22 @@ module _ {T : Type 0} where
     after_is = h.after_is;
     kept_is = h.kept_is;
   }
+
+  -- the stamps that a pass has seen are among those that its walker has
+  seen_among : (n : ℕ) (ps : List (Option (Pass T Note Origin))) (p : Pass T Note Origin) → ((d : Option (Pass T Note Origin)) → get_or ps n d ≡ Some p) → latest (entries_in (seen p)) ≤ last_seen ps
+  seen_among n [] p had = absurd (let k : None ≡ Some p = had None in cc)
+  seen_among zero (x ∷ xs) p had = let e : seen_by x ≡ latest (entries_in (seen p)) = ap seen_by (had None) in omega arith
+  seen_among (suc n) (x ∷ xs) p had = let r = seen_among n xs p had in omega arith
+
+  -- its last stamp is among those that the walker has seen then
+  pub looked_last : {n w : ℕ} {before after : List (Option (Pass T Note Origin))} (answer : Bool) (last : ℕ) → Walked (LookTold answer last) n w before after → last ≤ last_seen after
+  looked_last {n} {w} {before} {after} answer last h =
+      let t = h.turned in
+      let is = t.told.last_is in
+      let low = state_last t.origin (t.before ++ t.added) t.t t.t_is in
+      let now = ap (λ l. latest (entries_in l)) t.seen_is in
+      let among = seen_among n after h.q (λ d. ap (λ ps. get_or ps n d) h.after_is ∙ get_or-set_same before n (Some h.q) d (inside before n h.p h.had)) in
+      omega arith
 
   pub seen_settled : {n w : ℕ} {before after : List (Option (Pass T Note Origin))} (answer : Bool) (last most : ℕ) → Walked (LookTold answer last) n w before after → answer ≡ true → last ≤ most → WasSettled n most after
   seen_settled {n} {w} {before} {after} answer last most h is low =

@@ -1,40 +1,53 @@
 -- What a session of a seat leaves.
-use Rattle.std.proofs.Common.{◌≡◌, refl, ◌∙◌, sym, ap, subst, arith, true, false, ◌&&◌, ℕ, zero, suc, ◌<◌, List, [], ◌∷◌, ◌++◌, length, Option, Some, IfErr, slice_get}
+use Rattle.std.proofs.Common.{◌≡◌, refl, ◌∙◌, sym, ap, subst, arith, true, ℕ, zero, suc, max, ◌+◌, ◌<◌, List, [], ◌∷◌, ◌++◌, length, Option, Some, IfErr, slice_get}
 use Rattle.std.specs.List.{AllByRecursion, list_all}
 use Rattle.cluster_turns.specs.declared.shards.Shards.{Shards}
 use Rattle.cluster_turns.specs.declared.shards.Walker.{Walker}
 use Rattle.script_lang.specs.Bodies.{Body}
 use Rattle.script_lang.specs.Laws.{is_narrow_body}
-use Rattle.script_runs.specs.Ran.{stop_in, Follows}
+use Rattle.script_runs.specs.Ran.{stop_in, FollowsFrom}
 use Rattle.command_line.specs.Running.{End}
 use Rattle.session_api.specs.declared.progress.Progress.{Progress}
 use Rattle.session_api.specs.Standing.{Holds, seen_in, standing_of}
 use Rattle.session_api.specs.Grounds.{Grounds, HasMissed}
 use Rattle.script_runs.specs.Sessions.{session_entries}
-use Rattle.script_runs.proofs.Laws.{all_past}
+use Rattle.script_runs.specs.Seen.{Seen}
+use Rattle.script_runs.specs.Alone.{base_of}
+use Rattle.script_runs.proofs.Laws.{all_past, session_tries_are_few}
 use Rattle.session_api.proofs.Laws.{sessions_rest, scripts_follow, new_walkers_keep_none}
-use Rattle.cluster_runs.specs.Sessions.{IsSeated, HasSat, HasWornLast}
+use Rattle.cluster_runs.specs.Sessions.{IsSeated, HasSat, base_from}
 use Rattle.law_base.proofs.Bools.{and_first, and_second}
 
 module _ {M S G : Type 0} where
-  worn_last : (w : Walker M S G) (end : End) → IfErr end (Grounds w) → HasWornLast end
-  worn_last w end grounds at is = (subst (λ e. IfErr e (Grounds w)) is grounds).0
-
-  pub sat : (sh old new : Shards M S G) (clock : ℕ) (w v : Walker M S G) (s t : Progress) (bodies : List Body) (most : Option ℕ) (script : List (List Body)) (k : ℕ) (end : End)
-      → IsSeated sh clock script k old w s bodies → Holds new v t → new ≡ old → Follows (HasMissed v) bodies most (stop_in end) (seen_in old w s) (seen_in new v t) → IfErr end (Grounds v) → HasSat sh clock most script k v end
-  sat sh old new clock w v s t bodies most script k end seat holds stays follows grounds =
+  pub sat : (sh old new : Shards M S G) (clock base : ℕ) (w v : Walker M S G) (s t : Progress) (bodies : List Body) (most : Option ℕ) (script : List (List Body)) (k : ℕ) (end : End)
+      → IsSeated sh clock script k old w s bodies → Holds new v t → new ≡ old → FollowsFrom base (HasMissed v) bodies most (stop_in end) (seen_in old w s) (seen_in new v t) → IfErr end (Grounds v) → HasSat sh clock base most script k v end
+  sat sh old new clock base w v s t bodies most script k end seat holds stays follows grounds =
       let is : new ≡ sh = stays ∙ seat.on in
-      let f = subst (λ z. Follows (HasMissed v) bodies most (stop_in end) (seen_in sh w s) (seen_in z v t)) is (subst (λ z. Follows (HasMissed v) bodies most (stop_in end) (seen_in z w s) (seen_in new v t)) seat.on follows) in
-      let told = scripts_follow M S G sh (suc k) clock w v (standing_of s) (standing_of t) bodies most (stop_in end) seat.new f in
+      let f = subst (λ z. FollowsFrom base (HasMissed v) bodies most (stop_in end) (seen_in sh w s) (seen_in z v t)) is (subst (λ z. FollowsFrom base (HasMissed v) bodies most (stop_in end) (seen_in z w s) (seen_in new v t)) seat.on follows) in
+      let told = scripts_follow M S G sh (suc k) clock base w v (standing_of s) (standing_of t) bodies most (stop_in end) seat.new f in
       let r = sessions_rest M S G sh v t (subst (λ z. Holds z v t) is holds) in
+      let kept_is = (f.2).entries_are ∙ ap (λ l. session_entries l ++ f.0) (new_walkers_keep_none M S G sh (suc k) clock w seat.new) in
+      let began = (f.2).serial_is in
+      let none = (seat.new).none_begun in
       record {
         rest = record { walker = r.walker; number_is = told.0; landed = r.landed; fetched = r.fetched; disks = r.disks };
-        went = λ wanted at. (scripts_follow M S G sh (suc k) clock w v (standing_of s) (standing_of t) wanted most (stop_in end) seat.new (subst (λ z. Follows (HasMissed v) z most (stop_in end) (seen_in sh w s) (seen_in sh v t)) (seat.bodies wanted at) f)).1.0;
-        worn = worn_last v end grounds;
+        went = λ wanted at. (scripts_follow M S G sh (suc k) clock base w v (standing_of s) (standing_of t) wanted most (stop_in end) seat.new
+            (subst (λ z. FollowsFrom base (HasMissed v) z most (stop_in end) (seen_in sh w s) (seen_in sh v t)) (seat.bodies wanted at) f)).1.0;
+        dated = (let d = (f.2).dated in omega arith);
+        few = λ wanted at.
+            (let t = session_tries_are_few sh.splits sh.run w.number most bodies (f.1).transactions (stop_in end) (f.1).in_order in
+            let e = ap length (f.1).entries_are in
+            let l = ap length kept_is in
+            let b = ap length (seat.bodies wanted at) in
+            omega arith);
         grounds = grounds;
-        later = subst (AllByRecursion (λ e. clock < (e.1).stamp)) (sym ((f.2).entries_are ∙ ap (λ l. session_entries l ++ f.0) (new_walkers_keep_none M S G sh (suc k) clock w seat.new)))
-            (all_past clock w.clock v.clock f.0 (let c = (seat.new).clock_is in omega arith) (f.2).stamped);
+        later = subst (AllByRecursion (λ e. clock < (e.1).stamp)) (sym kept_is) (all_past clock w.clock v.clock f.0 (let c = (seat.new).clock_is in omega arith) (f.2).stamped);
       }
+
+-- the clock from which each rose
+pub same_base : (clock base k : ℕ) (u : Seen) → u.clock ≡ clock → base_of base k u ≡ base_from clock base k
+same_base clock base zero u is = is
+same_base clock base (suc k) u is = ap (λ c. max c base) is
 
 -- each session of a script that has it is narrow
 pub narrow_at : (script : List (List Body)) (k : ℕ) (bodies : List Body) → k < length script → list_all (list_all is_narrow_body) script ≡ true → ((wanted : List Body) → slice_get script k ≡ Some wanted → bodies ≡ wanted)

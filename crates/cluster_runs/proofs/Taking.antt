@@ -1,5 +1,5 @@
 -- An opening that is taken back.
-use Rattle.std.proofs.Common.{◌≡◌, ℕ, ◌<◌, ◌≤◌, ◌^◌, List, length, get_or, take, Bool, true, false, Option, refl, sym, ◌∙◌, subst, arith, inl, inr, ◌∷◌}
+use Rattle.std.proofs.Common.{◌≡◌, ℕ, ◌<◌, ◌≤◌, ◌^◌, List, length, get_or, take, Bool, true, false, Option, refl, sym, ◌∙◌, subst, arith, inl, inr}
 use Rattle.std.proofs.lemmas.Bool.{cases_lt}
 use Rattle.clv_base.specs.declared.logs.LogRecord.{LogRecord}
 use Rattle.clv_base.specs.Shards.{shard_count}
@@ -10,6 +10,7 @@ use Rattle.io_model.specs.Story.{Story}
 use Rattle.io_model.specs.Disk.{Tells, Rose}
 use Rattle.shard_recovery.specs.declared.recovering.RecoverError.{RecoverError}
 use Rattle.shard_recovery.specs.declared.recovering.RecoverError.TheVariants as recovery
+use Rattle.log_gate.specs.Header.{Layout}
 use Rattle.log_gate.specs.Opening.{IsUnchanged}
 use Rattle.cluster_opening.specs.declared.error.OpenError.{OpenError}
 use Rattle.cluster_opening.specs.declared.error.OpenError.TheVariants.{Failed, NotLog, Apart, Worn, Memory}
@@ -34,9 +35,9 @@ leaves_all s s' same Memory = before same
 
 -- ---- one disk
 
-left_of : (n : ℕ) (found : List LogRecord) (run : ℕ) (first gate now : Option Story) → Tells first gate IsUnchanged → IsLeft n found run gate now → IsLeftAt n found run first now
-left_of n found run first gate now same (unwritten is) = unchanged (subst (λ (z : Option Story). Tells first z IsUnchanged) (sym is) same)
-left_of n found run first gate now same (has_begun h) = begun h
+left_of : (n : ℕ) (layout : Layout) (found : List LogRecord) (run : ℕ) (first gate now : Option Story) → Tells first gate IsUnchanged → IsLeft n layout found run gate now → IsLeftAt n layout found run first now
+left_of n layout found run first gate now same (unwritten is) = unchanged (subst (λ (z : Option Story). Tells first z IsUnchanged) (sym is) same)
+left_of n layout found run first gate now same (has_begun h) = begun h
 
 -- ---- the disks of all gates
 
@@ -49,24 +50,24 @@ module _ (splits : List ℕ) (logs : List (List LogRecord)) (f0 f1 f2 : ℕ → 
   rest_same n h = same_disk (s0 n) (s2 n) ((others n h).2 ∙ (went.rest n h).1)
 
   module _ (run : ℕ) (held : LogsOfAll splits logs s0) (may : may_open splits logs ≡ true) (run_is : run ≡ run_after logs) (run_fits : run < 2 ^ 32) where
-    are_left : ((n : ℕ) → n < shard_count splits → IsLeftAt n (log_of logs n) run (s0 n) (s2 n)) → AreLeft s0 s2
+    are_left : ((n : ℕ) → n < shard_count splits → IsLeftAt n (record { splits = splits }) (log_of logs n) run (s0 n) (s2 n)) → AreLeft s0 s2
     are_left each = record {
       splits = splits;
       logs = logs;
       held = held;
       may = may;
       run_fits = subst (λ (r : ℕ). r < 2 ^ 32) run_is run_fits;
-      left = λ n l. subst (λ (r : ℕ). IsLeftAt n (log_of logs n) r (s0 n) (s2 n)) run_is (each n l);
+      left = λ n l. subst (λ (r : ℕ). IsLeftAt n (record { splits = splits }) (log_of logs n) r (s0 n) (s2 n)) run_is (each n l);
       others = rest_same;
     }
 
     -- where there was no memory behind the last lock
-    pub wanting : ((n : ℕ) → n < shard_count splits → (f2 n ≡ f1 n) × (o2 n ≡ false)) → ((n : ℕ) (b : Option Story) → n < shard_count splits → IsLeft n (log_of logs n) run b (s2 n)) → IsTakenBack f0 f2 o2 s0 s2 Memory
+    pub wanting : ((n : ℕ) → n < shard_count splits → (f2 n ≡ f1 n) × (o2 n ≡ false)) → ((n : ℕ) (b : Option Story) → n < shard_count splits → IsLeft n (record { splits = splits }) (log_of logs n) run b (s2 n)) → IsTakenBack f0 f2 o2 s0 s2 Memory
     wanting back left = record {
       refuses = tt;
       counts = λ n. elim (cases_lt n (shard_count splits)) [ inl l ↦ (back n l).0 ∙ went.counts n | inr h ↦ (others n h).0 ∙ went.counts n ];
       are_in = all_in (λ n l. (back n l).1);
-      left = meanwhile (are_left (λ n l. left_of n (log_of logs n) run (s0 n) (s0 n) (s2 n) (same_disk (s0 n) (s0 n) refl) (left n (s0 n) l)));
+      left = meanwhile (are_left (λ n l. left_of n (record { splits = splits }) (log_of logs n) run (s0 n) (s0 n) (s2 n) (same_disk (s0 n) (s0 n) refl) (left n (s0 n) l)));
     }
 
 counts_before : (f0 f1 f2 : ℕ → ℕ) → ((n : ℕ) → f1 n ≡ f0 n) → (shard : ℕ) (e : RecoverError) → CountsBack shard f1 f2 e → CountsOpen f0 f2 (told_as shard e)
@@ -82,9 +83,9 @@ leaves_meanwhile s0 s2 left shard recovery.Failed = meanwhile left
 leaves_meanwhile s0 s2 left shard recovery.Memory = meanwhile left
 
 -- where the recovery of a shard stopped
-module _ {G : Type 0} (shut : G → Bool) (fails whose : G → ℕ) (logs_in : G → Option (List LogRecord) → Type 0) (told : G → Option Story) where
+module _ {G : Type 0} (shut : G → Bool) (fails whose : G → ℕ) (logs_in : G → Layout → Option (List LogRecord) → Type 0) (told : G → Option Story) where
   pub stopped : (splits : List ℕ) (logs : List (List LogRecord)) (run : ℕ) (gates : List G) (shard : ℕ) (e : RecoverError) (f0 f1 f2 : ℕ → ℕ) (o0 o1 o2 : ℕ → Bool) (s0 s1 s2 : ℕ → Option Story)
-      → AreFound shut fails whose logs_in told splits logs run gates f0 f1 o0 o1 s0 s1 → shard < length gates → AreBack told run logs gates o2 s2 → CountsBack shard f1 f2 e
+      → AreFound shut fails whose logs_in told splits logs run gates f0 f1 o0 o1 s0 s1 → shard < length gates → AreBack told (record { splits = splits }) run logs gates o2 s2 → CountsBack shard f1 f2 e
       → ((n : ℕ) → length gates ≤ n → (f2 n ≡ f1 n) × (o2 n ≡ o1 n) × (s2 n ≡ s1 n)) → IsTakenBack f0 f2 o2 s0 s2 (told_as shard e)
   stopped splits logs run gates shard e f0 f1 f2 o0 o1 o2 s0 s1 s2 found low back counts others = (
       let many = found.gates_are.count in let logs_many = found.held.count in
@@ -95,7 +96,7 @@ module _ {G : Type 0} (shut : G → Bool) (fails whose : G → ℕ) (logs_in : G
         are_in = all_in splits logs f0 f1 f2 o0 o1 o2 s0 s1 s2 found.went found.inside past (λ n l. back.are_in n (omega arith));
         left = leaves_meanwhile s0 s2
             (are_left splits logs f0 f1 f2 o0 o1 o2 s0 s1 s2 found.went found.inside past run found.held found.may found.run_is found.run_fits
-            (λ n l. (let d = some_elem gates n (omega arith) in left_of n (log_of logs n) run (s0 n) (told (get_or gates n d)) (s2 n) (found.unchanged n d l) (back.left n d (omega arith)))))
+            (λ n l. (let d = some_elem gates n (omega arith) in left_of n (record { splits = splits }) (log_of logs n) run (s0 n) (told (get_or gates n d)) (s2 n) (found.unchanged n d l) (back.left n d (omega arith)))))
             shard e;
       })
 

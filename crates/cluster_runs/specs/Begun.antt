@@ -10,6 +10,7 @@ use Rattle.io_model.specs.Story.{Story}
 use Rattle.io_model.specs.Disk.{Tells}
 use Rattle.shard_recovery.specs.declared.recovering.RecoverError.{RecoverError}
 use Rattle.shard_recovery.specs.declared.recovering.RecoverError.TheVariants as recovery
+use Rattle.log_gate.specs.Header.{Layout}
 use Rattle.log_gate.specs.Gate.{EachNow}
 use Rattle.log_gate.specs.Opening.{IsUnchanged}
 use Rattle.turn_lock.specs.Passes.{passes_of}
@@ -55,9 +56,9 @@ AreUnchanged stories stories' = (n : ℕ) → Tells (stories n) (stories' n) IsU
 
 -- shard n's disk, which held this log, was not written, or what a read gives and each image that a crash now may leave has this log with some first
 -- records of those that a restart of the run adds, where the disk tells its bytes
-pub data IsLeftAt (n : ℕ) (found : List LogRecord) (run : ℕ) (before now : Option Story) : Type 0 where
-  unchanged : Tells before now IsUnchanged → IsLeftAt n found run before now
-  begun : IfSome now (EachNow (HasBegun n found run)) → IsLeftAt n found run before now
+pub data IsLeftAt (n : ℕ) (layout : Layout) (found : List LogRecord) (run : ℕ) (before now : Option Story) : Type 0 where
+  unchanged : Tells before now IsUnchanged → IsLeftAt n layout found run before now
+  begun : IfSome now (EachNow (HasBegun n layout found run)) → IsLeftAt n layout found run before now
 
 -- all disks held logs that may be opened together, and are left so
 pub record AreLeft (stories stories' : ℕ → Option Story) : Type 0 where
@@ -66,7 +67,7 @@ pub record AreLeft (stories stories' : ℕ → Option Story) : Type 0 where
   pub held : LogsOfAll splits logs stories
   pub may : may_open splits logs ≡ true
   pub run_fits : run_after logs < 2 ^ 32
-  pub left : (n : ℕ) → n < shard_count splits → IsLeftAt n (log_of logs n) (run_after logs) (stories n) (stories' n)
+  pub left : (n : ℕ) → n < shard_count splits → IsLeftAt n (record { splits = splits }) (log_of logs n) (run_after logs) (stories n) (stories' n)
   pub others : (n : ℕ) → shard_count splits ≤ n → Tells (stories n) (stories' n) IsUnchanged
 
 -- before logs were found that may be opened together, or while they were recovered
@@ -91,7 +92,7 @@ pub record IsTakenBack (faults faults' : ℕ → ℕ) (out' : ℕ → Bool) (sto
 
 -- ---- what the disks were found to hold
 
-module _ {G : Type 0} (shut : G → Bool) (faults whose : G → ℕ) (logs : G → Option (List LogRecord) → Type 0) (told : G → Option Story) where
+module _ {G : Type 0} (shut : G → Bool) (faults whose : G → ℕ) (logs : G → Layout → Option (List LogRecord) → Type 0) (told : G → Option Story) where
   -- in a house whose disks were all in, those of the shards went out; they held these logs, which may be opened together by the run, and each gate is over its
   -- shard's disk, to which nothing was written
   pub record AreFound (splits : List ℕ) (founds : List (List LogRecord)) (run : ℕ) (gates : List G) (count count' : ℕ → ℕ) (out out' : ℕ → Bool) (stories stories' : ℕ → Option Story) : Type 0 where
@@ -101,5 +102,5 @@ module _ {G : Type 0} (shut : G → Bool) (faults whose : G → ℕ) (logs : G �
     pub may : may_open splits founds ≡ true
     pub run_is : run ≡ run_after founds
     pub run_fits : run < 2 ^ 32
-    pub gates_are : AreOpenGates shut faults whose logs founds gates
+    pub gates_are : AreOpenGates shut faults whose logs (record { splits = splits }) founds gates
     pub unchanged : (n : ℕ) (d : G) → n < shard_count splits → Tells (stories n) (told (slice_index_or gates n d)) IsUnchanged

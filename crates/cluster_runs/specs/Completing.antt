@@ -1,8 +1,10 @@
 -- What the history tells of the transactions of a session that went through.
-use Rattle.std.specs.Prelude.{◌≡◌, ◌≢◌, ⊤, ℕ, suc, ◌≤◌, true, List, [], ◌∷◌, ◌++◌, map, length, Option, Some, None, slice_get}
+use Rattle.std.specs.Prelude.{◌≡◌, ⊤, ℕ, suc, ◌<◌, ◌≤◌, true, List, [], ◌∷◌, ◌++◌, map, length, Option, Some, None, slice_get}
 use Rattle.std.specs.List.{AllByRecursion}
-use Rattle.clv_base.specs.declared.causes.AbortCause.{AbortCause}
-use Rattle.clv_base.specs.declared.causes.AbortCause.TheVariants.{Asked}
+use Rattle.clv_base.specs.declared.names.TxId.{TxId}
+use Rattle.clv_base.specs.declared.causes.AbortCause.TheVariants.{Died}
+use Rattle.clv_base.specs.FileRules.{may_open}
+use Rattle.clv_base.specs.Shards.{shard_count}
 use Rattle.clv_base.specs.Journals.{History, own}
 use Rattle.clv_base.specs.History.{acknowledged_in, ops_in}
 use Rattle.io_model.specs.Story.{Story}
@@ -14,6 +16,7 @@ use Rattle.script_runs.specs.declared.ends.TryEnd.TheVariants as end
 use Rattle.script_runs.specs.TriesLaws.{all_parts}
 use Rattle.script_runs.specs.Tries.{Try}
 use Rattle.script_runs.specs.Sessions.{Transaction, tries_of, entries_of, session_entries}
+use Rattle.cluster_runs.specs.Drained.{WasDrained}
 use Rattle.cluster_runs.specs.Histories.{entries}
 use Rattle.cluster_runs.specs.PromisedSessions.{Went, Begun}
 use Rattle.cluster_runs.specs.Promises.{RunPromised}
@@ -31,8 +34,8 @@ pub data HasEnded (splits : List ℕ) (h : History) (most : Option ℕ) (body : 
   empty : body.ending ≡ line.Commit → last.end ≡ end.Empty → next_op body.actions [] ≡ None → HasEnded splits h most body count last
   -- its line `abort` was done, after all operations
   by_line : body.ending ≡ line.Abort → last.end ≡ end.Asked → next_op body.actions last.answers ≡ None → HasEnded splits h most body count last
-  -- as many tries as are wanted were aborted, each for a cause of its own
-  given_up : (cause : AbortCause) → last.end ≡ end.Aborted cause → cause ≢ Asked → most ≡ Some count → HasEnded splits h most body count last
+  -- as many tries as are wanted were aborted, the last of which died: an older transaction was in its way
+  given_up : (older : TxId) → last.end ≡ end.Aborted (Died older) → most ≡ Some count → HasEnded splits h most body count last
 
 pub record TransactionEnded (splits : List ℕ) (h : History) (most : Option ℕ) (tr : Transaction) : Type 0 where
   pub front : List Try
@@ -52,8 +55,9 @@ abbrev pub IsWanted : Option ℕ → Type 0
 IsWanted None = ⊤
 IsWanted (Some n) = 1 ≤ n
 
--- where a session of a run went through, each of its transactions has ended
+-- where a session of a run went through, behind a drain that settled each shard, each of its transactions has ended
 abbrev pub SessionsHaveEnded : Type 0
 SessionsHaveEnded =
     (splits : List ℕ) (before now : ℕ → Option Story) (counts counts_now : ℕ → ℕ) (most : Option ℕ) (script : List (List Body)) (went : ℕ → Went) (kept : Kept) (k : ℕ) (bodies : List Body)
-    → IsWanted most → RunPromised splits before now counts counts_now most script went kept → slice_get script k ≡ Some bodies → went k ≡ Begun None → SessionEnded splits (entries kept) (suc k) most bodies
+    → IsWanted most → may_open splits kept.found ≡ true → RunPromised splits before now counts counts_now most script went kept
+    → slice_get script k ≡ Some bodies → went k ≡ Begun None → ((n : ℕ) → n < shard_count splits → WasDrained n kept) → SessionEnded splits (entries kept) (suc k) most bodies

@@ -1,6 +1,5 @@
 -- What the shards' disks hold when a run ends, where they tell it.
-use Rattle.std.specs.Prelude.{◌≡◌, ◌⊎◌, ℕ, ◌<◌, Bool, true, false, List, [], ◌∷◌, ◌++◌, Option, Some, None, Ok, IfSome}
-use Rattle.std.specs.List.{list_all}
+use Rattle.std.specs.Prelude.{◌≡◌, ◌⊎◌, ℕ, ◌<◌, Bool, true, false, List, [], ◌∷◌, Option, None, IfSome}
 use Rattle.clv_base.specs.declared.logs.LogRecord.{LogRecord}
 use Rattle.clv_base.specs.declared.logs.LogRecord.TheVariants.{Update, Clr, Prepare, Commit, Abort, End, Restart}
 use Rattle.clv_base.specs.declared.events.Event.{Event}
@@ -10,15 +9,12 @@ use Rattle.clv_base.specs.declared.events.Outcome.TheVariants.{Durable, Failed}
 use Rattle.clv_base.specs.declared.events.Entry.{Entry}
 use Rattle.clv_base.specs.Shards.{shard_count}
 use Rattle.clv_base.specs.State.{Shard}
-use Rattle.clv_base.specs.Logs.{stands}
-use Rattle.clv_base.specs.LogRules.{log_of, disorder}
+use Rattle.clv_base.specs.LogRules.{log_of}
 use Rattle.clv_base.specs.Restarts.{log_left}
 use Rattle.clv_base.specs.Journals.{History, journal_of, final_of}
-use Rattle.io_model.specs.Story.{Story, reads, IsImage}
-use Rattle.io_model.specs.Crash.{AtEachMoment}
-use Rattle.log_gate.specs.Image.{HasLog, HasLogOrMore, checked_log}
+use Rattle.io_model.specs.Story.{Story, reads}
+use Rattle.log_gate.specs.Image.{HasLog, HasHeader}
 use Rattle.log_gate.specs.Gate.{EachNow}
-use Rattle.log_gate.specs.Opening.{IsUnchanged}
 
 -- ---- a run that opened its shards
 
@@ -35,19 +31,20 @@ flush_failed_from so_far (e ∷ es) = flush_failed_from (flush_after so_far e.ev
 abbrev pub flush_failed : List Entry → Bool
 flush_failed journal = flush_failed_from false journal
 
--- the log of these bytes of shard n's disk is the shard's durable records, or these with the records in flight where its last flush failed
-abbrev pub HoldsLog : Bool → Shard → ℕ → List ℕ → Type 0
-HoldsLog false s n bytes = HasLog n (log_left s false) bytes
-HoldsLog true s n bytes = HasLog n (log_left s false) bytes ⊎ HasLog n (log_left s true) bytes
+-- these bytes of shard n's disk begin with its header, with these splits, and their log is the shard's durable records, or these with the records in
+-- flight where its last flush failed
+abbrev pub HoldsLog : List ℕ → Bool → Shard → ℕ → List ℕ → Type 0
+HoldsLog splits false s n bytes = HasLog n (log_left s false) bytes × HasHeader n splits bytes
+HoldsLog splits true s n bytes = (HasLog n (log_left s false) bytes ⊎ HasLog n (log_left s true) bytes) × HasHeader n splits bytes
 
 -- what a read of each disk gives, and each image that a crash now may leave of it, has such a log by the history
 abbrev pub DisksHold : List ℕ → List (List LogRecord) → History → List (List LogRecord) → (ℕ → Option Story) → Type 0
 DisksHold splits found h left now =
-    (n : ℕ) → n < shard_count splits → IfSome (now n) (EachNow (HoldsLog (flush_failed (journal_of n h)) (final_of found h left n) n))
+    (n : ℕ) → n < shard_count splits → IfSome (now n) (EachNow (HoldsLog splits (flush_failed (journal_of n h)) (final_of found h left n) n))
 
--- each disk that tells its bytes reads as a log of these
+-- each disk that tells its bytes reads as a log of these, behind a header with these splits
 abbrev pub DisksRead : List ℕ → (ℕ → Option Story) → List (List LogRecord) → Type 0
-DisksRead splits now logs = (n : ℕ) → n < shard_count splits → IfSome (now n) (λ s. HasLog n (log_of logs n) (reads s))
+DisksRead splits now logs = (n : ℕ) → n < shard_count splits → IfSome (now n) (λ s. HasLog n (log_of logs n) (reads s) × HasHeader n splits (reads s))
 
 -- of a disk that doesn't tell its bytes, the log at the end is the durable records of the shard
 abbrev pub UntoldAreDurable : List ℕ → List (List LogRecord) → History → List (List LogRecord) → (ℕ → Option Story) → Type 0
@@ -65,12 +62,3 @@ is_undo (Update tx key before after) = false
 is_undo (Prepare tx home predecessors) = false
 is_undo (Commit tx parts) = false
 is_undo (End tx) = false
-
--- shard n's disk was not written; or its log is in order, and all that a crash may leave of it, at each moment, is what one before could
--- leave, or that log with no more than a batch of such records, by which the logs of all shards stand for the same map, whatever the others are
-pub data StaysClosed (splits : List ℕ) (n : ℕ) (s t : Story) : Type 0 where
-  unwritten : IsUnchanged s t → StaysClosed splits n s t
-  begun :
-      (found more : List LogRecord) → checked_log n (Some splits) (reads s) ≡ Ok (splits, found) → disorder n found ≡ None → list_all is_undo more ≡ true
-      → ((front behind : List (List LogRecord)) → stands (front ++ (found ++ more) ∷ behind) ≡ stands (front ++ found ∷ behind))
-      → HasLogOrMore n found more (reads t) → AtEachMoment s t (λ image. IsImage s image ⊎ HasLogOrMore n found more image) → StaysClosed splits n s t

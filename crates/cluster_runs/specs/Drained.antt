@@ -1,11 +1,12 @@
--- What the drain before a run's sessions leaves.
-use Rattle.std.specs.Prelude.{◌≡◌, ℕ, suc, ◌<◌, ◌≤◌, Bool, true, not, List, ◌++◌, Option, Some, length, slice_index_or}
+-- What the drains before and behind a run's sessions leave.
+use Rattle.std.specs.Prelude.{◌≡◌, ℕ, suc, ◌<◌, ◌≤◌, ◌^◌, ◌-◌, Bool, true, not, List, ◌++◌, Option, Some, Err, length, slice_index_or}
 use Rattle.std.specs.List.{AllByRecursion, list_all}
 use Rattle.clv_base.specs.declared.events.Entry.{Entry}
 use Rattle.clv_base.specs.State.{Shard}
 use Rattle.clv_base.specs.Sessions.{is_of_session}
 use Rattle.clv_base.specs.Journals.{journal_of, start_of}
 use Rattle.clv_base.specs.Machines.{Runs}
+use Rattle.turn_lock.specs.Journals.{StartsWith}
 use Rattle.turn_lock.specs.declared.pass.Pass.{Pass}
 use Rattle.turn_lock.specs.Passes.{seen, pass_origin}
 use Rattle.machine_calls.specs.Settled.{is_settled}
@@ -16,9 +17,16 @@ use Rattle.history_replay.specs.Entries.{Kept}
 use Rattle.cluster_turns.specs.declared.shards.Shards.{Shards}
 use Rattle.cluster_turns.specs.declared.shards.Walker.{Walker}
 use Rattle.cluster_turns.specs.Turns.{SettledTold}
+use Rattle.cluster_turns.specs.declared.tending.DrainError.{DrainError}
+use Rattle.cluster_turns.specs.declared.tending.DrainError.TheVariants.{Worn}
 use Rattle.cluster_turns.specs.Walkers.{kept}
+use Rattle.cluster_turns.specs.Dates.{IsDated, last_seen}
+use Rattle.cluster_turns.specs.Rounds.{SettledAt}
+use Rattle.session_api.specs.Standing.{IsAtRest}
 use Rattle.script_runs.specs.declared.ends.StopCause.{StopCause}
+use Rattle.script_runs.specs.declared.ends.StopCause.TheVariants.{Worn as StopWorn}
 use Rattle.script_runs.specs.Sessions.{session_entries}
+use Rattle.command_line.specs.Running.{End}
 use Rattle.cluster_runs.specs.Histories.{entries}
 use Rattle.cluster_runs.specs.PromisedSessions.{Went, Begun}
 
@@ -35,12 +43,18 @@ pub record WasDrained (n : ℕ) (run : Kept) : Type 0 where
   pub settled : is_settled state ≡ true
   pub no_session : list_all (λ e. not (is_of_session e.event)) front ≡ true
 
+-- its whole journal leads to a state in which it is settled so
+pub record IsSettledAtEnd (n : ℕ) (run : Kept) : Type 0 where
+  pub state : Shard
+  pub runs : Runs (start_of run.found n) (journal_of n (entries run)) state
+  pub settled : is_settled state ≡ true
+
 -- ---- as walker 0 has seen it
 
--- a look at the state, which makes no entry: whether it is settled, and a stamp that its last one isn't past
+-- a look at the state, which makes no entry: whether it is settled, and its last stamp
 pub record LookTold (answer : Bool) (last : ℕ) (s t : Shard) (added : List Note) : Type 0 where
   pub settled : SettledTold answer s t added
-  pub last_is : t.last ≤ last
+  pub last_is : last ≡ t.last
 
 module _ {T : Type 0} where
   -- after the first of the notes that the pass has seen, the shard was settled, and its last stamp was not past the clock
@@ -65,3 +79,44 @@ module _ {M S G : Type 0} where
     pub clock : ℕ
     pub settled : (k : ℕ) (cause : Option StopCause) → k < sessions → went k ≡ Begun cause → (n : ℕ) (d : Walker M S G) → n < length sh.locks.items → WasSettled n clock (slice_index_or walkers 0 d).passes.items
     pub later : (k : ℕ) (d : Walker M S G) → k < sessions → AllByRecursion (λ e. clock < (e.1).stamp) (session_entries (kept (slice_index_or walkers (suc k) d).passes.items))
+
+-- ---- looks, which make no entry
+
+module _ {T : Type 0} where
+  -- each pass has seen what it had seen before, and perhaps more; what the walker keeps is the same
+  pub record SeesOn (before after : List (Option (Pass T Note Origin))) : Type 0 where
+    pub kept_is : kept after ≡ kept before
+    pub each :
+        (n : ℕ) (p : Pass T Note Origin) → ((d : Option (Pass T Note Origin)) → slice_index_or before n d ≡ Some p)
+        → (q : Pass T Note Origin) × ((d : Option (Pass T Note Origin)) → slice_index_or after n d ≡ Some q) × (pass_origin q ≡ pass_origin p) × StartsWith (seen q) (seen p)
+
+module _ {M S G : Type 0} where
+  -- a walker looked, and did nothing else
+  pub record HasLooked (sh : Shards M S G) (before after : Walker M S G) : Type 0 where
+    pub number_is : after.number ≡ before.number
+    pub clock_is : after.clock ≡ before.clock
+    pub serial_is : after.serial ≡ before.serial
+    pub sees : SeesOn before.passes.items after.passes.items
+    pub rises : last_seen before.passes.items ≤ last_seen after.passes.items
+    pub rest : (number : ℕ) → IsAtRest sh number before → IsAtRest sh number after
+
+  -- each of them did
+  pub record HaveLooked (sh : Shards M S G) (before after : List (Walker M S G)) : Type 0 where
+    pub count : length after ≡ length before
+    pub each : (k : ℕ) (d : Walker M S G) → HasLooked sh (slice_index_or before k d) (slice_index_or after k d)
+
+  -- and has seen each shard settled, after all that its pass has seen
+  abbrev pub SeeSettled : Shards M S G → List (Walker M S G) → Type 0
+  SeeSettled sh walkers = (k n : ℕ) (d : Walker M S G) → k < length walkers → n < length sh.locks.items → SettledAt n (slice_index_or walkers k d).passes.items
+
+  -- walker 0 was the first, and is the second after a drain that ended so
+  pub record HasDrained (sh : Shards M S G) (before after : Walker M S G) (end : End) : Type 0 where
+    pub rest : IsAtRest sh 0 after
+    pub stays : (n clock : ℕ) → WasSettled n clock before.passes.items → WasSettled n clock after.passes.items
+    pub dated : IsDated before.clock before.passes.items after.clock after.passes.items
+    pub serial : after.serial ≡ before.serial
+    pub worn : (at : ℕ) → end ≡ Err (StopWorn at) → (at ≡ 2 ^ 48) × (2 ^ 48 - 1 ≤ after.clock)
+
+-- a drain ended as stamps were wanting
+abbrev pub IsWornDrain : DrainError → Type 0
+IsWornDrain e = (at : ℕ) × (e ≡ Worn at)

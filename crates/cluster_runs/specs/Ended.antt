@@ -31,7 +31,7 @@ pub record ClusterEnded (splits : List ℕ) (before now : ℕ → Option Story) 
       (left : List (List LogRecord)) → length left ≡ shard_count splits → ((n : ℕ) → n < shard_count splits → MayLeave (states n) (log_of left n))
       → MakesHistory splits kept.found left kept.journals states own_of
   -- each disk holds what its shard's state says: the durable records, or these with those in flight where its last flush failed
-  pub holds : (n : ℕ) → n < shard_count splits → IfSome (now n) (EachNow (HoldsLog (flush_failed (journal_at kept.journals n)) (states n) n))
+  pub holds : (n : ℕ) → n < shard_count splits → IfSome (now n) (EachNow (HoldsLog splits (flush_failed (journal_at kept.journals n)) (states n) n))
   -- a disk's count rose where a flush failed, and else it stands
   pub rose : (n : ℕ) → n < shard_count splits → has_failed (journal_at kept.journals n) ≡ true → Rose (counts n) (counts_now n)
   pub stands : (n : ℕ) → n < shard_count splits → has_failed (journal_at kept.journals n) ≡ false → counts_now n ≡ counts n

@@ -49,7 +49,7 @@ module _ {M S G : Type 0} (D : Type 0) (shard : M → Shard) where
     pub legal :
         (after : List (List LogRecord)) → length after ≡ shard_count sh.splits → ((n : ℕ) → n < shard_count sh.splits → MayLeave (end_of sh homes n) (log_of after n))
         → MakesHistory sh.splits (founds_of sh) after kept.journals (end_of sh homes) (walked_by walkers)
-    pub disks : (n : ℕ) (d : Home M S G) → n < vec_len sh.locks → IsBack {D = D} (shard (slice_index_or homes n d).machine) n [] (counts n) (counts_now n) (out_now n) (now n)
+    pub disks : (n : ℕ) (d : Home M S G) → n < vec_len sh.locks → IsBack {D = D} (shard (slice_index_or homes n d).machine) n (record { splits = sh.splits }) [] (counts n) (counts_now n) (out_now n) (now n)
     pub others : (n : ℕ) → vec_len sh.locks ≤ n → (counts_now n ≡ counts n) × (out_now n ≡ out n) × (now n ≡ before n)
 
   -- the cluster was opened over the disks of a house, and closed so; between both the house stayed as it was

@@ -16,8 +16,8 @@ use Rattle.cluster_turns.specs.declared.shards.Shards.{Shards}
 use Rattle.cluster_turns.specs.declared.shards.Walker.{Walker}
 use Rattle.cluster_turns.specs.Walkers.{kept as kept_by, founds_of}
 use Rattle.script_lang.specs.Bodies.{Body}
-use Rattle.script_runs.specs.declared.ends.StopCause.TheVariants.{Worn}
 use Rattle.cluster_runs.specs.Ended.{ClusterEnded}
+use Rattle.cluster_runs.specs.Sessions.{AreCounted, HasWornLast}
 use Rattle.cluster_runs.specs.PromisedSessions.{Went, Begun, SessionWent, SessionsWent}
 use Rattle.cluster_runs.specs.Promises.{RunPromised}
 use Rattle.command_line.specs.Running.{End, IsOk, status_by}
@@ -53,13 +53,14 @@ module _ (M S G D : Type 0) where
       → IsClosedRun D shard sh walkers homes kept down counts counts_now out out_now before now → ((n : ℕ) → n < 16 → out n ≡ false) → (n : ℕ) → n < 16 → out_now n ≡ false
 
   -- the status by the lowest shard that is down, and by the gravest end of a drain or a session, tells so of disks and sessions: where that end is fine all sessions
-  -- went through, and where it is worn stamps these are past their bound
+  -- went through, and where it is worn stamps these came to their end
   abbrev pub StatusesTell : Type 0
   StatusesTell =
       (shard : M → Shard) (sh : Shards M S G) (walkers : List (Walker M S G)) (homes : List (Home M S G)) (kept : Kept) (down : Option ℕ) (counts counts_now : ℕ → ℕ) (out out_now : ℕ → Bool) (before now : ℕ → Option Story)
-      (sessions : ℕ) (went : ℕ → Went) (end : End)
-      → IsClosedRun D shard sh walkers homes kept down counts counts_now out out_now before now → (IsOk end → (k : ℕ) → k < sessions → went k ≡ Begun None) → ((at : ℕ) → end ≡ Err (Worn at) → at ≡ 2 ^ 48)
-      → StatusTold (shard_count sh.splits) counts counts_now sessions went (status_by down end)
+      (script : List (List Body)) (went : ℕ → Went) (end : End)
+      → IsClosedRun D shard sh walkers homes kept down counts counts_now out out_now before now → (IsOk end → (k : ℕ) → k < length script → went k ≡ Begun None) → ((k : ℕ) (d : Walker M S G) → k < length walkers → (slice_index_or walkers k d).number ≡ k)
+      → length walkers ≡ suc (length script) → AreCounted script walkers → HasWornLast walkers end
+      → StatusTold (shard_count sh.splits) counts counts_now script (entries_of kept.journals) went (status_by down end)
 
   -- and which shards' flushes failed
   abbrev pub FlushesTell : Type 0

@@ -12,8 +12,10 @@ pub mod Histories
 pub mod Ended
 pub mod PromisedSessions
 pub mod Promises
+pub mod Following
 pub mod Completing
 pub mod Down
 pub mod Replays
+pub mod Members
 pub mod PromiseLaws
 pub mod Laws

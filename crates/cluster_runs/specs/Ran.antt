@@ -17,7 +17,7 @@ use Rattle.script_runs.specs.declared.ends.StopCause.TheVariants.{Down, Unsettle
 use Rattle.cluster_runs.specs.Completing.{IsWanted, SessionEnded}
 use Rattle.script_runs.specs.declared.threads.Start.{Start}
 use Rattle.script_runs.specs.declared.threads.Start.TheVariants.{FirstAlone}
-use Rattle.cluster_runs.specs.Drained.{WasDrained}
+use Rattle.cluster_runs.specs.Drained.{WasDrained, IsSettledAtEnd}
 use Rattle.cluster_runs.specs.Alone.{RanAlone}
 use Rattle.cluster_runs.specs.Promises.{RunPromised}
 use Rattle.cluster_runs.specs.PromisedSessions.{Went, Begun}
@@ -45,13 +45,15 @@ pub record RanAll (before now : ℕ → Option Story) (counts counts_now : ℕ �
   -- the promise of the run, with its shards and with how far each session came
   pub promised : RunPromised splits before now counts counts_now most script went kept
   -- what its status tells of disks and sessions, and of the shards whose flush failed; how each transaction ended, and why a session was stopped
-  pub told : StatusTold (shard_count splits) counts counts_now (length script) went status
+  pub told : StatusTold (shard_count splits) counts counts_now script (entries kept) went status
   pub flushes : FlushesTold (shard_count splits) (λ n. has_failed (journal_of n (entries kept))) status
   pub ended : AllEnded splits most script kept status
   -- where the first session's first transaction was to run alone, all that other sessions made has stamps past those of its entries
   pub alone : start ≡ FirstAlone → (bodies : List Body) → slice_get script 0 ≡ Some bodies → RanAlone splits (run_after kept.found) most bodies (entries kept)
   -- before a session was begun, each shard was settled, and had no entry of a session so far
   pub drained : (k : ℕ) (cause : Option StopCause) → k < length script → went k ≡ Begun cause → (n : ℕ) → n < shard_count splits → WasDrained n kept
+  -- where all was fine each shard is settled at the end
+  pub settled : status ≡ Fine → (n : ℕ) → n < shard_count splits → IsSettledAtEnd n kept
   pub stops : (k : ℕ) → k < length script → StopTold (shard_count splits) (λ n. has_failed (journal_of n (entries kept))) (went k)
   -- each shard has its journal, and disks of no shard are as before
   pub shards : length kept.journals ≡ shard_count splits

@@ -89,6 +89,7 @@ fn begin<H: House, M: OverDisks<H::Disk>>(
                 batches: _,
                 lacking: _,
                 left: _,
+                staying: _,
                 found: _,
             } = shards;
             give_back_locks::<H, M>(house, locks, passes);

@@ -1,13 +1,13 @@
 // The drains of a run.
-ghost use Rattle.std.specs.Prelude.{◌≡◌, ◌<◌, ◌^◌, ℕ, IfOk, IfSome, length};
+ghost use Rattle.std.specs.Prelude.{◌≡◌, ◌<◌, ◌≤◌, ◌^◌, ◌-◌, ℕ, Err, IfOk, IfSome, length, slice_index_or, slice_set, vec_len};
 ghost use Rattle.turn_lock.specs.Passes.{number, IsPassOf};
 ghost use Rattle.cluster_turns.specs.Turns.{Turned};
 ghost use Rattle.cluster_turns.specs.Walkers.{IsWalker, IsSameWalker, Walked};
 ghost use Rattle.cluster_turns.specs.Rounds.{Rounds, SettledAt};
 ghost use Rattle.script_runs.specs.declared.ends.StopCause.TheVariants.{Worn};
 ghost use Rattle.session_api.specs.Standing.{IsAtRest};
-ghost use Rattle.cluster_runs.specs.Sessions.{HasWornLast};
-ghost use Rattle.cluster_runs.specs.Drained.{LookTold, WasSettled};
+ghost use Rattle.cluster_turns.specs.Dates.{IsDated, last_seen};
+ghost use Rattle.cluster_runs.specs.Drained.{LookTold, WasSettled, IsWornDrain, SeesOn, HasLooked, HaveLooked, SeeSettled, HasDrained};
 
 use cluster_closing::end_promises::drains_land;
 use cluster_closing::promises::{drains_fetch_none, drains_hold_none};
@@ -25,7 +25,7 @@ const WORN: u64 = 1 << 48;
 
 // What a drain's end is to a run.
 fn stop_of(error: DrainError) -> StopCause
-    ensures { (at : ℕ) → result ≡ Worn at → at ≡ 2 ^ 48 }
+    ensures { (at : ℕ) → result ≡ Worn at → (at ≡ 2 ^ 48) × IsWornDrain error }
 {
     match error {
         DrainError::Down { shard } => StopCause::Down { shard },
@@ -80,6 +80,9 @@ fn last_if_settled<M: Machine, R: Wait>(
     ensures walker { IsWalker shards.now walker.new × IsSameWalker walker.old walker.new }
     ensures looked { Rounds (length shards.now.locks.items) walker.old.number walker.old.clock walker.old.passes.items walker.new.clock walker.new.passes.items }
     ensures settled { IfSome result (λ last. (n : ℕ) → n < length shards.now.locks.items → SettledAt n walker.new.passes.items × WasSettled n last walker.new.passes.items) }
+    ensures seen { IfSome result (λ last. last ≤ last_seen walker.new.passes.items) }
+    ensures clock { walker.new.clock ≡ walker.old.clock }
+    ensures sees { SeesOn walker.old.passes.items walker.new.passes.items }
 {
     let mut most: u64 = 0;
     for shard in 0..shards.splits.shards() {
@@ -104,7 +107,9 @@ pub(crate) fn drain_all<M: Flier, P: Pace, R: Wait>(
     ensures rest { IsAtRest shards.now 0 walker.new }
     ensures settled { IfOk result (λ u. (n : ℕ) → n < length shards.now.locks.items → WasSettled n walker.new.clock walker.new.passes.items) }
     ensures stays { (n clock : ℕ) → WasSettled n clock walker.old.passes.items → WasSettled n clock walker.new.passes.items }
-    ensures worn { HasWornLast result }
+    ensures dated { IsDated walker.old.clock walker.old.passes.items walker.new.clock walker.new.passes.items }
+    ensures serial { walker.new.serial ≡ walker.old.serial }
+    ensures worn { (at : ℕ) → result ≡ Err (Worn at) → (at ≡ 2 ^ 48) × (2 ^ 48 - 1 ≤ walker.new.clock) }
 {
     drains_land::<Home<M>>();
     drains_hold_none::<Home<M>>();
@@ -119,4 +124,55 @@ pub(crate) fn drain_all<M: Flier, P: Pace, R: Wait>(
         }
     }
     unreachable!()
+}
+
+// Looks by a walker until it has seen each shard settled. Behind a drain, once no other walker goes on, its first look is enough.
+fn see_settled<M: Flier, R: Wait>(rt: &R, shards: &Shards<M>, walker: &mut Walker<M>)
+    requires walker { IsWalker shards.now walker.old }
+    ensures looked { HasLooked shards.now walker.old walker.new }
+    ensures settled { (n : ℕ) → n < length shards.now.locks.items → SettledAt n walker.new.passes.items }
+{
+    drains_land::<Home<M>>();
+    drains_hold_none::<Home<M>>();
+    drains_fetch_none::<Home<M>>();
+    for _ in rt.forever() {
+        if let Some(_) = last_if_settled(rt, shards, walker) {
+            return;
+        }
+    }
+    unreachable!()
+}
+
+// Looks so by each walker.
+fn all_see_settled<M: Flier, R: Wait>(rt: &R, shards: &Shards<M>, walkers: &mut Vec<Walker<M>>)
+    requires walkers { (k : ℕ) (d : _) → k < length walkers.old.items → IsWalker shards.now (slice_index_or walkers.old.items k d) }
+    ensures len { vec_len walkers.new ≡ vec_len walkers.old }
+    ensures looked { HaveLooked shards.now walkers.old.items walkers.new.items }
+    ensures settled { SeeSettled shards.now walkers.new.items }
+{
+    for place in 0..walkers.len() {
+        see_settled(rt, shards, &mut walkers[place]);
+    }
+}
+
+// Drains all shards by walker 0, behind all that the other walkers do: then each walker has seen each shard settled, so that nothing came behind it.
+pub(crate) fn drain_last<M: Flier, P: Pace, R: Wait>(
+    rt: &R,
+    alloc: Global,
+    shards: &Shards<M>,
+    walkers: &mut Vec<Walker<M>>,
+    pace: &P,
+) -> Result<(), StopCause>
+    requires some { 0 < vec_len walkers.old }
+    requires rest { (k : ℕ) (d : _) → k < length walkers.old.items → IsAtRest shards.now k (slice_index_or walkers.old.items k d) }
+    ensures len { vec_len walkers.new ≡ vec_len walkers.old }
+    ensures drained { (v : _) × ((d : _) → HasDrained shards.now (slice_index_or walkers.old.items 0 d) v result) × HaveLooked shards.now (slice_set walkers.old.items 0 v) walkers.new.items }
+    ensures settled { IfOk result (λ u. SeeSettled shards.now walkers.new.items) }
+{
+    let drained = drain_all(rt, alloc, shards, &mut walkers[0], pace);
+    if drained.is_err() {
+        return drained;
+    }
+    all_see_settled(rt, shards, walkers);
+    drained
 }

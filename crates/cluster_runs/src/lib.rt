@@ -13,6 +13,7 @@ mod closing;
 pub mod cluster_promises;
 mod draining;
 mod locking;
+pub mod members;
 mod over;
 pub mod promises;
 mod ran;

@@ -65,7 +65,7 @@ pub(crate) fn lock_all<H: House, M: OverDisks<H::Disk>>(
     // However the house was before the disks were found to be so.
     ensures locked { IfOk result (λ r. (c : ℕ → ℕ) (o : ℕ → Bool) (s : ℕ → Option Story) → AreFound M.Gate.is_shut M.Gate.faults M.Gate.shard M.Gate.logs M.story found.splits (map (λ l. l.items) found.logs.items) found.run found.gates.items c (H.faults house.old) o (H.is_out house.old) s (H.story house.old) → AreLocked walkers s r.0) }
     ensures founds { IfOk result (λ r. founds_of r.0 ≡ map (λ l. l.items) found.logs.items) }
-    ensures opened { IfOk result (λ r. (vec_len r.1 ≡ vec_len r.0.locks) × AreOpened r.0.run walkers (founds_of r.0) r.0.locks.items r.1.items) }
+    ensures opened { IfOk result (λ r. (vec_len r.1 ≡ vec_len r.0.locks) × AreOpened (record { splits = r.0.splits }) r.0.run walkers (founds_of r.0) r.0.locks.items r.1.items) }
     ensures out { IfOk result (λ r. (r.0.splits ≡ found.splits) × ((n : ℕ) → (H.faults house.new n ≡ H.faults house.old n) × (H.is_out house.new n ≡ H.is_out house.old n) × (H.story house.new n ≡ H.story house.old n))) }
     ensures taken_back { IfErr result (λ e. (c : ℕ → ℕ) (o : ℕ → Bool) (s : ℕ → Option Story) → AreFound M.Gate.is_shut M.Gate.faults M.Gate.shard M.Gate.logs M.story found.splits (map (λ l. l.items) found.logs.items) found.run found.gates.items c (H.faults house.old) o (H.is_out house.old) s (H.story house.old) → IsTakenBack c (H.faults house.new) (H.is_out house.new) s (H.story house.new) e) }
 {
@@ -82,6 +82,7 @@ pub(crate) fn lock_all<H: House, M: OverDisks<H::Disk>>(
         gates,
         logs,
         facts,
+        &splits,
         run,
         walkers,
         &mut locks,
@@ -95,6 +96,7 @@ pub(crate) fn lock_all<H: House, M: OverDisks<H::Disk>>(
                 batches: new_gates(),
                 lacking: AtomicU64::new(0),
                 left: AtomicU64::new(0),
+                staying: AtomicU64::new(0),
                 found,
             };
             Ok((shards, passes))

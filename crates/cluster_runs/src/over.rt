@@ -1,5 +1,5 @@
 // What a run does with a cluster that was opened.
-ghost use Rattle.std.specs.Prelude.{◌≡◌, ◌<◌, ◌≤◌, ◌+◌, ℕ, suc, true, length, slice_index_or, vec_len};
+ghost use Rattle.std.specs.Prelude.{◌≡◌, ◌<◌, ◌≤◌, ◌+◌, ℕ, suc, true, length, slice_index_or, vec_len, IfOk};
 ghost use Rattle.std.specs.List.{list_all};
 ghost use Rattle.clv_base.specs.Shards.{are_splits};
 ghost use Rattle.cluster_opening.specs.Made.{IsNewWalker};
@@ -7,11 +7,11 @@ ghost use Rattle.script_lang.specs.Laws.{is_narrow_body};
 ghost use Rattle.script_runs.specs.declared.threads.Start.TheVariants.{FirstAlone};
 ghost use Rattle.session_api.specs.Standing.{IsAtRest};
 ghost use Rattle.cluster_runs.specs.PromisedSessions.{Went};
-ghost use Rattle.cluster_runs.specs.Sessions.{SessionsGone, HasWornLast};
-ghost use Rattle.cluster_runs.specs.Drained.{AreDrained};
+ghost use Rattle.cluster_runs.specs.Sessions.{SessionsGone, AreCounted, HasWornLast};
+ghost use Rattle.cluster_runs.specs.Drained.{AreDrained, SeeSettled};
 ghost use Rattle.cluster_runs.specs.Alone.{AreAlone};
 
-use crate::draining::drain_all;
+use crate::draining::{drain_all, drain_last};
 use crate::sessions::run_sessions;
 use cluster_turns::{Shards, Walker};
 use command_line::graver;
@@ -26,8 +26,8 @@ use std::thread::Threads;
 /// Runs the sessions of a script, each with a new walker of its own and each transaction in at most so many tries, between two drains by walker 0.
 ///
 /// What its walker kept of a session is its transactions in order, each in its tries, or nothing where it wasn't begun. The end is fine only where each session
-/// went through, and worn only past the last stamp. Where one was begun, walker 0 has seen each shard settled before it, and what the sessions made has stamps
-/// past those that it had seen. Where the first transaction is to run alone, what other sessions made has stamps past all of its. No clause says that
+/// went through, and worn only where the walkers came to the last stamp. Where one was begun, walker 0 has seen each shard settled before it, and what the sessions made has stamps
+/// past those that it had seen. Where the end is fine, each walker has seen each shard settled in the end. Where the first transaction is to run alone, what other sessions made has stamps past all of its. No clause says that
 /// sessions run beside each other.
 pub fn run_over<M: Flier + Send, P: Pace + Sync, R: Threads + Wait + Sync>(
     rt: &R,
@@ -50,8 +50,10 @@ where
     ensures len { vec_len walkers.new ≡ vec_len walkers.old }
     ensures rest { (k : ℕ) (d : _) → k < length sessions.now + 1 → IsAtRest shards.now k (slice_index_or walkers.new.items k d) }
     ensures went { (went : ℕ → Went) × SessionsGone shards.now most sessions.now walkers.new.items went result × AreDrained shards.now (length sessions.now) walkers.new.items went }
+    ensures settled { IfOk result (λ u. SeeSettled shards.now walkers.new.items) }
     ensures alone { start ≡ FirstAlone → AreAlone shards.now most sessions.now (λ k d. slice_index_or walkers.new.items (suc k) d) }
-    ensures worn { HasWornLast result }
+    ensures counted { AreCounted sessions.now walkers.new.items }
+    ensures worn { HasWornLast walkers.new.items result }
 {
     let first = drain_all(rt, alloc, shards, &mut walkers[0], pace);
     if first.is_err() {
@@ -61,6 +63,6 @@ where
     let ran = run_sessions(
         rt, alloc, shards, pace, walkers, sessions, most, start, clock,
     );
-    let last = drain_all(rt, alloc, shards, &mut walkers[0], pace);
+    let last = drain_last(rt, alloc, shards, walkers, pace);
     graver(ran, last)
 }

@@ -1,9 +1,9 @@
 // Seats for the sessions of a script.
-ghost use Rattle.std.specs.Prelude.{◌≡◌, ◌<◌, ◌≤◌, ◌+◌, ℕ, suc, true, length, slice_index_or, vec_len, vec_capacity};
+ghost use Rattle.std.specs.Prelude.{◌≡◌, ◌<◌, ◌≤◌, ◌+◌, ℕ, suc, true, length, slice_index_or, vec_len, vec_capacity, Err, IfErr};
 ghost use Rattle.clv_base.specs.Shards.{are_splits};
 ghost use Rattle.cluster_opening.specs.Made.{IsNewWalker};
 ghost use Rattle.command_line.specs.Running.{IsOk};
-ghost use Rattle.cluster_runs.specs.Sessions.{IsSeated, HasWornLast};
+ghost use Rattle.cluster_runs.specs.Sessions.{IsSeated};
 
 use cluster_turns::{Shards, Walker};
 use command_line::graver;
@@ -65,10 +65,9 @@ pub(crate) fn leave_seats<M: Flier, P: Pace, R: Wait>(
     }
 }
 
-// The gravest of their ends.
+// The gravest of their ends, which is that of one of them, or fine.
 pub(crate) fn gravest<C>(seats: &[Seat<'_, C>]) -> Result<(), StopCause>
-    requires worn { (k : ℕ) (d : _) → k < length seats.now → HasWornLast (slice_index_or seats.now k d).ended }
-    ensures worn { HasWornLast result }
+    ensures one { IfErr result (λ cause. (k : ℕ) × (k < length seats.now) × ((d : _) → (slice_index_or seats.now k d).ended ≡ Err cause)) }
     ensures fine { IsOk result → (k : ℕ) (d : _) → k < length seats.now → IsOk (slice_index_or seats.now k d).ended }
 {
     let mut end = Ok(());

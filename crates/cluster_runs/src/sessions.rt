@@ -1,16 +1,18 @@
 // The sessions of a script, beside each other.
-ghost use Rattle.std.specs.Prelude.{◌≡◌, ◌<◌, ◌≤◌, ◌+◌, ℕ, suc, true, List, length, slice_index_or, vec_len};
+ghost use Rattle.std.specs.Prelude.{◌≡◌, ◌<◌, ◌≤◌, ◌+◌, ℕ, suc, true, List, length, slice_get, slice_index_or, vec_len, Some};
 ghost use Rattle.std.specs.List.{AllByRecursion, list_all};
 ghost use Rattle.clv_base.specs.Shards.{are_splits};
 ghost use Rattle.cluster_opening.specs.Made.{IsNewWalker};
 ghost use Rattle.script_lang.specs.Laws.{is_narrow_body};
 ghost use Rattle.cluster_turns.specs.Walkers.{kept};
+ghost use Rattle.cluster_turns.specs.Dates.{last_seen};
+ghost use Rattle.script_lang.specs.Bodies.{Body};
 ghost use Rattle.script_runs.specs.Sessions.{session_entries};
 ghost use Rattle.script_runs.specs.declared.threads.Start.TheVariants.{FirstAlone};
 ghost use Rattle.session_api.specs.Standing.{IsAtRest};
 ghost use Rattle.cluster_runs.specs.Alone.{AreAlone};
 ghost use Rattle.cluster_runs.specs.PromisedSessions.{Went};
-ghost use Rattle.cluster_runs.specs.Sessions.{IsSeated, HasSat, SessionsGone, HasWornLast};
+ghost use Rattle.cluster_runs.specs.Sessions.{IsSeated, HaveSat, SessionsGone, HasWornLast};
 
 use crate::seats::{gravest, leave_seats, take_seats};
 use cluster_turns::{Shards, Walker};
@@ -42,9 +44,16 @@ where
     requires seated { (k : ℕ) (d : _) → k < length sessions.now → IsSeated shards.now clock sessions.now k (slice_index_or seats.old.items k d).session.session.shards.now (slice_index_or seats.old.items k d).session.session.walker (slice_index_or seats.old.items k d).session.session.progress (slice_index_or seats.old.items k d).transactions.now }
     ensures len { vec_len seats.new ≡ vec_len seats.old }
     ensures alone { start ≡ FirstAlone → AreAlone shards.now most sessions.now (λ k d. (slice_index_or seats.new.items k d).session.session.walker) }
-    ensures sat { (k : ℕ) (d : _) → k < length sessions.now → HasSat shards.now clock most sessions.now k (slice_index_or seats.new.items k d).session.session.walker (slice_index_or seats.new.items k d).ended }
+    ensures sat { HaveSat shards.now clock most sessions.now (λ k d. (slice_index_or seats.new.items k d).session.session.walker) (λ k d. (slice_index_or seats.new.items k d).ended) }
 {
     run_all(rt, alloc, seats.as_mut_slice(), most, start);
+}
+
+// Lets the sessions, numbered from 1, stay behind a shard's door between two turns: a script's thread waits for nothing there, where its pace holds nothing.
+fn let_stay<M: Flier, P: Pace>(shards: &Shards<M>, pace: &P, sessions: usize) {
+    if pace.never_holds() {
+        shards.let_stay(sessions);
+    }
 }
 
 // Runs each session with a walker of its own on a thread of its own, behind walker 0; what they make has stamps past the clock. Where there is no memory for
@@ -74,13 +83,16 @@ where
     ensures went { (went : ℕ → Went) × SessionsGone shards.now most sessions.now walkers.new.items went result }
     ensures later { (k : ℕ) (d : _) → k < length sessions.now → AllByRecursion (λ e. clock < (e.1).stamp) (session_entries (kept (slice_index_or walkers.new.items (suc k) d).passes.items)) }
     ensures alone { start ≡ FirstAlone → AreAlone shards.now most sessions.now (λ k d. slice_index_or walkers.new.items (suc k) d) }
-    ensures worn { HasWornLast result }
+    ensures counted { (k : ℕ) (bodies : List Body) (d : _) → slice_get sessions.now k ≡ Some bodies → (slice_index_or walkers.new.items (suc k) d).serial ≤ length bodies + length (session_entries (kept (slice_index_or walkers.new.items (suc k) d).passes.items)) }
+    ensures worn { (d : _) → clock ≤ last_seen (slice_index_or walkers.new.items 0 d).passes.items → HasWornLast walkers.new.items result }
 {
     let Ok(room) = Vec::with_capacity(alloc, sessions.len()) else {
         return Err(StopCause::Memory);
     };
     let mut seats = take_seats(rt, shards, pace, walkers, sessions, room, clock);
+    let_stay(shards, pace, sessions.len());
     run_seats(rt, alloc, shards, sessions, &mut seats, most, start, clock);
+    shards.let_stay(0);
     let end = gravest(seats.as_slice());
     leave_seats(walkers, seats);
     end

@@ -32,7 +32,7 @@ use std::thread::Threads;
 /// What all shards did is a legal history that keeps the promise of a run. The status is fine only where no shard's flush failed and each session went
 /// through, and then each transaction has ended; a disk's fault is of the lowest shard whose flush failed; at worn stamps and at want of memory none failed.
 /// Before a session begins each shard was settled, with no entry of a session in its journal so far; and where the first session's first transaction is to run
-/// alone, all that other sessions make has stamps past those of its entries.
+/// alone, all that other sessions make has stamps past those of its entries. Where the status is fine each shard is settled at the end of its journal.
 /// An `Err` is the first refusal of the opening, as `open_all` tells it; then there is no history.
 pub fn run_script<
     S: Store + Drop + Send,

@@ -1,5 +1,5 @@
 -- How a command ends that opened the shards, and one that did not.
-use Rattle.std.proofs.Common.{◌≡◌, refl, sym, subst, ⊎_elim, ℕ, ◌<◌, ◌≤◌, List, length, Option, Some, None, Result, Ok, Err}
+use Rattle.std.proofs.Common.{◌≡◌, refl, sym, subst, ⊎_elim, ℕ, ◌<◌, ◌≤◌, List, Option, Some, None, Result, Ok, Err}
 use Rattle.std.proofs.lemmas.Bool.{cases_lt}
 use Rattle.clv_base.specs.Shards.{shard_count}
 use Rattle.io_model.specs.Story.{Story}
@@ -7,6 +7,8 @@ use Rattle.cluster_runs.specs.Ran.{RanAll}
 use Rattle.history_replay.specs.Entries.{Kept}
 use Rattle.report_text.specs.declared.texts.ReportError.{ReportError}
 use Rattle.report_text.specs.declared.texts.ReportError.TheVariants as text
+use Rattle.clv_base.specs.Journals.{History}
+use Rattle.cluster_runs.specs.Histories.{entries}
 use Rattle.cluster_runs.specs.Statuses.{StatusTold}
 use Rattle.command_line.specs.Running.{with_text}
 use Rattle.cluster_runs.specs.PromisedSessions.{Went}
@@ -35,8 +37,8 @@ pub record Tells (counts counts_now : ℕ → ℕ) (stories : ℕ → Option Sto
 stand : (shards : ℕ) (counts counts_now : ℕ → ℕ) → ((n : ℕ) → n < shards → counts_now n ≡ counts n) → ((n : ℕ) → shards ≤ n → counts_now n ≡ counts n) → Stand counts counts_now
 stand shards counts counts_now below above n = ⊎_elim (λ l. below n l) (λ l. above n l) (cases_lt n shards)
 
-module _ (counts counts_now : ℕ → ℕ) (stories : ℕ → Option Story) (kept : Kept) (left : Option (List ℕ)) (faults faults' : ℕ) (shards sessions : ℕ) (went : ℕ → Went) where
-  tells : (running : Status) (written : Result (Unit {0}) ReportError) → StatusTold shards counts counts_now sessions went running → ((n : ℕ) → shards ≤ n → counts_now n ≡ counts n) → faults' ≡ faults
+module _ (counts counts_now : ℕ → ℕ) (stories : ℕ → Option Story) (kept : Kept) (left : Option (List ℕ)) (faults faults' : ℕ) (shards : ℕ) (script : List (List Body)) (h : History) (went : ℕ → Went) where
+  tells : (running : Status) (written : Result (Unit {0}) ReportError) → StatusTold shards counts counts_now script h went running → ((n : ℕ) → shards ≤ n → counts_now n ≡ counts n) → faults' ≡ faults
       → Tells counts counts_now stories kept left faults faults' (with_text running written)
   tells Fine (Ok a) told above e = record { runs = tt; shows = tt; logs = tt; script = tt; source = e; disks = stand shards counts counts_now told.0 above }
   tells Fine (Err text.Memory) told above e = record { runs = tt; shows = tt; logs = tt; script = tt; source = e; disks = tt }
@@ -52,9 +54,9 @@ module _ (counts counts_now : ℕ → ℕ) (stories : ℕ → Option Story) (kep
   tells Memory (Ok a) told above e = record { runs = tt; shows = tt; logs = tt; script = tt; source = e; disks = tt }
   tells Memory (Err text.Memory) told above e = record { runs = tt; shows = tt; logs = tt; script = tt; source = e; disks = tt }
   tells Memory (Err text.Failed) told above e = record { runs = tt; shows = tt; logs = tt; script = tt; source = e; disks = tt }
-  tells (Worn at) (Ok a) told above e = record { runs = tt; shows = tt; logs = tt; script = tt; source = e; disks = stand shards counts counts_now told.1 above }
+  tells (Worn at) (Ok a) told above e = record { runs = tt; shows = tt; logs = tt; script = tt; source = e; disks = stand shards counts counts_now told.2 above }
   tells (Worn at) (Err text.Memory) told above e = record { runs = tt; shows = tt; logs = tt; script = tt; source = e; disks = tt }
-  tells (Worn at) (Err text.Failed) told above e = record { runs = tt; shows = tt; logs = tt; script = tt; source = e; disks = stand shards counts counts_now told.1 above }
+  tells (Worn at) (Err text.Failed) told above e = record { runs = tt; shows = tt; logs = tt; script = tt; source = e; disks = stand shards counts counts_now told.2 above }
   tells (Exists shard len) written told above e = absurd told
   tells (Apart tx) written told above e = absurd told
 
@@ -62,7 +64,7 @@ pub ended_so : (before now : ℕ → Option Story) (counts counts_now : ℕ → 
     → RanAll before now counts counts_now most start script kept running → EndsAs running status → faults' ≡ faults → Tells counts counts_now before kept left faults faults' status
 ended_so before now counts counts_now most start script kept left faults faults' running status r (written, is) e =
     subst (Tells counts counts_now before kept left faults faults') (sym is)
-    (tells counts counts_now before kept left faults faults' (shard_count r.splits) (length script) r.went running written r.told (λ n l. (r.others n l).1) e)
+    (tells counts counts_now before kept left faults faults' (shard_count r.splits) script (entries kept) r.went running written r.told (λ n l. (r.others n l).1) e)
 
 -- ---- they were not
 

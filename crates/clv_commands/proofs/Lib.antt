@@ -2,5 +2,7 @@ pub mod Words
 pub mod Refused
 pub mod Unread
 pub mod Endings
+mod Lines
+mod Summing
 pub mod Loaded
 pub mod Completing

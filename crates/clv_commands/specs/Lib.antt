@@ -2,6 +2,7 @@ pub mod Kinds
 pub mod Disks
 pub mod Sinks
 pub mod Causes
+pub mod Sums
 pub mod Runs
 pub mod Reading
 pub mod Completing

@@ -1,10 +1,12 @@
 -- What a history promises that a command leaves.
-use Rattle.std.specs.Prelude.{◌≡◌, ℕ, List, [], Option, Some, None, IfSome, Result}
+use Rattle.std.specs.Prelude.{◌≡◌, ℕ, ◌*◌, List, [], Option, Some, None, IfSome, Result}
 use Rattle.cluster_runs.specs.Ran.{RanAll}
 use Rattle.command_line.specs.declared.commands.Command.{Command}
 use Rattle.command_line.specs.declared.commands.Command.TheVariants.{Make, Run, Show, Load}
 use Rattle.io_model.specs.Story.{Story}
 use Rattle.history_replay.specs.Entries.{Kept}
+use Rattle.history_replay.specs.Replayed.{replayed}
+use Rattle.workload_laws.specs.Sums.{accounts_sum}
 use Rattle.cluster_runs.specs.Replays.{LeavesReplayed}
 use Rattle.report_text.specs.declared.texts.ReportError.{ReportError}
 use Rattle.script_lang.specs.Bodies.{Body}
@@ -28,12 +30,12 @@ abbrev pub HasRun : Option ℕ → List (List Body) → (ℕ → Option Story) �
 HasRun most script before now counts counts_now kept status =
     (running : Status) × RanAll before now counts counts_now most Together script kept running × EndsAs running status
 
--- so does a workload's, each transaction tried without limit, and the first one of the first session, which fills the accounts, alone: before all of other
--- sessions; and where all was fine, what stands is the map after the acknowledged transactions
-abbrev pub HasLoaded : List (List Body) → (ℕ → Option Story) → (ℕ → Option Story) → (ℕ → ℕ) → (ℕ → ℕ) → Kept → Status → Type 0
-HasLoaded script before now counts counts_now kept status =
+-- so does a workload's of so many accounts, each transaction tried without limit, and the first one of the first session, which fills the accounts, alone:
+-- before all of other sessions; and where all was fine, what stands is the map after the acknowledged transactions, by which the accounts hold 1000 each in all
+abbrev pub HasLoaded : ℕ → List (List Body) → (ℕ → Option Story) → (ℕ → Option Story) → (ℕ → ℕ) → (ℕ → ℕ) → Kept → Status → Type 0
+HasLoaded accounts script before now counts counts_now kept status =
     (running : Status) × (r : RanAll before now counts counts_now None FirstAlone script kept running) × EndsAs running status
-    × (running ≡ Fine → LeavesReplayed r.splits kept ((r.promised).keeps).left)
+    × (running ≡ Fine → LeavesReplayed r.splits kept ((r.promised).keeps).left × (accounts_sum accounts (replayed kept) ≡ 1000 * accounts))
 
 -- of `run` the script is the source's; `show` runs none; of `load` it is the workload's
 abbrev pub PromisedBy : Command → Option (List ℕ) → (ℕ → Option Story) → (ℕ → Option Story) → (ℕ → ℕ) → (ℕ → ℕ) → Status → Kept → Type 0
@@ -41,7 +43,7 @@ PromisedBy (Run tries) left before now counts counts_now status kept =
     (script : List (List Body)) × HasScript left script × HasRun (Some tries) script before now counts counts_now kept status
 PromisedBy Show left before now counts counts_now status kept = HasRun None [] before now counts counts_now kept status
 PromisedBy (Load seed sessions accounts transfers) left before now counts counts_now status kept =
-    HasLoaded (load seed sessions accounts transfers) before now counts counts_now kept status
+    HasLoaded accounts (load seed sessions accounts transfers) before now counts counts_now kept status
 PromisedBy (Make splits) left before now counts counts_now status kept = ⊥
 
 -- shards were opened where `run`, `show` or `load` was fine but for the sink; `make` opens none

@@ -1,14 +1,12 @@
 -- What the sink took.
-use Rattle.std.specs.Prelude.{◌≡◌, ◌⊎◌, ℕ, ◌+◌, ◌-◌, ◌*◌, List, take, Option, Some}
-use Rattle.history_replay.specs.Replayed.{replayed}
+use Rattle.std.specs.Prelude.{◌≡◌, ◌⊎◌, ℕ, ◌+◌, ◌*◌, List, take, Option, Some}
 use Rattle.clv_base.specs.Logs.{stands}
-use Rattle.clv_base.specs.Maps.{KeyMap, map_between}
 use Rattle.command_line.specs.declared.commands.Command.{Command}
 use Rattle.command_line.specs.declared.commands.Command.TheVariants.{Run, Show, Load}
 use Rattle.io_model.specs.Disk.{Rose}
 use Rattle.history_replay.specs.Entries.{Kept}
 use Rattle.io_model.specs.Streams.{Grows}
-use Rattle.report_text.specs.Loads.{values_sum, load_text}
+use Rattle.report_text.specs.Loads.{load_text}
 use Rattle.report_text.specs.Report.{report, pairs_text}
 use Rattle.cluster_runs.specs.Histories.{entries}
 use Rattle.command_line.specs.declared.status.Status.{Status}
@@ -26,13 +24,9 @@ TookReport text (DiskFault shard) before now old new = TookText text before now 
 TookReport text (Worn at) before now old new = TookText text before now old new
 TookReport text status before now old new = new ≡ old
 
--- what so many accounts hold in all, those of the first keys
-abbrev pub accounts_sum : ℕ → KeyMap → ℕ
-accounts_sum accounts m = values_sum (map_between 0 (accounts - 1) m)
-
--- the line of a workload: the filling and each transfer is acknowledged, and the accounts hold what the acknowledged transactions make of the logs found
-abbrev pub line_of : ℕ → ℕ → ℕ → Kept → List ℕ
-line_of sessions accounts transfers kept = load_text accounts (1 + sessions * transfers) (accounts_sum accounts (replayed kept))
+-- the line of a workload: the filling and each transfer is acknowledged, and the accounts hold 1000 each in all
+abbrev pub line_of : ℕ → ℕ → ℕ → List ℕ
+line_of sessions accounts transfers = load_text accounts (1 + sessions * transfers) (1000 * accounts)
 
 -- pairs, and the line of a workload, are written only where all was fine
 abbrev pub TookPairs : List ℕ → Status → Option (List ℕ) → Option (List ℕ) → Type 0
@@ -43,5 +37,5 @@ TookPairs text status old new = new ≡ old
 abbrev pub Took : Command → Status → Option Kept → ℕ → ℕ → Option (List ℕ) → Option (List ℕ) → Type 0
 Took (Run tries) status (Some kept) before now old new = TookReport (report (entries kept)) status before now old new
 Took Show status (Some kept) before now old new = TookPairs (pairs_text (stands kept.found)) status old new
-Took (Load seed sessions accounts transfers) status (Some kept) before now old new = TookPairs (line_of sessions accounts transfers kept) status old new
+Took (Load seed sessions accounts transfers) status (Some kept) before now old new = TookPairs (line_of sessions accounts transfers) status old new
 Took command status history before now old new = new ≡ old

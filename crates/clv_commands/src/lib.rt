@@ -10,6 +10,7 @@ mod loading;
 mod making;
 mod running;
 mod showing;
+pub mod sums;
 mod top;
 
 pub use ended::Ended;

@@ -5,17 +5,20 @@ ghost use Rattle.std.specs.List.{list_all};
 ghost use Rattle.history_replay.specs.Replayed.{replayed as after_all};
 ghost use Rattle.clv_base.specs.Logs.{stands};
 ghost use Rattle.command_line.specs.declared.commands.Command.TheVariants as commands;
+ghost use Rattle.command_line.specs.declared.status.Status.TheVariants.{Fine};
 ghost use Rattle.report_text.specs.Loads.{values_sum};
 ghost use Rattle.report_text.specs.Sinks.{TakesText, Causes};
+ghost use Rattle.workload_laws.specs.Sums.{accounts_sum as sum_of};
 ghost use Rattle.script_lang.specs.Laws.{is_narrow_body};
 ghost use Rattle.script_lang.specs.Loads.{load as script_by};
 ghost use Rattle.clv_commands.specs.Kinds.{IsOfShow, IsOfShards};
 ghost use Rattle.clv_commands.specs.Disks.{Closes};
-ghost use Rattle.clv_commands.specs.Sinks.{accounts_sum as sum_of, line_of, Took, TookPairs};
+ghost use Rattle.clv_commands.specs.Sinks.{line_of, Took, TookPairs};
 ghost use Rattle.clv_commands.specs.Causes.{BreaksLogs, CountsSink, CountsDisks};
 ghost use Rattle.clv_commands.specs.Runs.{EndsAs, HasLoaded, Opened};
 
 use crate::ended::Ended;
+use crate::sums::loads_keep_their_sum;
 use cluster_opening::OpenError;
 use cluster_runs::replay::runs_replay;
 use cluster_runs::{Ran, Start, run_script};
@@ -27,7 +30,7 @@ use ordered_store::BlockStore;
 use report_text::{ReportError, load_text};
 use script_lang::workload_laws::{loads_are_narrow, loads_have_their_sessions};
 use script_lang::{Script, generate};
-use std::alloc::{AllocError, Global};
+use std::alloc::Global;
 use std::sync::Wait;
 use std::thread::Threads;
 
@@ -60,22 +63,19 @@ fn script_of(alloc: Global, work: Work) -> Result<Script, Memory>
     )
 }
 
-// The sum of the values; none where it is 2^64 or more.
-fn total(pairs: &[(u64, u64)]) -> Option<u64>
-    ensures { IfSome result (λ sum. sum ≡ values_sum pairs.now) }
+// The sum of the values, for which 64 bits are enough.
+fn total(pairs: &[(u64, u64)]) -> u64
+    requires room { values_sum pairs.now < 2 ^ 64 }
+    ensures { result ≡ values_sum pairs.now }
 {
     let mut sum: u64 = 0;
     for pair in pairs {
-        match sum.checked_add(pair.1) {
-            Some(more) => sum = more,
-            None => return None,
-        }
+        sum += pair.1;
     }
-    Some(sum)
+    sum
 }
 
-// What the accounts hold after the acknowledged transactions, in all. Transfers leave it at 1000 for each account, but no clause says so: a sum that has no
-// room in 64 bits is told as want of memory.
+// What the accounts hold after the acknowledged transactions, in all.
 fn accounts_sum(
     alloc: Global,
     history: &History,
@@ -85,13 +85,11 @@ fn accounts_sum(
     requires found { found ≡ stands history.now.found }
     requires few { length history.now.journals < 2 ^ 32 }
     requires some { 1 ≤ accounts }
+    requires room { sum_of accounts (after_all history.now) < 2 ^ 64 }
     ensures { IfOk result (λ sum. sum ≡ sum_of accounts (after_all history.now)) }
 {
     let pairs = replayed(alloc, history, found)?.between(alloc, 0, accounts - 1)?;
-    match total(&pairs) {
-        Some(sum) => Ok(sum),
-        None => Err(AllocError),
-    }
+    Ok(total(&pairs))
 }
 
 // The line of a workload whose transactions were all acknowledged, as bytes.
@@ -99,9 +97,10 @@ fn text_of(alloc: Global, history: &History, found: KeyMap, work: Work) -> Resul
     requires found { found ≡ stands history.now.found }
     requires few { length history.now.journals < 2 ^ 32 }
     requires sessions { work.sessions ≤ 64 }
-    requires accounts { 2 ≤ work.accounts }
+    requires accounts { (2 ≤ work.accounts) × (work.accounts ≤ 10000) }
     requires transfers { work.transfers ≤ 1000 }
-    ensures { IfOk result (λ text. text.items ≡ line_of work.sessions work.accounts work.transfers history.now) }
+    requires sum { sum_of work.accounts (after_all history.now) ≡ 1000 * work.accounts }
+    ensures { IfOk result (λ text. text.items ≡ line_of work.sessions work.accounts work.transfers) }
 {
     let sum = accounts_sum(alloc, history, found, work.accounts)?;
     let acknowledged = 1 + work.sessions * work.transfers;
@@ -119,9 +118,10 @@ fn line_into<K: Sink>(
     requires found { found ≡ stands history.now.found }
     requires few { length history.now.journals < 2 ^ 32 }
     requires sessions { work.sessions ≤ 64 }
-    requires accounts { 2 ≤ work.accounts }
+    requires accounts { (2 ≤ work.accounts) × (work.accounts ≤ 10000) }
     requires transfers { work.transfers ≤ 1000 }
-    ensures took { TakesText (K.taken sink.old) (K.taken sink.new) (line_of work.sessions work.accounts work.transfers history.now) result }
+    requires sum { sum_of work.accounts (after_all history.now) ≡ 1000 * work.accounts }
+    ensures took { TakesText (K.taken sink.old) (K.taken sink.new) (line_of work.sessions work.accounts work.transfers) result }
     ensures cause { Causes (K.faults sink.old) (K.faults sink.new) result }
 {
     let Ok(text) = text_of(alloc, history, found, work) else {
@@ -145,11 +145,12 @@ fn write_line<K: Sink>(
     requires found { found ≡ stands history.now.found }
     requires few { length history.now.journals < 2 ^ 32 }
     requires sessions { work.sessions ≤ 64 }
-    requires accounts { 2 ≤ work.accounts }
+    requires accounts { (2 ≤ work.accounts) × (work.accounts ≤ 10000) }
     requires transfers { work.transfers ≤ 1000 }
+    requires sum { running ≡ Fine → sum_of work.accounts (after_all history.now) ≡ 1000 * work.accounts }
     requires running { IsOfShards running }
     ensures ends { EndsAs running result }
-    ensures took { TookPairs (line_of work.sessions work.accounts work.transfers history.now) result (K.taken sink.old) (K.taken sink.new) }
+    ensures took { TookPairs (line_of work.sessions work.accounts work.transfers) result (K.taken sink.old) (K.taken sink.new) }
     ensures cause { CountsSink (Some history.now) (K.faults sink.old) (K.faults sink.new) result }
 {
     match running {
@@ -159,7 +160,7 @@ fn write_line<K: Sink>(
 }
 
 /// Runs the script of a workload: the first session's first transaction fills the accounts, alone, and then all sessions run beside each other. Each
-/// transaction is tried until it is acknowledged. Where all was fine writes one line.
+/// transaction is tried until it is acknowledged. Where all was fine writes one line: the accounts hold 1000 each in all, whatever the logs stood for.
 pub fn load<R: Threads + Wait + Sync, K: Sink, H: House, P: Pace + Sync>(
     rt: &R,
     alloc: Global,
@@ -175,7 +176,7 @@ where
     requires accounts { (2 ≤ work.accounts) × (work.accounts ≤ 10000) }
     requires transfers { work.transfers ≤ 1000 }
     ensures kind { IsOfShow result.status }
-    ensures promised { IfSome result.history (λ kept. HasLoaded (script_by work.seed work.sessions work.accounts work.transfers) (H.story house.old) (H.story house.new) (H.faults house.old) (H.faults house.new) kept result.status) }
+    ensures promised { IfSome result.history (λ kept. HasLoaded work.accounts (script_by work.seed work.sessions work.accounts work.transfers) (H.story house.old) (H.story house.new) (H.faults house.old) (H.faults house.new) kept result.status) }
     ensures opened { Opened result.history result.status }
     ensures took { Took (commands.Load work.seed work.sessions work.accounts work.transfers) result.status result.history (K.faults sink.old) (K.faults sink.new) (K.taken sink.old) (K.taken sink.new) }
     ensures closed { result.history ≡ None → Closes result.status (H.story house.old) (H.story house.new) }
@@ -185,6 +186,7 @@ where
     ensures back { (n : ℕ) → n < 16 → H.is_out house.new n ≡ false }
 {
     runs_replay();
+    loads_keep_their_sum();
     let Ok(script) = script_of(alloc, work) else {
         return Ended {
             status: Status::Memory,

@@ -24,6 +24,6 @@ returns-clause-closed g c =
       no_stop = e.no_stop;
       no_restart = e.no_restart (λ k d l. (c.requires.rest k d l).fetched);
       legal = e.legal;
-      disks = λ n d l. none_fetched _ n c.new.result.items _ _ _ _ (ap length c.new.ensures.items) (e.disks n d l);
+      disks = λ n d l. none_fetched _ n _ c.new.result.items _ _ _ _ (ap length c.new.ensures.items) (e.disks n d l);
       others = e.others;
     }

@@ -3,13 +3,14 @@ use mathlib.Core.Logic.{dite}
 use native.Mathlib.Decide.{ℕ_discrete}
 use Rattle.cluster_turns.specs.Walkers.{Walked}
 use Rattle.cluster_turns.specs.Rounds.{Rounds, no_turn, looks, SettledAt}
-use Rattle.cluster_turns.proofs.Laws.{settled_still, settled_here}
+use Rattle.cluster_turns.proofs.Laws.{settled_still, settled_here, rounds_dated}
 use Rattle.cluster_runs.specs.Drained.{LookTold, WasSettled}
-use Rattle.cluster_runs.proofs.Settled.{walked_settled, as_look, seen_settled, settled_later}
+use Rattle.cluster_runs.proofs.Settled.{walked_settled, as_look, looked_last, seen_settled, settled_later}
+use Rattle.cluster_runs.proofs.Seeing.{sees_same, sees_then, looked_on}
 use Rattle.cluster_runs.proofs.draining.last_if_settled.Goals as goal
 
 pub loop-shard-init : goal.loop-shard-init
-loop-shard-init g c = record { walker = c.requires.walker; same = (refl, refl); rounds = no_turn; settled = λ n l. absurd (omega arith) }
+loop-shard-init g c = record { walker = c.requires.walker; same = (refl, refl); rounds = no_turn; settled = λ n l. absurd (omega arith); seen = omega arith; clock = refl; sees = sees_same c.args.walker.now.passes.items }
 
 pub look-settled-requires-clause-shard : goal.look-settled-requires-clause-shard
 look-settled-requires-clause-shard g c = let h = c.loop-shard-test.true in let e = c.shards-shard-end.ensures.shards in let k = c.requires.walker.count in omega arith
@@ -35,7 +36,27 @@ loop-shard-preserved g c = let w = c.args.walker.now in let u = c.loop-shard.wal
           (settled_here r.0 (as_look r.0 r.1 told) (let k = inv.walker.walks.are_passes.count in omega arith) yes, seen_settled r.0 r.1 c.max-most.result told yes (omega arith)))
           (λ other. (let before = inv.settled n (omega arith) in
           (settled_still told n other before.0, settled_later n c.loop-shard.most c.max-most.result v.passes.items (omega arith) (walked_settled n c.loop-shard.most told before.1))));
+      seen = (let old = inv.seen in let up = (rounds_dated (looks {c = u.clock} c.loop-shard.shard r.0 v.passes.items no_turn low (as_look r.0 r.1 told))).0 in let here = looked_last r.0 r.1 told in omega arith);
+      clock = e.walker.2 ∙ inv.clock;
+      sees = sees_then inv.sees (looked_on r.0 r.1 told);
     }
 
 pub returns-clause-settled : goal.returns-clause-settled
 returns-clause-settled g c = let inv = c.loop-shard.invariant in let h = c.loop-shard-test.false in let e = c.shards-shard-end.ensures.shards in let k = c.requires.walker.count in λ n l. inv.settled n (omega arith)
+
+pub returns-clause-seen : goal.returns-clause-seen
+returns-clause-seen g c = c.loop-shard.invariant.seen
+
+pub returns-then-not-settled-clause-clock : goal.returns-then-not-settled-clause-clock
+returns-then-not-settled-clause-clock g c = c.look-settled.ensures.walker.2 ∙ c.loop-shard.invariant.clock
+
+pub returns-then-not-settled-clause-sees : goal.returns-then-not-settled-clause-sees
+returns-then-not-settled-clause-sees g c = let inv = c.loop-shard.invariant in let r = c.look-settled.result in
+    let told = subst (λ n. Walked (LookTold r.0 r.1) c.loop-shard.shard n c.loop-shard.walker.passes.items c.look-settled.new.walker.passes.items) inv.same.0 c.look-settled.ensures.looked in
+    sees_then inv.sees (looked_on r.0 r.1 told)
+
+pub returns-clause-clock : goal.returns-clause-clock
+returns-clause-clock g c = c.loop-shard.invariant.clock
+
+pub returns-clause-sees : goal.returns-clause-sees
+returns-clause-sees g c = c.loop-shard.invariant.sees

@@ -22,7 +22,7 @@ open_shards-requires-clause-few g c =
     let F = c.requires.found.3 in let many = F.gates_are.count in let logs = F.held.count in let few = few_shards c.args.found.splits F.held.splits_rise in let ok = c.args.found.gates.ok in omega arith
 
 pub undo-error-requires-clause-opened : goal.undo-error-requires-clause-opened
-undo-error-requires-clause-opened g c = (c.args.found.run, c.args.walkers, map (λ v. v.items) c.args.found.logs.items, c.requires.some, c.in-Err.ensures.opened)
+undo-error-requires-clause-opened g c = ((record { splits = c.args.found.splits }), c.args.found.run, c.args.walkers, map (λ v. v.items) c.args.found.logs.items, c.requires.some, c.in-Err.ensures.opened)
 
 pub returns-in-Ok-clause-locked : goal.returns-in-Ok-clause-locked
 returns-in-Ok-clause-locked g c = λ c0 o0 s0 F. (
@@ -37,14 +37,14 @@ returns-in-Ok-clause-locked g c = λ c0 o0 s0 F. (
       may = subst (λ z. may_open splits z ≡ true) same F.may;
       run = F.run_is ∙ ap run_after same;
       count = omega arith;
-      passes = passes_each c.args.found.run c.args.walkers (map (λ v. v.items) c.args.found.logs.items) c.open_shards.new.locks.items c.open_shards.new.passes.items made.len made.opened;
+      passes = passes_each (record { splits = c.args.found.splits }) c.args.found.run c.args.walkers (map (λ v. v.items) c.args.found.logs.items) c.open_shards.new.locks.items c.open_shards.new.passes.items made.len made.opened;
     })
 
 pub returns-in-Ok-clause-opened : goal.returns-in-Ok-clause-opened
 returns-in-Ok-clause-opened g c =
     let made = c.in-Ok.ensures in let L = c.open_shards.new.locks in let P = c.open_shards.new.passes in let okL = L.ok in let okP = P.ok in let len = made.len in
     let same = ap (λ v. map (λ l. l.items) v.items) (sym c.of-found.ensures) in
-    (omega arith, λ n d e l. subst (λ z. IsOpenedAt c.args.found.run c.args.walkers n (log_of z n) (get_or L.items n d) (get_or P.items n e).items) same (made.opened n d e l))
+    (omega arith, λ n d e l. subst (λ z. IsOpenedAt (record { splits = c.args.found.splits }) c.args.found.run c.args.walkers n (log_of z n) (get_or L.items n d) (get_or P.items n e).items) same (made.opened n d e l))
 
 pub returns-in-Err-clause-taken_back : goal.returns-in-Err-clause-taken_back
 returns-in-Err-clause-taken_back g c = λ c0 o0 s0 F. (
@@ -54,4 +54,4 @@ returns-in-Err-clause-taken_back g c = λ c0 o0 s0 F. (
     let undone = c.undo-error.ensures in
     subst (λ z. IsTakenBack c0 (faults h2) (out h2) s0 (story h2) z) (ap (told_as s.shard) (sym undone.error) ∙ sym c.told_as.ensures)
     (stopped G.is_shut G.faults G.shard G.logs told c.args.found.splits L run V s.shard s.error c0 (faults h1) (faults h2) o0 (out h1) (out h2) s0 (story h1) (story h2) F st.is_shard
-    (undone.back run c.args.walkers L V made.opened st) (undone.counts run L V (λ n d l. (F.gates_are.each n d (omega arith)).fine) st) (λ n l. undone.others n (omega arith))))
+    (undone.back (record { splits = c.args.found.splits }) run c.args.walkers L V made.opened st) (undone.counts (record { splits = c.args.found.splits }) run L V (λ n d l. (F.gates_are.each n d (omega arith)).fine) st) (λ n l. undone.others n (omega arith))))

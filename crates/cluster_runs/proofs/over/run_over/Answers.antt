@@ -1,16 +1,20 @@
-use Rattle.std.proofs.Common.{arith, ◌≡◌, ◌∙◌, suc, ◌<◌, true, false, sym, subst, get_or, set, Ok, Err}
+use Rattle.std.proofs.Common.{arith, ◌≡◌, ◌∙◌, ap, ⊎_elim, suc, ◌+◌, ◌<◌, ◌≤◌, length, true, false, sym, subst, get_or, set, Ok, Err}
 use Rattle.std.specs.Prelude.{IfOk}
 use Rattle.std.specs.Result.{is_err}
 use Rattle.std.specs.List.{AllByRecursion}
+use Rattle.std.proofs.lemmas.Option.{slice_get_within}
 use Rattle.cluster_turns.specs.Walkers.{kept}
+use Rattle.cluster_turns.specs.Dates.{last_seen}
 use Rattle.script_runs.specs.Sessions.{session_entries}
 use Rattle.command_line.specs.Running.{End, IsOk}
 use Rattle.session_api.specs.Standing.{IsAtRest}
 use Rattle.cluster_runs.specs.PromisedSessions.{NotBegun}
 use Rattle.cluster_runs.specs.Drained.{WasSettled}
 use Rattle.script_runs.specs.declared.ends.StopCause.TheVariants.{Memory}
-use Rattle.cluster_runs.proofs.Gone.{none_gone, new_rest, all_rest, goes_on, none_drained, here_first, all_drained}
+use Rattle.cluster_runs.proofs.Gone.{none_gone, new_rest, all_rest, each_rest, goes_on, none_drained, here_first, all_drained}
+use Rattle.cluster_runs.proofs.Wearing.{first_counted, drain_worn, worn_still}
 use Rattle.cluster_runs.proofs.Alone.{none_alone, same_alone, behind_first}
+use Rattle.cluster_runs.proofs.Seeing.{rest_still, gone_still, drained_still, alone_still, counted_still, worn_later}
 use Rattle.cluster_runs.proofs.over.run_over.Goals as goal
 
 pub drain_all-first-requires : goal.drain_all-first-requires
@@ -37,29 +41,62 @@ returns-then-is_err-clause-went g c = (
   none_drained c.args.shards.now c.args.most c.args.sessions.now c.args.walkers.now.items c.drain_all-first.new.walker (λ k d l. c.requires.new (suc k) d (omega arith)),
 )
 
+pub drain_last-last-requires : goal.drain_last-last-requires
+drain_last-last-requires g c = let count = c.requires.count in let many = c.run_sessions-ran.ensures.len in let ok = c.run_sessions-ran.new.walkers.ok in let ok0 = c.args.walkers.now.ok in
+    let sh = c.args.shards.now in let most = c.args.most in let script = c.args.sessions.now in let first = c.drain_all-first.new.walker in
+    record {
+      some = omega arith;
+      rest = each_rest sh most script c.run_sessions-ran.new.walkers.items first (omega arith)
+          (λ d. c.run_sessions-ran.ensures.first d ∙ here_first sh most script c.args.walkers.now.items first d (omega arith)) c.drain_all-first.ensures.rest c.run_sessions-ran.ensures.rest;
+    }
+
 pub returns-clause-rest : goal.returns-clause-rest
 returns-clause-rest g c = let count = c.requires.count in let many = c.run_sessions-ran.ensures.len in let ok = c.run_sessions-ran.new.walkers.ok in let ok0 = c.args.walkers.now.ok in
-    all_rest c.args.shards.now c.args.most c.args.sessions.now c.run_sessions-ran.new.walkers.items c.drain_all-last.new.walker (omega arith) c.drain_all-last.ensures.rest c.run_sessions-ran.ensures.rest
+    let sh = c.args.shards.now in let us = c.run_sessions-ran.new.walkers.items in let (v, has, looked) = c.drain_last-last.ensures.drained in
+    rest_still sh (set us 0 v) c.drain_last-last.new.walkers.items looked (length c.args.sessions.now + 1)
+    (all_rest sh c.args.most c.args.sessions.now us v (omega arith) (has c.index.result.now).rest c.run_sessions-ran.ensures.rest)
 
 -- an end that is no error is well
 well : {P : Type 0} (end : End) → false ≡ is_err end → IfOk end (λ u. P) → P
 well (Ok u) is h = h
 well (Err cause) is h = absurd cc
 
+not_well : (P : Type 0) (end : End) → true ≡ is_err end → IfOk end (λ u. P)
+not_well P (Ok u) is = absurd cc
+not_well P (Err cause) is = tt
+
+where_fine : {P : Type 0} (end : End) → (IsOk end → P) → IfOk end (λ u. P)
+where_fine (Ok u) h = h tt
+where_fine (Err cause) h = tt
+
+from_well : {P : Type 0} (end : End) → IsOk end → IfOk end (λ u. P) → P
+from_well (Ok u) ok h = h
+from_well (Err cause) ok h = absurd ok
+
 pub returns-clause-went : goal.returns-clause-went
 returns-clause-went g c =
-    let w = c.run_sessions-ran.ensures.went in let sh = c.args.shards.now in let most = c.args.most in let script = c.args.sessions.now in let ws = c.args.walkers.now.items in let v = c.drain_all-first.new.walker in
+    let w = c.run_sessions-ran.ensures.went in let sh = c.args.shards.now in let most = c.args.most in let script = c.args.sessions.now in let ws = c.args.walkers.now.items in let first = c.drain_all-first.new.walker in
+    let us = c.run_sessions-ran.new.walkers.items in let vs = c.drain_last-last.new.walkers.items in let (v, has, looked) = c.drain_last-last.ensures.drained in
     let count = c.requires.count in let many = c.run_sessions-ran.ensures.len in let ok = c.run_sessions-ran.new.walkers.ok in let ok0 = c.args.walkers.now.ok in
-    let here : (d : _) → get_or (set ws 0 v) 0 d ≡ v = λ d. here_first sh most script ws v d (omega arith) in
-    let first : c.index.result.now ≡ v = c.index.ensures ∙ here c.index.result.now in
-    let last : c.index_mut-2.result.now ≡ v = c.index_mut-2.ensures.value ∙ (c.run_sessions-ran.ensures.first c.index_mut-2.result.now ∙ here c.index_mut-2.result.now) in (
+    let here : (d : _) → get_or (set ws 0 first) 0 d ≡ first = λ d. here_first sh most script ws first d (omega arith) in
+    let clock : c.index.result.now ≡ first = c.index.ensures ∙ here c.index.result.now in
+    let d = c.index.result.now in
+    let last : get_or us 0 d ≡ first = c.run_sessions-ran.ensures.first d ∙ here d in (
       w.0,
-      goes_on sh most script c.run_sessions-ran.new.walkers.items c.drain_all-last.new.walker w.0 c.run_sessions-ran.result c.graver.result (λ ok. (c.graver.ensures.fine ok).0) w.1,
-      all_drained sh most script v.clock w.0 c.run_sessions-ran.new.walkers.items v c.drain_all-last.new.walker (omega arith)
+      gone_still sh (set us 0 v) vs looked most script w.0 c.graver.result (goes_on sh most script us v w.0 c.run_sessions-ran.result c.graver.result (λ ok. (c.graver.ensures.fine ok).0) w.1),
+      drained_still sh (set us 0 v) vs looked (length script) w.0
+          (all_drained sh most script first.clock w.0 us first v (omega arith)
           (well c.drain_all-first.result (sym c.if-is_err.false ∙ c.is_err.ensures.value) c.drain_all-first.ensures.settled)
-          (λ n k. c.drain_all-last.ensures.stays n v.clock (subst (λ z. WasSettled n v.clock z.passes.items) (sym last) k))
-          (λ k d l. subst (λ z. AllByRecursion (λ e. z.clock < (e.1).stamp) (session_entries (kept (get_or c.run_sessions-ran.new.walkers.items (suc k) d).passes.items))) first (c.run_sessions-ran.ensures.later k d l)),
+          (λ n k. (has d).stays n first.clock (subst (λ z. WasSettled n first.clock z.passes.items) (sym last) k))
+          (λ k e l. subst (λ z. AllByRecursion (λ x. z.clock < (x.1).stamp) (session_entries (kept (get_or us (suc k) e).passes.items))) clock (c.run_sessions-ran.ensures.later k e l))),
     )
+
+-- where no end is fine nothing is asked
+pub returns-then-is_err-clause-settled : goal.returns-then-is_err-clause-settled
+returns-then-is_err-clause-settled g c = not_well _ c.drain_all-first.result (sym c.if-is_err.true ∙ c.is_err.ensures.value)
+
+pub returns-clause-settled : goal.returns-clause-settled
+returns-clause-settled g c = where_fine c.graver.result (λ ok. from_well c.drain_last-last.result (c.graver.ensures.fine ok).1 c.drain_last-last.ensures.settled)
 
 pub returns-then-is_err-clause-alone : goal.returns-then-is_err-clause-alone
 returns-then-is_err-clause-alone g c = let sh = c.args.shards.now in let script = c.args.sessions.now in let ws = c.args.walkers.now.items in
@@ -67,5 +104,57 @@ returns-then-is_err-clause-alone g c = let sh = c.args.shards.now in let script 
     (none_alone sh c.args.most script (λ k d. get_or ws (suc k) d) (λ k d l. c.requires.new (suc k) d (omega arith)))
 
 pub returns-clause-alone : goal.returns-clause-alone
-returns-clause-alone g c = let sh = c.args.shards.now in let script = c.args.sessions.now in let ws = c.run_sessions-ran.new.walkers.items in
-    λ is. same_alone sh c.args.most script (λ k d. get_or ws (suc k) d) (λ k d. get_or (set ws 0 c.drain_all-last.new.walker) (suc k) d) (behind_first ws c.drain_all-last.new.walker) (c.run_sessions-ran.ensures.alone is)
+returns-clause-alone g c = let sh = c.args.shards.now in let script = c.args.sessions.now in let us = c.run_sessions-ran.new.walkers.items in let (v, has, looked) = c.drain_last-last.ensures.drained in
+    λ is. alone_still sh (set us 0 v) c.drain_last-last.new.walkers.items looked c.args.most script
+    (same_alone sh c.args.most script (λ k d. get_or us (suc k) d) (λ k d. get_or (set us 0 v) (suc k) d) (behind_first us v) (c.run_sessions-ran.ensures.alone is))
+
+-- ---- stamps that came to their end
+
+pub returns-then-is_err-clause-worn : goal.returns-then-is_err-clause-worn
+returns-then-is_err-clause-worn g c at is =
+    let count = c.requires.count in let ok = c.args.walkers.now.ok in let v = c.drain_all-first.new.walker in
+    let told = c.drain_all-first.ensures.worn at is in
+    let dated = c.drain_all-first.ensures.dated.1 in
+    let new = c.requires.new 0 c.index_mut.result.now (omega arith) in
+    let zero = new.clock_is in let same = ap (λ w. w.clock) c.index_mut.ensures.value in
+    (told.0, drain_worn c.args.walkers.now.items v (omega arith) (omega arith) told.1)
+
+pub returns-then-is_err-clause-counted : goal.returns-then-is_err-clause-counted
+returns-then-is_err-clause-counted g c =
+    let count = c.requires.count in let ok = c.args.walkers.now.ok in let v = c.drain_all-first.new.walker in let ws = c.args.walkers.now.items in
+    let none : v.serial ≡ 0 = (let s = c.drain_all-first.ensures.serial in let at = ap (λ w. w.serial) c.index_mut.ensures.value in let new = (c.requires.new 0 c.index_mut.result.now (omega arith)).none_begun in omega arith) in
+    first_counted c.args.sessions.now ws v (omega arith) none (λ k bodies d is. (let new = (c.requires.new (suc k) d (let l = slice_get_within c.args.sessions.now k bodies is in omega arith)).none_begun in omega arith))
+
+pub returns-clause-counted : goal.returns-clause-counted
+returns-clause-counted g c =
+    let many = c.run_sessions-ran.ensures.len in let ok = c.run_sessions-ran.new.walkers.ok in let ok0 = c.args.walkers.now.ok in let count = c.requires.count in
+    let sh = c.args.shards.now in let first = c.drain_all-first.new.walker in let ws = c.args.walkers.now.items in let us = c.run_sessions-ran.new.walkers.items in
+    let (v, has, looked) = c.drain_last-last.ensures.drained in let d = c.index.result.now in
+    let last : get_or us 0 d ≡ first = c.run_sessions-ran.ensures.first d ∙ here_first sh c.args.most c.args.sessions.now ws first d (omega arith) in
+    let none : v.serial ≡ 0 = (let s = (has d).serial in let t = ap (λ w. w.serial) last in let f = c.drain_all-first.ensures.serial in let at = ap (λ w. w.serial) c.index_mut.ensures.value in
+    let new = (c.requires.new 0 c.index_mut.result.now (omega arith)).none_begun in omega arith) in
+    counted_still sh (set us 0 v) c.drain_last-last.new.walkers.items looked c.args.sessions.now (first_counted c.args.sessions.now us v (omega arith) none c.run_sessions-ran.ensures.counted)
+
+pub returns-clause-worn : goal.returns-clause-worn
+returns-clause-worn g c =
+    let many = c.run_sessions-ran.ensures.len in let ok = c.run_sessions-ran.new.walkers.ok in let ok0 = c.args.walkers.now.ok in let count = c.requires.count in
+    let sh = c.args.shards.now in let first = c.drain_all-first.new.walker in let ws = c.args.walkers.now.items in let us = c.run_sessions-ran.new.walkers.items in
+    let (v, has, looked) = c.drain_last-last.ensures.drained in let d = c.index.result.now in let u = get_or us 0 d in
+    let here : (e : _) → get_or (set ws 0 first) 0 e ≡ first = λ e. here_first sh c.args.most c.args.sessions.now ws first e (omega arith) in
+    let same : (e : _) → get_or us 0 e ≡ first = λ e. c.run_sessions-ran.ensures.first e ∙ here e in
+    let new = c.requires.new 0 c.index_mut.result.now (omega arith) in
+    let zero = new.clock_is in
+    let start = ap (λ w. w.clock) c.index_mut.ensures.value in
+    let dated = c.drain_all-first.ensures.dated.1 in
+    let low : first.clock ≤ last_seen first.passes.items = omega arith in
+    let more = (has d).dated in
+    let at_u = ap (λ w. last_seen w.passes.items) (same d) in
+    let clock_u = ap (λ w. w.clock) (same d) in
+    let serial_u = ap (λ w. w.serial) (same d) in
+    let serial = (has d).serial in
+    worn_later sh (set us 0 v) c.drain_last-last.new.walkers.items looked c.graver.result
+    (λ at is. ⊎_elim
+    (λ ran. let told = c.run_sessions-ran.ensures.worn d (let f = ap (λ w. last_seen w.passes.items) (same d) in let k = ap (λ w. w.clock) (c.index.ensures ∙ here d) in omega arith) at (sym ran ∙ is) in
+    (told.0, worn_still us v (λ e. (let f = ap (λ w. last_seen w.passes.items) (same e) in let m = more.0 in omega arith)) (λ e. (let f = ap (λ w. w.serial) (same e) in omega arith)) told.1))
+    (λ end. let told = (has d).worn at (sym end ∙ is) in (told.0, drain_worn us v (omega arith) (let z = more.1 in let m = more.0 in omega arith) told.1))
+    c.graver.ensures.one)

@@ -2,17 +2,18 @@ use mir.Syntax.{named}
 use denote.Ref.{NamedLft}
 use denote.Param.{param}
 use denote.Param.Send.{param_send}
-use Rattle.std.proofs.Common.{arith, ◌≡◌, ◌<◌, true, sym, subst, length, get_or}
+use Rattle.std.proofs.Common.{arith, ◌≡◌, ◌<◌, ◌≤◌, ◌+◌, max, true, sym, subst, length, get_or}
 use Rattle.std.specs.List.{AllByRecursion, list_all}
 use Rattle.std.proofs.lemmas.Option.{slice_get_within}
 use Rattle.cluster_turns.specs.Walkers.{kept}
+use Rattle.cluster_turns.specs.Dates.{last_seen}
 use Rattle.script_runs.specs.Sessions.{session_entries}
 use Rattle.script_lang.specs.Laws.{is_narrow_body}
-use Rattle.cluster_runs.specs.Sessions.{IsSeated, HasSat}
+use Rattle.cluster_runs.specs.Sessions.{IsSeated, HasSat, base_from}
 use Rattle.cluster_runs.specs.Alone.{BeginsWith}
 use Rattle.cluster_runs.proofs.Alone.{sat_first, sat_past}
 use Rattle.cluster_runs.proofs.Sending.{script_row_send}
-use Rattle.cluster_runs.proofs.Sitting.{sat, narrow_at}
+use Rattle.cluster_runs.proofs.Sitting.{sat, same_base, narrow_at}
 use Rattle.cluster_runs.proofs.sessions.run_seats.Goals as goal
 use Rattle.law_base.proofs.Lists.{get_or_taken as written}
 
@@ -31,13 +32,22 @@ run_all-requires-clause-narrow g c κs within k d l =
 
 pub returns-clause-sat : goal.returns-clause-sat
 returns-clause-sat g c =
-    let E = c.run_all.ensures in let many = c.run_all.auto.seats in let a = c.as_mut_slice.ensures.len in let n = c.requires.count in let value = c.as_mut_slice.ensures.value in
-    λ k d l. (let low : k < length c.run_all.new.seats = omega arith in let was : k < length c.as_mut_slice.result.now = omega arith in
-    let v = get_or c.run_all.new.seats k d in let o = get_or c.as_mut_slice.result.now k d in
-    let seat = subst (λ z. IsSeated c.args.shards.now c.args.clock c.args.sessions.now k (get_or z k d).session.session.shards.now (get_or z k d).session.session.walker (get_or z k d).session.session.progress (get_or z k d).transactions.now) (sym value) (c.requires.seated k d l) in
-    subst (λ z. HasSat c.args.shards.now c.args.clock c.args.most c.args.sessions.now k z.session.session.walker z.ended) (sym (written c.run_all.new.seats _ c.args.seats.now.len k d (omega arith) low))
-    (sat c.args.shards.now o.session.session.shards.now v.session.session.shards.now c.args.clock o.session.session.walker v.session.session.walker o.session.session.progress v.session.session.progress o.transactions.now c.args.most c.args.sessions.now k v.ended seat
-    (E.session k d was) (E.base k d was) (E.follows k d was) (E.grounds k d was)))
+    let E = c.run_all.ensures in let many = c.run_all.auto.seats in let a = c.as_mut_slice.ensures.len in let n = c.requires.count in let value = c.as_mut_slice.ensures.value in let r = E.follows in let sh = c.args.shards.now in
+    record {
+      base = r.clock;
+      reached = λ d some. (let low : 0 < length c.run_all.new.seats = omega arith in let was : 0 < length c.as_mut_slice.result.now = omega arith in
+          let o = get_or c.as_mut_slice.result.now 0 d in
+          let seat = subst (λ z. IsSeated sh c.args.clock c.args.sessions.now 0 (get_or z 0 d).session.session.shards.now (get_or z 0 d).session.session.walker (get_or z 0 d).session.session.progress (get_or z 0 d).transactions.now) (sym value) (c.requires.seated 0 d some) in
+          let h = r.reached d was in let at = (seat.new).clock_is in let none = (seat.new).none_begun in
+          subst (λ z. r.clock ≤ z.session.session.walker.serial + max c.args.clock (last_seen z.session.session.walker.passes.items)) (sym (written c.run_all.new.seats _ c.args.seats.now.len 0 d (omega arith) low)) (omega arith));
+      each = λ k d l. (let low : k < length c.run_all.new.seats = omega arith in let was : k < length c.as_mut_slice.result.now = omega arith in
+          let v = get_or c.run_all.new.seats k d in let o = get_or c.as_mut_slice.result.now k d in
+          let seat = subst (λ z. IsSeated sh c.args.clock c.args.sessions.now k (get_or z k d).session.session.shards.now (get_or z k d).session.session.walker (get_or z k d).session.session.progress (get_or z k d).transactions.now) (sym value) (c.requires.seated k d l) in
+          subst (λ z. HasSat sh c.args.clock (base_from c.args.clock r.clock k) c.args.most c.args.sessions.now k z.session.session.walker z.ended) (sym (written c.run_all.new.seats _ c.args.seats.now.len k d (omega arith) low))
+          (subst (λ b. HasSat sh c.args.clock b c.args.most c.args.sessions.now k v.session.session.walker v.ended) (same_base c.args.clock r.clock k _ (seat.new).clock_is)
+          (sat sh o.session.session.shards.now v.session.session.shards.now c.args.clock _ o.session.session.walker v.session.session.walker o.session.session.progress v.session.session.progress o.transactions.now c.args.most c.args.sessions.now k v.ended seat
+          (E.session k d was) (E.base k d was) (r.each k d was) (E.grounds k d was))));
+    }
 
 pub returns-clause-alone : goal.returns-clause-alone
 returns-clause-alone g c =

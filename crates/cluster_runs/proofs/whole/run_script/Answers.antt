@@ -1,4 +1,6 @@
-use Rattle.std.proofs.Common.{arith, ◌∙◌, ◌+◌, length, sym, subst}
+use Rattle.std.proofs.Common.{arith, ◌∙◌, ◌+◌, length, sym, subst, Ok, Err}
+use Rattle.std.specs.Prelude.{IfOk}
+use Rattle.command_line.specs.Running.{End, IsOk}
 use Rattle.cluster_runs.specs.Ends.{IsClosedRun}
 use Rattle.cluster_runs.proofs.Ending.{all_are_in}
 use Rattle.cluster_turns.specs.Walkers.{founds_of}
@@ -6,6 +8,14 @@ use Rattle.cluster_closing.specs.Closing.{lists}
 use Rattle.cluster_runs.specs.Ran.{RanAll}
 use Rattle.cluster_runs.proofs.Promised.{ran_all}
 use Rattle.cluster_runs.proofs.whole.run_script.Goals as goal
+
+pub close_run-closed-requires-clause-out : goal.close_run-closed-requires-clause-out
+close_run-closed-requires-clause-out g c = λ n low. c.in-Ok.ensures.out.first n (let count = c.in-Ok.ensures.shards.count in let ok = c.in-Ok.opened.shards.locks.ok in omega arith)
+
+-- what holds where an end is well holds where it is fine
+well : {P : Type 0} (end : End) → IfOk end (λ u. P) → IsOk end → P
+well (Ok u) h ok = h
+well (Err cause) h ok = absurd ok
 
 pub returns-clause-ran : goal.returns-clause-ran
 returns-clause-ran g c =
@@ -24,7 +34,7 @@ returns-clause-ran g c =
     subst (λ f. RanAll (story h0) (story h1) (faults h0) (faults h1) c.args.most c.args.start c.args.sessions.now (record { journals = c.new.result.journals; found = f }) c.running_status.result) (sym (c.new.ensures.found ∙ c.in-Ok.ensures.founds))
     (subst (λ j. RanAll (story h0) (story h1) (faults h0) (faults h1) c.args.most c.args.start c.args.sessions.now (record { journals = j; found = founds_of sh }) c.running_status.result) (sym c.new.ensures.journals)
     (ran_all c.sessions_have_ended.ensures _ _ sh W.items r.ends.value.items (record { journals = lists r.journals.items; found = founds_of sh }) r.down (faults h0) (faults h1) (out h0) (out h1) (story h0) (story h1) c.args.most c.args.start c.args.sessions.now went.0 c.run_over-end.result c.running_status.result ended
-    (λ k d l. (c.run_over-end.ensures.rest k d (omega arith)).number_is) (omega arith) went.1 went.2 (λ d. (c.run_over-end.ensures.rest 0 d (omega arith)).walker) c.run_over-end.ensures.alone c.run_over-end.ensures.worn c.running_status.ensures.is))
+    (omega arith) went.1 went.2 (λ k d l. c.run_over-end.ensures.rest k d (omega arith)) (well c.run_over-end.result c.run_over-end.ensures.settled) c.run_over-end.ensures.alone c.run_over-end.ensures.counted c.run_over-end.ensures.worn c.running_status.ensures.is))
 
 pub returns-clause-back : goal.returns-clause-back
 returns-clause-back g c =

@@ -5,10 +5,19 @@ use Rattle.script_runs.specs.declared.threads.Start.TheVariants.{FirstAlone}
 use Rattle.clv_commands.proofs.Loaded.{loaded}
 use Rattle.clv_commands.proofs.loading.load.Goals as goal
 
-pub returns-in-Ok-ran-clause-promised : goal.returns-in-Ok-ran-clause-promised
-returns-in-Ok-ran-clause-promised g c =
-    let script = script_by c.args.work.seed c.args.work.sessions c.args.work.accounts c.args.work.transfers in
+pub write_line-requires-clause-sum : goal.write_line-requires-clause-sum
+write_line-requires-clause-sum g c = λ fine.
+    let work = c.args.work in let script = script_by work.seed work.sessions work.accounts work.transfers in
     let story = g.H.House.story in let faults = g.H.House.faults in let h0 = c.args.house.now in let h1 = c.run_script-ran.new.house in
     let same : c.sessions.result.now ≡ script = search rules in
-    loaded c.runs_replay.ensures script (story h0) (story h1) (faults h0) (faults h1) c.in-Ok-ran.ran.history c.in-Ok-ran.ran.status c.write_line.result
+    c.loads_keep_their_sum.ensures work.seed work.sessions work.accounts work.transfers (story h0) (story h1) (faults h0) (faults h1) c.in-Ok-ran.ran.history c.requires.sessions.0 c.requires.accounts.0
+    (subst (RanAll (story h0) (story h1) (faults h0) (faults h1) None FirstAlone script c.in-Ok-ran.ran.history) fine
+    (subst (λ s. RanAll (story h0) (story h1) (faults h0) (faults h1) None FirstAlone s c.in-Ok-ran.ran.history c.in-Ok-ran.ran.status) same c.in-Ok-ran.ensures.ran))
+
+pub returns-in-Ok-ran-clause-promised : goal.returns-in-Ok-ran-clause-promised
+returns-in-Ok-ran-clause-promised g c =
+    let work = c.args.work in let script = script_by work.seed work.sessions work.accounts work.transfers in
+    let story = g.H.House.story in let faults = g.H.House.faults in let h0 = c.args.house.now in let h1 = c.run_script-ran.new.house in
+    let same : c.sessions.result.now ≡ script = search rules in
+    loaded c.runs_replay.ensures c.loads_keep_their_sum.ensures work.seed work.sessions work.accounts work.transfers c.requires.sessions.0 c.requires.accounts.0 (story h0) (story h1) (faults h0) (faults h1) c.in-Ok-ran.ran.history c.in-Ok-ran.ran.status c.write_line.result
     (subst (λ s. RanAll (story h0) (story h1) (faults h0) (faults h1) None FirstAlone s c.in-Ok-ran.ran.history c.in-Ok-ran.ran.status) same c.in-Ok-ran.ensures.ran) c.write_line.ensures.ends

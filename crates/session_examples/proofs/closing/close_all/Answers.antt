@@ -27,7 +27,7 @@ returns-clause-closed g c =
         no_stop = e.no_stop;
         no_restart = e.no_restart (λ k d l. (rest k d l).fetched);
         legal = λ after many may. legal_by _ _ after _ _ _ _ c.new-2.ensures.journals (e.legal after many may);
-        disks = λ n d l. none_fetched _ n c.new.result.items _ _ _ _ (ap length c.new.ensures.items) (e.disks n d l);
+        disks = λ n d l. none_fetched _ n _ c.new.result.items _ _ _ _ (ap length c.new.ensures.items) (e.disks n d l);
         others = e.others;
       },
     )

@@ -16,7 +16,7 @@ loop-try-init g c =
     record {
       one = one_fetched sh 0 0 w v (Ok f) (home_of sh 0 w c.requires.rest) (e.walker.0, e.walker.1) c.in-Ok.ensures.fetch;
       shard = c.in-Ok.ensures.shard;
-      held = subst (λ k. HoldsAt f.shard k (IsDiskOf F f) v.passes.items) (sym e.walker.1.0) c.in-Ok.ensures.held;
+      held = subst (λ k. HoldsAt f.shard k (λ layout. IsDiskOf F f) v.passes.items) (sym e.walker.1.0) c.in-Ok.ensures.held;
     }
 
 pub returns-in-Ok-restart : goal.returns-in-Ok-restart
@@ -31,5 +31,5 @@ loop-try-preserved g c =
     record {
       one = refused_again sh g.M.Disk.Disk.story c.loop-try.fetched 0 0 u v inv.one inv.shard c.restart.ensures.walker (c.in-Err-restart._error, f) e.restart;
       shard = e.back.0 ∙ inv.shard;
-      held = subst (λ k. HoldsAt f.shard k (IsDiskOf F f) v.passes.items) (sym c.restart.ensures.walker.1.0) e.held;
+      held = subst (λ k. HoldsAt f.shard k (λ layout. IsDiskOf F f) v.passes.items) (sym c.restart.ensures.walker.1.0) e.held;
     }

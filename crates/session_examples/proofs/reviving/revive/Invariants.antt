@@ -7,5 +7,5 @@ abbrev pub invariant-loop-try : goal.invariant-loop-try
 invariant-loop-try g l = record {
   one : HasOneDisk l.shards 0 0 l.walker;
   shard : l.fetched.shard ≡ 0;
-  held : HoldsAt l.fetched.shard l.walker.number (IsDiskOf g.M.Disk.Disk.faults l.fetched) l.walker.passes.items;
+  held : HoldsAt l.fetched.shard l.walker.number (λ layout. IsDiskOf g.M.Disk.Disk.faults l.fetched) l.walker.passes.items;
 }

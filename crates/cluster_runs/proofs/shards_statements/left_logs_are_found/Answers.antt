@@ -1,0 +1,5 @@
+use Rattle.cluster_runs.proofs.Following.{left_logs_are_found}
+use Rattle.cluster_runs.proofs.shards_statements.left_logs_are_found.Goals as goal
+
+pub returns : goal.returns
+returns c = left_logs_are_found

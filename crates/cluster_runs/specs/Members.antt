@@ -1,0 +1,35 @@
+-- The members of a run whose sessions went through are transactions of its script.
+use Rattle.std.specs.Prelude.{◌≡◌, ℕ, true, Bool, List, Option, Some, slice_get}
+use Rattle.std.specs.List.{AllByRecursion}
+use Rattle.clv_base.specs.declared.ops.Answer.{Answer}
+use Rattle.clv_base.specs.FileRules.{may_open}
+use Rattle.clv_base.specs.Journals.{History}
+use Rattle.clv_base.specs.History.{Member, ops_in}
+use Rattle.io_model.specs.Story.{Story}
+use Rattle.history_replay.specs.Entries.{Kept}
+use Rattle.script_lang.specs.Bodies.{Body}
+use Rattle.script_lang.specs.Following.{all_ops}
+use Rattle.script_runs.specs.TriesTell.{ArePartsOf}
+use Rattle.cluster_runs.specs.Histories.{entries, members_by}
+use Rattle.cluster_runs.specs.PromisedSessions.{Went}
+use Rattle.cluster_runs.specs.Promises.{RunPromised}
+use Rattle.cluster_runs.specs.Replays.{HaveGone}
+
+-- its operations are those that the history tells of it: those of the lines of one of a session's transactions, under the answers that it was told
+pub record IsOfScript (splits : List ℕ) (script : List (List Body)) (h : History) (m : Member) : Type 0 where
+  pub told : m.ops ≡ ops_in m.tx h
+  pub session : ℕ
+  pub bodies : List Body
+  pub session_is : slice_get script session ≡ Some bodies
+  pub number : ℕ
+  pub body : Body
+  pub body_is : slice_get bodies number ≡ Some body
+  pub answers : List Answer
+  pub parts : ArePartsOf splits (all_ops body.actions answers) answers m.ops
+
+-- each member is so, whatever a crash keeps of what is in flight
+abbrev pub MembersAreOfScript : Type 0
+MembersAreOfScript =
+    (splits : List ℕ) (before now : ℕ → Option Story) (counts counts_now : ℕ → ℕ) (most : Option ℕ) (script : List (List Body)) (went : ℕ → Went) (kept : Kept) (choice : ℕ → Bool)
+    → may_open splits kept.found ≡ true → (p : RunPromised splits before now counts counts_now most script went kept) → HaveGone script went
+    → AllByRecursion (IsOfScript splits script (entries kept)) (members_by splits kept (p.keeps).left choice)

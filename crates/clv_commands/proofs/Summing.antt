@@ -1,0 +1,119 @@
+-- What the accounts of a workload hold behind it.
+use Rattle.std.proofs.Common.{◌≡◌, refl, sym, ap, subst, ◌∙◌, ◌⊎◌, inl, inr, ⊎_elim, ℕ, zero, suc, ◌≤◌, ◌*◌, Bool, true, false, List, [], ◌∷◌, ◌++◌, map, Option, Some, None, slice_get, arith}
+use Rattle.std.specs.List.{AllByRecursion}
+use Rattle.std.proofs.lemmas.Bool.{both_ways, or_cases}
+use Rattle.clv_base.specs.declared.names.TxId.{TxId}
+use Rattle.clv_base.specs.Orders.{tx_same, tx_in}
+use Rattle.clv_base.specs.Logs.{stands}
+use Rattle.clv_base.specs.Maps.{replay_map, replay_answers}
+use Rattle.clv_base.specs.Journals.{History}
+use Rattle.clv_base.specs.History.{Member, serial_ops, serial_answers, acknowledged_in, ops_in}
+use Rattle.clv_base.proofs.SameNames.{tx_true}
+use Rattle.law_base.proofs.Lists.{all_mono}
+use Rattle.history_replay.specs.Replayed.{replayed}
+use Rattle.cluster_runs.specs.Histories.{entries, members_by}
+use Rattle.cluster_runs.specs.Members.{IsOfScript, MembersAreOfScript}
+use Rattle.cluster_runs.specs.Replays.{RunsReplay}
+use Rattle.cluster_runs.specs.Completing.{HasEnded, acknowledged, empty, by_line, given_up, IsAcknowledged, TransactionEnded, SessionEnded}
+use Rattle.script_lang.specs.declared.actions.Ending.TheVariants.{Commit}
+use Rattle.script_lang.specs.declared.actions.Action.{Action}
+use Rattle.script_lang.specs.Bodies.{Body}
+use Rattle.script_lang.specs.Grammar.{body}
+use Rattle.script_lang.specs.Following.{all_ops, next_op}
+use Rattle.script_lang.specs.Loads.{fill, transfer, session, load}
+use Rattle.script_runs.specs.Sessions.{Transaction}
+use Rattle.script_runs.specs.Tries.{Try}
+use Rattle.script_runs.specs.TriesLaws.{all_parts}
+use Rattle.workload_laws.specs.Sums.{accounts_sum, Follows, Fills, Transfers, WorkloadsKeepTheirSum}
+use Rattle.clv_commands.specs.Sums.{LoadsKeepTheirSum}
+use Rattle.clv_commands.proofs.Lines.{IsLine, fills, transfers_by, in_load, lines_of_keys, AreWhole, parts_whole, parts_alone, fill_alike}
+
+-- ---- a member
+
+follows : (lines : List Action) (answers : _) (m : Member) → AreWhole (all_ops lines answers) answers m.ops → Follows lines m
+follows lines answers m w = w.ops_are ∙ ap (all_ops lines) (sym w.answers_are)
+
+kind : (accounts : ℕ) (lines : List Action) (m : Member) → IsLine accounts lines → Follows lines m → Fills accounts m ⊎ Transfers accounts m
+kind accounts lines m (fills is) f = inl (subst (λ l. Follows l m) is f)
+kind accounts lines m (transfers_by x is) f = inr (x, subst (λ l. Follows l m) is f)
+
+of_workload : (splits : List ℕ) (seed sessions accounts count : ℕ) (h : History) (m : Member) → IsOfScript splits (load seed sessions accounts count) h m → Fills accounts m ⊎ Transfers accounts m
+of_workload splits seed sessions accounts count h m is =
+    let line = in_load seed sessions accounts count is.session is.number is.bodies is.body is.session_is is.body_is in
+    let lines = (is.body).actions in
+    kind accounts lines m line (follows lines is.answers m (parts_whole splits (all_ops lines is.answers) is.answers m.ops is.parts (lines_of_keys accounts lines is.answers line)))
+
+-- ---- the filling
+
+record Filled (splits : List ℕ) (h : History) (accounts : ℕ) : Type 0 where
+  tx : TxId
+  told : acknowledged_in h tx ≡ true
+  answers : _
+  ops : map (λ p. p.0) (ops_in tx h) ≡ all_parts splits (all_ops (fill 0 accounts) answers)
+
+fill_ended : (splits : List ℕ) (h : History) (accounts : ℕ) (b : Body) (count : ℕ) (last : Try) → 1 ≤ accounts → b ≡ body (fill 0 accounts) Commit → HasEnded splits h None b count last → Filled splits h accounts
+fill_ended splits h accounts b count last some is (acknowledged ending so a) =
+    record { tx = last.tx; told = a.told; answers = last.answers; ops = a.operations ∙ ap (λ x. all_parts splits (all_ops x.actions last.answers)) is }
+fill_ended splits h zero b count last some is (empty ending so none) = absurd (omega arith)
+fill_ended splits h (suc n) b count last some is (empty ending so none) = absurd (let e = sym (ap (λ x. next_op x.actions []) is) ∙ none in cc)
+fill_ended splits h accounts b count last some is (by_line ending so none) = absurd (let e = sym (ap (λ x. x.ending) is) ∙ ending in cc)
+fill_ended splits h accounts b count last some is (given_up older so most) = absurd cc
+
+first_filled : (splits : List ℕ) (h : History) (accounts : ℕ) (bodies : List Body) (trs : List Transaction) → 1 ≤ accounts → map (λ tr. tr.body) trs ≡ body (fill 0 accounts) Commit ∷ bodies → AllByRecursion (TransactionEnded splits h None) trs → Filled splits h accounts
+first_filled splits h accounts bodies [] some are each = absurd cc
+first_filled splits h accounts bodies (tr ∷ trs) some are each = fill_ended splits h accounts tr.body _ (each.0).last some (let e : tr.body ≡ body (fill 0 accounts) Commit = cc in e) (each.0).ended
+
+-- among members
+record IsIn (tx : TxId) (ms : List Member) (P : Member → Type 0) : Type 0 where
+  front : List Member
+  m : Member
+  behind : List Member
+  at : ms ≡ front ++ m ∷ behind
+  same : m.tx ≡ tx
+  is : P m
+
+find_member : (tx : TxId) (P : Member → Type 0) (ms : List Member) → AllByRecursion P ms → tx_in tx (map (λ m. m.tx) ms) ≡ true → IsIn tx ms P
+find_member tx P [] all h = absurd (both_ways false refl h)
+find_member tx P (m ∷ ms) all h =
+    ⊎_elim
+    (λ a. record { front = []; m = m; behind = ms; at = refl; same = tx_true m.tx tx a; is = all.0 })
+    (λ b. let r = find_member tx P ms all.1 b in record { front = m ∷ r.front; m = r.m; behind = r.behind; at = ap (λ l. m ∷ l) r.at; same = r.same; is = r.is })
+    (or_cases (tx_same m.tx tx) (tx_in tx (map (λ x. x.tx) ms)) h)
+
+-- what holds of all holds of those behind one
+all_behind : {A : Type 0} (P : A → Type 0) (front : List A) (x : A) (behind : List A) → AllByRecursion P (front ++ x ∷ behind) → AllByRecursion P behind
+all_behind P [] x behind all = all.1
+all_behind P (y ∷ front) x behind all = all_behind P front x behind all.1
+
+filling_is : (splits : List ℕ) (h : History) (script : List (List Body)) (accounts : ℕ) (f : Filled splits h accounts) (m : Member) → m.tx ≡ f.tx → IsOfScript splits script h m → Fills accounts m
+filling_is splits h script accounts f m same is =
+    let told : ops_in f.tx h ≡ m.ops = ap (λ t. ops_in t h) (sym same) ∙ sym is.told in
+    ap (map (λ p. p.0)) (sym told) ∙ f.ops ∙ parts_alone splits (all_ops (fill 0 accounts) f.answers) (lines_of_keys accounts (fill 0 accounts) f.answers (fills refl))
+    ∙ fill_alike 0 accounts f.answers (map (λ p. p.1) m.ops)
+
+-- the first session of a workload begins with the filling
+first_session : (seed sessions accounts count : ℕ) → 1 ≤ sessions → slice_get (load seed sessions accounts count) 0 ≡ Some (session seed accounts count 1)
+first_session seed zero accounts count some = absurd (omega arith)
+first_session seed (suc n) accounts count some = refl
+
+pub loads_keep : MembersAreOfScript → RunsReplay → WorkloadsKeepTheirSum → LoadsKeepTheirSum
+loads_keep are replay keep seed sessions accounts count before now counts counts_now kept some two r =
+    let script = load seed sessions accounts count in
+    let choice : ℕ → Bool = λ n. true in
+    let p = r.promised in
+    let h = entries kept in
+    let gone = r.told.1 in
+    let ms = members_by r.splits kept (p.keeps).left choice in
+    let all = are r.splits before now counts counts_now None script r.went kept choice r.opens p gone in
+    let promised = (p.keeps).promised choice in
+    let s = r.ended tt 0 (session seed accounts count 1) (first_session seed sessions accounts count some) in
+    let f = first_filled r.splits h accounts _ s.transactions (omega arith) s.bodies_are s.each in
+    let m = find_member f.tx (IsOfScript r.splits script h) ms all (promised.acknowledged f.tx f.told) in
+    let kinds = all_mono (IsOfScript r.splits script h) (λ x. Fills accounts x ⊎ Transfers accounts x) (of_workload r.splits seed sessions accounts count h) ms all in
+    let sum = keep accounts kept.found m.front m.behind m.m two
+    (subst (λ l. replay_answers (stands kept.found) (serial_ops l) ≡ serial_answers l) m.at promised.answers)
+    (all_behind (λ x. Fills accounts x ⊎ Transfers accounts x) m.front m.m m.behind (subst (AllByRecursion (λ x. Fills accounts x ⊎ Transfers accounts x)) m.at kinds))
+    (filling_is r.splits h script accounts f m.m m.same m.is) in
+    let map_is : replayed kept ≡ replay_map (stands kept.found) (serial_ops (m.front ++ m.m ∷ m.behind)) =
+    sym (replay r.splits before now counts counts_now None script r.went kept r.opens p gone choice) ∙ sym promised.map ∙ ap (λ l. replay_map (stands kept.found) (serial_ops l)) m.at in
+    ap (accounts_sum accounts) map_is ∙ sum
