@@ -16,9 +16,9 @@ use Rattle.shard_laws.specs.OneShard.{map_found}
 use Rattle.history_laws.proofs.Passing.{logs_left_pass, left_length}
 use Rattle.fate_laws.specs.Leading.{deeds_before}
 use Rattle.headline_laws.specs.Shares.{ShardOp, ops_of, answers_of, on_shard, LiesIn, share_of, ReplaysTo}
-use Rattle.headline_laws.proofs.ShardReplaying.{replay_by_shards}
-use Rattle.headline_laws.proofs.Members.{chosen}
-use Rattle.headline_laws.proofs.Replaying.{starts}
+use Rattle.headline_laws.proofs.TransactionsReplayByShards.{replay_by_shards}
+use Rattle.headline_laws.proofs.MembersReplayWhereHere.WhoIsAMember.{chosen}
+use Rattle.headline_laws.proofs.MembersReplayWhereHere.{starts}
 use Rattle.crash_laws.specs.Acts.{Act, AnswersFrom, member_acts, AnswersAreOfEarlier}
 use Rattle.crash_laws.proofs.Lists.{filter_map_is}
 use Rattle.crash_laws.proofs.Telling.{told}

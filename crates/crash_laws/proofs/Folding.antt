@@ -34,11 +34,11 @@ use Rattle.shard_laws.proofs.Histories.{held}
 use Rattle.history_laws.specs.Places.{transactions_of, StandsBefore}
 use Rattle.fate_laws.specs.Members.{is_member}
 use Rattle.fate_laws.specs.Leading.{requests_of}
-use Rattle.headline_laws.proofs.Members.{chosen, chosen_are_members}
-use Rattle.headline_laws.proofs.Replaying.{leads}
+use Rattle.headline_laws.proofs.MembersReplayWhereHere.WhoIsAMember.{chosen, chosen_are_members}
+use Rattle.headline_laws.proofs.MembersReplayWhereHere.{leads}
 use Rattle.headline_laws.specs.Found.{MembersReplay}
 use Rattle.crash_laws.specs.Acts.{Act, act_of, with_act, acts, member_acts, AnswersFrom, Meet, AreDistinct, ops_of_each, answers_of_each, ActsReplay, MembersHaveTheirActs}
-use Rattle.headline_laws.proofs.Standing.{logs_agree}
+use Rattle.headline_laws.proofs.TransactionsReplayByShards.LogsAgreeWithTheMap.{logs_agree}
 use Rattle.crash_laws.proofs.Lists.{filter_map_is, later_told}
 use Rattle.crash_laws.proofs.Meeting.{meetings_follow_places}
 use Rattle.crash_laws.proofs.Basing.{answers_are_of_earlier}

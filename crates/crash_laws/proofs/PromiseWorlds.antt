@@ -11,8 +11,8 @@ use Rattle.clv_base.specs.Journals.{journal_of, final_of}
 use Rattle.clv_base.specs.History.{logs_left}
 use Rattle.history_laws.specs.Openings.{LegalFrom}
 use Rattle.history_laws.proofs.Serials.{left_at}
-use Rattle.fate_laws.proofs.Ordering.{logs_left_are_in_order}
-use Rattle.headline_laws.proofs.Promising.{promise}
+use Rattle.fate_laws.proofs.LogsLeftAreInOrder.{logs_left_are_in_order}
+use Rattle.headline_laws.proofs.Promise.{promise}
 use Rattle.journal_laws.specs.Worlds.{empty_logs, shard_at, logs_now}
 use Rattle.journal_laws.proofs.Running.{runs_fit}
 use Rattle.journal_laws.proofs.Steadily.{steady_is_legal, empty_count, empty_fits, empty_logs_may_be_opened, run_events_is_legal}

@@ -27,14 +27,14 @@ use Rattle.shard_laws.specs.OneShard.{found_asked, map_found, place}
 use Rattle.shard_laws.proofs.Acting.{chosen_act}
 use Rattle.history_laws.proofs.Cutting.{cut_above}
 use Rattle.fate_laws.specs.Members.{is_member}
-use Rattle.fate_laws.proofs.Deciding.{commits_are_members}
+use Rattle.fate_laws.proofs.Homes.DecidedStaysDecided.{commits_are_members}
 use Rattle.history_laws.proofs.Doubts.{doubted_is_old}
 use Rattle.history_laws.proofs.Offers.{OffersBy, Offers, offered}
 use Rattle.fate_laws.specs.Leading.{deeds_before, with_found, requests_of}
 use Rattle.headline_laws.specs.Shares.{LiesIn, share_of}
-use Rattle.headline_laws.proofs.Members.{chosen, Chosen, of_chosen, is_chosen}
-use Rattle.headline_laws.proofs.Replaying.{leads, fronts, left_is, may_choose, writers_chosen}
-use Rattle.headline_laws.proofs.Found.{members_are_found}
+use Rattle.headline_laws.proofs.MembersReplayWhereHere.WhoIsAMember.{chosen, Chosen, of_chosen, is_chosen}
+use Rattle.headline_laws.proofs.MembersReplayWhereHere.{leads, fronts, left_is, may_choose, writers_chosen}
+use Rattle.headline_laws.proofs.MembersReplay.{members_are_found}
 use Rattle.crash_laws.specs.Acts.{Act, act_of, with_act, acts, member_acts}
 use Rattle.crash_laws.proofs.Lists.{filter_map_is, filter_where, all_of_map}
 use Rattle.crash_laws.proofs.Telling.{told, deeds_are_acts}

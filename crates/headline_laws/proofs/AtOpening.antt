@@ -1,0 +1,4 @@
+-- What the logs that shards found at opening tell.
+pub mod RecordedAreCommittedOrDoubted
+pub mod EarlierOnesStoodThere
+pub mod DoubtedStayKnown
