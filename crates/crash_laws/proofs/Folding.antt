@@ -29,8 +29,8 @@ use Rattle.law_base.proofs.Lists.{all_mono, all_filter}
 use Rattle.law_base.proofs.Sets.{same_flip}
 use Rattle.history_laws.specs.Continuing.{serial_left}
 use Rattle.shard_laws.specs.OneShard.{items_of, ops_by, answers_by, place, found_asked}
-use Rattle.shard_laws.proofs.Serial.{Once, once_filter, serial_of}
-use Rattle.shard_laws.proofs.Histories.{held}
+use Rattle.shard_laws.proofs.Cuts.MembersRunSerially.{Once, once_filter, serial_of}
+use Rattle.shard_laws.proofs.AnswersAndMap.{held}
 use Rattle.history_laws.specs.Places.{transactions_of, StandsBefore}
 use Rattle.fate_laws.specs.Members.{is_member}
 use Rattle.fate_laws.specs.Leading.{requests_of}

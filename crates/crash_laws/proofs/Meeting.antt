@@ -20,8 +20,8 @@ use Rattle.history_laws.specs.Openings.{LegalFrom}
 use Rattle.history_laws.specs.Continuing.{serial_left}
 use Rattle.law_base.specs.Items.{Item, AllLater, Clash}
 use Rattle.shard_laws.specs.OneShard.{found_asked, place}
-use Rattle.shard_laws.proofs.Serial.{in_kept}
-use Rattle.shard_laws.proofs.Leaving.{in_more}
+use Rattle.shard_laws.proofs.Cuts.MembersRunSerially.{in_kept}
+use Rattle.shard_laws.proofs.Keeping.LeavingKeeps.{in_more}
 use Rattle.history_laws.specs.Places.{transactions_of, StandsBefore}
 use Rattle.history_laws.proofs.Placing.{placed_before}
 use Rattle.fate_laws.specs.Leading.{deeds_before, requests_of}

@@ -24,7 +24,7 @@ use Rattle.law_base.specs.Items.{Item, Runs, after, AllLater, Clash}
 use Rattle.law_base.proofs.Lists.{all_mono, filters_swap, all_filter}
 use Rattle.law_base.proofs.Running.{fold_writers}
 use Rattle.shard_laws.specs.OneShard.{found_asked, map_found, place}
-use Rattle.shard_laws.proofs.Acting.{chosen_act}
+use Rattle.shard_laws.proofs.ChosenAct.{chosen_act}
 use Rattle.history_laws.proofs.Cutting.{cut_above}
 use Rattle.fate_laws.specs.Members.{is_member}
 use Rattle.fate_laws.proofs.Homes.DecidedStaysDecided.{commits_are_members}

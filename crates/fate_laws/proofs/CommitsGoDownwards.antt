@@ -27,8 +27,8 @@ use Rattle.clv_base.specs.Journals.{History, up_to_restart}
 use Rattle.law_base.proofs.Tables.{is_pair, pair_in, in_pair}
 use Rattle.law_base.proofs.Sets.{list_all_at}
 use Rattle.history_laws.specs.Openings.{LegalFrom}
-use Rattle.shard_laws.proofs.Sound.{agreed_before}
-use Rattle.shard_laws.proofs.Relisting.{pair_of}
+use Rattle.shard_laws.proofs.Events.DueKeeps.{agreed_before}
+use Rattle.shard_laws.proofs.Restarts.RestoredRequestsAndPairs.{pair_of}
 use Rattle.history_cases.proofs.Stepping.{Due, commits, votes, rules, KeptByDue, settled, Step, Happens, finishes, stops}
 use Rattle.history_cases.proofs.Entering.{Makes, by_event, by_flush, by_failure, by_restart, makes}
 use Rattle.history_cases.proofs.Merging.{Placed}

@@ -5,7 +5,7 @@ use Rattle.clv_base.specs.LogRules.{log_of, disorder}
 use Rattle.clv_base.specs.Restarts.{run_after}
 use Rattle.clv_base.specs.Journals.{final_of}
 use Rattle.protocol_laws.proofs.LogsInOrder.{fronts_in_order}
-use Rattle.shard_laws.proofs.OrderKept.{order_is_kept}
+use Rattle.shard_laws.proofs.OrderIsKept.{order_is_kept}
 use Rattle.fate_laws.specs.Leading.{deeds_before, with_found}
 use Rattle.fate_laws.specs.Ordering.{LogsLeftAreInOrder}
 use Rattle.fate_laws.proofs.EachShardLeads.{each_shard_leads}

@@ -8,7 +8,7 @@ use Rattle.clv_base.specs.State.{Shard}
 use Rattle.clv_base.specs.Restarts.{run_after, log_left}
 use Rattle.clv_base.specs.Journals.{final_of}
 use Rattle.clv_base.specs.History.{IsQuiet}
-use Rattle.shard_laws.proofs.Settled.{quiet_is_settled}
+use Rattle.shard_laws.proofs.QuietIsSettled.{quiet_is_settled}
 use Rattle.fate_laws.specs.Leading.{deeds_before, with_found}
 use Rattle.fate_laws.specs.Settling.{QuietShardsAreTheirMaps}
 use Rattle.fate_laws.proofs.EachShardLeads.{each_shard_leads}

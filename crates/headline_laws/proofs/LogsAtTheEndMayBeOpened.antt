@@ -19,10 +19,10 @@ use Rattle.clv_base.specs.History.{Member, logs_left, request_of, acknowledged_i
 use Rattle.law_base.proofs.Commits.{parts_keep}
 use Rattle.protocol_laws.proofs.Records.{committed_there}
 use Rattle.history_laws.specs.Openings.{LegalFrom}
-use Rattle.shard_laws.proofs.Following.{Follows, to_disorder, follows_take, greatest_front}
-use Rattle.shard_laws.proofs.Histories.{held}
-use Rattle.shard_laws.proofs.Listing.{order_of}
-use Rattle.shard_laws.proofs.Renewing.{Fine}
+use Rattle.shard_laws.proofs.Order.RecordByRecord.{Follows, to_disorder, follows_take, greatest_front}
+use Rattle.shard_laws.proofs.AnswersAndMap.{held}
+use Rattle.shard_laws.proofs.Order.WritesLieOnListed.{order_of}
+use Rattle.shard_laws.proofs.Restarts.RestartsKeepOrder.{Fine}
 use Rattle.history_cases.proofs.Merging.{Placed}
 use Rattle.history_laws.proofs.Serials.{member_at}
 use Rattle.history_laws.proofs.Passing.{logs_left_pass, left_length}

@@ -25,9 +25,9 @@ use Rattle.history_cases.proofs.Durability.{Fronts, fronts_entries, opened_count
 use Rattle.history_laws.proofs.Found.{log_found}
 use Rattle.history_laws.proofs.Staying.{walker_of, log_now}
 use Rattle.shard_laws.specs.OneShard.{Leads, MayChoose, Passes, ops_by, answers_by, found_items, found_asked, map_found}
-use Rattle.shard_laws.proofs.Changes.{wrote_append}
-use Rattle.shard_laws.proofs.Leaving.{in_more}
-use Rattle.shard_laws.proofs.Splitting.{later_replay}
+use Rattle.shard_laws.proofs.Keeping.RecordsAndFrontsKeep.{wrote_append}
+use Rattle.shard_laws.proofs.Keeping.LeavingKeeps.{in_more}
+use Rattle.shard_laws.proofs.LaterReplay.{later_replay}
 use Rattle.history_laws.proofs.Cutting.{cut_above}
 use Rattle.fate_laws.specs.Members.{is_member}
 use Rattle.fate_laws.proofs.Homes.DecidedStaysDecided.{commits_are_members, left_committed}

@@ -20,9 +20,9 @@ use Rattle.law_base.proofs.Sets.{in_filter}
 use Rattle.history_laws.specs.Openings.{LegalFrom}
 use Rattle.history_laws.proofs.Found.{log_found}
 use Rattle.shard_laws.specs.OneShard.{Deeds, MayChoose, has_met, place, found_asked, found_met}
-use Rattle.shard_laws.proofs.Choosing.{chosen_stand_before}
-use Rattle.shard_laws.proofs.Leaving.{in_more}
-use Rattle.shard_laws.proofs.Serial.{in_kept}
+use Rattle.shard_laws.proofs.ChosenReplay.{chosen_stand_before}
+use Rattle.shard_laws.proofs.Keeping.LeavingKeeps.{in_more}
+use Rattle.shard_laws.proofs.Cuts.MembersRunSerially.{in_kept}
 use Rattle.history_laws.specs.Places.{transactions_of, StandsBefore}
 use Rattle.history_laws.proofs.Placing.{placed_before}
 use Rattle.history_laws.proofs.Cutting.{cut_above}

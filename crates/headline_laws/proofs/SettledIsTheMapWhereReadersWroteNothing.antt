@@ -28,13 +28,13 @@ use Rattle.law_base.proofs.Rows.{rows_get}
 use Rattle.law_base.proofs.Tables.{stage_by}
 use Rattle.law_base.proofs.Running.{fold_writers}
 use Rattle.history_laws.specs.Openings.{LegalFrom}
-use Rattle.shard_laws.proofs.Doubting.{prepared_cut}
+use Rattle.shard_laws.proofs.Cuts.WhoIsInDoubt.{prepared_cut}
 use Rattle.shard_laws.specs.OneShard.{Deeds, Leads}
-use Rattle.shard_laws.proofs.Histories.{held}
-use Rattle.shard_laws.proofs.Kept.{view_of, Wrote}
-use Rattle.shard_laws.proofs.Listing.{order_of, prepared_wrote, wrote_stands}
-use Rattle.shard_laws.proofs.Renewing.{writer_wrote}
-use Rattle.shard_laws.proofs.Settled.{writer_committed}
+use Rattle.shard_laws.proofs.AnswersAndMap.{held}
+use Rattle.shard_laws.proofs.Keeping.WhatOneShardKeeps.{view_of, Wrote}
+use Rattle.shard_laws.proofs.Order.WritesLieOnListed.{order_of, prepared_wrote, wrote_stands}
+use Rattle.shard_laws.proofs.Restarts.RestartsKeepOrder.{writer_wrote}
+use Rattle.shard_laws.proofs.QuietIsSettled.{writer_committed}
 use Rattle.history_laws.proofs.Passing.{logs_left_pass, left_length}
 use Rattle.history_laws.proofs.Doubts.{doubt_prepared, doubt_undecided}
 use Rattle.fate_laws.proofs.History.EntriesInTurn.{Requested}

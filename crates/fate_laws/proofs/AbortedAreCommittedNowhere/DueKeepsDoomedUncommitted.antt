@@ -27,7 +27,7 @@ use Rattle.clv_base.proofs.SameNames.{tx_true}
 use Rattle.law_base.proofs.Changed.{none_some, get_set}
 use Rattle.law_base.proofs.Tables.{stage_in}
 use Rattle.law_base.proofs.Stages.{stage_own, stage_other, gone_by}
-use Rattle.shard_laws.proofs.Sound.{waiting_here}
+use Rattle.shard_laws.proofs.Events.DueKeeps.{waiting_here}
 use Rattle.law_base.proofs.Sets.{in_filter}
 use Rattle.law_base.proofs.Successors.{through_all}
 use Rattle.history_cases.proofs.Stepping.{commits, votes, rules, KeptByDue}

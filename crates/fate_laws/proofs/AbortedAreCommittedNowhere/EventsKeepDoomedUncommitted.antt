@@ -38,7 +38,7 @@ use Rattle.clv_base.proofs.SameNames.{tx_true, tx_self}
 use Rattle.law_base.proofs.Changed.{some_same, get_set}
 use Rattle.law_base.proofs.Tables.{stage_by, stage_in, get_put}
 use Rattle.law_base.proofs.Stages.{stage_closed, closed_other, written_parts, stage_marked, other_part}
-use Rattle.shard_laws.proofs.Restoring.{restored_stage}
+use Rattle.shard_laws.proofs.Restarts.RestoredLocksAndParts.{restored_stage}
 use Rattle.history_laws.proofs.Replying.{OpIs, dies, rolls, performs, reply_is}
 use Rattle.history_cases.proofs.Stepping.{settled, Step, op_dies, op_answers, request_new, request_closes, drops, prepare_closes, vote_counts, decision_comes, done_counts, Happens, finishes, stops}
 use Rattle.history_cases.proofs.Entering.{Makes, by_event, by_flush, by_failure, by_restart}

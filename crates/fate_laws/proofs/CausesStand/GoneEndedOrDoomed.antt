@@ -32,7 +32,7 @@ use Rattle.law_base.proofs.Sets.{in_filter}
 use Rattle.protocol_laws.specs.UndoLaws.{IsClosed}
 use Rattle.protocol_laws.proofs.Laws.{doomed_is_closure}
 use Rattle.law_base.proofs.Stages.{gone_by, stage_own, stage_other}
-use Rattle.shard_laws.proofs.Sound.{waiting_here}
+use Rattle.shard_laws.proofs.Events.DueKeeps.{waiting_here}
 use Rattle.history_cases.proofs.Stepping.{commits, votes, rules, KeptByDue, settled}
 use Rattle.fate_laws.proofs.CausesStand.TakenVotesAreOfParts.{VotesFit, no_in}
 use Rattle.fate_laws.proofs.CausesStand.NoneRefusedAtRest.{Unopposed}

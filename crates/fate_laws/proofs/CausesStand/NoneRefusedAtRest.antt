@@ -18,7 +18,7 @@ use Rattle.clv_base.specs.Due.{or_else, rule, request_due, due_of, first_due, kn
 use Rattle.clv_base.proofs.SameNames.{tx_true}
 use Rattle.law_base.proofs.Changed.{none_some}
 use Rattle.law_base.proofs.Sets.{union_right}
-use Rattle.shard_laws.proofs.Sound.{waiting_here}
+use Rattle.shard_laws.proofs.Events.DueKeeps.{waiting_here}
 use Rattle.fate_laws.proofs.CausesStand.TakenVotesAreOfParts.{VotesFit, all_good}
 use Rattle.law_base.proofs.Names.{has_key}
 

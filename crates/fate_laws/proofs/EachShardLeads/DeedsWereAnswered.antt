@@ -28,8 +28,8 @@ use Rattle.law_base.proofs.Rows.{rows_get}
 use Rattle.law_base.proofs.Sets.{in_filter}
 use Rattle.law_base.proofs.Stages.{stage_of_some}
 use Rattle.shard_laws.specs.OneShard.{Deeds, with_one, new_item, new_met, has_met, is_doomed, doomed_in, left_out}
-use Rattle.shard_laws.proofs.Histories.{named_doomed}
-use Rattle.shard_laws.proofs.Leaving.{in_two}
+use Rattle.shard_laws.proofs.AnswersAndMap.{named_doomed}
+use Rattle.shard_laws.proofs.Keeping.LeavingKeeps.{in_two}
 use Rattle.history_cases.proofs.Merging.{Placed, among_right}
 use Rattle.history_laws.proofs.Adding.{one_met}
 use Rattle.fate_laws.proofs.History.EntriesInTurn.{Requested}

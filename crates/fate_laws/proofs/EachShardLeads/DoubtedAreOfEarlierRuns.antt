@@ -15,8 +15,8 @@ use Rattle.clv_base.specs.Restarts.{run_after}
 use Rattle.clv_base.proofs.SameNames.{tx_true}
 use Rattle.law_base.proofs.Lists.{all_mono}
 use Rattle.shard_laws.specs.OneShard.{Deeds, with_one, new_item, new_met, has_met, prepared_order, found_items, found_asked, found_met}
-use Rattle.shard_laws.proofs.Found.{found_doubted}
-use Rattle.shard_laws.proofs.Relisting.{pair_of}
+use Rattle.shard_laws.proofs.Restarts.FoundDoubtedActedBefore.{found_doubted}
+use Rattle.shard_laws.proofs.Restarts.RestoredRequestsAndPairs.{pair_of}
 use Rattle.fate_laws.proofs.Origins.FrontsKeepOrigins.{IsOld}
 use Rattle.fate_laws.specs.Leading.{deeds_with, with_found}
 use Rattle.history_laws.proofs.Doubts.{doubted_is_old}

@@ -28,8 +28,8 @@ use Rattle.law_base.proofs.Rows.{rows_get}
 use Rattle.protocol_laws.proofs.Records.{push_cases, push_right}
 use Rattle.protocol_laws.specs.SessionLaws.{tx_of}
 use Rattle.shard_laws.specs.OneShard.{Deeds, Leads, MayDeliver}
-use Rattle.shard_laws.proofs.Following.{Follows, from_disorder, through}
-use Rattle.shard_laws.proofs.OrderKept.{order_is_kept}
+use Rattle.shard_laws.proofs.Order.RecordByRecord.{Follows, from_disorder, through}
+use Rattle.shard_laws.proofs.OrderIsKept.{order_is_kept}
 use Rattle.history_laws.proofs.Staying.{walker_of, one_request}
 use Rattle.fate_laws.proofs.History.EntriesInTurn.{Requested}
 use Rattle.fate_laws.proofs.Origins.DueKeepsOrigins.{OwnRequest, RowFrom, RecordFrom, AllFrom}

@@ -22,7 +22,7 @@ use Rattle.law_base.specs.Items.{Item}
 use Rattle.law_base.proofs.Rows.{rows_get}
 use Rattle.protocol_laws.specs.SessionLaws.{tx_of}
 use Rattle.shard_laws.specs.OneShard.{Deeds, items_of, has_met, MayTouch, MayAsk}
-use Rattle.shard_laws.proofs.Leaving.{in_two}
+use Rattle.shard_laws.proofs.Keeping.LeavingKeeps.{in_two}
 use Rattle.history_laws.proofs.Staying.{walker_of}
 use Rattle.history_laws.proofs.Walking.{Behind}
 use Rattle.fate_laws.proofs.History.EntriesInTurn.{Requested, turn_of, same_epoch, op_no_request, request_no_request}

@@ -31,9 +31,9 @@ use Rattle.law_base.proofs.Commits.{durable_committed}
 use Rattle.history_laws.proofs.Serials.{committed_front}
 use Rattle.history_cases.proofs.Stepping.{Due, commits, votes, rules, KeptByDue, settled}
 use Rattle.history_cases.proofs.Uncommitting.{rolled as rolled_commits, with_more}
-use Rattle.shard_laws.proofs.Sound.{waiting_here}
-use Rattle.shard_laws.proofs.Ordered.{prepare_some}
-use Rattle.shard_laws.proofs.Leaving.{no_write_aborts, no_write_clrs}
+use Rattle.shard_laws.proofs.Events.DueKeeps.{waiting_here}
+use Rattle.shard_laws.proofs.Order.ChangesKeepOrder.{prepare_some}
+use Rattle.shard_laws.proofs.Keeping.LeavingKeeps.{no_write_aborts, no_write_clrs}
 use Rattle.fate_laws.proofs.Homes.ShardKnowsHomes.{set_there, new_commit}
 use Rattle.fate_laws.proofs.Logs.LogOnlyGrows.{inside_self, inside_due}
 use Rattle.fate_laws.proofs.Parts.CommittedAreVotedFor.{commit_agreed, abort_undecided}

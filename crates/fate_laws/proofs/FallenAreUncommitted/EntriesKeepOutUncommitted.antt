@@ -42,9 +42,9 @@ use Rattle.law_base.proofs.Tables.{stage_in}
 use Rattle.protocol_laws.proofs.Growing.{chain}
 use Rattle.protocol_laws.specs.Growth.{IsPrefixOf}
 use Rattle.law_base.proofs.LockRows.{Rows}
-use Rattle.shard_laws.proofs.Restoring.{restored_closed, restored_stage, restored_none}
-use Rattle.shard_laws.proofs.Writers.{writers_restored}
-use Rattle.shard_laws.proofs.Ordered.{prepare_some}
+use Rattle.shard_laws.proofs.Restarts.RestoredLocksAndParts.{restored_closed, restored_stage, restored_none}
+use Rattle.shard_laws.proofs.Operations.HoldersOfXWrote.{writers_restored}
+use Rattle.shard_laws.proofs.Order.ChangesKeepOrder.{prepare_some}
 use Rattle.std.proofs.Common.{◌≡◌, ◌⊎◌, inl, inr, ⊎_elim, refl, sym, ap, subst, ◌∙◌, ℕ, ◌≤◌, true, false, Bool, List, [], ◌++◌, take, length, Some, arith}
 use Rattle.std.proofs.lemmas.Bool.{both_ways, false_from_ne_true}
 use Rattle.std.proofs.lemmas.List.{take-take, take_all, take-append-drop}

@@ -44,8 +44,8 @@ use Rattle.history_laws.specs.Openings.{LegalFrom}
 use Rattle.history_laws.proofs.Found.{log_found}
 use Rattle.history_laws.proofs.Staying.{walker_of}
 use Rattle.history_cases.proofs.TellingEvents.{front_committed}
-use Rattle.shard_laws.proofs.Restoring.{restored_closed}
-use Rattle.shard_laws.proofs.Ordered.{prepare_some}
+use Rattle.shard_laws.proofs.Restarts.RestoredLocksAndParts.{restored_closed}
+use Rattle.shard_laws.proofs.Order.ChangesKeepOrder.{prepare_some}
 use Rattle.history_laws.proofs.Replying.{OpIs, waits, no_room, dies, rolls, performs, reply_is}
 use Rattle.history_laws.proofs.Walking.{Behind, next_entry}
 use Rattle.fate_laws.proofs.History.EntriesInTurn.{Requested, same_epoch, turn_of}

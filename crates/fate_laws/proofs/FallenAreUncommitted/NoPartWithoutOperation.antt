@@ -34,8 +34,8 @@ use Rattle.history_cases.proofs.Merging.{Placed, Among, among_left, among_right}
 use Rattle.history_cases.proofs.Worlds.{state_at}
 use Rattle.law_base.proofs.Stages.{closed_other, stage_own, stage_other, gone_by, stage_marked}
 use Rattle.history_laws.specs.Openings.{LegalFrom}
-use Rattle.shard_laws.proofs.Restoring.{restored_none}
-use Rattle.shard_laws.proofs.Ordered.{prepare_some}
+use Rattle.shard_laws.proofs.Restarts.RestoredLocksAndParts.{restored_none}
+use Rattle.shard_laws.proofs.Order.ChangesKeepOrder.{prepare_some}
 use Rattle.history_laws.proofs.Replying.{OpIs, dies, rolls, performs, reply_is}
 use Rattle.fate_laws.proofs.Origins.FrontsKeepOrigins.{traced_front}
 use Rattle.fate_laws.proofs.History.EntryByEntry.{Next, next_at, stays_as_it_was, asked_later}

@@ -21,7 +21,7 @@ use Rattle.protocol_laws.specs.Growth.{IsPrefixOf}
 use Rattle.history_laws.proofs.Serials.{committed_front}
 use Rattle.history_cases.proofs.Uncommitting.{rolled as rolled_commits}
 use Rattle.law_base.proofs.Stages.{absent_go, own_go, stage_other}
-use Rattle.shard_laws.proofs.Ordered.{prepare_some}
+use Rattle.shard_laws.proofs.Order.ChangesKeepOrder.{prepare_some}
 use Rattle.fate_laws.proofs.Homes.ShardKnowsHomes.{still_not}
 use Rattle.fate_laws.proofs.Logs.LogOnlyGrows.{Inside}
 use Rattle.fate_laws.proofs.Logs.WhatAddsNoPrepare.{prepare_more}

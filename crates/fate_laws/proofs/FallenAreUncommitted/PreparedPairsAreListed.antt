@@ -23,9 +23,9 @@ use Rattle.law_base.proofs.Commits.{committed_keeps, committed_append}
 use Rattle.law_base.proofs.Tables.{stage_by, stage_in, is_pair, pair_in, in_pair, without_pairs, add_from, insert_from}
 use Rattle.law_base.proofs.Sets.{in_filter, filter_in}
 use Rattle.law_base.proofs.LockRows.{Rows, violated_row}
-use Rattle.shard_laws.proofs.Writers.{Writers, writers_more, writers_all, writers_insert, writers_close, writers_release, needs_write, violated_wrote}
-use Rattle.shard_laws.proofs.Prepared.{prepared_append, prepare_here}
-use Rattle.shard_laws.proofs.Changes.{wrote_keeps, wrote_append}
+use Rattle.shard_laws.proofs.Operations.HoldersOfXWrote.{Writers, writers_more, writers_all, writers_insert, writers_close, writers_release, needs_write, violated_wrote}
+use Rattle.shard_laws.proofs.Keeping.ChangesKeepPrepared.{prepared_append, prepare_here}
+use Rattle.shard_laws.proofs.Keeping.RecordsAndFrontsKeep.{wrote_keeps, wrote_append}
 use Rattle.law_base.proofs.Stages.{stage_closed, closed_other, closed_back, active_back, other_part}
 use Rattle.fate_laws.proofs.Logs.WhatAddsNoPrepare.{prepare_from, prepare_new}
 use Rattle.fate_laws.proofs.Logs.WhatPreparesOrCommits.{new_active}

@@ -16,8 +16,8 @@ use Rattle.clv_base.proofs.SameNames.{tx_true, tx_self, in_insert, insert_has}
 use Rattle.law_base.proofs.Changed.{none_some, some_same}
 use Rattle.law_base.proofs.Doubts.{stays_in}
 use Rattle.history_laws.proofs.Serials.{committed_front}
-use Rattle.shard_laws.proofs.Prepared.{prepared_append}
-use Rattle.shard_laws.proofs.Following.{Follows}
+use Rattle.shard_laws.proofs.Keeping.ChangesKeepPrepared.{prepared_append}
+use Rattle.shard_laws.proofs.Order.RecordByRecord.{Follows}
 
 abbrev pub Fronts : List LogRecord → LogRecord → Type 0
 Fronts front (Prepare tx home ps) = (prepared_in front tx ≡ false) × ((q : TxId) → tx_in q ps ≡ true → (prepared_in front q ≡ true) ⊎ (committed_in front q ≡ true))

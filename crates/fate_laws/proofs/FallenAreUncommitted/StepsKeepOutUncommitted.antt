@@ -33,7 +33,7 @@ use Rattle.clv_base.specs.OneShard.{op_reply, OpAnswers, active_part, new_part, 
 use Rattle.protocol_laws.proofs.Growing.{same, more_twice}
 use Rattle.history_cases.proofs.Stepping.{Step}
 use Rattle.law_base.proofs.LockRows.{Rows}
-use Rattle.shard_laws.proofs.Ordered.{prepare_some}
+use Rattle.shard_laws.proofs.Order.ChangesKeepOrder.{prepare_some}
 use Rattle.history_laws.proofs.Replying.{OpIs, performs}
 use Rattle.fate_laws.proofs.Logs.LogOnlyGrows.{inside_step}
 use Rattle.fate_laws.proofs.Logs.WhatPreparesOrCommits.{Commits, alone, decided, step_commits}

@@ -26,7 +26,7 @@ use Rattle.history_cases.proofs.Durability.{Counted, framed_finish}
 use Rattle.fate_laws.proofs.Logs.LogOnlyGrows.{inside_self, inside_step}
 use Rattle.fate_laws.proofs.Homes.ShardKnowsHomes.{Dead, Tells, Alone, Opens, Homed, words_on, Starts, homed_finish}
 use Rattle.fate_laws.proofs.Homes.EventsKeepHomes.{Owes, homed_step, homed_revived}
-use Rattle.shard_laws.proofs.Cutting.{taken_there}
+use Rattle.shard_laws.proofs.Cuts.WhatCutsHold.{taken_there}
 
 -- ---- more is known
 

@@ -35,8 +35,8 @@ use Rattle.law_base.proofs.Rows.{rows_get, rows_put}
 use Rattle.law_base.proofs.Tables.{get_put}
 use Rattle.law_base.proofs.Commits.{commit_durable, place_some}
 use Rattle.law_base.proofs.Lists.{all_mono, all_append, all_of}
-use Rattle.shard_laws.proofs.Sound.{waiting_here}
-use Rattle.shard_laws.proofs.Ordered.{prepare_some}
+use Rattle.shard_laws.proofs.Events.DueKeeps.{waiting_here}
+use Rattle.shard_laws.proofs.Order.ChangesKeepOrder.{prepare_some}
 use Rattle.law_base.proofs.Sets.{in_filter}
 use Rattle.history_cases.proofs.Stepping.{Step, op_dies, op_answers, request_new, request_closes, drops, sends, prepare_closes, prepare_again, vote_counts, decision_comes, decision_again, done_counts, asked, reminds, flushes}
 use Rattle.history_cases.proofs.Uncommitting.{with_more, rolled, dropped, op_dying, op_answering, restarts_add, opening_adds}

@@ -9,8 +9,8 @@ use Rattle.clv_base.specs.declared.logs.LogRecord.TheVariants.{Abort, Restart}
 use Rattle.clv_base.specs.Logs.{standing, wrote_in, aborted_in}
 use Rattle.clv_base.specs.Undo.{clrs_of}
 use Rattle.clv_base.specs.Restarts.{losers, undo_records, restart_records}
-use Rattle.shard_laws.proofs.Changes.{wrote_keeps, wrote_append}
-use Rattle.shard_laws.proofs.Leaving.{no_write_aborts, no_write_clrs}
+use Rattle.shard_laws.proofs.Keeping.RecordsAndFrontsKeep.{wrote_keeps, wrote_append}
+use Rattle.shard_laws.proofs.Keeping.LeavingKeeps.{no_write_aborts, no_write_clrs}
 use Rattle.protocol_laws.specs.Growth.{IsPrefixOf}
 
 pub restart_writes_none : (shard : ℕ) (log : List LogRecord) (run epoch : ℕ) (t : TxId) → wrote_in (restart_records shard log run epoch) t ≡ false

@@ -42,12 +42,12 @@ use Rattle.law_base.proofs.Sets.{filter_in}
 use Rattle.law_base.proofs.Stages.{written_parts}
 use Rattle.protocol_laws.specs.Growth.{IsPrefixOf}
 use Rattle.protocol_laws.proofs.Growing.{chain, more}
-use Rattle.shard_laws.proofs.Doubting.{prepared_cut}
-use Rattle.shard_laws.proofs.Following.{Follows}
-use Rattle.shard_laws.proofs.Leaving.{no_prepares}
-use Rattle.shard_laws.proofs.Listing.{order_of, prepared_wrote, wrote_stands}
-use Rattle.shard_laws.proofs.Prepared.{prepared_append, prepared_from}
-use Rattle.shard_laws.proofs.Rebuilding.{none_prepare, plain_restart}
+use Rattle.shard_laws.proofs.Cuts.WhoIsInDoubt.{prepared_cut}
+use Rattle.shard_laws.proofs.Order.RecordByRecord.{Follows}
+use Rattle.shard_laws.proofs.Keeping.LeavingKeeps.{no_prepares}
+use Rattle.shard_laws.proofs.Order.WritesLieOnListed.{order_of, prepared_wrote, wrote_stands}
+use Rattle.shard_laws.proofs.Keeping.ChangesKeepPrepared.{prepared_append, prepared_from}
+use Rattle.shard_laws.proofs.Restarts.WinnersKeepTheirWrites.{none_prepare, plain_restart}
 use Rattle.history_laws.proofs.Serials.{committed_front}
 use Rattle.history_cases.proofs.Stepping.{commits, votes, rules, KeptByDue, settled, with_work, Step, op_dies, op_answers, request_refused, request_doomed, request_again, request_closes, looks_well, looks_ill, drops, prepare_closes, decision_comes, Happens, finishes, stops}
 use Rattle.history_laws.proofs.Replying.{OpIs, dies, rolls, performs, reply_is}

@@ -41,7 +41,7 @@ use Rattle.law_base.proofs.Lists.{all_mono, all_append, all_kept, all_of, all_ta
 use Rattle.law_base.proofs.Rows.{rows_get, rows_put}
 use Rattle.law_base.proofs.Tables.{get_changed, get_put}
 use Rattle.law_base.proofs.Stages.{written_parts}
-use Rattle.shard_laws.proofs.Sound.{waiting_here}
+use Rattle.shard_laws.proofs.Events.DueKeeps.{waiting_here}
 use Rattle.history_cases.proofs.Stepping.{with_work, Step, op_dies, op_answers, request_new, request_closes, drops, sends, prepare_closes, prepare_again, vote_counts, decision_comes, decision_again, done_counts, asked, reminds, flushes, Happens, finishes, stops}
 use Rattle.history_cases.proofs.Telling.{all_map}
 use Rattle.history_laws.proofs.Replying.{OpIs, dies, rolls, performs, reply_is}

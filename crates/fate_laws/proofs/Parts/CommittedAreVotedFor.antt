@@ -29,8 +29,8 @@ use Rattle.law_base.proofs.Changed.{none_some, some_same}
 use Rattle.law_base.proofs.Commits.{commit_durable, durable_keeps, place_keeps, place_some, place_less, place_there, place_new}
 use Rattle.law_base.proofs.Tables.{is_pair, in_pair}
 use Rattle.law_base.proofs.Lists.{all_mono}
-use Rattle.shard_laws.proofs.Prepared.{prepare_here}
-use Rattle.shard_laws.proofs.Ordered.{prepare_some}
+use Rattle.shard_laws.proofs.Keeping.ChangesKeepPrepared.{prepare_here}
+use Rattle.shard_laws.proofs.Order.ChangesKeepOrder.{prepare_some}
 use Rattle.clv_base.proofs.SameNames.{tx_self}
 use Rattle.protocol_laws.specs.Growth.{IsPrefixOf}
 use Rattle.law_base.proofs.Sets.{in_filter}

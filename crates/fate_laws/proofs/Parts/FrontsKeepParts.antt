@@ -60,7 +60,7 @@ use Rattle.fate_laws.proofs.Parts.RestartsKeepParts.{parted_state, parted_revive
 use Rattle.fate_laws.proofs.Parts.FoundCommitsAreBound.{ordered_opening, opening_settled}
 use Rattle.fate_laws.proofs.Parts.BoundStaysBound.{NotOwn, bound_flushed, bound_made, reads_made}
 use Rattle.protocol_laws.proofs.Records.{prepared_there}
-use Rattle.shard_laws.proofs.Ordered.{prepare_some}
+use Rattle.shard_laws.proofs.Order.ChangesKeepOrder.{prepare_some}
 
 -- ---- more is known
 

@@ -20,10 +20,10 @@ use Rattle.law_base.proofs.Tables.{is_pair}
 use Rattle.law_base.proofs.Changed.{some_same}
 use Rattle.protocol_laws.specs.Growth.{IsPrefixOf}
 use Rattle.law_base.proofs.Sets.{in_filter, filter_in}
-use Rattle.shard_laws.proofs.Restoring.{restored_stage}
-use Rattle.shard_laws.proofs.Refalling.{all_durable}
-use Rattle.shard_laws.proofs.Ordered.{prepare_some}
-use Rattle.shard_laws.proofs.Relisting.{pair_append}
+use Rattle.shard_laws.proofs.Restarts.RestoredLocksAndParts.{restored_stage}
+use Rattle.shard_laws.proofs.Restarts.UnrestoredFell.{all_durable}
+use Rattle.shard_laws.proofs.Order.ChangesKeepOrder.{prepare_some}
+use Rattle.shard_laws.proofs.Restarts.RestoredRequestsAndPairs.{pair_append}
 use Rattle.history_cases.proofs.Telling.{all_map}
 use Rattle.history_cases.proofs.TellingEvents.{front_committed}
 use Rattle.history_cases.proofs.Durability.{restarts_front}

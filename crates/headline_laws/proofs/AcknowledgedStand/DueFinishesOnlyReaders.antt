@@ -28,7 +28,7 @@ use Rattle.clv_base.proofs.SameNames.{tx_self}
 use Rattle.law_base.proofs.Changed.{none_some, Set_or_old, get_set}
 use Rattle.protocol_laws.specs.Growth.{IsPrefixOf}
 use Rattle.law_base.proofs.Stages.{gone_by, stage_own}
-use Rattle.shard_laws.proofs.Ordered.{prepare_some}
+use Rattle.shard_laws.proofs.Order.ChangesKeepOrder.{prepare_some}
 use Rattle.history_cases.proofs.Stepping.{Due, commits, votes, rules, KeptByDue, settled}
 use Rattle.fate_laws.proofs.Parts.OthersOnlyCloseOrGo.{due_closed, due_prepares}
 use Rattle.fate_laws.proofs.Logs.LogOnlyGrows.{inside_self, inside_due}

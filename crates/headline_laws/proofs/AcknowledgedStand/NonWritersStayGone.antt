@@ -36,13 +36,13 @@ use Rattle.law_base.proofs.Commits.{committed_append}
 use Rattle.law_base.proofs.Tables.{stage_by, stage_in}
 use Rattle.law_base.proofs.Sets.{in_filter}
 use Rattle.shard_laws.specs.OneShard.{is_doomed}
-use Rattle.shard_laws.proofs.Changes.{wrote_append}
+use Rattle.shard_laws.proofs.Keeping.RecordsAndFrontsKeep.{wrote_append}
 use Rattle.law_base.proofs.Stages.{closed_other, other_part, gone_by, stage_own, stage_other, stage_marked}
-use Rattle.shard_laws.proofs.Leaving.{no_write_aborts, no_write_clrs}
-use Rattle.shard_laws.proofs.Prepared.{prepared_append}
-use Rattle.shard_laws.proofs.Restoring.{restored_none}
-use Rattle.shard_laws.proofs.Sound.{waiting_here}
-use Rattle.shard_laws.proofs.Ordered.{prepare_some}
+use Rattle.shard_laws.proofs.Keeping.LeavingKeeps.{no_write_aborts, no_write_clrs}
+use Rattle.shard_laws.proofs.Keeping.ChangesKeepPrepared.{prepared_append}
+use Rattle.shard_laws.proofs.Restarts.RestoredLocksAndParts.{restored_none}
+use Rattle.shard_laws.proofs.Events.DueKeeps.{waiting_here}
+use Rattle.shard_laws.proofs.Order.ChangesKeepOrder.{prepare_some}
 use Rattle.history_laws.proofs.Replying.{OpIs, dies, rolls, performs, reply_is}
 use Rattle.history_cases.proofs.Stepping.{Due, commits, votes, rules, settled, Step, op_dies, op_answers, request_closes, drops, prepare_closes, decision_comes, finishes, stops}
 use Rattle.history_cases.proofs.Entering.{Makes, by_event, by_flush, by_failure, by_restart}

@@ -28,7 +28,7 @@ use Rattle.headline_laws.proofs.SharesAreMaps.{somewhere_at}
 use Rattle.headline_laws.proofs.AtOpening.EarlierOnesStoodThere.{left_begins}
 use Rattle.history_laws.proofs.Doubts.{doubt_prepared, doubt_undecided, doubted_is_old}
 use Rattle.protocol_laws.proofs.Records.{prepared_there}
-use Rattle.shard_laws.proofs.Ordered.{prepare_some}
+use Rattle.shard_laws.proofs.Order.ChangesKeepOrder.{prepare_some}
 use Rattle.law_base.proofs.Names.{all_from}
 
 -- it is in doubt in a log that commits all that its PREPARE lists

@@ -16,8 +16,8 @@ use Rattle.law_base.proofs.Changed.{none_some, some_same}
 use Rattle.protocol_laws.specs.Growth.{IsPrefixOf}
 use Rattle.protocol_laws.proofs.Growing.{chain, more}
 use Rattle.history_laws.specs.Openings.{LegalFrom}
-use Rattle.shard_laws.proofs.Following.{Follows, Plainly, from_disorder, last_push}
-use Rattle.shard_laws.proofs.Changes.{wrote_append}
+use Rattle.shard_laws.proofs.Order.RecordByRecord.{Follows, Plainly, from_disorder, last_push}
+use Rattle.shard_laws.proofs.Keeping.RecordsAndFrontsKeep.{wrote_append}
 use Rattle.history_cases.proofs.Durability.{fronts_entries, opened_counted, left_front}
 use Rattle.history_laws.proofs.Serials.{committed_front}
 use Rattle.fate_laws.proofs.Homes.DecidedStaysDecided.{left_committed}

@@ -23,8 +23,8 @@ use Rattle.history_cases.proofs.Entering.{Makes, by_event, by_flush, by_failure,
 use Rattle.history_cases.proofs.Merging.{Placed}
 use Rattle.history_laws.proofs.Staying.{walker_of}
 use Rattle.history_cases.proofs.Worlds.{state_at}
-use Rattle.shard_laws.proofs.Restoring.{restored_none}
-use Rattle.shard_laws.proofs.Ordered.{prepare_some}
+use Rattle.shard_laws.proofs.Restarts.RestoredLocksAndParts.{restored_none}
+use Rattle.shard_laws.proofs.Order.ChangesKeepOrder.{prepare_some}
 use Rattle.fate_laws.proofs.Logs.LogOnlyGrows.{inside_self, inside_step}
 use Rattle.fate_laws.proofs.Logs.WhatAddsNoPrepare.{prepare_more}
 use Rattle.fate_laws.proofs.History.EntryByEntry.{Next, next_at, each_shard}

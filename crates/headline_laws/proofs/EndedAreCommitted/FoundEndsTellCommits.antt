@@ -15,8 +15,8 @@ use Rattle.clv_base.proofs.SameNames.{tx_true}
 use Rattle.law_base.proofs.Changed.{none_some, some_same}
 use Rattle.law_base.proofs.Commits.{committed_keeps}
 use Rattle.protocol_laws.proofs.Records.{committed_there}
-use Rattle.shard_laws.proofs.Following.{Follows, through}
-use Rattle.shard_laws.proofs.Rulings.{parts_new}
+use Rattle.shard_laws.proofs.Order.RecordByRecord.{Follows, through}
+use Rattle.shard_laws.proofs.Order.WhatRulingsMayWrite.{parts_new}
 use Rattle.history_cases.proofs.Uncommitting.{with_more}
 use Rattle.fate_laws.proofs.History.EntryByEntry.{DurableIn}
 use Rattle.fate_laws.proofs.Logs.WhatAddsNoPrepare.{plain_more, prepare_new}

@@ -39,10 +39,10 @@ use Rattle.history_cases.proofs.Entering.{Makes, by_event, by_flush, by_failure,
 use Rattle.history_laws.proofs.Serials.{committed_front}
 use Rattle.history_cases.proofs.TellingEvents.{front_committed}
 use Rattle.history_cases.proofs.Uncommitting.{NoMoreCommits, rolled as rolled_commits, with_more, op_answering, opening_adds}
-use Rattle.shard_laws.proofs.Sound.{waiting_here}
+use Rattle.shard_laws.proofs.Events.DueKeeps.{waiting_here}
 use Rattle.law_base.proofs.Stages.{closed_other, absent_go, own_go, stage_marked}
-use Rattle.shard_laws.proofs.Rebuilding.{loser_out}
-use Rattle.shard_laws.proofs.Restoring.{restored_none}
+use Rattle.shard_laws.proofs.Restarts.WinnersKeepTheirWrites.{loser_out}
+use Rattle.shard_laws.proofs.Restarts.RestoredLocksAndParts.{restored_none}
 use Rattle.history_laws.proofs.Replying.{OpIs, dies, rolls, performs, reply_is}
 use Rattle.fate_laws.proofs.Homes.ShardKnowsHomes.{still_not, new_commit}
 use Rattle.fate_laws.proofs.Homes.EventsKeepHomes.{awaits}

@@ -17,7 +17,7 @@ use Rattle.history_cases.proofs.Merging.{Placed}
 use Rattle.history_cases.proofs.Worlds.{state_at}
 use Rattle.history_laws.specs.Openings.{LegalFrom}
 use Rattle.history_laws.proofs.Found.{log_found}
-use Rattle.shard_laws.proofs.Listing.{order_of}
+use Rattle.shard_laws.proofs.Order.WritesLieOnListed.{order_of}
 use Rattle.fate_laws.proofs.Origins.DueKeepsOrigins.{AllFrom}
 use Rattle.fate_laws.proofs.Origins.FrontsKeepOrigins.{DidOrOld}
 use Rattle.fate_laws.proofs.History.EntryByEntry.{each_shard}

@@ -24,9 +24,9 @@ use Rattle.law_base.proofs.Doubts.{doubts_more}
 use Rattle.law_base.proofs.Lists.{all_taken}
 use Rattle.history_laws.proofs.Serials.{committed_front}
 use Rattle.history_cases.proofs.Uncommitting.{restarts_add as restarts_commits}
-use Rattle.shard_laws.proofs.Rebuilding.{Plain, plain_restart}
-use Rattle.shard_laws.proofs.Restoring.{restored_closed, restored_none}
-use Rattle.shard_laws.proofs.Ordered.{prepare_some}
+use Rattle.shard_laws.proofs.Restarts.WinnersKeepTheirWrites.{Plain, plain_restart}
+use Rattle.shard_laws.proofs.Restarts.RestoredLocksAndParts.{restored_closed, restored_none}
+use Rattle.shard_laws.proofs.Order.ChangesKeepOrder.{prepare_some}
 use Rattle.fate_laws.proofs.Homes.ShardKnowsHomes.{still_not}
 use Rattle.fate_laws.proofs.Logs.LogOnlyGrows.{Inside, inside_self, inside_due, inside_step}
 use Rattle.fate_laws.proofs.Logs.WhatAddsNoPrepare.{prepare_more, front_prepare, restarts_add}

@@ -12,11 +12,11 @@ use Rattle.clv_base.specs.State.{Shard}
 use Rattle.clv_base.specs.Logs.{is_update_of, is_commit_of, is_end_of, is_abort_of, wrote_in, committed_in, ended_in, aborted_in, in_doubt}
 use Rattle.clv_base.specs.Restarts.{restart_records, next_epoch, FailedRestarts, untouched, failed_first, Restarts}
 use Rattle.law_base.proofs.Lists.{all_append}
-use Rattle.shard_laws.proofs.Following.{Follows, follows_front}
-use Rattle.shard_laws.proofs.Listing.{order_of}
-use Rattle.shard_laws.proofs.Doubting.{doubted}
-use Rattle.shard_laws.proofs.Rebuilding.{of_restarts}
-use Rattle.shard_laws.proofs.Renewing.{Fine, found_self, renewed_by}
+use Rattle.shard_laws.proofs.Order.RecordByRecord.{Follows, follows_front}
+use Rattle.shard_laws.proofs.Order.WritesLieOnListed.{order_of}
+use Rattle.shard_laws.proofs.Cuts.WhoIsInDoubt.{doubted}
+use Rattle.shard_laws.proofs.Restarts.WinnersKeepTheirWrites.{of_restarts}
+use Rattle.shard_laws.proofs.Restarts.RestartsKeepOrder.{Fine, found_self, renewed_by}
 use Rattle.history_laws.proofs.Records.{Passes, restarts_pass}
 use Rattle.law_base.proofs.Logs.{IsUndo, all_take, undo_passes_none as none_of, restart_undoes}
 

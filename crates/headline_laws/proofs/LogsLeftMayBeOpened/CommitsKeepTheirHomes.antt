@@ -26,7 +26,7 @@ use Rattle.history_laws.specs.Openings.{LegalFrom}
 use Rattle.history_laws.proofs.Serials.{committed_front}
 use Rattle.history_laws.proofs.Staying.{walker_of, one_request, log_now}
 use Rattle.history_cases.proofs.Worlds.{in_a_shard}
-use Rattle.shard_laws.proofs.Following.{from_disorder}
+use Rattle.shard_laws.proofs.Order.RecordByRecord.{from_disorder}
 use Rattle.fate_laws.proofs.History.EntriesInTurn.{Requested}
 use Rattle.fate_laws.proofs.Origins.FrontsKeepOrigins.{DidOrOld, IsOld, OriginsAt, traced_front}
 use Rattle.fate_laws.specs.Decisions.{is_left}

@@ -18,8 +18,8 @@ use Rattle.protocol_laws.proofs.Records.{committed_there, prepared_there}
 use Rattle.history_cases.proofs.Uncommitting.{opening_adds}
 use Rattle.history_laws.specs.Openings.{LegalFrom}
 use Rattle.history_laws.proofs.Found.{log_found}
-use Rattle.shard_laws.proofs.Following.{Follows, from_disorder}
-use Rattle.shard_laws.proofs.Listing.{prepared_wrote}
+use Rattle.shard_laws.proofs.Order.RecordByRecord.{Follows, from_disorder}
+use Rattle.shard_laws.proofs.Order.WritesLieOnListed.{prepared_wrote}
 use Rattle.fate_laws.proofs.Homes.DecidedStaysDecided.{left_committed}
 use Rattle.fate_laws.proofs.Logs.WhatAddsNoPrepare.{prepare_more, front_prepare}
 use Rattle.fate_laws.proofs.Homes.FoundCommitsHaveHomes.{home_of}

@@ -11,8 +11,8 @@ use Rattle.clv_base.specs.LogRules.{may_follow, home_is}
 use Rattle.clv_base.proofs.SameNames.{tx_true}
 use Rattle.law_base.proofs.Commits.{committed_keeps}
 use Rattle.protocol_laws.proofs.Records.{push_cases, push_right}
-use Rattle.shard_laws.proofs.Following.{Follows, through, follows_append, since_wrote}
-use Rattle.shard_laws.proofs.Listing.{ended_committed}
+use Rattle.shard_laws.proofs.Order.RecordByRecord.{Follows, through, follows_append, since_wrote}
+use Rattle.shard_laws.proofs.Order.WritesLieOnListed.{ended_committed}
 use Rattle.fate_laws.proofs.Logs.WhatAddsNoPrepare.{prepare_from}
 use Rattle.law_base.proofs.Bools.{and_first as front, and_second as last}
 use Rattle.law_base.proofs.Logs.{push_left}

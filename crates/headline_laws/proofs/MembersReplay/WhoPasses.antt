@@ -22,8 +22,8 @@ use Rattle.history_cases.proofs.Merging.{is_among}
 use Rattle.history_laws.specs.Openings.{LegalFrom}
 use Rattle.history_laws.proofs.Staying.{walker_of}
 use Rattle.shard_laws.specs.OneShard.{Passes}
-use Rattle.shard_laws.proofs.Following.{from_disorder}
-use Rattle.shard_laws.proofs.OrderKept.{order_is_kept}
+use Rattle.shard_laws.proofs.Order.RecordByRecord.{from_disorder}
+use Rattle.shard_laws.proofs.OrderIsKept.{order_is_kept}
 use Rattle.fate_laws.proofs.History.EntriesInTurn.{Requested}
 use Rattle.fate_laws.proofs.Origins.DueKeepsOrigins.{OwnRequest}
 use Rattle.fate_laws.proofs.Origins.FrontsKeepOrigins.{DidAny, DidOrOld, IsOld, Traced, traced_front}

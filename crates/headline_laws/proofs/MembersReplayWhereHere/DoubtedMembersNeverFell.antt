@@ -10,7 +10,7 @@ use Rattle.clv_base.specs.Restarts.{run_after, log_left}
 use Rattle.clv_base.specs.Journals.{History, final_of}
 use Rattle.clv_base.specs.History.{logs_left}
 use Rattle.history_laws.specs.Openings.{LegalFrom}
-use Rattle.shard_laws.proofs.Doubting.{prepared_cut}
+use Rattle.shard_laws.proofs.Cuts.WhoIsInDoubt.{prepared_cut}
 use Rattle.fate_laws.proofs.History.EntriesInTurn.{Requested}
 use Rattle.fate_laws.proofs.Origins.FrontsKeepOrigins.{DidOrOld, IsOld, traced_front}
 use Rattle.fate_laws.proofs.Homes.DecidedStaysDecided.{commits_stand_at_home}

@@ -36,8 +36,8 @@ use Rattle.law_base.proofs.Lists.{all_mono, good_at}
 use Rattle.protocol_laws.proofs.Records.{committed_there}
 use Rattle.protocol_laws.specs.Growth.{IsPrefixOf}
 use Rattle.protocol_laws.proofs.Growing.{same, more, more_twice}
-use Rattle.shard_laws.proofs.Relisting.{request_from}
-use Rattle.shard_laws.proofs.Rulings.{parts_new}
+use Rattle.shard_laws.proofs.Restarts.RestoredRequestsAndPairs.{request_from}
+use Rattle.shard_laws.proofs.Order.WhatRulingsMayWrite.{parts_new}
 use Rattle.history_cases.proofs.Stepping.{commits, votes, rules, KeptByDue, settled, Step, op_dies, op_answers, request_refused, request_doomed, request_again, request_new, request_closes, looks_well, looks_ill, drops, prepare_closes, vote_counts, decision_comes, done_counts, Happens, finishes, stops}
 use Rattle.history_cases.proofs.Entering.{Makes, by_event, by_flush, by_failure, by_restart}
 use Rattle.history_cases.proofs.Uncommitting.{NoMoreCommits, with_more, rolled, dropped, op_dying, op_answering, restarts_add, opening_adds}

@@ -40,7 +40,7 @@ use Rattle.law_base.proofs.Sets.{in_filter}
 use Rattle.history_laws.specs.Openings.{LegalFrom}
 use Rattle.shard_laws.specs.OneShard.{is_doomed}
 use Rattle.law_base.proofs.Stages.{stage_closed, closed_other, written_parts, gone_by, stage_own, stage_other, absent_go, stage_marked}
-use Rattle.shard_laws.proofs.Restoring.{restored_closed, restored_none}
+use Rattle.shard_laws.proofs.Restarts.RestoredLocksAndParts.{restored_closed, restored_none}
 use Rattle.history_cases.proofs.Stepping.{commits, votes, rules, KeptByDue, settled, Step, op_dies, op_answers, request_refused, request_doomed, request_again, request_closes, looks_well, looks_ill, drops, prepare_closes, decision_comes, finishes, stops}
 use Rattle.history_cases.proofs.Entering.{Makes, by_event, by_flush, by_failure, by_restart, makes}
 use Rattle.history_cases.proofs.Merging.{Placed}

@@ -28,7 +28,7 @@ use Rattle.clv_base.specs.Restarts.{losers, undo_records, restart_records, next_
 use Rattle.clv_base.specs.Journals.{up_to_restart}
 use Rattle.clv_base.proofs.SameNames.{tx_true}
 use Rattle.law_base.proofs.Lists.{all_append}
-use Rattle.shard_laws.proofs.Changes.{wrote_append, wrote_keeps}
+use Rattle.shard_laws.proofs.Keeping.RecordsAndFrontsKeep.{wrote_append, wrote_keeps}
 use Rattle.history_cases.proofs.Telling.{all_map}
 use Rattle.history_cases.proofs.Stepping.{Due, commits, votes, rules, settled, Step, op_dies, op_answers, request_closes, drops, prepare_closes, decision_comes, finishes, stops}
 use Rattle.history_cases.proofs.Entering.{Makes, by_event, by_flush, by_failure, by_restart}

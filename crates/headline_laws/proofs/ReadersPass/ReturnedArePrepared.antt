@@ -27,8 +27,8 @@ use Rattle.protocol_laws.specs.Growth.{IsPrefixOf}
 use Rattle.protocol_laws.specs.SessionLaws.{tx_of}
 use Rattle.protocol_laws.proofs.Growing.{same as same_log}
 use Rattle.history_laws.specs.Openings.{LegalFrom}
-use Rattle.shard_laws.proofs.Restoring.{restored_none}
-use Rattle.shard_laws.proofs.Ordered.{prepare_some}
+use Rattle.shard_laws.proofs.Restarts.RestoredLocksAndParts.{restored_none}
+use Rattle.shard_laws.proofs.Order.ChangesKeepOrder.{prepare_some}
 use Rattle.history_cases.proofs.Entering.{Makes, by_event, by_flush, by_failure, by_restart, makes}
 use Rattle.history_cases.proofs.Merging.{Placed, Among, among_left}
 use Rattle.history_laws.proofs.Staying.{walker_of}

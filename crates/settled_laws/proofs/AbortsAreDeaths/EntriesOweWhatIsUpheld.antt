@@ -49,8 +49,8 @@ use Rattle.history_laws.proofs.SessionWalking.{AnswersAt}
 use Rattle.history_laws.proofs.Staying.{walker_of, one_request}
 use Rattle.history_laws.proofs.Walkers.{nothing_follows}
 use Rattle.history_laws.proofs.Walking.{from_own, first_among}
-use Rattle.shard_laws.proofs.Ordered.{prepare_some}
-use Rattle.shard_laws.proofs.Sound.{waiting_here}
+use Rattle.shard_laws.proofs.Order.ChangesKeepOrder.{prepare_some}
+use Rattle.shard_laws.proofs.Events.DueKeeps.{waiting_here}
 use Rattle.fate_laws.proofs.Parts.FrontsKeepParts.{WasTaken, Bindings, asked_not_own}
 use Rattle.fate_laws.proofs.Origins.FrontsKeepOrigins.{IsOld, Brings}
 use Rattle.fate_laws.proofs.Homes.FrontsKeepHomes.{delivered}

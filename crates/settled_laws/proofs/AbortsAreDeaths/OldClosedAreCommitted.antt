@@ -35,7 +35,7 @@ use Rattle.history_laws.specs.Openings.{LegalFrom}
 use Rattle.history_laws.proofs.Doubts.{doubt_prepared}
 use Rattle.history_laws.proofs.Serials.{committed_front}
 use Rattle.history_laws.proofs.Staying.{walker_of}
-use Rattle.shard_laws.proofs.Restoring.{restored_none}
+use Rattle.shard_laws.proofs.Restarts.RestoredLocksAndParts.{restored_none}
 use Rattle.fate_laws.specs.Origins.{answered_as, WasEverAnswered}
 use Rattle.fate_laws.proofs.Parts.OthersOnlyCloseOrGo.{due_closed}
 use Rattle.fate_laws.proofs.Logs.WhatPreparesOrCommits.{Closes, by_request, by_prepare, step_closed}
