@@ -13,7 +13,7 @@ use Rattle.clv_base.specs.Logs.{stands}
 use Rattle.clv_base.specs.History.{logs_left}
 use Rattle.law_base.specs.Items.{Item, Runs, after}
 use Rattle.shard_laws.specs.OneShard.{map_found}
-use Rattle.history_laws.proofs.Passing.{logs_left_pass, left_length}
+use Rattle.history_laws.proofs.LogsLeftPass.{logs_left_pass, left_length}
 use Rattle.fate_laws.specs.Leading.{deeds_before}
 use Rattle.headline_laws.specs.Shares.{ShardOp, ops_of, answers_of, on_shard, LiesIn, share_of, ReplaysTo}
 use Rattle.headline_laws.proofs.TransactionsReplayByShards.{replay_by_shards}

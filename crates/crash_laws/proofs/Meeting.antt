@@ -23,13 +23,13 @@ use Rattle.shard_laws.specs.OneShard.{found_asked, place}
 use Rattle.shard_laws.proofs.Cuts.MembersRunSerially.{in_kept}
 use Rattle.shard_laws.proofs.Keeping.LeavingKeeps.{in_more}
 use Rattle.history_laws.specs.Places.{transactions_of, StandsBefore}
-use Rattle.history_laws.proofs.Placing.{placed_before}
+use Rattle.history_laws.proofs.Entries.LowerPlacesStandBefore.{placed_before}
 use Rattle.fate_laws.specs.Leading.{deeds_before, requests_of}
 use Rattle.fate_laws.proofs.EachShardLeads.DoubtedAreOfEarlierRuns.{asked_are_old}
 use Rattle.headline_laws.specs.Shares.{LiesIn}
 use Rattle.headline_laws.proofs.TransactionsReplayByShards.SpansShareNoKey.{one_shard, between}
 use Rattle.headline_laws.proofs.MembersReplayWhereHere.WhoIsAMember.{chosen, chosen_are_members}
-use Rattle.history_laws.proofs.Found.{log_found}
+use Rattle.history_laws.proofs.Logs.FoundLogsAreInOrder.{log_found}
 use Rattle.crash_laws.specs.Acts.{Act, Meet, member_acts, MeetingsFollowPlaces}
 use Rattle.crash_laws.proofs.Lists.{later_told, later_by_shard}
 use Rattle.crash_laws.proofs.Telling.{told}

@@ -10,7 +10,7 @@ use Rattle.clv_base.specs.Core.{World}
 use Rattle.clv_base.specs.Journals.{journal_of, final_of}
 use Rattle.clv_base.specs.History.{logs_left}
 use Rattle.history_laws.specs.Openings.{LegalFrom}
-use Rattle.history_laws.proofs.Serials.{left_at}
+use Rattle.history_laws.proofs.NeverTakenBack.LaterHistoriesHoldMembers.{left_at}
 use Rattle.fate_laws.proofs.LogsLeftAreInOrder.{logs_left_are_in_order}
 use Rattle.headline_laws.proofs.Promise.{promise}
 use Rattle.journal_laws.specs.Worlds.{empty_logs, shard_at, logs_now}

@@ -18,18 +18,18 @@ use Rattle.protocol_laws.specs.SessionLaws.{tx_of}
 use Rattle.history_cases.proofs.Merging.{Placed, Among}
 use Rattle.history_cases.proofs.Worlds.{in_a_shard}
 use Rattle.history_laws.specs.Openings.{LegalFrom}
-use Rattle.history_laws.proofs.Found.{log_found}
-use Rattle.history_laws.proofs.Staying.{walker_of}
+use Rattle.history_laws.proofs.Logs.FoundLogsAreInOrder.{log_found}
+use Rattle.history_laws.proofs.NeverTakenBack.{walker_of}
 use Rattle.law_base.specs.Items.{Item, Runs, after, AllLater, Clash}
 use Rattle.law_base.proofs.Lists.{all_mono, filters_swap, all_filter}
 use Rattle.law_base.proofs.Running.{fold_writers}
 use Rattle.shard_laws.specs.OneShard.{found_asked, map_found, place}
 use Rattle.shard_laws.proofs.ChosenAct.{chosen_act}
-use Rattle.history_laws.proofs.Cutting.{cut_above}
+use Rattle.history_laws.proofs.Logs.CutsKeepTheDurable.{cut_above}
 use Rattle.fate_laws.specs.Members.{is_member}
 use Rattle.fate_laws.proofs.Homes.DecidedStaysDecided.{commits_are_members}
-use Rattle.history_laws.proofs.Doubts.{doubted_is_old}
-use Rattle.history_laws.proofs.Offers.{OffersBy, Offers, offered}
+use Rattle.history_laws.proofs.Logs.DoubtedAreUndecided.{doubted_is_old}
+use Rattle.history_laws.proofs.LogsLeftPass.SessionsOfferOwnKeys.{OffersBy, Offers, offered}
 use Rattle.fate_laws.specs.Leading.{deeds_before, with_found, requests_of}
 use Rattle.headline_laws.specs.Shares.{LiesIn, share_of}
 use Rattle.headline_laws.proofs.MembersReplayWhereHere.WhoIsAMember.{chosen, Chosen, of_chosen, is_chosen}

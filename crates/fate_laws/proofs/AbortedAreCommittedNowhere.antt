@@ -36,16 +36,16 @@ use Rattle.history_cases.proofs.Merging.{Placed, in_order, not_before_itself, be
 use Rattle.history_cases.proofs.TellingEvents.{front_committed}
 use Rattle.history_laws.specs.Openings.{LegalFrom}
 use Rattle.history_laws.specs.Outcomes.{is_abort}
-use Rattle.history_laws.proofs.Walkers.{nothing_follows}
-use Rattle.history_laws.proofs.Endings.{names, nothing_after_end}
-use Rattle.history_laws.proofs.Serials.{any_among}
+use Rattle.history_laws.proofs.Entries.NothingFollowsRequests.{nothing_follows}
+use Rattle.history_laws.proofs.SessionsKeepTheirOrder.NothingFollowsTheEnd.{names, nothing_after_end}
+use Rattle.history_laws.proofs.NeverTakenBack.LaterHistoriesHoldMembers.{any_among}
 use Rattle.protocol_laws.proofs.InOrder.{sessions_keep_order}
 use Rattle.clv_base.specs.declared.names.Birth.{Birth}
 use Rattle.clv_base.specs.declared.ops.Op.{Op}
 use Rattle.history_cases.proofs.Worlds.{state_at, journal_append, other_journal}
-use Rattle.history_laws.proofs.Staying.{walker_of, together}
-use Rattle.history_laws.proofs.Dropping.{drop_after_request}
-use Rattle.history_laws.proofs.Looking.{IllOf, ill, ill_happens}
+use Rattle.history_laws.proofs.NeverTakenBack.{walker_of, together}
+use Rattle.history_laws.proofs.RequestsNameWhatAnswered.DropsAfterRequests.{drop_after_request}
+use Rattle.history_laws.proofs.Entries.WhatLooksFind.{IllOf, ill, ill_happens}
 use Rattle.fate_laws.specs.Aborts.{DoomedAreUncommitted, AbortedAreCommittedNowhere}
 use Rattle.fate_laws.specs.Decisions.{is_left}
 use Rattle.fate_laws.proofs.Homes.ShardKnowsHomes.{Alone}
@@ -60,7 +60,7 @@ use Rattle.fate_laws.proofs.Parts.CommitsHaveTheirParts.{home_committed}
 use Rattle.fate_laws.proofs.CommitsGoDownwards.{Lowered, lowered_next, lowered_front, owed as owed_down}
 use Rattle.fate_laws.proofs.AbortedAreCommittedNowhere.DueKeepsDoomedUncommitted.{Kept, RowKeeps}
 use Rattle.fate_laws.proofs.AbortedAreCommittedNowhere.EventsKeepDoomedUncommitted.{Owes, NotPending, kept_made, kept_state}
-use Rattle.history_laws.proofs.Walking.{from_own, first_among}
+use Rattle.history_laws.proofs.Entries.WalkedEntryByEntry.{from_own, first_among}
 
 -- ---- journals
 

@@ -40,11 +40,11 @@ use Rattle.law_base.proofs.Changed.{none_some, some_same}
 use Rattle.history_cases.proofs.Entering.{Makes, by_event, by_flush, by_failure, by_restart, makes}
 use Rattle.history_cases.proofs.Merging.{Placed, Among, among_is, from_journal, before_then, in_order, own_in_order, precedes_before}
 use Rattle.history_laws.specs.Openings.{LegalFrom}
-use Rattle.history_laws.proofs.Staying.{walker_of, together}
+use Rattle.history_laws.proofs.NeverTakenBack.{walker_of, together}
 use Rattle.history_cases.proofs.Stepping.{FindsIll, Step, op_dies, Happens, finishes, stops}
-use Rattle.history_laws.proofs.Walkers.{nothing_follows}
+use Rattle.history_laws.proofs.Entries.NothingFollowsRequests.{nothing_follows}
 use Rattle.history_cases.proofs.Worlds.{state_at}
-use Rattle.history_laws.proofs.Naming.{AnsweredAt}
+use Rattle.history_laws.proofs.RequestsNameWhatAnswered.NamedShardsAnswered.{AnsweredAt}
 use Rattle.fate_laws.proofs.History.EntriesInTurn.{Turn, Requested, turn_of, own_precedes, named_at, op_no_request}
 use Rattle.fate_laws.proofs.Origins.DueKeepsOrigins.{SomeRequest, part_of}
 use Rattle.fate_laws.proofs.Origins.FrontsKeepOrigins.{IsOld}
@@ -56,7 +56,7 @@ use Rattle.fate_laws.proofs.CausesStand.WhyOneDies.{OpWhy, unseen, closed, doome
 use Rattle.fate_laws.proofs.CausesStand.NextFrontHasCauses.{Ended, Fallen, GoneHow, RefusedHow, StateHow, Caused, fallen_more}
 use Rattle.fate_laws.proofs.CausesStand.EntriesEndWhomTheyTake.{Before_entry}
 use Rattle.fate_laws.proofs.CausesStand.FrontsHaveCauses.{before_entry, caused_front}
-use Rattle.history_laws.proofs.Walking.{from_own, first_among}
+use Rattle.history_laws.proofs.Entries.WalkedEntryByEntry.{from_own, first_among}
 
 -- ---- entries that answered
 

@@ -32,8 +32,8 @@ use Rattle.shard_laws.proofs.Restarts.RestoredRequestsAndPairs.{pair_of}
 use Rattle.history_cases.proofs.Stepping.{Due, commits, votes, rules, KeptByDue, settled, Step, Happens, finishes, stops}
 use Rattle.history_cases.proofs.Entering.{Makes, by_event, by_flush, by_failure, by_restart, makes}
 use Rattle.history_cases.proofs.Merging.{Placed}
-use Rattle.history_laws.proofs.Serials.{committed_front}
-use Rattle.history_laws.proofs.Staying.{walker_of}
+use Rattle.history_laws.proofs.NeverTakenBack.LaterHistoriesHoldMembers.{committed_front}
+use Rattle.history_laws.proofs.NeverTakenBack.{walker_of}
 use Rattle.history_cases.proofs.Uncommitting.{with_more, rolled}
 use Rattle.history_cases.proofs.Worlds.{state_at}
 use Rattle.protocol_laws.specs.SessionLaws.{tx_of}
@@ -45,7 +45,7 @@ use Rattle.fate_laws.proofs.Parts.CommittedAreVotedFor.{commit_agreed}
 use Rattle.fate_laws.proofs.Parts.FrontsKeepParts.{Bindings, bindings_start, bindings_next, asked_not_own}
 use Rattle.fate_laws.proofs.Parts.CommitsHaveTheirParts.{due_at}
 use Rattle.fate_laws.proofs.Homes.ShardKnowsHomes.{new_commit}
-use Rattle.history_laws.proofs.Doubts.{doubt_undecided}
+use Rattle.history_laws.proofs.Logs.DoubtedAreUndecided.{doubt_undecided}
 use Rattle.law_base.proofs.Shards.{Before}
 
 abbrev pub Down : Shard → Type 0

@@ -19,7 +19,7 @@ use Rattle.clv_base.specs.History.{is_acknowledgement, acknowledged_in, ops_in, 
 use Rattle.clv_base.proofs.SameNames.{tx_flip}
 use Rattle.shard_laws.specs.OneShard.{Deeds, no_deeds, items_of, has_met, new_met}
 use Rattle.history_cases.proofs.Merging.{Placed}
-use Rattle.history_laws.proofs.Adding.{items_next, told_next}
+use Rattle.history_laws.proofs.Entries.WhatEntriesAdd.{items_next, told_next}
 use Rattle.fate_laws.specs.Leading.{deeds_with, deeds_after, own_deeds, deeds_before}
 use Rattle.fate_laws.specs.FallTelling.{own_entries, DeedsAreTold}
 use Rattle.fate_laws.proofs.History.DeedsOfOneEntry.{deeds_own, deeds_other}

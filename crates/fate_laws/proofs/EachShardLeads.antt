@@ -36,9 +36,9 @@ use Rattle.shard_laws.specs.OneShard.{Deeds, deeds_found, Leads, opens, happens,
 use Rattle.history_cases.proofs.Entering.{Makes, by_event, by_flush, by_failure, by_restart, makes}
 use Rattle.history_cases.proofs.Merging.{Placed}
 use Rattle.history_cases.proofs.OldRuns.{below_next_run}
-use Rattle.history_laws.proofs.Staying.{is_request, walker_of}
-use Rattle.history_laws.proofs.Walking.{Behind, next_entry}
-use Rattle.history_laws.proofs.Found.{found_in_order, log_found}
+use Rattle.history_laws.proofs.NeverTakenBack.{is_request, walker_of}
+use Rattle.history_laws.proofs.Entries.WalkedEntryByEntry.{Behind, next_entry}
+use Rattle.history_laws.proofs.Logs.FoundLogsAreInOrder.{found_in_order, log_found}
 use Rattle.fate_laws.proofs.History.EntriesInTurn.{Requested, request_no_request}
 use Rattle.fate_laws.proofs.Origins.FrontsKeepOrigins.{IsOld, DidOrOld, Traced, Brings, brought, traced_front}
 use Rattle.fate_laws.specs.Leading.{deeds_with, own_deeds, with_found, falling, requests_of, EachShardLeads}

@@ -9,7 +9,7 @@ use Rattle.shard_laws.proofs.OrderIsKept.{order_is_kept}
 use Rattle.fate_laws.specs.Leading.{deeds_before, with_found}
 use Rattle.fate_laws.specs.Ordering.{LogsLeftAreInOrder}
 use Rattle.fate_laws.proofs.EachShardLeads.{each_shard_leads}
-use Rattle.history_laws.proofs.Staying.{log_now}
+use Rattle.history_laws.proofs.NeverTakenBack.{log_now}
 
 pub logs_left_are_in_order : LogsLeftAreInOrder
 logs_left_are_in_order splits before h after choice n l i =

@@ -7,7 +7,7 @@ use Rattle.clv_base.specs.LogRules.{log_of}
 use Rattle.clv_base.specs.History.{logs_left}
 use Rattle.protocol_laws.specs.SessionLaws.{tx_of}
 use Rattle.history_cases.proofs.Merging.{is_among}
-use Rattle.history_laws.proofs.Staying.{walker_of}
+use Rattle.history_laws.proofs.NeverTakenBack.{walker_of}
 use Rattle.fate_laws.specs.Decisions.{is_left}
 use Rattle.fate_laws.specs.Binding.{HasItsPart}
 use Rattle.fate_laws.proofs.History.EntryByEntry.{one_home}

@@ -12,7 +12,7 @@ use Rattle.shard_laws.proofs.QuietIsSettled.{quiet_is_settled}
 use Rattle.fate_laws.specs.Leading.{deeds_before, with_found}
 use Rattle.fate_laws.specs.Settling.{QuietShardsAreTheirMaps}
 use Rattle.fate_laws.proofs.EachShardLeads.{each_shard_leads}
-use Rattle.history_laws.proofs.Staying.{log_now}
+use Rattle.history_laws.proofs.NeverTakenBack.{log_now}
 
 -- a quiet shard's log is left whole
 pub left_whole : (s : Shard) (kept : Bool) → IsQuiet s → log_left s kept ≡ s.local.log

@@ -26,8 +26,8 @@ use Rattle.history_cases.proofs.Stepping.{FindsWell, Step, looks_well, Happens, 
 use Rattle.history_cases.proofs.Entering.{Makes, by_event, by_flush, by_failure, by_restart, makes}
 use Rattle.history_cases.proofs.Merging.{Placed, Among, is_among, among_is}
 use Rattle.history_laws.specs.Openings.{LegalFrom}
-use Rattle.history_laws.proofs.Serials.{any_among}
-use Rattle.history_laws.proofs.Staying.{walker_of, one_request}
+use Rattle.history_laws.proofs.NeverTakenBack.LaterHistoriesHoldMembers.{any_among}
+use Rattle.history_laws.proofs.NeverTakenBack.{walker_of, one_request}
 use Rattle.history_cases.proofs.Worlds.{state_at, in_a_shard}
 use Rattle.fate_laws.specs.Decisions.{IsHome, is_left}
 use Rattle.fate_laws.proofs.Homes.DecidedStaysDecided.{durable_left, is_member_by}

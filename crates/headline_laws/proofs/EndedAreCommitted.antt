@@ -28,8 +28,8 @@ use Rattle.history_cases.proofs.Entering.{makes}
 use Rattle.history_cases.proofs.Merging.{Placed, Among, among_append, is_among}
 use Rattle.history_cases.proofs.Worlds.{state_at}
 use Rattle.history_laws.specs.Openings.{LegalFrom}
-use Rattle.history_laws.proofs.Found.{log_found}
-use Rattle.history_laws.proofs.Passing.{logs_left_pass, left_length}
+use Rattle.history_laws.proofs.Logs.FoundLogsAreInOrder.{log_found}
+use Rattle.history_laws.proofs.LogsLeftPass.{logs_left_pass, left_length}
 use Rattle.fate_laws.proofs.Homes.DecidedStaysDecided.{durable_left}
 use Rattle.fate_laws.proofs.Homes.EntriesKeepHomes.{durable_front}
 use Rattle.fate_laws.proofs.Homes.FrontsKeepHomes.{fated}
@@ -41,7 +41,7 @@ use Rattle.headline_laws.proofs.EndedAreCommitted.DueKeepsWhatIsHeard.{Hears}
 use Rattle.headline_laws.proofs.EndedAreCommitted.EntriesKeepWhatIsHeard.{Brings, Enters, SaysOut, hears_mono, hears_opened, hears_made, hears_noted, out_made}
 use Rattle.headline_laws.proofs.EndedAreCommitted.FoundEndsTellCommits.{opening_tells}
 use Rattle.law_base.proofs.Logs.{passes_at as each_passes}
-use Rattle.history_laws.proofs.Staying.{log_now}
+use Rattle.history_laws.proofs.NeverTakenBack.{log_now}
 
 -- ---- what is known after a front of the history
 

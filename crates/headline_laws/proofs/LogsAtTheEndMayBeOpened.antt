@@ -24,9 +24,9 @@ use Rattle.shard_laws.proofs.AnswersAndMap.{held}
 use Rattle.shard_laws.proofs.Order.WritesLieOnListed.{order_of}
 use Rattle.shard_laws.proofs.Restarts.RestartsKeepOrder.{Fine}
 use Rattle.history_cases.proofs.Merging.{Placed}
-use Rattle.history_laws.proofs.Serials.{member_at}
-use Rattle.history_laws.proofs.Passing.{logs_left_pass, left_length}
-use Rattle.history_laws.proofs.Records.{Passes, passes_all, all_pass}
+use Rattle.history_laws.proofs.NeverTakenBack.LaterHistoriesHoldMembers.{member_at}
+use Rattle.history_laws.proofs.LogsLeftPass.{logs_left_pass, left_length}
+use Rattle.history_laws.proofs.LogsLeftPass.WhatPassingRecordsAre.{Passes, passes_all, all_pass}
 use Rattle.fate_laws.proofs.Parts.FrontsKeepParts.{bindings_front}
 use Rattle.fate_laws.proofs.Logs.WhatAddsNoPrepare.{prepare_more}
 use Rattle.headline_laws.proofs.EndedAreCommitted.{part_below}
@@ -43,7 +43,7 @@ use Rattle.headline_laws.proofs.EarlierMembersNeverFell.{committed_within}
 use Rattle.headline_laws.proofs.LogsLeftMayBeOpened.{logs_left_may_be_opened}
 use Rattle.headline_laws.proofs.LogsAtTheEndMayBeOpened.FailedRestartsKeepLogs.{Stays, stays_same, stays_failed, same_wrote, same_committed, same_ended}
 use Rattle.law_base.proofs.Logs.{passes_at as each_passes, all_logs, same_somewhere, same_stands, same_fold}
-use Rattle.history_laws.proofs.Staying.{log_now}
+use Rattle.history_laws.proofs.NeverTakenBack.{log_now}
 
 -- ---- logs that agree shard by shard
 

@@ -18,7 +18,7 @@ use Rattle.clv_base.specs.Journals.{History, final_of}
 use Rattle.clv_base.specs.History.{logs_left}
 use Rattle.protocol_laws.specs.SessionLaws.{tx_of}
 use Rattle.history_laws.specs.Openings.{LegalFrom}
-use Rattle.history_laws.proofs.Staying.{walker_of}
+use Rattle.history_laws.proofs.NeverTakenBack.{walker_of}
 use Rattle.history_cases.proofs.Worlds.{in_a_shard}
 use Rattle.history_cases.proofs.Merging.{is_among}
 use Rattle.fate_laws.proofs.History.EntriesInTurn.{Requested}
@@ -26,7 +26,7 @@ use Rattle.fate_laws.proofs.Origins.DueKeepsOrigins.{SomeRequest}
 use Rattle.fate_laws.proofs.Origins.FrontsKeepOrigins.{DidOrOld, IsOld, traced_front}
 use Rattle.fate_laws.specs.Decisions.{is_left}
 use Rattle.fate_laws.proofs.Homes.DecidedStaysDecided.{left_committed, commits_stand_at_home}
-use Rattle.history_laws.proofs.Passing.{logs_left_pass, left_length}
+use Rattle.history_laws.proofs.LogsLeftPass.{logs_left_pass, left_length}
 use Rattle.headline_laws.proofs.EndedAreCommitted.EndsStandBehindCommits.{parts_there}
 use Rattle.fate_laws.proofs.LogsLeftAreInOrder.{logs_left_are_in_order}
 use Rattle.fate_laws.proofs.EachShardLeads.RecordsTellTheirOrigin.{committed_from}

@@ -20,7 +20,7 @@ use Rattle.clv_base.specs.LogRules.{log_of}
 use Rattle.clv_base.specs.History.{IsAmong, acknowledged_in, logs_left}
 use Rattle.history_cases.proofs.Merging.{is_among, among_is}
 use Rattle.history_laws.specs.Openings.{LegalFrom}
-use Rattle.history_laws.proofs.Staying.{is_request}
+use Rattle.history_laws.proofs.NeverTakenBack.{is_request}
 use Rattle.history_cases.proofs.Worlds.{in_a_shard}
 use Rattle.fate_laws.specs.Decisions.{is_left}
 use Rattle.headline_laws.proofs.MembersAreVotedFor.{members_are_voted_for}

@@ -22,13 +22,13 @@ use Rattle.law_base.proofs.Running.{fold_writers}
 use Rattle.history_laws.specs.Openings.{LegalFrom}
 use Rattle.history_laws.specs.Continuing.{serial_left}
 use Rattle.history_cases.proofs.Durability.{Fronts, fronts_entries, opened_counted}
-use Rattle.history_laws.proofs.Found.{log_found}
-use Rattle.history_laws.proofs.Staying.{walker_of, log_now}
+use Rattle.history_laws.proofs.Logs.FoundLogsAreInOrder.{log_found}
+use Rattle.history_laws.proofs.NeverTakenBack.{walker_of, log_now}
 use Rattle.shard_laws.specs.OneShard.{Leads, MayChoose, Passes, ops_by, answers_by, found_items, found_asked, map_found}
 use Rattle.shard_laws.proofs.Keeping.RecordsAndFrontsKeep.{wrote_append}
 use Rattle.shard_laws.proofs.Keeping.LeavingKeeps.{in_more}
 use Rattle.shard_laws.proofs.LaterReplay.{later_replay}
-use Rattle.history_laws.proofs.Cutting.{cut_above}
+use Rattle.history_laws.proofs.Logs.CutsKeepTheDurable.{cut_above}
 use Rattle.fate_laws.specs.Members.{is_member}
 use Rattle.fate_laws.proofs.Homes.DecidedStaysDecided.{commits_are_members, left_committed}
 use Rattle.fate_laws.proofs.History.EntriesInTurn.{Requested}
@@ -51,8 +51,8 @@ use Rattle.headline_laws.proofs.AtOpening.DoubtedStayKnown.{IsDoubted, still_kno
 use Rattle.headline_laws.proofs.MembersReplayByParts.OperationsAreDeeds.{part_ops, part_answers, AllIdle, ops_later, answers_later, idle_among}
 use Rattle.headline_laws.proofs.MembersReplayWhereHere.WhoIsAMember.{request_run, asked_by, chosen, Chosen, of_chosen, is_chosen, chosen_are_members, member_run}
 use Rattle.headline_laws.proofs.MembersReplayWhereHere.DoubtedMembersNeverFell.{unfallen}
-use Rattle.history_laws.proofs.Passing.{left_length}
-use Rattle.history_laws.proofs.Doubts.{doubted_is_old}
+use Rattle.history_laws.proofs.LogsLeftPass.{left_length}
+use Rattle.history_laws.proofs.Logs.DoubtedAreUndecided.{doubted_is_old}
 use Rattle.law_base.proofs.Bools.{same_truth as same_test}
 
 module _ {splits : List ℕ} {before after : List (List LogRecord)} {h : History} (l : LegalFrom splits before h after) (choice : ℕ → Bool)

@@ -12,7 +12,7 @@ use Rattle.clv_base.specs.Restarts.{run_after}
 use Rattle.clv_base.specs.History.{IsAmong}
 use Rattle.protocol_laws.specs.SessionLaws.{tx_of}
 use Rattle.history_cases.proofs.Merging.{is_among}
-use Rattle.history_laws.proofs.Staying.{walker_of}
+use Rattle.history_laws.proofs.NeverTakenBack.{walker_of}
 use Rattle.fate_laws.specs.Falls.{Fell}
 use Rattle.fate_laws.proofs.FallenAreUncommitted.{members_never_fell_at_home}
 use Rattle.fate_laws.proofs.MembersAreHere.{in_others}

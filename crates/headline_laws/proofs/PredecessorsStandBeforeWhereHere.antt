@@ -18,14 +18,14 @@ use Rattle.clv_base.specs.History.{logs_left}
 use Rattle.clv_base.proofs.SameNames.{tx_true, tx_self}
 use Rattle.law_base.proofs.Sets.{in_filter}
 use Rattle.history_laws.specs.Openings.{LegalFrom}
-use Rattle.history_laws.proofs.Found.{log_found}
+use Rattle.history_laws.proofs.Logs.FoundLogsAreInOrder.{log_found}
 use Rattle.shard_laws.specs.OneShard.{Deeds, MayChoose, has_met, place, found_asked, found_met}
 use Rattle.shard_laws.proofs.ChosenReplay.{chosen_stand_before}
 use Rattle.shard_laws.proofs.Keeping.LeavingKeeps.{in_more}
 use Rattle.shard_laws.proofs.Cuts.MembersRunSerially.{in_kept}
 use Rattle.history_laws.specs.Places.{transactions_of, StandsBefore}
-use Rattle.history_laws.proofs.Placing.{placed_before}
-use Rattle.history_laws.proofs.Cutting.{cut_above}
+use Rattle.history_laws.proofs.Entries.LowerPlacesStandBefore.{placed_before}
+use Rattle.history_laws.proofs.Logs.CutsKeepTheDurable.{cut_above}
 use Rattle.history_laws.specs.Continuing.{serial_left}
 use Rattle.fate_laws.specs.Members.{is_member}
 use Rattle.fate_laws.proofs.Origins.FrontsKeepOrigins.{IsOld}

@@ -1,6 +1,6 @@
 -- The laws over all histories, gathered.
-use Rattle.history_laws.proofs.Staying.{never_taken_back}
-use Rattle.history_laws.proofs.InTurn.{sessions_keep_their_order, outcomes_are_one}
+use Rattle.history_laws.proofs.NeverTakenBack.{never_taken_back}
+use Rattle.history_laws.proofs.SessionsKeepTheirOrder.{sessions_keep_their_order, outcomes_are_one}
 use Rattle.fate_laws.proofs.CausesStand.{causes_stand}
 use Rattle.fate_laws.proofs.Waits.WaitsGoDown.{waits_go_down, waits_have_no_cycle}
 use Rattle.headline_laws.proofs.AcknowledgedStand.{acknowledged_are_members}

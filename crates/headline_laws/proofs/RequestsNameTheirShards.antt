@@ -14,8 +14,8 @@ use Rattle.clv_base.specs.History.{Legal}
 use Rattle.protocol_laws.specs.SessionLaws.{tx_of, works_on, ended_by}
 use Rattle.protocol_laws.proofs.InOrder.{sessions_keep_order}
 use Rattle.history_cases.proofs.Merging.{is_among, in_turn, Among, among_is}
-use Rattle.history_laws.proofs.Staying.{Together, together}
-use Rattle.history_laws.proofs.Walkers.{has, nothing_follows, request_names}
+use Rattle.history_laws.proofs.NeverTakenBack.{Together, together}
+use Rattle.history_laws.proofs.Entries.NothingFollowsRequests.{has, nothing_follows, request_names}
 use Rattle.headline_laws.specs.Named.{RequestsNameTheirShards}
 use Rattle.fate_laws.specs.Decisions.{IsHome}
 use Rattle.fate_laws.proofs.Origins.FrontsKeepOrigins.{DidOrOld}

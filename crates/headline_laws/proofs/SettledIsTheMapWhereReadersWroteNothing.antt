@@ -35,8 +35,8 @@ use Rattle.shard_laws.proofs.Keeping.WhatOneShardKeeps.{view_of, Wrote}
 use Rattle.shard_laws.proofs.Order.WritesLieOnListed.{order_of, prepared_wrote, wrote_stands}
 use Rattle.shard_laws.proofs.Restarts.RestartsKeepOrder.{writer_wrote}
 use Rattle.shard_laws.proofs.QuietIsSettled.{writer_committed}
-use Rattle.history_laws.proofs.Passing.{logs_left_pass, left_length}
-use Rattle.history_laws.proofs.Doubts.{doubt_prepared, doubt_undecided}
+use Rattle.history_laws.proofs.LogsLeftPass.{logs_left_pass, left_length}
+use Rattle.history_laws.proofs.Logs.DoubtedAreUndecided.{doubt_prepared, doubt_undecided}
 use Rattle.fate_laws.proofs.History.EntriesInTurn.{Requested}
 use Rattle.fate_laws.proofs.Origins.FrontsKeepOrigins.{DidOrOld, IsOld, traced_front}
 use Rattle.fate_laws.specs.Decisions.{IsHome, is_left}

@@ -15,7 +15,7 @@ use Rattle.clv_base.specs.History.{IsAmong}
 use Rattle.protocol_laws.specs.SessionLaws.{tx_of}
 use Rattle.history_cases.proofs.Merging.{Among, is_among, among_is}
 use Rattle.history_laws.specs.Openings.{LegalFrom}
-use Rattle.history_laws.proofs.Staying.{walker_of}
+use Rattle.history_laws.proofs.NeverTakenBack.{walker_of}
 use Rattle.history_cases.proofs.TellingEvents.{front_committed}
 use Rattle.history_cases.proofs.Worlds.{state_at, in_a_shard}
 use Rattle.fate_laws.specs.Decisions.{IsHome, is_left}

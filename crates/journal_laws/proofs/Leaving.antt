@@ -4,7 +4,7 @@ use Rattle.clv_base.specs.Shards.{shard_count}
 use Rattle.clv_base.specs.Restarts.{log_left}
 use Rattle.clv_base.specs.Journals.{final_of}
 use Rattle.law_base.proofs.Restarts.{left_length}
-use Rattle.history_laws.proofs.Serials.{left_at}
+use Rattle.history_laws.proofs.NeverTakenBack.LaterHistoriesHoldMembers.{left_at}
 use Rattle.journal_laws.specs.Cuts.{CrashesLeave}
 
 pub crashes_leave : CrashesLeave

@@ -15,7 +15,7 @@ use Rattle.protocol_laws.specs.Growth.{IsPrefixOf}
 use Rattle.protocol_laws.proofs.Growing.{chain}
 use Rattle.history_laws.specs.Continuing.{IsSublistOf}
 use Rattle.history_cases.proofs.Merging.{Placed, Before, InOrder, Among, in_order, among_append, among_front, among_all, among_is, is_among, in_journal, from_journal, stamps_follow}
-use Rattle.history_laws.proofs.Sublists.{sublist}
+use Rattle.history_laws.proofs.Entries.SublistsOfHistories.{sublist}
 use Rattle.history_cases.proofs.Entering.{after_append, run_first, run_second}
 use Rattle.history_cases.proofs.Durability.{opened_counted}
 use Rattle.clv_base.specs.Machines.{Runs}

@@ -26,7 +26,7 @@ use Rattle.law_base.proofs.Lists.{all_mono, few_shards as few_splits}
 use Rattle.law_base.proofs.Restarts.{left_length}
 use Rattle.history_cases.proofs.Durability.{opened_counted}
 use Rattle.history_cases.proofs.Merging.{Placed, InOrder, in_order, Among, among_all, in_journal}
-use Rattle.history_laws.proofs.Serials.{left_at}
+use Rattle.history_laws.proofs.NeverTakenBack.LaterHistoriesHoldMembers.{left_at}
 use Rattle.clv_base.specs.Machines.{Makes, Runs}
 use Rattle.journal_laws.specs.Walkers.{StampsRise, is_numbered}
 use Rattle.journal_laws.specs.Worlds.{empty_logs, count_past, LandsInTime, Steady, StepsKeepSteady, shard_at, logs_now, SteadyIsLegal, RunEventsIsLegal, EmptyLogsMayBeOpened}

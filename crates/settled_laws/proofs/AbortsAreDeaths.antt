@@ -18,7 +18,7 @@ use Rattle.clv_base.specs.History.{CauseStands}
 use Rattle.protocol_laws.specs.SessionLaws.{tx_of}
 use Rattle.history_cases.proofs.Merging.{Placed, is_among}
 use Rattle.history_laws.specs.Openings.{LegalFrom}
-use Rattle.history_laws.proofs.Staying.{walker_of}
+use Rattle.history_laws.proofs.NeverTakenBack.{walker_of}
 use Rattle.fate_laws.specs.Causes.{TellsCause, op_died, request_died, look_found, IsOfAnother}
 use Rattle.fate_laws.proofs.History.EntryByEntry.{next_at}
 use Rattle.fate_laws.proofs.CausesStand.{causes_stand}

@@ -21,7 +21,7 @@ use Rattle.clv_base.specs.declared.events.Entry.{Entry}
 use Rattle.clv_base.specs.declared.events.Outcome.{Outcome}
 use Rattle.clv_base.specs.Orders.{Table, tx_same, tx_get, tx_put, tx_set}
 use Rattle.clv_base.specs.Logs.{committed_in, in_doubt}
-use Rattle.history_laws.proofs.Serials.{committed_front}
+use Rattle.history_laws.proofs.NeverTakenBack.LaterHistoriesHoldMembers.{committed_front}
 use Rattle.protocol_laws.proofs.Growing.{more_twice}
 use Rattle.law_base.proofs.Rows.{rows_get}
 use Rattle.history_cases.proofs.Telling.{all_map}
@@ -39,7 +39,7 @@ use Rattle.law_base.proofs.Changed.{some_same, get_set}
 use Rattle.law_base.proofs.Tables.{stage_by, stage_in, get_put}
 use Rattle.law_base.proofs.Stages.{stage_closed, closed_other, written_parts, stage_marked, other_part}
 use Rattle.shard_laws.proofs.Restarts.RestoredLocksAndParts.{restored_stage}
-use Rattle.history_laws.proofs.Replying.{OpIs, dies, rolls, performs, reply_is}
+use Rattle.history_laws.proofs.Entries.WhatOperationsDo.{OpIs, dies, rolls, performs, reply_is}
 use Rattle.history_cases.proofs.Stepping.{settled, Step, op_dies, op_answers, request_new, request_closes, drops, prepare_closes, vote_counts, decision_comes, done_counts, Happens, finishes, stops}
 use Rattle.history_cases.proofs.Entering.{Makes, by_event, by_flush, by_failure, by_restart}
 use Rattle.fate_laws.proofs.Homes.EventsKeepHomes.{awaits, put_get, counts_undecided}

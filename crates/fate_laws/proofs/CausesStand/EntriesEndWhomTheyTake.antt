@@ -25,10 +25,10 @@ use Rattle.clv_base.specs.History.{Legal, no_taken}
 use Rattle.clv_base.proofs.SameNames.{tx_self}
 use Rattle.protocol_laws.specs.SessionLaws.{tx_of, ended_by}
 use Rattle.history_cases.proofs.Merging.{Placed, among_left, among_right, in_order, own_in_order, precedes_before}
-use Rattle.history_laws.proofs.Staying.{walker_of, one_request}
+use Rattle.history_laws.proofs.NeverTakenBack.{walker_of, one_request}
 use Rattle.history_cases.proofs.Worlds.{state_at}
-use Rattle.history_laws.proofs.Dropping.{drop_after_request}
-use Rattle.history_laws.proofs.Walking.{Behind, from_own, first_among}
+use Rattle.history_laws.proofs.RequestsNameWhatAnswered.DropsAfterRequests.{drop_after_request}
+use Rattle.history_laws.proofs.Entries.WalkedEntryByEntry.{Behind, from_own, first_among}
 use Rattle.fate_laws.proofs.History.EntriesInTurn.{Requested, turn_of, own_precedes, op_no_request}
 use Rattle.fate_laws.proofs.Origins.DueKeepsOrigins.{StateFrom, AwayRequest, row_of}
 use Rattle.fate_laws.proofs.Origins.FrontsKeepOrigins.{IsOld, Traced, Brings}

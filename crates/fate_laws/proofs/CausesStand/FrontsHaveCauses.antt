@@ -15,7 +15,7 @@ use Rattle.history_cases.proofs.Merging.{Placed}
 use Rattle.history_cases.proofs.Stepping.{Happens, finishes, stops}
 use Rattle.history_cases.proofs.Worlds.{state_at}
 use Rattle.history_laws.specs.Openings.{LegalFrom}
-use Rattle.history_laws.proofs.Walking.{behind_of}
+use Rattle.history_laws.proofs.Entries.WalkedEntryByEntry.{behind_of}
 use Rattle.fate_laws.proofs.Origins.FrontsKeepOrigins.{traced_front, brought}
 use Rattle.fate_laws.proofs.History.EntryByEntry.{next_at, each_shard}
 use Rattle.fate_laws.proofs.AbortedAreCommittedNowhere.{spared_front}

@@ -12,8 +12,8 @@ use Rattle.clv_base.specs.LogRules.{same_option}
 use Rattle.clv_base.specs.Sessions.{SessionState, is_number, lies_in, session_for, op_answered, op_in_session, session_after, makes_from}
 use Rattle.law_base.proofs.Changed.{none_some, some_same}
 use Rattle.history_cases.proofs.Merging.{Placed, Among, Precedes, front_precedes}
-use Rattle.history_laws.proofs.SessionWalking.{For, nobody, the_same, a_new_one, for_by}
-use Rattle.history_laws.proofs.Naming.{AnsweredAt, Traced, traced_next, named_case}
+use Rattle.history_laws.proofs.RequestsNameWhatAnswered.SessionsFollowTheirOperations.{For, nobody, the_same, a_new_one, for_by}
+use Rattle.history_laws.proofs.RequestsNameWhatAnswered.NamedShardsAnswered.{AnsweredAt, Traced, traced_next, named_case}
 
 -- what holds of each row holds of one that is found
 pub lookup_row : (P : ℕ × ℕ → Type 0) (n v : ℕ) (rs : List (ℕ × ℕ)) → lookup (◌==◌ n) rs ≡ Some v → AllByRecursion P rs → P (n, v)

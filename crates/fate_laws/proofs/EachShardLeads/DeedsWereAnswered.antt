@@ -31,7 +31,7 @@ use Rattle.shard_laws.specs.OneShard.{Deeds, with_one, new_item, new_met, has_me
 use Rattle.shard_laws.proofs.AnswersAndMap.{named_doomed}
 use Rattle.shard_laws.proofs.Keeping.LeavingKeeps.{in_two}
 use Rattle.history_cases.proofs.Merging.{Placed, among_right}
-use Rattle.history_laws.proofs.Adding.{one_met}
+use Rattle.history_laws.proofs.Entries.WhatEntriesAdd.{one_met}
 use Rattle.fate_laws.proofs.History.EntriesInTurn.{Requested}
 use Rattle.fate_laws.proofs.Origins.DueKeepsOrigins.{SomeRequest, BirthFrom, PartFrom}
 use Rattle.fate_laws.proofs.Origins.FrontsKeepOrigins.{Did, DidAny, IsOld, DidOrOld, Traced, any_of, old_more}

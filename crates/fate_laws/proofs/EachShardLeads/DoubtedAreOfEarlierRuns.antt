@@ -19,7 +19,7 @@ use Rattle.shard_laws.proofs.Restarts.FoundDoubtedActedBefore.{found_doubted}
 use Rattle.shard_laws.proofs.Restarts.RestoredRequestsAndPairs.{pair_of}
 use Rattle.fate_laws.proofs.Origins.FrontsKeepOrigins.{IsOld}
 use Rattle.fate_laws.specs.Leading.{deeds_with, with_found}
-use Rattle.history_laws.proofs.Doubts.{doubted_is_old}
+use Rattle.history_laws.proofs.Logs.DoubtedAreUndecided.{doubted_is_old}
 
 -- ---- what was found is of earlier runs
 

@@ -30,7 +30,7 @@ use Rattle.protocol_laws.specs.SessionLaws.{tx_of}
 use Rattle.shard_laws.specs.OneShard.{Deeds, Leads, MayDeliver}
 use Rattle.shard_laws.proofs.Order.RecordByRecord.{Follows, from_disorder, through}
 use Rattle.shard_laws.proofs.OrderIsKept.{order_is_kept}
-use Rattle.history_laws.proofs.Staying.{walker_of, one_request}
+use Rattle.history_laws.proofs.NeverTakenBack.{walker_of, one_request}
 use Rattle.fate_laws.proofs.History.EntriesInTurn.{Requested}
 use Rattle.fate_laws.proofs.Origins.DueKeepsOrigins.{OwnRequest, RowFrom, RecordFrom, AllFrom}
 use Rattle.fate_laws.proofs.Origins.FrontsKeepOrigins.{DidOrOld, IsOld}

@@ -23,8 +23,8 @@ use Rattle.law_base.proofs.Rows.{rows_get}
 use Rattle.protocol_laws.specs.SessionLaws.{tx_of}
 use Rattle.shard_laws.specs.OneShard.{Deeds, items_of, has_met, MayTouch, MayAsk}
 use Rattle.shard_laws.proofs.Keeping.LeavingKeeps.{in_two}
-use Rattle.history_laws.proofs.Staying.{walker_of}
-use Rattle.history_laws.proofs.Walking.{Behind}
+use Rattle.history_laws.proofs.NeverTakenBack.{walker_of}
+use Rattle.history_laws.proofs.Entries.WalkedEntryByEntry.{Behind}
 use Rattle.fate_laws.proofs.History.EntriesInTurn.{Requested, turn_of, same_epoch, op_no_request, request_no_request}
 use Rattle.fate_laws.proofs.Origins.DueKeepsOrigins.{SomeRequest, AwayRequest, BirthFrom, PartFrom, RowFrom, part_of, own_some, away_some}
 use Rattle.fate_laws.proofs.Origins.FrontsKeepOrigins.{Did, DidNow, DidAny, IsOld, DidOrOld, Traced}

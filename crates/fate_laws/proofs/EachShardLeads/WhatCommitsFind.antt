@@ -17,7 +17,7 @@ use Rattle.law_base.proofs.Rows.{rows_get}
 use Rattle.protocol_laws.specs.SessionLaws.{tx_of}
 use Rattle.history_laws.specs.Openings.{LegalFrom}
 use Rattle.shard_laws.specs.OneShard.{predecessors_committed}
-use Rattle.history_laws.proofs.Staying.{walker_of}
+use Rattle.history_laws.proofs.NeverTakenBack.{walker_of}
 use Rattle.fate_laws.proofs.History.EntryByEntry.{Next, next_at, one_home}
 use Rattle.fate_laws.proofs.Homes.FrontsKeepHomes.{delivered, committed_asked}
 use Rattle.fate_laws.proofs.Parts.CommittedAreVotedFor.{RowIs}

@@ -28,7 +28,7 @@ use Rattle.clv_base.specs.Events.{finish}
 use Rattle.clv_base.proofs.SameNames.{tx_true}
 use Rattle.law_base.proofs.Changed.{none_some, some_same, get_set}
 use Rattle.law_base.proofs.Commits.{durable_committed}
-use Rattle.history_laws.proofs.Serials.{committed_front}
+use Rattle.history_laws.proofs.NeverTakenBack.LaterHistoriesHoldMembers.{committed_front}
 use Rattle.history_cases.proofs.Stepping.{Due, commits, votes, rules, KeptByDue, settled}
 use Rattle.history_cases.proofs.Uncommitting.{rolled as rolled_commits, with_more}
 use Rattle.shard_laws.proofs.Events.DueKeeps.{waiting_here}

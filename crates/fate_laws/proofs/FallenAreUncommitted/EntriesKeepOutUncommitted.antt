@@ -49,7 +49,7 @@ use Rattle.std.proofs.Common.{◌≡◌, ◌⊎◌, inl, inr, ⊎_elim, refl, sy
 use Rattle.std.proofs.lemmas.Bool.{both_ways, false_from_ne_true}
 use Rattle.std.proofs.lemmas.List.{take-take, take_all, take-append-drop}
 use Rattle.std.specs.Prelude.{drop}
-use Rattle.history_laws.proofs.Doubts.{doubt_prepared, doubt_undecided}
+use Rattle.history_laws.proofs.Logs.DoubtedAreUndecided.{doubt_prepared, doubt_undecided}
 use Rattle.fate_laws.proofs.Origins.DoubtedWereFoundSo.{aborted_front}
 
 -- ---- more of the log is durable

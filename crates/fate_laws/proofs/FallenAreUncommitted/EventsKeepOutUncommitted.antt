@@ -39,7 +39,7 @@ use Rattle.clv_base.specs.Events.{is_alone, coordinate, owe_vote, with_votes, wi
 use Rattle.history_cases.proofs.Stepping.{Step, op_dies, op_answers, request_refused, request_doomed, request_again, request_new, request_closes, looks_well, looks_ill, drops, prepare_closes, prepare_again, vote_counts, decision_comes, done_counts}
 use Rattle.law_base.proofs.LockRows.{Rows}
 use Rattle.shard_laws.proofs.Order.ChangesKeepOrder.{prepare_some}
-use Rattle.history_laws.proofs.Replying.{OpIs, dies, rolls, reply_is}
+use Rattle.history_laws.proofs.Entries.WhatOperationsDo.{OpIs, dies, rolls, reply_is}
 use Rattle.fate_laws.proofs.Logs.LogOnlyGrows.{inside_step}
 use Rattle.fate_laws.proofs.Parts.OthersOnlyCloseOrGo.{calm_step, was_there}
 use Rattle.fate_laws.proofs.Logs.WhatPreparesOrCommits.{Commits, alone, decided, step_prepares, step_commits}

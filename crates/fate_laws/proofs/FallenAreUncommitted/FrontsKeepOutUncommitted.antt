@@ -41,13 +41,13 @@ use Rattle.history_cases.proofs.Entering.{Makes, by_event, by_flush, by_failure,
 use Rattle.history_cases.proofs.Merging.{Placed, Among, among_append, among_left}
 use Rattle.history_cases.proofs.Worlds.{state_at}
 use Rattle.history_laws.specs.Openings.{LegalFrom}
-use Rattle.history_laws.proofs.Found.{log_found}
-use Rattle.history_laws.proofs.Staying.{walker_of}
+use Rattle.history_laws.proofs.Logs.FoundLogsAreInOrder.{log_found}
+use Rattle.history_laws.proofs.NeverTakenBack.{walker_of}
 use Rattle.history_cases.proofs.TellingEvents.{front_committed}
 use Rattle.shard_laws.proofs.Restarts.RestoredLocksAndParts.{restored_closed}
 use Rattle.shard_laws.proofs.Order.ChangesKeepOrder.{prepare_some}
-use Rattle.history_laws.proofs.Replying.{OpIs, waits, no_room, dies, rolls, performs, reply_is}
-use Rattle.history_laws.proofs.Walking.{Behind, next_entry}
+use Rattle.history_laws.proofs.Entries.WhatOperationsDo.{OpIs, waits, no_room, dies, rolls, performs, reply_is}
+use Rattle.history_laws.proofs.Entries.WalkedEntryByEntry.{Behind, next_entry}
 use Rattle.fate_laws.proofs.History.EntriesInTurn.{Requested, same_epoch, turn_of}
 use Rattle.fate_laws.proofs.Origins.DueKeepsOrigins.{PartFrom, StageFrom, SomeRequest}
 use Rattle.fate_laws.proofs.Origins.EventsKeepOrigins.{active_done}

@@ -36,13 +36,13 @@ use Rattle.law_base.proofs.Stages.{closed_other, stage_own, stage_other, gone_by
 use Rattle.history_laws.specs.Openings.{LegalFrom}
 use Rattle.shard_laws.proofs.Restarts.RestoredLocksAndParts.{restored_none}
 use Rattle.shard_laws.proofs.Order.ChangesKeepOrder.{prepare_some}
-use Rattle.history_laws.proofs.Replying.{OpIs, dies, rolls, performs, reply_is}
+use Rattle.history_laws.proofs.Entries.WhatOperationsDo.{OpIs, dies, rolls, performs, reply_is}
 use Rattle.fate_laws.proofs.Origins.FrontsKeepOrigins.{traced_front}
 use Rattle.fate_laws.proofs.History.EntryByEntry.{Next, next_at, stays_as_it_was, asked_later}
 use Rattle.fate_laws.proofs.Parts.FrontsKeepParts.{bindings_front}
 use Rattle.fate_laws.proofs.FallenAreUncommitted.StepsKeepOutUncommitted.{performed_other}
 use Rattle.fate_laws.proofs.FallenAreUncommitted.FrontsKeepOutUncommitted.{Met, met_front, prepared_asked, walk_on}
-use Rattle.history_laws.proofs.Doubts.{doubt_prepared}
+use Rattle.history_laws.proofs.Logs.DoubtedAreUndecided.{doubt_prepared}
 
 -- ---- parts that aren't there
 

@@ -18,7 +18,7 @@ use Rattle.clv_base.proofs.SameNames.{tx_true}
 use Rattle.law_base.proofs.Tables.{stage_in, is_pair}
 use Rattle.law_base.proofs.Sets.{filter_in}
 use Rattle.protocol_laws.specs.Growth.{IsPrefixOf}
-use Rattle.history_laws.proofs.Serials.{committed_front}
+use Rattle.history_laws.proofs.NeverTakenBack.LaterHistoriesHoldMembers.{committed_front}
 use Rattle.history_cases.proofs.Uncommitting.{rolled as rolled_commits}
 use Rattle.law_base.proofs.Stages.{absent_go, own_go, stage_other}
 use Rattle.shard_laws.proofs.Order.ChangesKeepOrder.{prepare_some}

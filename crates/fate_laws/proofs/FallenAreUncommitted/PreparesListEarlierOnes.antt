@@ -15,7 +15,7 @@ use Rattle.clv_base.specs.Restarts.{restart_records, undo_records, log_after_res
 use Rattle.clv_base.proofs.SameNames.{tx_true, tx_self, in_insert, insert_has}
 use Rattle.law_base.proofs.Changed.{none_some, some_same}
 use Rattle.law_base.proofs.Doubts.{stays_in}
-use Rattle.history_laws.proofs.Serials.{committed_front}
+use Rattle.history_laws.proofs.NeverTakenBack.LaterHistoriesHoldMembers.{committed_front}
 use Rattle.shard_laws.proofs.Keeping.ChangesKeepPrepared.{prepared_append}
 use Rattle.shard_laws.proofs.Order.RecordByRecord.{Follows}
 

@@ -16,7 +16,7 @@ use Rattle.clv_base.proofs.SameNames.{tx_true, tx_self}
 use Rattle.law_base.proofs.Changed.{none_some}
 use Rattle.law_base.proofs.Tables.{stage_in, is_pair, stage_by, get_put, without_pairs}
 use Rattle.protocol_laws.specs.Growth.{IsPrefixOf}
-use Rattle.history_laws.proofs.Serials.{committed_front}
+use Rattle.history_laws.proofs.NeverTakenBack.LaterHistoriesHoldMembers.{committed_front}
 use Rattle.history_cases.proofs.Uncommitting.{rolled as rolled_commits}
 use Rattle.law_base.proofs.Stages.{was_present, written_parts, active_back, stage_marked, other_part}
 use Rattle.fate_laws.proofs.Homes.ShardKnowsHomes.{still_not}
@@ -34,7 +34,7 @@ use Rattle.protocol_laws.proofs.Growing.{same, more_twice}
 use Rattle.history_cases.proofs.Stepping.{Step}
 use Rattle.law_base.proofs.LockRows.{Rows}
 use Rattle.shard_laws.proofs.Order.ChangesKeepOrder.{prepare_some}
-use Rattle.history_laws.proofs.Replying.{OpIs, performs}
+use Rattle.history_laws.proofs.Entries.WhatOperationsDo.{OpIs, performs}
 use Rattle.fate_laws.proofs.Logs.LogOnlyGrows.{inside_step}
 use Rattle.fate_laws.proofs.Logs.WhatPreparesOrCommits.{Commits, alone, decided, step_commits}
 use Rattle.fate_laws.proofs.FallenAreUncommitted.PreparedPairsAreListed.{Lined, lined_performed}

@@ -13,7 +13,7 @@ use Rattle.clv_base.specs.History.{request_of, state_before}
 use Rattle.clv_base.proofs.SameNames.{tx_true, tx_self}
 use Rattle.history_cases.proofs.Merging.{Placed, Among}
 use Rattle.history_cases.proofs.Telling.{IsRequest}
-use Rattle.history_laws.proofs.Staying.{is_request}
+use Rattle.history_laws.proofs.NeverTakenBack.{is_request}
 use Rattle.history_cases.proofs.Worlds.{journal_append, other_journal}
 use Rattle.fate_laws.specs.Leading.{deeds_with, deeds_after, own_deeds, requests_of}
 use Rattle.shard_laws.specs.OneShard.{Deeds, no_deeds}

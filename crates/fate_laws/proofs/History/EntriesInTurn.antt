@@ -14,12 +14,12 @@ use Rattle.clv_base.specs.History.{Legal}
 use Rattle.protocol_laws.specs.SessionLaws.{tx_of, works_on, ended_by}
 use Rattle.protocol_laws.proofs.InOrder.{sessions_keep_order}
 use Rattle.history_cases.proofs.Merging.{Placed, Before, in_order, Among, Precedes, in_turn, precedes_before, before_then, not_before_itself, own_in_order}
-use Rattle.history_laws.proofs.Walkers.{nothing_follows}
+use Rattle.history_laws.proofs.Entries.NothingFollowsRequests.{nothing_follows}
 use Rattle.history_cases.proofs.Telling.{IsRequest}
-use Rattle.history_laws.proofs.Staying.{together}
-use Rattle.history_laws.proofs.Walking.{Behind, from_own, first_among}
-use Rattle.history_laws.proofs.SessionWalking.{OpAt, AnswersAt, has_seen}
-use Rattle.history_laws.proofs.Naming.{AnsweredAt, Named, request_names_all}
+use Rattle.history_laws.proofs.NeverTakenBack.{together}
+use Rattle.history_laws.proofs.Entries.WalkedEntryByEntry.{Behind, from_own, first_among}
+use Rattle.history_laws.proofs.RequestsNameWhatAnswered.SessionsFollowTheirOperations.{OpAt, AnswersAt, has_seen}
+use Rattle.history_laws.proofs.RequestsNameWhatAnswered.NamedShardsAnswered.{AnsweredAt, Named, request_names_all}
 
 -- an entry of a history, and one behind it
 pub record Turn (h : History) (x y : Placed) : Type 0 where

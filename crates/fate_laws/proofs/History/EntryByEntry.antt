@@ -12,10 +12,10 @@ use Rattle.clv_base.specs.Journals.{History, start_of, after_entries}
 use Rattle.clv_base.specs.History.{Legal, WasSent, MessagesSent}
 use Rattle.history_cases.proofs.Durability.{Counted, Fronts, fronts_entry, opened_counted}
 use Rattle.history_cases.proofs.Merging.{Placed, Before, in_order, not_before_itself, before_then, Among, among_append, among_left, among_right, front_precedes, Precedes, precedes_before}
-use Rattle.history_laws.proofs.Serials.{committed_front}
+use Rattle.history_laws.proofs.NeverTakenBack.LaterHistoriesHoldMembers.{committed_front}
 use Rattle.history_cases.proofs.Telling.{IsRequest}
 use Rattle.history_cases.proofs.Worlds.{sent_at, state_at, Split, split_at, in_a_shard, other_journal}
-use Rattle.history_laws.proofs.Staying.{one_request}
+use Rattle.history_laws.proofs.NeverTakenBack.{one_request}
 
 -- what stands before an entry is in the front
 precedes_right : {A : Type 0} (x y : A) (xs ys : List A) → Precedes x y ys → Precedes x y (xs ++ ys)

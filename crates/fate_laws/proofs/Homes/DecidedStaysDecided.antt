@@ -14,7 +14,7 @@ use Rattle.clv_base.specs.History.{Legal, Member, members, ops_in, request_of, a
 use Rattle.clv_base.proofs.SameNames.{tx_self}
 use Rattle.history_cases.proofs.Durability.{left_front}
 use Rattle.history_cases.proofs.Merging.{Placed, Among, among_is, is_among}
-use Rattle.history_laws.proofs.Serials.{committed_front}
+use Rattle.history_laws.proofs.NeverTakenBack.LaterHistoriesHoldMembers.{committed_front}
 use Rattle.history_cases.proofs.Telling.{IsRequest}
 use Rattle.history_cases.proofs.TellingEvents.{front_committed}
 use Rattle.history_cases.proofs.Worlds.{in_a_shard}
@@ -23,7 +23,7 @@ use Rattle.fate_laws.specs.Decisions.{IsTold, IsHome, CommitsStandAtHome, ToldCo
 use Rattle.fate_laws.proofs.Homes.ShardKnowsHomes.{Known}
 use Rattle.fate_laws.proofs.History.EntryByEntry.{AskedIn, one_home, DurableIn}
 use Rattle.fate_laws.proofs.Homes.FrontsKeepHomes.{Said, Fated, fated}
-use Rattle.history_laws.proofs.Staying.{log_now}
+use Rattle.history_laws.proofs.NeverTakenBack.{log_now}
 
 -- ---- the log that a crash leaves
 

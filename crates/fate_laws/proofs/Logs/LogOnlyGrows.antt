@@ -27,7 +27,7 @@ use Rattle.protocol_laws.specs.Growth.{IsPrefixOf}
 use Rattle.protocol_laws.proofs.Growing.{same, more, more_twice, chain}
 use Rattle.protocol_laws.proofs.GrowingEvents.{writes, rolled_if}
 use Rattle.history_cases.proofs.Stepping.{commits, votes, rules, KeptByDue, Step, op_dies, op_answers, request_refused, request_doomed, request_again, request_closes, looks_well, looks_ill, drops, prepare_closes, decision_comes}
-use Rattle.history_laws.proofs.Replying.{OpIs, dies, rolls, performs, reply_is}
+use Rattle.history_laws.proofs.Entries.WhatOperationsDo.{OpIs, dies, rolls, performs, reply_is}
 
 pub record Inside (s t : Shard) : Type 0 where
   pub shard : t.shard ≡ s.shard

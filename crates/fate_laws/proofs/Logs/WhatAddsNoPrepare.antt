@@ -20,7 +20,7 @@ use Rattle.clv_base.specs.Restarts.{undo_records, restart_records, log_after_res
 use Rattle.clv_base.proofs.SameNames.{tx_true}
 use Rattle.law_base.proofs.Lists.{all_append}
 use Rattle.shard_laws.proofs.Keeping.ChangesKeepPrepared.{prepared_from, prepare_keeps}
-use Rattle.history_laws.proofs.Replying.{OpIs, dies, rolls, performs, reply_is}
+use Rattle.history_laws.proofs.Entries.WhatOperationsDo.{OpIs, dies, rolls, performs, reply_is}
 use Rattle.history_cases.proofs.Telling.{all_map}
 use Rattle.protocol_laws.proofs.Records.{prepared_there}
 

@@ -28,7 +28,7 @@ use Rattle.law_base.proofs.Changed.{none_some}
 use Rattle.law_base.proofs.Tables.{stage_by, stage_in, get_put}
 use Rattle.clv_base.specs.declared.state.Held.{Held}
 use Rattle.law_base.proofs.Stages.{closed_back, stage_closed, closed_other, stage_marked, other_part}
-use Rattle.history_laws.proofs.Replying.{OpIs, dies, rolls, performs, reply_is}
+use Rattle.history_laws.proofs.Entries.WhatOperationsDo.{OpIs, dies, rolls, performs, reply_is}
 use Rattle.history_cases.proofs.Stepping.{Step, op_dies, op_answers, request_closes, drops, prepare_closes, decision_comes}
 use Rattle.history_cases.proofs.Uncommitting.{with_more, rolled as rolled_commits, dropped as dropped_commits, op_dying as dying_commits, op_answering as answering_commits}
 use Rattle.fate_laws.proofs.Logs.WhatAddsNoPrepare.{plain_more, prepare_new, rolled, dropped, op_dying, op_answering}

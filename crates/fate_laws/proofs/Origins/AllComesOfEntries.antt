@@ -24,7 +24,7 @@ use Rattle.clv_base.proofs.SameNames.{tx_true, tx_self}
 use Rattle.law_base.proofs.Changed.{some_same, none_some}
 use Rattle.law_base.proofs.Rows.{rows_get}
 use Rattle.history_cases.proofs.Merging.{Among, among_is, is_among}
-use Rattle.history_laws.proofs.Walking.{next_entry}
+use Rattle.history_laws.proofs.Entries.WalkedEntryByEntry.{next_entry}
 use Rattle.fate_laws.specs.Origins.{answered_as, WasAnsweredAs, WasEverAnswered, WasAskedAt, WasAsked, WasAskedAway, ComesOf, AllComesOfEntries, PreparesComeOfRequests}
 use Rattle.fate_laws.proofs.History.EntriesInTurn.{Requested}
 use Rattle.fate_laws.proofs.Origins.DueKeepsOrigins.{SomeRequest, OwnRequest, AwayRequest, StageFrom, PartFrom, RowFrom, CommitFrom, AllFrom, part_of, own_some, wrote_all}

@@ -48,10 +48,10 @@ use Rattle.shard_laws.proofs.Keeping.LeavingKeeps.{no_prepares}
 use Rattle.shard_laws.proofs.Order.WritesLieOnListed.{order_of, prepared_wrote, wrote_stands}
 use Rattle.shard_laws.proofs.Keeping.ChangesKeepPrepared.{prepared_append, prepared_from}
 use Rattle.shard_laws.proofs.Restarts.WinnersKeepTheirWrites.{none_prepare, plain_restart}
-use Rattle.history_laws.proofs.Serials.{committed_front}
+use Rattle.history_laws.proofs.NeverTakenBack.LaterHistoriesHoldMembers.{committed_front}
 use Rattle.history_cases.proofs.Stepping.{commits, votes, rules, KeptByDue, settled, with_work, Step, op_dies, op_answers, request_refused, request_doomed, request_again, request_closes, looks_well, looks_ill, drops, prepare_closes, decision_comes, Happens, finishes, stops}
-use Rattle.history_laws.proofs.Replying.{OpIs, dies, rolls, performs, reply_is}
-use Rattle.history_laws.proofs.Doubts.{doubt_undecided}
+use Rattle.history_laws.proofs.Entries.WhatOperationsDo.{OpIs, dies, rolls, performs, reply_is}
+use Rattle.history_laws.proofs.Logs.DoubtedAreUndecided.{doubt_undecided}
 
 -- ---- who is prepared in the log found is committed or in doubt there, or aborted when the shard has opened
 

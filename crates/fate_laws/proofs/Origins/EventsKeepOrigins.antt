@@ -44,9 +44,9 @@ use Rattle.law_base.proofs.Stages.{written_parts}
 use Rattle.shard_laws.proofs.Events.DueKeeps.{waiting_here}
 use Rattle.history_cases.proofs.Stepping.{with_work, Step, op_dies, op_answers, request_new, request_closes, drops, sends, prepare_closes, prepare_again, vote_counts, decision_comes, decision_again, done_counts, asked, reminds, flushes, Happens, finishes, stops}
 use Rattle.history_cases.proofs.Telling.{all_map}
-use Rattle.history_laws.proofs.Replying.{OpIs, dies, rolls, performs, reply_is}
+use Rattle.history_laws.proofs.Entries.WhatOperationsDo.{OpIs, dies, rolls, performs, reply_is}
 use Rattle.fate_laws.proofs.Origins.DueKeepsOrigins.{SomeRequest, OwnRequest, AwayRequest, away_some, own_some, BirthFrom, StageFrom, PartFrom, CommitFrom, RecordFrom, StateFrom, RowFrom, MessageFrom, Origins, part_of, none_changed, AllFrom, push_records, clrs_all, standing_of, from_rolled, from_send, from_push, row_of, from_set, from_finish}
-use Rattle.history_laws.proofs.Rows.{all_in}
+use Rattle.history_laws.proofs.Entries.AllHaveWhatEachHas.{all_in}
 
 -- ---- what an entry owes: an operation that is answered, a request that is taken, a Prepare that comes
 

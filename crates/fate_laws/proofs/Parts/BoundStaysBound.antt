@@ -19,7 +19,7 @@ use Rattle.protocol_laws.proofs.Growing.{same, chain}
 use Rattle.history_cases.proofs.Stepping.{Happens, finishes, stops}
 use Rattle.history_cases.proofs.Entering.{Makes, by_event, by_flush, by_failure, by_restart}
 use Rattle.history_cases.proofs.Durability.{Counted, left_front, restarts_front}
-use Rattle.history_laws.proofs.Serials.{committed_front}
+use Rattle.history_laws.proofs.NeverTakenBack.LaterHistoriesHoldMembers.{committed_front}
 use Rattle.history_cases.proofs.TellingEvents.{front_committed}
 use Rattle.fate_laws.proofs.Logs.LogOnlyGrows.{inside_self}
 use Rattle.fate_laws.proofs.Logs.WhatAddsNoPrepare.{prepare_more, front_prepare}

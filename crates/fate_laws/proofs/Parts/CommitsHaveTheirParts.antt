@@ -28,7 +28,7 @@ use Rattle.history_cases.proofs.Stepping.{Step, decision_comes, decision_again, 
 use Rattle.history_cases.proofs.Entering.{Makes, by_event, by_flush, by_failure, by_restart, makes}
 use Rattle.history_cases.proofs.Durability.{left_front}
 use Rattle.history_cases.proofs.Merging.{Placed, is_among}
-use Rattle.history_laws.proofs.Serials.{committed_front}
+use Rattle.history_laws.proofs.NeverTakenBack.LaterHistoriesHoldMembers.{committed_front}
 use Rattle.history_cases.proofs.TellingEvents.{front_committed}
 use Rattle.history_cases.proofs.Worlds.{state_at}
 use Rattle.fate_laws.specs.Binding.{IsDue, CommitsComeDue, HasItsPart, CommitsHaveTheirParts}
@@ -42,7 +42,7 @@ use Rattle.fate_laws.proofs.Parts.CommittedAreVotedFor.{Touched, Good, Base}
 use Rattle.fate_laws.proofs.Parts.FrontsKeepParts.{WasTaken, FineAt, Bindings, bound_message, bindings_front}
 use Rattle.protocol_laws.proofs.Records.{prepared_there}
 use Rattle.law_base.proofs.Names.{all_from}
-use Rattle.history_laws.proofs.Staying.{log_now}
+use Rattle.history_laws.proofs.NeverTakenBack.{log_now}
 
 -- ---- a commit is taken by a part that is closed, or again
 

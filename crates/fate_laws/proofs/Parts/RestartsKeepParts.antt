@@ -31,7 +31,7 @@ use Rattle.history_cases.proofs.Uncommitting.{restarts_add}
 use Rattle.fate_laws.proofs.Logs.WhatAddsNoPrepare.{front_prepare, restarts_add as restarts_prepare}
 use Rattle.fate_laws.proofs.Parts.YesVotesArePrepared.{Bound, Reads, Ordered}
 use Rattle.fate_laws.proofs.Parts.CommittedAreVotedFor.{HomeOr, Good, Parted, longer_ordered}
-use Rattle.history_laws.proofs.Doubts.{doubt_prepared}
+use Rattle.history_laws.proofs.Logs.DoubtedAreUndecided.{doubt_prepared}
 use Rattle.protocol_laws.proofs.Records.{prepared_there}
 use Rattle.law_base.proofs.Names.{own_pairs}
 

@@ -25,7 +25,7 @@ use Rattle.law_base.proofs.Changed.{none_some}
 use Rattle.law_base.proofs.Commits.{commit_durable, durable_committed, place_some, below_some}
 use Rattle.law_base.proofs.Tables.{is_pair}
 use Rattle.protocol_laws.proofs.Facts.{durable_before}
-use Rattle.history_laws.proofs.Serials.{committed_front}
+use Rattle.history_laws.proofs.NeverTakenBack.LaterHistoriesHoldMembers.{committed_front}
 use Rattle.fate_laws.proofs.Logs.LogOnlyGrows.{Inside}
 use Rattle.fate_laws.proofs.Logs.WhatAddsNoPrepare.{front_prepare}
 use Rattle.fate_laws.proofs.Homes.EntriesKeepHomes.{durable_front}

@@ -12,7 +12,7 @@ use Rattle.clv_base.specs.Orders.{tx_same}
 use Rattle.clv_base.specs.Sessions.{SessionState, is_number, lies_in, begun, session_for, op_answered, op_in_session, requested, looked, session_after, makes_from}
 use Rattle.clv_base.specs.LogRules.{same_option}
 use Rattle.history_cases.proofs.Merging.{Placed, Among, Precedes}
-use Rattle.history_laws.proofs.SessionWalking.{For, the_same, a_new_one, for_by, epoch_at}
+use Rattle.history_laws.proofs.RequestsNameWhatAnswered.SessionsFollowTheirOperations.{For, the_same, a_new_one, for_by, epoch_at}
 
 -- the session's transaction is this one, of this birth, or a later one
 abbrev Is : TxId → Birth → SessionState → Type 0

@@ -37,9 +37,9 @@ use Rattle.history_cases.proofs.OldRuns.{below_next_run}
 use Rattle.history_cases.proofs.Telling.{IsRequest}
 use Rattle.history_cases.proofs.Worlds.{state_at}
 use Rattle.history_laws.specs.Openings.{LegalFrom}
-use Rattle.history_laws.proofs.Replying.{OpIs, performs, reply_is}
-use Rattle.history_laws.proofs.Walking.{Behind, Walked, Steps, walked}
-use Rattle.history_laws.proofs.Found.{found_in_order, log_found}
+use Rattle.history_laws.proofs.Entries.WhatOperationsDo.{OpIs, performs, reply_is}
+use Rattle.history_laws.proofs.Entries.WalkedEntryByEntry.{Behind, Walked, Steps, walked}
+use Rattle.history_laws.proofs.Logs.FoundLogsAreInOrder.{found_in_order, log_found}
 use Rattle.fate_laws.proofs.History.EntriesInTurn.{Requested, turn_of, same_epoch, op_no_request}
 use Rattle.fate_laws.proofs.Origins.DueKeepsOrigins.{SomeRequest, StageFrom, PartFrom, part_of}
 use Rattle.fate_laws.proofs.Origins.EventsKeepOrigins.{active_done}

@@ -44,7 +44,7 @@ use Rattle.law_base.proofs.LockRows.{Rows, rows_take, rows_all, rows_split, rows
 use Rattle.law_base.proofs.Stages.{get_other, get_closed_own}
 use Rattle.shard_laws.proofs.Order.OperationsKeepOrder.{add_which}
 use Rattle.history_cases.proofs.Stepping.{commits, votes, rules, KeptByDue, settled, with_work, Step, op_dies, op_answers, request_refused, request_doomed, request_again, request_closes, looks_well, looks_ill, drops, prepare_closes, decision_comes, Happens, finishes, stops}
-use Rattle.history_laws.proofs.Replying.{OpIs, dies, rolls, performs, reply_is}
+use Rattle.history_laws.proofs.Entries.WhatOperationsDo.{OpIs, dies, rolls, performs, reply_is}
 use Rattle.law_base.proofs.Names.{restored_there, MayStand}
 
 -- ---- a lock is that of a part, with its birth, and closed as it is

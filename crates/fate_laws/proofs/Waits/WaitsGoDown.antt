@@ -40,10 +40,10 @@ use Rattle.protocol_laws.proofs.InOrder.{sessions_keep_order}
 use Rattle.law_base.proofs.LockRows.{violated_row}
 use Rattle.history_cases.proofs.Merging.{Placed, Before, before_of, before_then, not_before_itself, Among, among_is, is_among, in_own, among_right, Precedes, front_precedes}
 use Rattle.history_laws.specs.Openings.{LegalFrom}
-use Rattle.history_laws.proofs.Found.{log_found}
-use Rattle.history_laws.proofs.Walkers.{of_session, nothing_follows}
+use Rattle.history_laws.proofs.Logs.FoundLogsAreInOrder.{log_found}
+use Rattle.history_laws.proofs.Entries.NothingFollowsRequests.{of_session, nothing_follows}
 use Rattle.history_cases.proofs.Telling.{IsRequest}
-use Rattle.history_laws.proofs.Staying.{walker_of, one_request, is_request}
+use Rattle.history_laws.proofs.NeverTakenBack.{walker_of, one_request, is_request}
 use Rattle.fate_laws.proofs.History.EntriesInTurn.{Requested}
 use Rattle.fate_laws.proofs.Origins.DueKeepsOrigins.{SomeRequest, PartFrom, StageFrom, part_of}
 use Rattle.fate_laws.proofs.Origins.EventsKeepOrigins.{active_done}
@@ -56,7 +56,7 @@ use Rattle.fate_laws.proofs.Origins.OldPartsWereInDoubt.{MayHave, MayPrepare}
 use Rattle.fate_laws.proofs.Waits.PredecessorsAskedFirst.{LockOf}
 use Rattle.fate_laws.proofs.Waits.AllOfOneBirth.{one_birth}
 use Rattle.fate_laws.proofs.Waits.DependsOnEarlierAsker.{AskedFirst, Earlier, Depends, depends}
-use Rattle.history_laws.proofs.Doubts.{doubted_is_old}
+use Rattle.history_laws.proofs.Logs.DoubtedAreUndecided.{doubted_is_old}
 use Rattle.clv_base.proofs.Arrays.{is_less as less_cmp, is_equal as equal_cmp}
 
 -- ---- an operation that is to wait

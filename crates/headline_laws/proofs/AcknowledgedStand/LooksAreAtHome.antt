@@ -19,7 +19,7 @@ use Rattle.clv_base.specs.Journals.{History, own}
 use Rattle.clv_base.specs.History.{Legal, is_acknowledgement}
 use Rattle.clv_base.proofs.SameNames.{tx_true}
 use Rattle.history_cases.proofs.Merging.{Placed, Among, among_left, among_right, among_is, in_own}
-use Rattle.history_laws.proofs.Staying.{session_of}
+use Rattle.history_laws.proofs.NeverTakenBack.{session_of}
 use Rattle.history_cases.proofs.Telling.{IsRequest}
 use Rattle.fate_laws.specs.Decisions.{IsHome}
 

@@ -43,7 +43,7 @@ use Rattle.shard_laws.proofs.Keeping.ChangesKeepPrepared.{prepared_append}
 use Rattle.shard_laws.proofs.Restarts.RestoredLocksAndParts.{restored_none}
 use Rattle.shard_laws.proofs.Events.DueKeeps.{waiting_here}
 use Rattle.shard_laws.proofs.Order.ChangesKeepOrder.{prepare_some}
-use Rattle.history_laws.proofs.Replying.{OpIs, dies, rolls, performs, reply_is}
+use Rattle.history_laws.proofs.Entries.WhatOperationsDo.{OpIs, dies, rolls, performs, reply_is}
 use Rattle.history_cases.proofs.Stepping.{Due, commits, votes, rules, settled, Step, op_dies, op_answers, request_closes, drops, prepare_closes, decision_comes, finishes, stops}
 use Rattle.history_cases.proofs.Entering.{Makes, by_event, by_flush, by_failure, by_restart}
 use Rattle.history_cases.proofs.TellingEvents.{front_committed}
@@ -55,7 +55,7 @@ use Rattle.fate_laws.proofs.Logs.WhatAddsNoPrepare.{rolled as rolled_prepares}
 use Rattle.fate_laws.proofs.Parts.RestartsKeepParts.{revived_prepares}
 use Rattle.fate_laws.proofs.Parts.BoundStaysBound.{NotOwn}
 use Rattle.fate_laws.proofs.Logs.RestartsWriteNoUpdate.{restart_writes_none, wrote_take}
-use Rattle.history_laws.proofs.Doubts.{doubt_prepared}
+use Rattle.history_laws.proofs.Logs.DoubtedAreUndecided.{doubt_prepared}
 use Rattle.protocol_laws.proofs.Records.{prepared_there}
 
 -- its part was never known here since the shard came up, or it is finished

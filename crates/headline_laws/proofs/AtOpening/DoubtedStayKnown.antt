@@ -14,8 +14,8 @@ use Rattle.clv_base.specs.Journals.{History, final_of}
 use Rattle.protocol_laws.specs.Growth.{IsPrefixOf}
 use Rattle.protocol_laws.proofs.Growing.{chain, more}
 use Rattle.history_laws.specs.Openings.{LegalFrom}
-use Rattle.history_laws.proofs.Found.{log_found}
-use Rattle.history_laws.proofs.Serials.{committed_front}
+use Rattle.history_laws.proofs.Logs.FoundLogsAreInOrder.{log_found}
+use Rattle.history_laws.proofs.NeverTakenBack.LaterHistoriesHoldMembers.{committed_front}
 use Rattle.fate_laws.proofs.Parts.FoundCommitsAreBound.{opening_settled, opening_home}
 use Rattle.fate_laws.proofs.Logs.WhatAddsNoPrepare.{prepare_more, front_prepare}
 use Rattle.fate_laws.specs.Earlier.{IsEarlier, WasCommitted}
@@ -26,7 +26,7 @@ use Rattle.headline_laws.proofs.EarlierMembersNeverFell.{never_out, earlier_memb
 use Rattle.headline_laws.proofs.AtOpening.RecordedAreCommittedOrDoubted.{doubted}
 use Rattle.headline_laws.proofs.SharesAreMaps.{somewhere_at}
 use Rattle.headline_laws.proofs.AtOpening.EarlierOnesStoodThere.{left_begins}
-use Rattle.history_laws.proofs.Doubts.{doubt_prepared, doubt_undecided, doubted_is_old}
+use Rattle.history_laws.proofs.Logs.DoubtedAreUndecided.{doubt_prepared, doubt_undecided, doubted_is_old}
 use Rattle.protocol_laws.proofs.Records.{prepared_there}
 use Rattle.shard_laws.proofs.Order.ChangesKeepOrder.{prepare_some}
 use Rattle.law_base.proofs.Names.{all_from}

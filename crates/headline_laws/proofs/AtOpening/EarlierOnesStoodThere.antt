@@ -19,7 +19,7 @@ use Rattle.history_laws.specs.Openings.{LegalFrom}
 use Rattle.shard_laws.proofs.Order.RecordByRecord.{Follows, Plainly, from_disorder, last_push}
 use Rattle.shard_laws.proofs.Keeping.RecordsAndFrontsKeep.{wrote_append}
 use Rattle.history_cases.proofs.Durability.{fronts_entries, opened_counted, left_front}
-use Rattle.history_laws.proofs.Serials.{committed_front}
+use Rattle.history_laws.proofs.NeverTakenBack.LaterHistoriesHoldMembers.{committed_front}
 use Rattle.fate_laws.proofs.Homes.DecidedStaysDecided.{left_committed}
 use Rattle.fate_laws.proofs.Logs.RestartsWriteNoUpdate.{restart_writes_none}
 use Rattle.fate_laws.proofs.EarlierRuns.EarlierFatesAreKnown.{earlier_commits_are_of_opening}
@@ -27,7 +27,7 @@ use Rattle.fate_laws.proofs.LogsLeftAreInOrder.{logs_left_are_in_order}
 use Rattle.headline_laws.proofs.SharesAreMaps.{at_somewhere}
 use Rattle.law_base.proofs.Bools.{and_first as front}
 use Rattle.law_base.proofs.Logs.{last_restart_push as last_new}
-use Rattle.history_laws.proofs.Staying.{log_now}
+use Rattle.history_laws.proofs.NeverTakenBack.{log_now}
 
 -- ---- no UPDATE behind the RESTART of a run is of an earlier one
 

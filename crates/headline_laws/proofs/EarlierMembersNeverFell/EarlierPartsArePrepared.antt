@@ -21,7 +21,7 @@ use Rattle.protocol_laws.specs.SessionLaws.{tx_of}
 use Rattle.history_cases.proofs.Stepping.{Happens, finishes, stops}
 use Rattle.history_cases.proofs.Entering.{Makes, by_event, by_flush, by_failure, by_restart, makes}
 use Rattle.history_cases.proofs.Merging.{Placed}
-use Rattle.history_laws.proofs.Staying.{walker_of}
+use Rattle.history_laws.proofs.NeverTakenBack.{walker_of}
 use Rattle.history_cases.proofs.Worlds.{state_at}
 use Rattle.shard_laws.proofs.Restarts.RestoredLocksAndParts.{restored_none}
 use Rattle.shard_laws.proofs.Order.ChangesKeepOrder.{prepare_some}
@@ -32,7 +32,7 @@ use Rattle.fate_laws.specs.Earlier.{IsEarlier}
 use Rattle.fate_laws.proofs.FallenAreUncommitted.NoPartWithoutOperation.{DoesNow, none_made}
 use Rattle.fate_laws.proofs.FallenAreUncommitted.FrontsKeepOutUncommitted.{walk_on}
 use Rattle.headline_laws.proofs.GoneAreLost.WhyPreparedOnesGo.{inside_finish}
-use Rattle.history_laws.proofs.Doubts.{doubt_prepared}
+use Rattle.history_laws.proofs.Logs.DoubtedAreUndecided.{doubt_prepared}
 use Rattle.protocol_laws.proofs.Records.{prepared_there}
 
 -- a shard that came back has parts of those in doubt alone

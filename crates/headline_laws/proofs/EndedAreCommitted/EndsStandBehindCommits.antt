@@ -28,7 +28,7 @@ use Rattle.clv_base.proofs.SameNames.{tx_true}
 use Rattle.law_base.proofs.Changed.{some_same}
 use Rattle.law_base.proofs.Commits.{committed_keeps, parts_keep}
 use Rattle.law_base.proofs.Lists.{all_append}
-use Rattle.history_laws.proofs.Replying.{OpIs, dies, rolls, performs, reply_is}
+use Rattle.history_laws.proofs.Entries.WhatOperationsDo.{OpIs, dies, rolls, performs, reply_is}
 use Rattle.history_cases.proofs.Stepping.{Step, op_dies, op_answers, request_closes, drops, prepare_closes, decision_comes}
 
 -- ---- the parts that a COMMIT names: those of the first one, in a longer log too

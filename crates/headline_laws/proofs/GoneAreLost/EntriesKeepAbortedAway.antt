@@ -36,14 +36,14 @@ use Rattle.law_base.proofs.Tables.{stage_in}
 use Rattle.law_base.proofs.Sets.{in_filter}
 use Rattle.history_cases.proofs.Stepping.{Due, commits, votes, rules, KeptByDue, settled, Step, op_dies, op_answers, request_closes, drops, prepare_closes, decision_comes, Happens, finishes, stops}
 use Rattle.history_cases.proofs.Entering.{Makes, by_event, by_flush, by_failure, by_restart}
-use Rattle.history_laws.proofs.Serials.{committed_front}
+use Rattle.history_laws.proofs.NeverTakenBack.LaterHistoriesHoldMembers.{committed_front}
 use Rattle.history_cases.proofs.TellingEvents.{front_committed}
 use Rattle.history_cases.proofs.Uncommitting.{NoMoreCommits, rolled as rolled_commits, with_more, op_answering, opening_adds}
 use Rattle.shard_laws.proofs.Events.DueKeeps.{waiting_here}
 use Rattle.law_base.proofs.Stages.{closed_other, absent_go, own_go, stage_marked}
 use Rattle.shard_laws.proofs.Restarts.WinnersKeepTheirWrites.{loser_out}
 use Rattle.shard_laws.proofs.Restarts.RestoredLocksAndParts.{restored_none}
-use Rattle.history_laws.proofs.Replying.{OpIs, dies, rolls, performs, reply_is}
+use Rattle.history_laws.proofs.Entries.WhatOperationsDo.{OpIs, dies, rolls, performs, reply_is}
 use Rattle.fate_laws.proofs.Homes.ShardKnowsHomes.{still_not, new_commit}
 use Rattle.fate_laws.proofs.Homes.EventsKeepHomes.{awaits}
 use Rattle.fate_laws.proofs.Parts.CommitsHaveTheirParts.{taken_closed}
@@ -54,7 +54,7 @@ use Rattle.fate_laws.proofs.AbortedAreCommittedNowhere.EventsKeepDoomedUncommitt
 use Rattle.fate_laws.proofs.FallenAreUncommitted.OutIsLost.{Absent}
 use Rattle.fate_laws.proofs.FallenAreUncommitted.StepsKeepOutUncommitted.{performed_other}
 use Rattle.headline_laws.proofs.GoneAreLost.WhyPreparedOnesGo.{aborted_take}
-use Rattle.history_laws.proofs.Doubts.{doubt_undecided}
+use Rattle.history_laws.proofs.Logs.DoubtedAreUndecided.{doubt_undecided}
 use Rattle.clv_base.proofs.Folding.{or_left as or_false_left}
 
 abbrev pub Struck : Shard → TxId → Type 0

@@ -16,7 +16,7 @@ use Rattle.history_cases.proofs.Entering.{makes}
 use Rattle.history_cases.proofs.Merging.{Placed}
 use Rattle.history_cases.proofs.Worlds.{state_at}
 use Rattle.history_laws.specs.Openings.{LegalFrom}
-use Rattle.history_laws.proofs.Found.{log_found}
+use Rattle.history_laws.proofs.Logs.FoundLogsAreInOrder.{log_found}
 use Rattle.shard_laws.proofs.Order.WritesLieOnListed.{order_of}
 use Rattle.fate_laws.proofs.Origins.DueKeepsOrigins.{AllFrom}
 use Rattle.fate_laws.proofs.Origins.FrontsKeepOrigins.{DidOrOld}

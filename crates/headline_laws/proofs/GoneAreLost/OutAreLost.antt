@@ -16,7 +16,7 @@ use Rattle.history_cases.proofs.Entering.{Makes, makes}
 use Rattle.history_cases.proofs.Merging.{Placed}
 use Rattle.history_cases.proofs.Worlds.{state_at}
 use Rattle.history_laws.specs.Openings.{LegalFrom}
-use Rattle.history_laws.proofs.Found.{log_found}
+use Rattle.history_laws.proofs.Logs.FoundLogsAreInOrder.{log_found}
 use Rattle.shard_laws.proofs.Restarts.RestoredLocksAndParts.{restored_closed}
 use Rattle.fate_laws.proofs.Logs.WhatAddsNoPrepare.{opening_adds as opening_prepares}
 use Rattle.fate_laws.proofs.Parts.FoundCommitsAreBound.{opening_settled, opening_home, opening_unaborted}

@@ -22,7 +22,7 @@ use Rattle.history_cases.proofs.Entering.{Makes, by_event, by_flush, by_failure,
 use Rattle.history_cases.proofs.Durability.{Counted, restarts_front}
 use Rattle.law_base.proofs.Doubts.{doubts_more}
 use Rattle.law_base.proofs.Lists.{all_taken}
-use Rattle.history_laws.proofs.Serials.{committed_front}
+use Rattle.history_laws.proofs.NeverTakenBack.LaterHistoriesHoldMembers.{committed_front}
 use Rattle.history_cases.proofs.Uncommitting.{restarts_add as restarts_commits}
 use Rattle.shard_laws.proofs.Restarts.WinnersKeepTheirWrites.{Plain, plain_restart}
 use Rattle.shard_laws.proofs.Restarts.RestoredLocksAndParts.{restored_closed, restored_none}

@@ -17,7 +17,7 @@ use Rattle.shard_laws.proofs.Order.WritesLieOnListed.{order_of}
 use Rattle.shard_laws.proofs.Cuts.WhoIsInDoubt.{doubted}
 use Rattle.shard_laws.proofs.Restarts.WinnersKeepTheirWrites.{of_restarts}
 use Rattle.shard_laws.proofs.Restarts.RestartsKeepOrder.{Fine, found_self, renewed_by}
-use Rattle.history_laws.proofs.Records.{Passes, restarts_pass}
+use Rattle.history_laws.proofs.LogsLeftPass.WhatPassingRecordsAre.{Passes, restarts_pass}
 use Rattle.law_base.proofs.Logs.{IsUndo, all_take, undo_passes_none as none_of, restart_undoes}
 
 -- ---- the records

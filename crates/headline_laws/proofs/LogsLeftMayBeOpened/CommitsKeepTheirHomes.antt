@@ -23,8 +23,8 @@ use Rattle.protocol_laws.proofs.Records.{committed_there, prepared_there}
 use Rattle.history_cases.proofs.Durability.{left_front}
 use Rattle.history_cases.proofs.Merging.{Placed, Among, is_among}
 use Rattle.history_laws.specs.Openings.{LegalFrom}
-use Rattle.history_laws.proofs.Serials.{committed_front}
-use Rattle.history_laws.proofs.Staying.{walker_of, one_request, log_now}
+use Rattle.history_laws.proofs.NeverTakenBack.LaterHistoriesHoldMembers.{committed_front}
+use Rattle.history_laws.proofs.NeverTakenBack.{walker_of, one_request, log_now}
 use Rattle.history_cases.proofs.Worlds.{in_a_shard}
 use Rattle.shard_laws.proofs.Order.RecordByRecord.{from_disorder}
 use Rattle.fate_laws.proofs.History.EntriesInTurn.{Requested}
@@ -51,7 +51,7 @@ use Rattle.headline_laws.proofs.ReadersPass.{readers_pass}
 use Rattle.headline_laws.proofs.LogsLeftMayBeOpened.LogsAgreeByHomes.{HomeIs, PartIs, part_here}
 use Rattle.headline_laws.proofs.LogsLeftMayBeOpened.FrontsTellHomes.{wrote_or_committed}
 use Rattle.headline_laws.proofs.LogsLeftMayBeOpened.LeftLogsGoOn.{InOrder, left_aborted}
-use Rattle.history_laws.proofs.Passing.{left_length}
+use Rattle.history_laws.proofs.LogsLeftPass.{left_length}
 use Rattle.law_base.proofs.Names.{all_from}
 
 -- the home is none of the others

@@ -17,7 +17,7 @@ use Rattle.law_base.proofs.Commits.{committed_append, parts_keep}
 use Rattle.protocol_laws.proofs.Records.{committed_there, prepared_there}
 use Rattle.history_cases.proofs.Uncommitting.{opening_adds}
 use Rattle.history_laws.specs.Openings.{LegalFrom}
-use Rattle.history_laws.proofs.Found.{log_found}
+use Rattle.history_laws.proofs.Logs.FoundLogsAreInOrder.{log_found}
 use Rattle.shard_laws.proofs.Order.RecordByRecord.{Follows, from_disorder}
 use Rattle.shard_laws.proofs.Order.WritesLieOnListed.{prepared_wrote}
 use Rattle.fate_laws.proofs.Homes.DecidedStaysDecided.{left_committed}
@@ -33,9 +33,9 @@ use Rattle.headline_laws.proofs.AtOpening.EarlierOnesStoodThere.{LastFrom, last_
 use Rattle.headline_laws.proofs.LogsLeftMayBeOpened.LogsAgreeByHomes.{HomeIs, HasHome, PartIs, home_from, part_here, part_from}
 use Rattle.headline_laws.proofs.LogsLeftMayBeOpened.FrontsTellHomes.{wrote_or_committed, home_behind, all_committed}
 use Rattle.headline_laws.proofs.LogsLeftMayBeOpened.LeftLogsGoOn.{InOrder, left_opened, left_grows, left_aborted}
-use Rattle.history_laws.proofs.Passing.{left_length}
+use Rattle.history_laws.proofs.LogsLeftPass.{left_length}
 use Rattle.law_base.proofs.Bools.{and_first as front, and_second as last}
-use Rattle.history_laws.proofs.Staying.{log_now}
+use Rattle.history_laws.proofs.NeverTakenBack.{log_now}
 
 -- ---- a COMMIT behind the RESTART of a later run is of one that is prepared
 

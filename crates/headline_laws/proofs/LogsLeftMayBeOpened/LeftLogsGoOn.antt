@@ -12,7 +12,7 @@ use Rattle.protocol_laws.specs.Growth.{IsPrefixOf}
 use Rattle.protocol_laws.proofs.Growing.{chain, more}
 use Rattle.headline_laws.proofs.GoneAreLost.WhyPreparedOnesGo.{aborted_take}
 use Rattle.headline_laws.proofs.AtOpening.EarlierOnesStoodThere.{left_begins}
-use Rattle.history_laws.proofs.Staying.{log_now}
+use Rattle.history_laws.proofs.NeverTakenBack.{log_now}
 
 -- each log left is in order
 abbrev pub InOrder : List ℕ → List (List LogRecord) → History → List (List LogRecord) → (ℕ → Bool) → Type 0

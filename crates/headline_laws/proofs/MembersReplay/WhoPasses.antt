@@ -20,7 +20,7 @@ use Rattle.clv_base.specs.History.{IsAmong}
 use Rattle.protocol_laws.specs.SessionLaws.{tx_of}
 use Rattle.history_cases.proofs.Merging.{is_among}
 use Rattle.history_laws.specs.Openings.{LegalFrom}
-use Rattle.history_laws.proofs.Staying.{walker_of}
+use Rattle.history_laws.proofs.NeverTakenBack.{walker_of}
 use Rattle.shard_laws.specs.OneShard.{Passes}
 use Rattle.shard_laws.proofs.Order.RecordByRecord.{from_disorder}
 use Rattle.shard_laws.proofs.OrderIsKept.{order_is_kept}

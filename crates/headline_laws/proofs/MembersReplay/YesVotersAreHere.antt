@@ -24,7 +24,7 @@ use Rattle.protocol_laws.specs.SessionLaws.{tx_of}
 use Rattle.history_cases.proofs.Durability.{left_front}
 use Rattle.history_cases.proofs.Merging.{is_among}
 use Rattle.history_laws.specs.Openings.{LegalFrom}
-use Rattle.history_laws.proofs.Staying.{walker_of, log_now}
+use Rattle.history_laws.proofs.NeverTakenBack.{walker_of, log_now}
 use Rattle.history_cases.proofs.Worlds.{in_a_shard}
 use Rattle.fate_laws.specs.Binding.{HasItsPart}
 use Rattle.fate_laws.specs.Decisions.{is_left}

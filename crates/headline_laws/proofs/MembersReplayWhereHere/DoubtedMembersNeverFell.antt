@@ -18,7 +18,7 @@ use Rattle.fate_laws.specs.Falls.{Fell}
 use Rattle.fate_laws.proofs.EachShardLeads.RecordsTellTheirOrigin.{prepared_from}
 use Rattle.headline_laws.proofs.RequestsNameTheirShards.{names_shard}
 use Rattle.headline_laws.proofs.YesVotersNeverFell.{prepared_members_never_fell}
-use Rattle.history_laws.proofs.Doubts.{doubt_prepared}
+use Rattle.history_laws.proofs.Logs.DoubtedAreUndecided.{doubt_prepared}
 
 pub unfallen : {splits : List ℕ} {before after : List (List LogRecord)} {h : History} → LegalFrom splits before h after → (choice : ℕ → Bool) (n m : ℕ) (t : TxId) → n < shard_count splits → m < shard_count splits → t.run ≡ run_after before
     → tx_in t (in_doubt n (log_left (final_of before h after n) (choice n))) ≡ true → committed_in (log_of (logs_left splits before h after choice) m) t ≡ true → Fell before h after n t → ⊥

@@ -16,15 +16,15 @@ use Rattle.protocol_laws.specs.SessionLaws.{tx_of}
 use Rattle.history_laws.specs.Openings.{LegalFrom}
 use Rattle.history_laws.specs.Continuing.{serial_left}
 use Rattle.history_cases.proofs.Merging.{Placed, Among}
-use Rattle.history_laws.proofs.Found.{log_found}
-use Rattle.history_laws.proofs.Staying.{walker_of, one_request, is_request}
+use Rattle.history_laws.proofs.Logs.FoundLogsAreInOrder.{log_found}
+use Rattle.history_laws.proofs.NeverTakenBack.{walker_of, one_request, is_request}
 use Rattle.fate_laws.specs.Members.{is_member}
 use Rattle.fate_laws.proofs.Homes.DecidedStaysDecided.{commits_are_members}
 use Rattle.fate_laws.specs.Leading.{requests_of}
-use Rattle.history_laws.proofs.Doubts.{doubted_is_old}
+use Rattle.history_laws.proofs.Logs.DoubtedAreUndecided.{doubted_is_old}
 use Rattle.law_base.proofs.Bools.{same_truth as same_test}
 use Rattle.law_base.proofs.Logs.{is_in as counts}
-use Rattle.history_laws.proofs.Serials.{member_at as as_member}
+use Rattle.history_laws.proofs.NeverTakenBack.LaterHistoriesHoldMembers.{member_at as as_member}
 
 -- ---- members and requests
 

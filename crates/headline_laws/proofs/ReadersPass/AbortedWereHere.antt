@@ -45,7 +45,7 @@ use Rattle.history_cases.proofs.Stepping.{commits, votes, rules, KeptByDue, sett
 use Rattle.history_cases.proofs.Entering.{Makes, by_event, by_flush, by_failure, by_restart, makes}
 use Rattle.history_cases.proofs.Merging.{Placed}
 use Rattle.history_cases.proofs.Worlds.{state_at}
-use Rattle.history_laws.proofs.Replying.{OpIs, dies, rolls, performs, reply_is}
+use Rattle.history_laws.proofs.Entries.WhatOperationsDo.{OpIs, dies, rolls, performs, reply_is}
 use Rattle.fate_laws.proofs.History.EntryByEntry.{Next, next_at, each_shard}
 use Rattle.fate_laws.proofs.CausesStand.EventsEndTheirOwn.{IsCalm}
 use Rattle.fate_laws.proofs.CausesStand.GoneEndedOrDoomed.{RuledBy, commit, acknowledge, abort, end, ruled_by, opposed}

@@ -24,9 +24,9 @@ use Rattle.shard_laws.specs.OneShard.{is_doomed}
 use Rattle.history_cases.proofs.Stepping.{Step, sends, finishes, stops}
 use Rattle.history_cases.proofs.Entering.{Makes, by_event, by_flush, by_failure, by_restart, makes}
 use Rattle.history_cases.proofs.Merging.{Placed, Among, among_append}
-use Rattle.history_laws.proofs.Staying.{walker_of}
+use Rattle.history_laws.proofs.NeverTakenBack.{walker_of}
 use Rattle.history_cases.proofs.Worlds.{state_at}
-use Rattle.history_laws.proofs.Walking.{behind_of}
+use Rattle.history_laws.proofs.Entries.WalkedEntryByEntry.{behind_of}
 use Rattle.fate_laws.proofs.History.EntriesInTurn.{Requested}
 use Rattle.fate_laws.proofs.Origins.FrontsKeepOrigins.{IsOld, Brings, traced_front, brought, requested_more}
 use Rattle.fate_laws.proofs.Parts.YesVotesArePrepared.{Reads, ordered_wrote}

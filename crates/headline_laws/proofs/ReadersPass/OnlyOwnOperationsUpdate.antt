@@ -32,7 +32,7 @@ use Rattle.shard_laws.proofs.Keeping.RecordsAndFrontsKeep.{wrote_append, wrote_k
 use Rattle.history_cases.proofs.Telling.{all_map}
 use Rattle.history_cases.proofs.Stepping.{Due, commits, votes, rules, settled, Step, op_dies, op_answers, request_closes, drops, prepare_closes, decision_comes, finishes, stops}
 use Rattle.history_cases.proofs.Entering.{Makes, by_event, by_flush, by_failure, by_restart}
-use Rattle.history_laws.proofs.Replying.{OpIs, dies, rolls, performs, reply_is}
+use Rattle.history_laws.proofs.Entries.WhatOperationsDo.{OpIs, dies, rolls, performs, reply_is}
 use Rattle.fate_laws.proofs.Parts.BoundStaysBound.{NotOwn}
 use Rattle.fate_laws.proofs.Logs.WhatAddsNoPrepare.{all_clrs}
 

@@ -52,7 +52,7 @@ use Rattle.fate_laws.proofs.Logs.RestartsWriteNoUpdate.{wrote_grown}
 use Rattle.fate_laws.proofs.CausesStand.EventsEndTheirOwn.{set_row}
 use Rattle.headline_laws.proofs.ReadersPass.AbortedWereHere.{Fewer, fewer_same, fewer_finished, present_back, rolled_doomed}
 use Rattle.headline_laws.proofs.ReadersPass.OnlyOwnOperationsUpdate.{due_updates}
-use Rattle.history_laws.proofs.Rows.{put_row}
+use Rattle.history_laws.proofs.Entries.AllHaveWhatEachHas.{put_row}
 
 -- ---- votes of read that a shard holds or is about to send. R: who was asked for its vote; P: what holds of each that voted read
 

@@ -31,12 +31,12 @@ use Rattle.shard_laws.proofs.Restarts.RestoredLocksAndParts.{restored_none}
 use Rattle.shard_laws.proofs.Order.ChangesKeepOrder.{prepare_some}
 use Rattle.history_cases.proofs.Entering.{Makes, by_event, by_flush, by_failure, by_restart, makes}
 use Rattle.history_cases.proofs.Merging.{Placed, Among, among_left}
-use Rattle.history_laws.proofs.Staying.{walker_of}
+use Rattle.history_laws.proofs.NeverTakenBack.{walker_of}
 use Rattle.history_cases.proofs.Stepping.{commits, votes, rules, KeptByDue, settled, op_dies, op_answers, finishes, stops}
 use Rattle.history_cases.proofs.Worlds.{state_at}
-use Rattle.history_laws.proofs.Walking.{behind_of}
-use Rattle.history_laws.proofs.Doubts.{doubt_prepared}
-use Rattle.history_laws.proofs.Replying.{OpIs, dies, rolls, performs, reply_is}
+use Rattle.history_laws.proofs.Entries.WalkedEntryByEntry.{behind_of}
+use Rattle.history_laws.proofs.Logs.DoubtedAreUndecided.{doubt_prepared}
+use Rattle.history_laws.proofs.Entries.WhatOperationsDo.{OpIs, dies, rolls, performs, reply_is}
 use Rattle.fate_laws.proofs.History.EntriesInTurn.{same_epoch, turn_of}
 use Rattle.fate_laws.proofs.Origins.FrontsKeepOrigins.{DidNow, traced_front}
 use Rattle.fate_laws.proofs.Parts.FrontsKeepParts.{asked_not_own}

@@ -43,12 +43,12 @@ use Rattle.history_cases.proofs.Merging.{Placed, Among, is_among, among_is, in_t
 use Rattle.history_cases.proofs.Telling.{IsRequest}
 use Rattle.history_cases.proofs.Worlds.{state_at}
 use Rattle.history_laws.specs.Openings.{LegalFrom}
-use Rattle.history_laws.proofs.Dropping.{drop_after_request}
-use Rattle.history_laws.proofs.Naming.{AnsweredAt}
-use Rattle.history_laws.proofs.SessionWalking.{AnswersAt}
-use Rattle.history_laws.proofs.Staying.{walker_of, one_request}
-use Rattle.history_laws.proofs.Walkers.{nothing_follows}
-use Rattle.history_laws.proofs.Walking.{from_own, first_among}
+use Rattle.history_laws.proofs.RequestsNameWhatAnswered.DropsAfterRequests.{drop_after_request}
+use Rattle.history_laws.proofs.RequestsNameWhatAnswered.NamedShardsAnswered.{AnsweredAt}
+use Rattle.history_laws.proofs.RequestsNameWhatAnswered.SessionsFollowTheirOperations.{AnswersAt}
+use Rattle.history_laws.proofs.NeverTakenBack.{walker_of, one_request}
+use Rattle.history_laws.proofs.Entries.NothingFollowsRequests.{nothing_follows}
+use Rattle.history_laws.proofs.Entries.WalkedEntryByEntry.{from_own, first_among}
 use Rattle.shard_laws.proofs.Order.ChangesKeepOrder.{prepare_some}
 use Rattle.shard_laws.proofs.Events.DueKeeps.{waiting_here}
 use Rattle.fate_laws.proofs.Parts.FrontsKeepParts.{WasTaken, Bindings, asked_not_own}

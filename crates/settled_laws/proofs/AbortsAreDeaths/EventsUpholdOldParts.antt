@@ -43,7 +43,7 @@ use Rattle.law_base.proofs.Tables.{stage_in, get_put}
 use Rattle.law_base.proofs.Stages.{stage_own, stage_other, gone_by, stage_marked, stage_closed, closed_other, written_parts}
 use Rattle.history_cases.proofs.Stepping.{with_work, FindsLost, Step, op_dies, op_answers, request_again, request_new, request_closes, looks_ill, drops, sends, prepare_closes, prepare_again, vote_counts, decision_comes, decision_again, done_counts, asked, reminds}
 use Rattle.history_cases.proofs.Telling.{all_map}
-use Rattle.history_laws.proofs.Replying.{OpIs, dies, rolls, performs, reply_is}
+use Rattle.history_laws.proofs.Entries.WhatOperationsDo.{OpIs, dies, rolls, performs, reply_is}
 use Rattle.fate_laws.proofs.Parts.CommittedAreVotedFor.{Touched}
 use Rattle.fate_laws.proofs.Parts.PutVotesAreHeld.{votes_put}
 use Rattle.fate_laws.proofs.Logs.WhatPreparesOrCommits.{new_active}

@@ -42,7 +42,7 @@ use Rattle.history_cases.proofs.Merging.{Placed, Among, among_append, among_left
 use Rattle.history_cases.proofs.Stepping.{finishes, stops}
 use Rattle.history_cases.proofs.Worlds.{state_at}
 use Rattle.history_laws.specs.Openings.{LegalFrom}
-use Rattle.history_laws.proofs.Rows.{all_in}
+use Rattle.history_laws.proofs.Entries.AllHaveWhatEachHas.{all_in}
 use Rattle.shard_laws.proofs.Restarts.RestoredLocksAndParts.{restored_closed, restored_stage}
 use Rattle.fate_laws.specs.Causes.{TellsCause, look_found}
 use Rattle.fate_laws.proofs.Parts.FrontsKeepParts.{WasTaken, once, bindings_front}

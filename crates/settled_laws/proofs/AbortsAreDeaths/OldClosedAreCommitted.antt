@@ -32,9 +32,9 @@ use Rattle.history_cases.proofs.Merging.{Placed, Among, among_left, among_right,
 use Rattle.history_cases.proofs.Stepping.{settled, finishes, stops}
 use Rattle.history_cases.proofs.Worlds.{state_at, journal_append, other_journal, in_a_shard}
 use Rattle.history_laws.specs.Openings.{LegalFrom}
-use Rattle.history_laws.proofs.Doubts.{doubt_prepared}
-use Rattle.history_laws.proofs.Serials.{committed_front}
-use Rattle.history_laws.proofs.Staying.{walker_of}
+use Rattle.history_laws.proofs.Logs.DoubtedAreUndecided.{doubt_prepared}
+use Rattle.history_laws.proofs.NeverTakenBack.LaterHistoriesHoldMembers.{committed_front}
+use Rattle.history_laws.proofs.NeverTakenBack.{walker_of}
 use Rattle.shard_laws.proofs.Restarts.RestoredLocksAndParts.{restored_none}
 use Rattle.fate_laws.specs.Origins.{answered_as, WasEverAnswered}
 use Rattle.fate_laws.proofs.Parts.OthersOnlyCloseOrGo.{due_closed}

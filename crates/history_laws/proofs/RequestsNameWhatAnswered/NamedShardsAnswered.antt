@@ -20,7 +20,7 @@ use Rattle.clv_base.specs.LogRules.{same_option}
 use Rattle.clv_base.specs.Sessions.{Phase, SessionState, is_number, lies_in, is_touching, session_for, touch, op_answered, op_in_session, same_touched, is_lowest, requested, looked, session_after, makes_from}
 use Rattle.clv_base.proofs.SameNames.{tx_true, nat_cmp_true}
 use Rattle.history_cases.proofs.Merging.{Placed, Among, Precedes, front_precedes, among_left, among_right}
-use Rattle.history_laws.proofs.SessionWalking.{For, the_same, a_new_one, for_by}
+use Rattle.history_laws.proofs.RequestsNameWhatAnswered.SessionsFollowTheirOperations.{For, the_same, a_new_one, for_by}
 
 -- an entry that answered an operation of the transaction, on this shard, in this epoch
 pub record AnsweredAt (y : Placed) (tx : TxId) (shard epoch : ℕ) : Type 0 where

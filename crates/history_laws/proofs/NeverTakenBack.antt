@@ -1,4 +1,5 @@
 -- Members stay members.
+pub mod LaterHistoriesHoldMembers
 use Rattle.std.proofs.Common.{◌≡◌, ◌⊎◌, inl, inr, ⊎_elim, refl, sym, ap, subst, ◌∙◌, ℕ, ◌<◌, ◌≤◌, true, false, cond, Bool, List, [], ◌∷◌, ◌++◌, Option, Some, None, is_some, ◌==◌, not, arith, eqb-true, ◌||◌}
 use Rattle.std.specs.List.{list_all}
 use Rattle.std.specs.Map.{lookup}
@@ -28,11 +29,11 @@ use Rattle.protocol_laws.proofs.InOrder.{sessions_keep_order}
 use Rattle.history_laws.specs.Openings.{LegalFrom}
 use Rattle.history_laws.specs.Continuing.{IsSublistOf, GoesOn, NeverTakenBack}
 use Rattle.history_cases.proofs.Durability.{opened_counted}
-use Rattle.history_laws.proofs.Continuing.{later_front}
+use Rattle.history_laws.proofs.Entries.LaterJournalsGoOn.{later_front}
 use Rattle.history_cases.proofs.Merging.{Placed, InOrder, in_order, Among, among_front, among_append, Precedes, in_turn, precedes_before, in_journal, from_journal, in_own, own_in_order, journal_precedes, front_precedes, stamps_follow, stamps_rise}
-use Rattle.history_laws.proofs.Sublists.{sublist}
-use Rattle.history_laws.proofs.Serials.{op_at, same_ops, any_in, any_among, committed_front, Stays, members_stay, left_at}
-use Rattle.history_laws.proofs.Walkers.{has, of_session, nothing_follows, request_names}
+use Rattle.history_laws.proofs.Entries.SublistsOfHistories.{sublist}
+use Rattle.history_laws.proofs.NeverTakenBack.LaterHistoriesHoldMembers.{op_at, same_ops, any_in, any_among, committed_front, Stays, members_stay, left_at}
+use Rattle.history_laws.proofs.Entries.NothingFollowsRequests.{has, of_session, nothing_follows, request_names}
 use Rattle.history_cases.proofs.Telling.{IsRequest, AskedAfter, Voted}
 use Rattle.history_cases.proofs.TellingEvents.{SaysWell, front_committed}
 use Rattle.history_cases.proofs.Worlds.{world, in_a_shard}

@@ -1,4 +1,7 @@
 -- Entries of one transaction in turn: the laws of sessions, for the entries of a history.
+pub mod SessionsFollowTheirOperations
+pub mod NamedShardsAnswered
+pub mod DropsAfterRequests
 use Rattle.std.proofs.Common.{◌≡◌, inl, inr, ⊎_elim, refl, sym, ap, ◌∙◌, ℕ, true, false, cond, Bool, List, [], ◌∷◌, ◌==◌, subst}
 use Rattle.std.specs.List.{AllByRecursion}
 use Rattle.std.proofs.lemmas.Bool.{both_ways, eq-eqb}
@@ -13,13 +16,13 @@ use Rattle.clv_base.specs.History.{Legal}
 use Rattle.protocol_laws.specs.SessionLaws.{tx_of, works_on, ended_by}
 use Rattle.protocol_laws.proofs.InOrder.{sessions_keep_order}
 use Rattle.history_cases.proofs.Merging.{Placed, in_order, Among, is_among, among_is, Precedes, in_turn, precedes_before, own_in_order}
-use Rattle.history_laws.proofs.Staying.{together}
-use Rattle.history_laws.proofs.Walkers.{nothing_follows}
+use Rattle.history_laws.proofs.NeverTakenBack.{together}
+use Rattle.history_laws.proofs.Entries.NothingFollowsRequests.{nothing_follows}
 use Rattle.history_laws.specs.Dropping.{DropsFollowAborts}
 use Rattle.history_laws.specs.Naming.{AnsweredBefore, RequestsNameWhatAnswered}
-use Rattle.history_laws.proofs.Dropping.{drop_after_request}
-use Rattle.history_laws.proofs.Naming.{Named, request_names_all}
-use Rattle.history_laws.proofs.Walking.{first_among}
+use Rattle.history_laws.proofs.RequestsNameWhatAnswered.DropsAfterRequests.{drop_after_request}
+use Rattle.history_laws.proofs.RequestsNameWhatAnswered.NamedShardsAnswered.{Named, request_names_all}
+use Rattle.history_laws.proofs.Entries.WalkedEntryByEntry.{first_among}
 
 -- a walker's entry is one of the history's
 from_own : (w : ℕ) (y : Placed) (h : History) → Among y (own w h) → Among y h

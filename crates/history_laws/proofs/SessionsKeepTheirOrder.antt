@@ -1,4 +1,5 @@
 -- A session's transactions one after another, each with one outcome.
+pub mod NothingFollowsTheEnd
 use Rattle.std.proofs.Common.{◌≡◌, ◌⊎◌, inl, inr, ⊎_elim, refl, sym, ap, subst, ◌∙◌, ℕ, ◌<◌, ◌≤◌, true, false, cond, Bool, List, [], ◌∷◌, Option, Some, None, arith}
 use Rattle.std.specs.List.{AllByRecursion}
 use Rattle.std.proofs.lemmas.Bool.{both_ways, cases_eq, or_right, false_from_ne_true}
@@ -19,11 +20,11 @@ use Rattle.protocol_laws.proofs.InOrder.{sessions_keep_order}
 use Rattle.history_laws.specs.Ordering.{SerialRises, AreInSessionOrder, SessionsKeepTheirOrder}
 use Rattle.history_laws.specs.Outcomes.{is_abort, aborted_in_history, OneOutcome}
 use Rattle.history_cases.proofs.Merging.{Placed, Before, before_then, not_before_itself, InOrder, in_order, Among, among_all, in_turn, precedes_before, own_in_order}
-use Rattle.history_laws.proofs.Serials.{any_among, member_at}
-use Rattle.history_laws.proofs.Walkers.{serials_follow}
-use Rattle.history_laws.proofs.Endings.{names, nothing_after_end, nothing_after_success}
+use Rattle.history_laws.proofs.NeverTakenBack.LaterHistoriesHoldMembers.{any_among, member_at}
+use Rattle.history_laws.proofs.Entries.NothingFollowsRequests.{serials_follow}
+use Rattle.history_laws.proofs.SessionsKeepTheirOrder.NothingFollowsTheEnd.{names, nothing_after_end, nothing_after_success}
 use Rattle.history_cases.proofs.Telling.{IsRequest}
-use Rattle.history_laws.proofs.Staying.{walker_of, together, together_by_walker, one_request, is_request}
+use Rattle.history_laws.proofs.NeverTakenBack.{walker_of, together, together_by_walker, one_request, is_request}
 use Rattle.law_base.proofs.Logs.{is_in}
 
 -- ---- members of one session

@@ -1,4 +1,7 @@
 -- The logs that a crash leaves of a history pass.
+pub mod SessionsOfferOwnKeys
+pub mod WhatPassingRecordsAre
+pub mod EventsWritePassing
 use Rattle.std.proofs.Common.{◌≡◌, refl, sym, subst, ◌∙◌, ℕ, zero, suc, ◌+◌, ◌<◌, ◌≤◌, true, Bool, List, [], ◌∷◌, ◌++◌, length, arith}
 use Rattle.std.specs.Prelude.{is_none}
 use Rattle.std.specs.List.{list_all}
@@ -19,11 +22,11 @@ use Rattle.history_cases.proofs.Worlds.{state_at}
 use Rattle.history_cases.proofs.Durability.{Counted, fronts_entry, opened_counted}
 use Rattle.history_laws.specs.Openings.{LegalFrom}
 use Rattle.history_laws.specs.Passing.{LogsLeftPass}
-use Rattle.history_laws.proofs.Found.{log_found}
-use Rattle.history_laws.proofs.Walking.{Walked, Steps, walked}
-use Rattle.history_laws.proofs.Offers.{OffersBy, offered}
-use Rattle.history_laws.proofs.Records.{Passes, passes_all, passes_front, all_pass}
-use Rattle.history_laws.proofs.Filing.{BringsNames, SendsNames, Filed, filed_entry, sends_entry, filed_opened}
+use Rattle.history_laws.proofs.Logs.FoundLogsAreInOrder.{log_found}
+use Rattle.history_laws.proofs.Entries.WalkedEntryByEntry.{Walked, Steps, walked}
+use Rattle.history_laws.proofs.LogsLeftPass.SessionsOfferOwnKeys.{OffersBy, offered}
+use Rattle.history_laws.proofs.LogsLeftPass.WhatPassingRecordsAre.{Passes, passes_all, passes_front, all_pass}
+use Rattle.history_laws.proofs.LogsLeftPass.EventsWritePassing.{BringsNames, SendsNames, Filed, filed_entry, sends_entry, filed_opened}
 
 -- ---- the logs at opening
 

@@ -16,7 +16,7 @@ use Rattle.protocol_laws.specs.Growth.{IsPrefixOf}
 use Rattle.std.proofs.lemmas.List.Folds.{list_any-append}
 use Rattle.history_laws.specs.Continuing.{IsSublistOf, nothing, also, only}
 use Rattle.history_cases.proofs.Merging.{Placed, Before, InOrder, Among, among_all, not_before_itself}
-use Rattle.history_laws.proofs.Sublists.{sublist_among}
+use Rattle.history_laws.proofs.Entries.SublistsOfHistories.{sublist_among}
 use Rattle.law_base.proofs.Logs.{is_in}
 use Rattle.law_base.proofs.Names.{with_op}
 

@@ -41,8 +41,8 @@ use Rattle.law_base.proofs.Lists.{all_append, all_of, AreShards}
 use Rattle.history_cases.proofs.Stepping.{commits, votes, rules, KeptByDue, settled, Step, op_dies, op_answers, request_new, request_closes, drops, sends, prepare_closes, prepare_again, vote_counts, decision_comes, decision_again, done_counts, asked, reminds, flushes, Happens, finishes, stops}
 use Rattle.history_cases.proofs.Entering.{Makes, by_event, by_flush, by_failure, by_restart, makes}
 use Rattle.history_cases.proofs.Telling.{all_map}
-use Rattle.history_laws.proofs.Offers.{OffersBy}
-use Rattle.history_laws.proofs.Records.{Passes, passes_more, passes_front, rolled_pass, dropped_pass, op_leaves, closed_pass, opened_pass, restarts_pass}
+use Rattle.history_laws.proofs.LogsLeftPass.SessionsOfferOwnKeys.{OffersBy}
+use Rattle.history_laws.proofs.LogsLeftPass.WhatPassingRecordsAre.{Passes, passes_more, passes_front, rolled_pass, dropped_pass, op_leaves, closed_pass, opened_pass, restarts_pass}
 
 -- a Prepare names a home that there is
 abbrev pub Names : List ℕ → Message → Type 0
