@@ -8,7 +8,7 @@ use Rattle.clv_base.specs.State.{Shard}
 use Rattle.clv_base.specs.Events.{Reply, QuietBeforeWorn, QuietAfterWorn, Does, Quiet, Worn, Enters, stamped, with_entry, happen, step, next_stamp}
 use Rattle.clv_base.specs.Restarts.{log_left}
 use Rattle.protocol_laws.specs.Growth.{IsPrefixOf}
-use Rattle.protocol_laws.proofs.GrowingEvents.{log_only_grows}
+use Rattle.protocol_laws.proofs.LogOnlyGrows.{log_only_grows}
 use Rattle.history_cases.proofs.Stepping.{Step, op_dies, op_answers, request_refused, request_doomed, request_again, request_new, request_closes, looks_well, looks_ill, drops, sends, prepare_closes, prepare_again, vote_counts, decision_comes, decision_again, done_counts, asked, reminds, flushes, Happens, finishes, stops, happened}
 use Rattle.history_cases.proofs.Durability.{framed_finish, happens_steps}
 use Rattle.crash_laws.specs.Fronts.{FrontsFit}

@@ -1,6 +1,6 @@
 -- Lemmas that this crate offers to the proofs of the crates above it.
-pub use Rattle.protocol_laws.proofs.Growing.{grows_settled}
-pub use Rattle.protocol_laws.proofs.Reaching.{misfit_is_exact}
+pub use Rattle.protocol_laws.proofs.LogOnlyGrows.DueGrowsLogs.{grows_settled}
+pub use Rattle.protocol_laws.proofs.RestartsLeadToOneLog.{misfit_is_exact}
 pub use Rattle.history_cases.proofs.Durability.{Framed, framed_finish}
 pub use Rattle.journal_laws.proofs.Placing.{put_tests}
 pub use Rattle.journal_laws.proofs.Sending.{was_sent_before}

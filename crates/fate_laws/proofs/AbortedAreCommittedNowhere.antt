@@ -39,7 +39,7 @@ use Rattle.history_laws.specs.Outcomes.{is_abort}
 use Rattle.history_laws.proofs.Entries.NothingFollowsRequests.{nothing_follows}
 use Rattle.history_laws.proofs.SessionsKeepTheirOrder.NothingFollowsTheEnd.{names, nothing_after_end}
 use Rattle.history_laws.proofs.NeverTakenBack.LaterHistoriesHoldMembers.{any_among}
-use Rattle.protocol_laws.proofs.InOrder.{sessions_keep_order}
+use Rattle.protocol_laws.proofs.SessionsKeepOrder.{sessions_keep_order}
 use Rattle.clv_base.specs.declared.names.Birth.{Birth}
 use Rattle.clv_base.specs.declared.ops.Op.{Op}
 use Rattle.history_cases.proofs.Worlds.{state_at, journal_append, other_journal}

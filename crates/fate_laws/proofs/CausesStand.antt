@@ -35,7 +35,7 @@ use Rattle.clv_base.specs.Journals.{History, EventMay, own}
 use Rattle.clv_base.specs.History.{Legal, answered_epoch, WasAnswered, DoomedHere, DiedOf, CauseStands}
 use Rattle.clv_base.proofs.SameNames.{tx_true, tx_self}
 use Rattle.protocol_laws.specs.SessionLaws.{tx_of, works_on}
-use Rattle.protocol_laws.proofs.InOrder.{sessions_keep_order}
+use Rattle.protocol_laws.proofs.SessionsKeepOrder.{sessions_keep_order}
 use Rattle.law_base.proofs.Changed.{none_some, some_same}
 use Rattle.history_cases.proofs.Entering.{Makes, by_event, by_flush, by_failure, by_restart, makes}
 use Rattle.history_cases.proofs.Merging.{Placed, Among, among_is, from_journal, before_then, in_order, own_in_order, precedes_before}

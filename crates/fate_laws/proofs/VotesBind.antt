@@ -27,7 +27,7 @@ use Rattle.fate_laws.proofs.Parts.CommitsHaveTheirParts.{listed_is}
 use Rattle.fate_laws.proofs.Parts.YesVotesArePrepared.{Bound}
 use Rattle.fate_laws.proofs.VotesBind.CastVotesStayBound.{Cast, casts_front}
 use Rattle.fate_laws.proofs.CommitsGoDownwards.{Down, lowered_front}
-use Rattle.protocol_laws.proofs.Records.{prepared_there}
+use Rattle.protocol_laws.proofs.LogsInOrder.OneRecordMore.{prepared_there}
 use Rattle.law_base.proofs.Names.{all_from}
 
 -- ---- votes

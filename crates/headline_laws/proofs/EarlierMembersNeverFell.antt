@@ -29,7 +29,7 @@ use Rattle.fate_laws.proofs.FallenAreUncommitted.{fell_out}
 use Rattle.headline_laws.specs.Unfallen.{EarlierMembersNeverFell}
 use Rattle.headline_laws.proofs.GoneAreLost.OutAreLost.{LostAt, all_lost}
 use Rattle.headline_laws.proofs.EarlierMembersNeverFell.EarlierPartsArePrepared.{holds_front}
-use Rattle.protocol_laws.proofs.Records.{prepared_there}
+use Rattle.protocol_laws.proofs.LogsInOrder.OneRecordMore.{prepared_there}
 
 pub committed_within : (logs : List (List LogRecord)) (m : ℕ) (t : TxId) → committed_in (log_of logs m) t ≡ true → m < length logs
 committed_within [] m t c = absurd (both_ways false refl c)

@@ -17,7 +17,7 @@ use Rattle.clv_base.specs.Restarts.{run_after, log_left, greatest_run, FailedRes
 use Rattle.clv_base.specs.Journals.{History, final_of}
 use Rattle.clv_base.specs.History.{Member, logs_left, request_of, acknowledged_in, members}
 use Rattle.law_base.proofs.Commits.{parts_keep}
-use Rattle.protocol_laws.proofs.Records.{committed_there}
+use Rattle.protocol_laws.proofs.LogsInOrder.OneRecordMore.{committed_there}
 use Rattle.history_laws.specs.Openings.{LegalFrom}
 use Rattle.shard_laws.proofs.Order.RecordByRecord.{Follows, to_disorder, follows_take, greatest_front}
 use Rattle.shard_laws.proofs.AnswersAndMap.{held}

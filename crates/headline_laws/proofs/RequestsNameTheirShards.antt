@@ -12,7 +12,7 @@ use Rattle.clv_base.specs.declared.logs.LogRecord.{LogRecord}
 use Rattle.clv_base.specs.declared.names.TxId.{TxId}
 use Rattle.clv_base.specs.History.{Legal}
 use Rattle.protocol_laws.specs.SessionLaws.{tx_of, works_on, ended_by}
-use Rattle.protocol_laws.proofs.InOrder.{sessions_keep_order}
+use Rattle.protocol_laws.proofs.SessionsKeepOrder.{sessions_keep_order}
 use Rattle.history_cases.proofs.Merging.{is_among, in_turn, Among, among_is}
 use Rattle.history_laws.proofs.NeverTakenBack.{Together, together}
 use Rattle.history_laws.proofs.Entries.NothingFollowsRequests.{has, nothing_follows, request_names}

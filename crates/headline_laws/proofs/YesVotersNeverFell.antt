@@ -34,7 +34,7 @@ use Rattle.fate_laws.proofs.MembersAreHere.{in_others}
 use Rattle.headline_laws.specs.Unfallen.{PreparedMembersNeverFell, YesVotersNeverFell}
 use Rattle.headline_laws.proofs.GoneAreLost.OutAreLost.{LostAt, all_lost}
 use Rattle.headline_laws.proofs.GoneAreLost.FrontsKeepAbortedAway.{struck_front}
-use Rattle.protocol_laws.proofs.Records.{prepared_there}
+use Rattle.protocol_laws.proofs.LogsInOrder.OneRecordMore.{prepared_there}
 
 -- ---- a part that is bound
 

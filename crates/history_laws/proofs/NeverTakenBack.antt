@@ -25,7 +25,7 @@ use Rattle.clv_base.specs.Journals.{History, journal_of, own, start_of, final_of
 use Rattle.clv_base.specs.History.{Legal, is_acknowledgement, acknowledged_in, answered_op, request_of, logs_left}
 use Rattle.clv_base.proofs.SameNames.{tx_true}
 use Rattle.protocol_laws.specs.SessionLaws.{tx_of, works_on, ended_by}
-use Rattle.protocol_laws.proofs.InOrder.{sessions_keep_order}
+use Rattle.protocol_laws.proofs.SessionsKeepOrder.{sessions_keep_order}
 use Rattle.history_laws.specs.Openings.{LegalFrom}
 use Rattle.history_laws.specs.Continuing.{IsSublistOf, GoesOn, NeverTakenBack}
 use Rattle.history_cases.proofs.Durability.{opened_counted}

@@ -14,7 +14,7 @@ use Rattle.clv_base.specs.Restarts.{run_after}
 use Rattle.clv_base.specs.Journals.{History, own}
 use Rattle.clv_base.specs.History.{Legal}
 use Rattle.protocol_laws.specs.SessionLaws.{tx_of, works_on, ended_by}
-use Rattle.protocol_laws.proofs.InOrder.{sessions_keep_order}
+use Rattle.protocol_laws.proofs.SessionsKeepOrder.{sessions_keep_order}
 use Rattle.history_cases.proofs.Merging.{Placed, in_order, Among, is_among, among_is, Precedes, in_turn, precedes_before, own_in_order}
 use Rattle.history_laws.proofs.NeverTakenBack.{together}
 use Rattle.history_laws.proofs.Entries.NothingFollowsRequests.{nothing_follows}

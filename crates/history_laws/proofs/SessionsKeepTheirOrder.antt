@@ -16,7 +16,7 @@ use Rattle.clv_base.specs.History.{Legal, Member, is_acknowledgement, request_of
 use Rattle.clv_base.proofs.SameNames.{tx_true, same_fields}
 use Rattle.law_base.proofs.Lists.{all_mono}
 use Rattle.protocol_laws.specs.SessionLaws.{tx_of}
-use Rattle.protocol_laws.proofs.InOrder.{sessions_keep_order}
+use Rattle.protocol_laws.proofs.SessionsKeepOrder.{sessions_keep_order}
 use Rattle.history_laws.specs.Ordering.{SerialRises, AreInSessionOrder, SessionsKeepTheirOrder}
 use Rattle.history_laws.specs.Outcomes.{is_abort, aborted_in_history, OneOutcome}
 use Rattle.history_cases.proofs.Merging.{Placed, Before, before_then, not_before_itself, InOrder, in_order, Among, among_all, in_turn, precedes_before, own_in_order}

@@ -12,7 +12,7 @@ use Rattle.clv_base.specs.Sessions.{no_session, is_of_session, is_session, is_se
 use Rattle.clv_base.specs.Journals.{History, journal_of, own, start_of, final_of, after_entries, MayRun}
 use Rattle.clv_base.specs.History.{Legal, WasSent, MessagesSent}
 use Rattle.protocol_laws.specs.Growth.{IsPrefixOf}
-use Rattle.protocol_laws.proofs.Growing.{chain}
+use Rattle.protocol_laws.proofs.LogOnlyGrows.DueGrowsLogs.{chain}
 use Rattle.history_laws.specs.Continuing.{IsSublistOf}
 use Rattle.history_cases.proofs.Merging.{Placed, Before, InOrder, Among, in_order, among_append, among_front, among_all, among_is, is_among, in_journal, from_journal, stamps_follow}
 use Rattle.history_laws.proofs.Entries.SublistsOfHistories.{sublist}

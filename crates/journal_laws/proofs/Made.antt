@@ -14,7 +14,7 @@ use Rattle.clv_base.specs.Events.{Does, happen, message_stamp, with_entry}
 use Rattle.clv_base.specs.Restarts.{log_left, RestartLeads}
 use Rattle.clv_base.specs.Journals.{up_to_restart, reply_state, restart_state, event_state, after_entry, after_entries, got_predecessors, predecessors_in, RestartMay, EventMay, MayEnter, MayRun}
 use Rattle.protocol_laws.specs.Growth.{IsPrefixOf}
-use Rattle.protocol_laws.proofs.Growing.{chain}
+use Rattle.protocol_laws.proofs.LogOnlyGrows.DueGrowsLogs.{chain}
 use Rattle.history_laws.specs.Continuing.{SameAtRestart, SameAtRestarts}
 use Rattle.history_cases.proofs.Durability.{Counted}
 use Rattle.clv_base.specs.Machines.{BecomesBy, Makes, Runs}

@@ -19,7 +19,7 @@ use Rattle.clv_base.specs.declared.logs.LogRecord.TheVariants.{Abort, Commit}
 use Rattle.clv_base.specs.Restarts.{log_left}
 use Rattle.clv_base.specs.Journals.{MayLeave}
 use Rattle.protocol_laws.specs.Growth.{IsPrefixOf}
-use Rattle.protocol_laws.proofs.Growing.{same}
+use Rattle.protocol_laws.proofs.LogOnlyGrows.DueGrowsLogs.{same}
 use Rattle.history_cases.proofs.Durability.{failed_front}
 use Rattle.journal_laws.specs.Worlds.{shard_at}
 

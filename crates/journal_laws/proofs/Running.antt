@@ -11,7 +11,7 @@ use Rattle.clv_base.specs.Events.{Does, happen, with_entry}
 use Rattle.clv_base.specs.Restarts.{opened, log_left, revived, Restarts, RestartLeads}
 use Rattle.clv_base.specs.Journals.{up_to_restart, reply_state, event_state, after_entry, after_entries, EventMay, MayEnter, MayRun, MayLeave}
 use Rattle.protocol_laws.specs.Growth.{IsPrefixOf}
-use Rattle.protocol_laws.proofs.Growing.{same, chain}
+use Rattle.protocol_laws.proofs.LogOnlyGrows.DueGrowsLogs.{same, chain}
 use Rattle.history_cases.proofs.Durability.{Counted, Fronts, opened_counted, left_front, failed_front, fronts_entry}
 use Rattle.clv_base.specs.Machines.{BecomesBy, Makes, Runs, RunsGoOn, RunsFit}
 use Rattle.journal_laws.proofs.Restarting.{up_to_after}

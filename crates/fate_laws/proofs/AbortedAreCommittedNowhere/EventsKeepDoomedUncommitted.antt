@@ -22,7 +22,7 @@ use Rattle.clv_base.specs.declared.events.Outcome.{Outcome}
 use Rattle.clv_base.specs.Orders.{Table, tx_same, tx_get, tx_put, tx_set}
 use Rattle.clv_base.specs.Logs.{committed_in, in_doubt}
 use Rattle.history_laws.proofs.NeverTakenBack.LaterHistoriesHoldMembers.{committed_front}
-use Rattle.protocol_laws.proofs.Growing.{more_twice}
+use Rattle.protocol_laws.proofs.LogOnlyGrows.DueGrowsLogs.{more_twice}
 use Rattle.law_base.proofs.Rows.{rows_get}
 use Rattle.history_cases.proofs.Telling.{all_map}
 use Rattle.clv_base.specs.Needs.{writes_of, value_at, key_of}

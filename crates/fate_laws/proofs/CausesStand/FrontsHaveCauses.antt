@@ -9,7 +9,7 @@ use Rattle.clv_base.specs.State.{Shard}
 use Rattle.clv_base.specs.Events.{finish, with_durable, put_down, with_entry}
 use Rattle.clv_base.specs.Restarts.{run_after, log_after_restart, revived}
 use Rattle.clv_base.specs.Journals.{History, event_state, up_to_restart}
-use Rattle.protocol_laws.proofs.Resting.{rests}
+use Rattle.protocol_laws.proofs.LogOnlyGrows.GhostsGoUnnoticed.{rests}
 use Rattle.history_cases.proofs.Entering.{Makes, by_event, by_flush, by_failure, by_restart, makes}
 use Rattle.history_cases.proofs.Merging.{Placed}
 use Rattle.history_cases.proofs.Stepping.{Happens, finishes, stops}

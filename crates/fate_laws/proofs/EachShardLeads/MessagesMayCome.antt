@@ -25,7 +25,7 @@ use Rattle.clv_base.specs.Restarts.{run_after}
 use Rattle.clv_base.specs.Journals.{History}
 use Rattle.clv_base.proofs.SameNames.{tx_true}
 use Rattle.law_base.proofs.Rows.{rows_get}
-use Rattle.protocol_laws.proofs.Records.{push_cases, push_right}
+use Rattle.protocol_laws.proofs.LogsInOrder.OneRecordMore.{push_cases, push_right}
 use Rattle.protocol_laws.specs.SessionLaws.{tx_of}
 use Rattle.shard_laws.specs.OneShard.{Deeds, Leads, MayDeliver}
 use Rattle.shard_laws.proofs.Order.RecordByRecord.{Follows, from_disorder, through}

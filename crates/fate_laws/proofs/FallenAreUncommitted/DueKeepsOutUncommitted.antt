@@ -44,7 +44,7 @@ use Rattle.fate_laws.proofs.FallenAreUncommitted.RulingsThatEndNothing.{ack_refu
 use Rattle.fate_laws.proofs.FallenAreUncommitted.PreparesListEarlierOnes.{aborts_ahead, clrs_ahead}
 use Rattle.fate_laws.proofs.FallenAreUncommitted.PreparedPairsAreListed.{Lined, Plainly, lined_more, lined_gone}
 use Rattle.fate_laws.proofs.FallenAreUncommitted.OutIsLost.{Absent, Out, Lost, Barred, Change, barred_next, rolled_goes, finished_goes}
-use Rattle.protocol_laws.proofs.Records.{prepared_there}
+use Rattle.protocol_laws.proofs.LogsInOrder.OneRecordMore.{prepared_there}
 
 -- ---- who only read rules no COMMIT
 

@@ -51,7 +51,7 @@ use Rattle.fate_laws.proofs.FallenAreUncommitted.PreparedPairsAreListed.{Lined, 
 use Rattle.fate_laws.proofs.FallenAreUncommitted.OutIsLost.{Absent, Out, Lost, Barred, lost_inactive, barred_next}
 use Rattle.fate_laws.proofs.FallenAreUncommitted.DueKeepsOutUncommitted.{plain_commit, out_open}
 use Rattle.fate_laws.proofs.FallenAreUncommitted.StepsKeepOutUncommitted.{barred_same, barred_rolled, barred_marked, barred_performed}
-use Rattle.protocol_laws.proofs.Records.{prepared_there}
+use Rattle.protocol_laws.proofs.LogsInOrder.OneRecordMore.{prepared_there}
 
 abbrev pub Owes : (TxId → Type 0) → (TxId → Type 0) → (TxId → Type 0) → (TxId → Type 0) → Shard → Event → Outcome → Type 0
 Owes K V O Q s (OpEvent tx birth nth seen op) o =

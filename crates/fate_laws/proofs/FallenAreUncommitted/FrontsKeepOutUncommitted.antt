@@ -69,7 +69,7 @@ use Rattle.fate_laws.proofs.FallenAreUncommitted.PreparesListEarlierOnes.{Ahead,
 use Rattle.fate_laws.proofs.FallenAreUncommitted.OutIsLost.{Absent, Out, Lost, Barred, lost_inactive}
 use Rattle.fate_laws.proofs.FallenAreUncommitted.EventsKeepOutUncommitted.{Owes}
 use Rattle.fate_laws.proofs.FallenAreUncommitted.EntriesKeepOutUncommitted.{Frame, barred_state, barred_made}
-use Rattle.protocol_laws.proofs.Records.{prepared_there}
+use Rattle.protocol_laws.proofs.LogsInOrder.OneRecordMore.{prepared_there}
 use Rattle.law_base.proofs.Names.{MayStand}
 use Rattle.fate_laws.proofs.Origins.OldPartsWereInDoubt.{found_follows as log_follows}
 

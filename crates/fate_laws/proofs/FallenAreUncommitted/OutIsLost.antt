@@ -29,7 +29,7 @@ use Rattle.fate_laws.proofs.CommitsGoDownwards.{Down}
 use Rattle.fate_laws.proofs.Parts.YesVotesArePrepared.{front_same}
 use Rattle.fate_laws.proofs.FallenAreUncommitted.PreparedPairsAreListed.{Lined}
 use Rattle.fate_laws.proofs.FallenAreUncommitted.GoesWithItsPredecessor.{goes}
-use Rattle.protocol_laws.proofs.Records.{prepared_there}
+use Rattle.protocol_laws.proofs.LogsInOrder.OneRecordMore.{prepared_there}
 
 -- ---- what is known. K: who is dead at its home; V: who was out so far; O: who asked, or was answered here; Q: whose home is here
 

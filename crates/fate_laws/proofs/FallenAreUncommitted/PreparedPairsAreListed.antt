@@ -30,7 +30,7 @@ use Rattle.law_base.proofs.Stages.{stage_closed, closed_other, closed_back, acti
 use Rattle.fate_laws.proofs.Logs.WhatAddsNoPrepare.{prepare_from, prepare_new}
 use Rattle.fate_laws.proofs.Logs.WhatPreparesOrCommits.{new_active}
 use Rattle.fate_laws.proofs.FallenAreUncommitted.PreparesListEarlierOnes.{Ahead, ahead_append}
-use Rattle.protocol_laws.proofs.Records.{prepared_there}
+use Rattle.protocol_laws.proofs.LogsInOrder.OneRecordMore.{prepared_there}
 
 -- prepared or committed
 abbrev pub Decided : List LogRecord → TxId → Type 0

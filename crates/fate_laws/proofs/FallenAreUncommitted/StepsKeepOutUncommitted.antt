@@ -30,7 +30,7 @@ use Rattle.clv_base.specs.declared.events.Event.TheVariants.{Op as OpEvent}
 use Rattle.clv_base.specs.declared.events.Outcome.{Outcome}
 use Rattle.clv_base.specs.Needs.{writes_of, value_at, key_of}
 use Rattle.clv_base.specs.OneShard.{op_reply, OpAnswers, active_part, new_part, locked, performed, marked_in, mark_dropped}
-use Rattle.protocol_laws.proofs.Growing.{same, more_twice}
+use Rattle.protocol_laws.proofs.LogOnlyGrows.DueGrowsLogs.{same, more_twice}
 use Rattle.history_cases.proofs.Stepping.{Step}
 use Rattle.law_base.proofs.LockRows.{Rows}
 use Rattle.shard_laws.proofs.Order.ChangesKeepOrder.{prepare_some}
@@ -40,7 +40,7 @@ use Rattle.fate_laws.proofs.Logs.WhatPreparesOrCommits.{Commits, alone, decided,
 use Rattle.fate_laws.proofs.FallenAreUncommitted.PreparedPairsAreListed.{Lined, lined_performed}
 use Rattle.fate_laws.proofs.FallenAreUncommitted.OutIsLost.{Out, Lost, Barred, barred_next, rolled_goes}
 use Rattle.fate_laws.proofs.FallenAreUncommitted.DueKeepsOutUncommitted.{lined_rolled, out_open}
-use Rattle.protocol_laws.proofs.Records.{prepared_there}
+use Rattle.protocol_laws.proofs.LogsInOrder.OneRecordMore.{prepared_there}
 
 -- ---- only requests, voters, messages and the like change
 

@@ -12,7 +12,7 @@ use Rattle.clv_base.specs.Restarts.{run_after}
 use Rattle.clv_base.specs.Journals.{History, own}
 use Rattle.clv_base.specs.History.{Legal}
 use Rattle.protocol_laws.specs.SessionLaws.{tx_of, works_on, ended_by}
-use Rattle.protocol_laws.proofs.InOrder.{sessions_keep_order}
+use Rattle.protocol_laws.proofs.SessionsKeepOrder.{sessions_keep_order}
 use Rattle.history_cases.proofs.Merging.{Placed, Before, in_order, Among, Precedes, in_turn, precedes_before, before_then, not_before_itself, own_in_order}
 use Rattle.history_laws.proofs.Entries.NothingFollowsRequests.{nothing_follows}
 use Rattle.history_cases.proofs.Telling.{IsRequest}

@@ -19,7 +19,7 @@ use Rattle.clv_base.specs.Restarts.{revived}
 use Rattle.clv_base.specs.Journals.{up_to_restart}
 use Rattle.law_base.proofs.Commits.{commit_durable, durable_parts, durable_keeps}
 use Rattle.law_base.proofs.Lists.{all_mono}
-use Rattle.protocol_laws.proofs.Growing.{grows_settled}
+use Rattle.protocol_laws.proofs.LogOnlyGrows.DueGrowsLogs.{grows_settled}
 use Rattle.history_cases.proofs.Stepping.{Step, sends, Happens, finishes, stops}
 use Rattle.history_cases.proofs.Entering.{Makes, by_event, by_flush, by_failure, by_restart}
 use Rattle.history_cases.proofs.Durability.{Counted, framed_finish}

@@ -47,7 +47,7 @@ use Rattle.fate_laws.proofs.Logs.RestoredRequestsAreCommitted.{unended_committed
 use Rattle.fate_laws.proofs.Homes.ShardKnowsHomes.{Known, Tells, Alone, Opens, Homed, tells_on, words_on, MayCommit, homed_log, homed_same, homed_commit, homed_send, homed_set, durable_known, alone_log, still_not, open_undecided, open_committed}
 use Rattle.history_laws.proofs.Logs.DoubtedAreUndecided.{doubt_prepared}
 use Rattle.history_laws.proofs.Entries.AllHaveWhatEachHas.{all_in}
-use Rattle.protocol_laws.proofs.Records.{prepared_there}
+use Rattle.protocol_laws.proofs.LogsInOrder.OneRecordMore.{prepared_there}
 
 -- ---- what is owed
 

@@ -26,8 +26,8 @@ use Rattle.clv_base.specs.Journals.{History, event_state, after_entry}
 use Rattle.clv_base.specs.History.{WasSent}
 use Rattle.law_base.proofs.Commits.{durable_committed}
 use Rattle.law_base.proofs.Options.{none_of}
-use Rattle.protocol_laws.proofs.Records.{own_prepare}
-use Rattle.protocol_laws.proofs.Runs.{record_fits}
+use Rattle.protocol_laws.proofs.LogsInOrder.OneRecordMore.{own_prepare}
+use Rattle.protocol_laws.proofs.LogsInOrder.RunsAreOfRestarts.{record_fits}
 use Rattle.protocol_laws.proofs.LogsInOrder.{runs_in_order}
 use Rattle.history_cases.proofs.Entering.{makes}
 use Rattle.history_cases.proofs.Merging.{Placed, Among, among_append, among_right, is_among}

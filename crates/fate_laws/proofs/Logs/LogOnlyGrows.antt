@@ -24,8 +24,8 @@ use Rattle.clv_base.specs.Undo.{stage_of}
 use Rattle.clv_base.specs.Due.{finish_reader, with_vote, do_ruling, with_ruling}
 use Rattle.law_base.proofs.Commits.{place_keeps, place_some, commit_durable, durable_parts, durable_from}
 use Rattle.protocol_laws.specs.Growth.{IsPrefixOf}
-use Rattle.protocol_laws.proofs.Growing.{same, more, more_twice, chain}
-use Rattle.protocol_laws.proofs.GrowingEvents.{writes, rolled_if}
+use Rattle.protocol_laws.proofs.LogOnlyGrows.DueGrowsLogs.{same, more, more_twice, chain}
+use Rattle.protocol_laws.proofs.LogOnlyGrows.{writes, rolled_if}
 use Rattle.history_cases.proofs.Stepping.{commits, votes, rules, KeptByDue, Step, op_dies, op_answers, request_refused, request_doomed, request_again, request_closes, looks_well, looks_ill, drops, prepare_closes, decision_comes}
 use Rattle.history_laws.proofs.Entries.WhatOperationsDo.{OpIs, dies, rolls, performs, reply_is}
 

@@ -22,7 +22,7 @@ use Rattle.law_base.proofs.Lists.{all_append}
 use Rattle.shard_laws.proofs.Keeping.ChangesKeepPrepared.{prepared_from, prepare_keeps}
 use Rattle.history_laws.proofs.Entries.WhatOperationsDo.{OpIs, dies, rolls, performs, reply_is}
 use Rattle.history_cases.proofs.Telling.{all_map}
-use Rattle.protocol_laws.proofs.Records.{prepared_there}
+use Rattle.protocol_laws.proofs.LogsInOrder.OneRecordMore.{prepared_there}
 
 pub prepare_more : (log more : List LogRecord) (t : TxId) (p : ℕ × List TxId) → prepare_of log t ≡ Some p → prepare_of (log ++ more) t ≡ Some p
 prepare_more log more t p e = prepare_keeps log more t (prepared_there log t p e) ∙ e

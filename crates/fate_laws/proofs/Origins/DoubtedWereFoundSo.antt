@@ -41,7 +41,7 @@ use Rattle.law_base.proofs.Tables.{stage_by}
 use Rattle.law_base.proofs.Sets.{filter_in}
 use Rattle.law_base.proofs.Stages.{written_parts}
 use Rattle.protocol_laws.specs.Growth.{IsPrefixOf}
-use Rattle.protocol_laws.proofs.Growing.{chain, more}
+use Rattle.protocol_laws.proofs.LogOnlyGrows.DueGrowsLogs.{chain, more}
 use Rattle.shard_laws.proofs.Cuts.WhoIsInDoubt.{prepared_cut}
 use Rattle.shard_laws.proofs.Order.RecordByRecord.{Follows}
 use Rattle.shard_laws.proofs.Keeping.LeavingKeeps.{no_prepares}

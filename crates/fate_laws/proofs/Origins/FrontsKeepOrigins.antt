@@ -51,7 +51,7 @@ use Rattle.history_laws.proofs.Entries.WhatOperationsDo.{OpIs, performs, reply_i
 use Rattle.history_laws.proofs.Entries.WalkedEntryByEntry.{Behind, Walked, Steps, walked_front}
 use Rattle.fate_laws.proofs.History.EntriesInTurn.{Requested}
 use Rattle.fate_laws.proofs.Origins.DueKeepsOrigins.{AwayRequest, MessageFrom, Origins, AllFrom, RecordFrom, from_finish}
-use Rattle.protocol_laws.proofs.Reaching.{restarts_lead_to_one}
+use Rattle.protocol_laws.proofs.RestartsLeadToOneLog.{restarts_lead_to_one}
 use Rattle.fate_laws.proofs.Origins.EventsKeepOrigins.{Owes, from_step, from_happens, from_flushed, from_down, from_revived, from_opened, from_more, from_known}
 use Rattle.law_base.proofs.Logs.{passes_at as each_passes}
 

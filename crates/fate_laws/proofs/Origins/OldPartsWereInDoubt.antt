@@ -19,7 +19,7 @@ use Rattle.clv_base.specs.Journals.{History, start_of, event_state, after_entry,
 use Rattle.clv_base.specs.History.{Legal}
 use Rattle.protocol_laws.specs.Growth.{IsPrefixOf}
 use Rattle.protocol_laws.specs.SessionLaws.{tx_of}
-use Rattle.protocol_laws.proofs.Growing.{same, chain}
+use Rattle.protocol_laws.proofs.LogOnlyGrows.DueGrowsLogs.{same, chain}
 use Rattle.shard_laws.proofs.Order.RecordByRecord.{Follows, from_disorder}
 use Rattle.history_cases.proofs.Durability.{Counted, fronts_entry, left_front, restarts_front}
 use Rattle.history_cases.proofs.Entering.{Makes, by_event, by_flush, by_failure, by_restart, makes}

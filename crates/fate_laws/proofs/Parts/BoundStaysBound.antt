@@ -15,7 +15,7 @@ use Rattle.clv_base.specs.Events.{finish, put_down, with_durable}
 use Rattle.clv_base.specs.Restarts.{log_left, revived}
 use Rattle.clv_base.specs.Journals.{up_to_restart}
 use Rattle.protocol_laws.specs.Growth.{IsPrefixOf}
-use Rattle.protocol_laws.proofs.Growing.{same, chain}
+use Rattle.protocol_laws.proofs.LogOnlyGrows.DueGrowsLogs.{same, chain}
 use Rattle.history_cases.proofs.Stepping.{Happens, finishes, stops}
 use Rattle.history_cases.proofs.Entering.{Makes, by_event, by_flush, by_failure, by_restart}
 use Rattle.history_cases.proofs.Durability.{Counted, left_front, restarts_front}

@@ -40,7 +40,7 @@ use Rattle.fate_laws.proofs.Homes.DecidedStaysDecided.{left_committed}
 use Rattle.fate_laws.proofs.Parts.YesVotesArePrepared.{Bound, ordered_wrote}
 use Rattle.fate_laws.proofs.Parts.CommittedAreVotedFor.{Touched, Good, Base}
 use Rattle.fate_laws.proofs.Parts.FrontsKeepParts.{WasTaken, FineAt, Bindings, bound_message, bindings_front}
-use Rattle.protocol_laws.proofs.Records.{prepared_there}
+use Rattle.protocol_laws.proofs.LogsInOrder.OneRecordMore.{prepared_there}
 use Rattle.law_base.proofs.Names.{all_from}
 use Rattle.history_laws.proofs.NeverTakenBack.{log_now}
 

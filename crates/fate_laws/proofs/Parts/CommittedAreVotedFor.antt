@@ -39,7 +39,7 @@ use Rattle.fate_laws.proofs.Parts.OthersOnlyCloseOrGo.{Calm}
 use Rattle.fate_laws.proofs.Logs.WhatPreparesOrCommits.{ClosedNow}
 use Rattle.fate_laws.proofs.Parts.YesVotesArePrepared.{Bound, Reads, bound_calm, reads_calm, Ordered, Listed}
 use Rattle.fate_laws.proofs.Parts.PutVotesAreHeld.{votes_get}
-use Rattle.protocol_laws.proofs.Records.{prepared_there}
+use Rattle.protocol_laws.proofs.LogsInOrder.OneRecordMore.{prepared_there}
 use Rattle.history_cases.proofs.Durability.{grown_length}
 
 -- ---- what is known. W: whose request was taken, where, naming which shards; S: who asked so far; F: whose part on a shard is bound, or has read

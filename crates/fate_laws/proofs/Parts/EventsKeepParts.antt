@@ -41,7 +41,7 @@ use Rattle.law_base.proofs.Stages.{stage_own, gone_by}
 use Rattle.law_base.proofs.Sets.{in_filter}
 use Rattle.history_cases.proofs.Stepping.{Due, commits, votes, rules, KeptByDue, settled, Step, request_new, request_closes, sends, prepare_closes, prepare_again, vote_counts, decision_comes, decision_again, done_counts, asked, reminds as reminds_step}
 use Rattle.history_cases.proofs.Telling.{all_map}
-use Rattle.protocol_laws.proofs.Growing.{same as same_log}
+use Rattle.protocol_laws.proofs.LogOnlyGrows.DueGrowsLogs.{same as same_log}
 use Rattle.history_cases.proofs.Uncommitting.{with_more, rolled}
 use Rattle.fate_laws.proofs.Logs.LogOnlyGrows.{Inside, inside_self, inside_step, inside_due}
 use Rattle.fate_laws.proofs.Parts.OthersOnlyCloseOrGo.{Calm, calm_same, calm_step, step_keeps, calm_one, due_closed, due_prepares, there_closed}

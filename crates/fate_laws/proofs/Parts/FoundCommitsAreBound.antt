@@ -16,8 +16,8 @@ use Rattle.clv_base.proofs.SameNames.{tx_true}
 use Rattle.law_base.proofs.Commits.{place_there, place_new}
 use Rattle.law_base.proofs.Changed.{some_same}
 use Rattle.law_base.proofs.Sets.{list_all_at}
-use Rattle.protocol_laws.proofs.Records.{committed_there, prepared_there}
-use Rattle.protocol_laws.proofs.Growing.{more}
+use Rattle.protocol_laws.proofs.LogsInOrder.OneRecordMore.{committed_there, prepared_there}
+use Rattle.protocol_laws.proofs.LogOnlyGrows.DueGrowsLogs.{more}
 use Rattle.fate_laws.proofs.Parts.YesVotesArePrepared.{Ordered}
 use Rattle.fate_laws.proofs.Parts.CommittedAreVotedFor.{longer_ordered}
 use Rattle.fate_laws.proofs.Homes.FoundCommitsHaveHomes.{part_agreed, home_of}

@@ -34,8 +34,8 @@ use Rattle.clv_base.specs.History.{Legal, WasSent}
 use Rattle.law_base.proofs.Commits.{committed_keeps, durable_further}
 use Rattle.law_base.proofs.Lists.{all_mono}
 use Rattle.protocol_laws.specs.SessionLaws.{tx_of, works_on, ended_by}
-use Rattle.protocol_laws.proofs.InOrder.{sessions_keep_order}
-use Rattle.protocol_laws.proofs.Growing.{same as same_log, more}
+use Rattle.protocol_laws.proofs.SessionsKeepOrder.{sessions_keep_order}
+use Rattle.protocol_laws.proofs.LogOnlyGrows.DueGrowsLogs.{same as same_log, more}
 use Rattle.history_cases.proofs.Stepping.{Step, sends, Happens, finishes, stops}
 use Rattle.history_cases.proofs.Entering.{Makes, by_event, by_flush, by_failure, by_restart, makes}
 use Rattle.history_cases.proofs.Durability.{Counted}
@@ -59,7 +59,7 @@ use Rattle.fate_laws.proofs.Parts.EventsKeepParts.{Owes, Once, parted_step, part
 use Rattle.fate_laws.proofs.Parts.RestartsKeepParts.{parted_state, parted_revived, bound_state, reads_state, added_ordered}
 use Rattle.fate_laws.proofs.Parts.FoundCommitsAreBound.{ordered_opening, opening_settled}
 use Rattle.fate_laws.proofs.Parts.BoundStaysBound.{NotOwn, bound_flushed, bound_made, reads_made}
-use Rattle.protocol_laws.proofs.Records.{prepared_there}
+use Rattle.protocol_laws.proofs.LogsInOrder.OneRecordMore.{prepared_there}
 use Rattle.shard_laws.proofs.Order.ChangesKeepOrder.{prepare_some}
 
 -- ---- more is known

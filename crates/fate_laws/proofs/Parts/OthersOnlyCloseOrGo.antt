@@ -35,7 +35,7 @@ use Rattle.law_base.proofs.Tables.{stage_by, stage_in, is_pair, add_from, add_ke
 use Rattle.law_base.proofs.Stages.{stage_own, active_back, closed_back, gone_out, stage_closed, closed_other, stage_marked, other_part}
 use Rattle.history_laws.proofs.Entries.WhatOperationsDo.{OpIs, dies, rolls, performs, reply_is}
 use Rattle.history_cases.proofs.Stepping.{Due, commits, votes, rules, KeptByDue, settled, Step, op_dies, op_answers, request_closes, drops, prepare_closes, decision_comes}
-use Rattle.protocol_laws.proofs.Growing.{same}
+use Rattle.protocol_laws.proofs.LogOnlyGrows.DueGrowsLogs.{same}
 use Rattle.fate_laws.proofs.Logs.LogOnlyGrows.{Inside, inside_self, inside_then, inside_due, inside_step}
 use Rattle.fate_laws.proofs.Logs.WhatAddsNoPrepare.{NoMorePrepares, plain_more, rolled, op_answering, closes_with}
 

@@ -32,7 +32,7 @@ use Rattle.fate_laws.proofs.Logs.WhatAddsNoPrepare.{front_prepare, restarts_add 
 use Rattle.fate_laws.proofs.Parts.YesVotesArePrepared.{Bound, Reads, Ordered}
 use Rattle.fate_laws.proofs.Parts.CommittedAreVotedFor.{HomeOr, Good, Parted, longer_ordered}
 use Rattle.history_laws.proofs.Logs.DoubtedAreUndecided.{doubt_prepared}
-use Rattle.protocol_laws.proofs.Records.{prepared_there}
+use Rattle.protocol_laws.proofs.LogsInOrder.OneRecordMore.{prepared_there}
 use Rattle.law_base.proofs.Names.{own_pairs}
 
 -- ---- pairs of those in doubt

@@ -24,14 +24,14 @@ use Rattle.clv_base.specs.Restarts.{log_left}
 use Rattle.law_base.proofs.Changed.{none_some}
 use Rattle.law_base.proofs.Commits.{commit_durable, durable_committed, place_some, below_some}
 use Rattle.law_base.proofs.Tables.{is_pair}
-use Rattle.protocol_laws.proofs.Facts.{durable_before}
+use Rattle.protocol_laws.proofs.PredecessorsByFacts.{durable_before}
 use Rattle.history_laws.proofs.NeverTakenBack.LaterHistoriesHoldMembers.{committed_front}
 use Rattle.fate_laws.proofs.Logs.LogOnlyGrows.{Inside}
 use Rattle.fate_laws.proofs.Logs.WhatAddsNoPrepare.{front_prepare}
 use Rattle.fate_laws.proofs.Homes.EntriesKeepHomes.{durable_front}
 use Rattle.fate_laws.proofs.Parts.OthersOnlyCloseOrGo.{Calm}
 use Rattle.fate_laws.proofs.Logs.RestartsWriteNoUpdate.{wrote_take}
-use Rattle.protocol_laws.proofs.Records.{prepared_there}
+use Rattle.protocol_laws.proofs.LogsInOrder.OneRecordMore.{prepared_there}
 
 -- ---- what binds
 

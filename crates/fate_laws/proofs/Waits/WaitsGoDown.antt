@@ -36,7 +36,7 @@ use Rattle.clv_base.proofs.SameNames.{tx_true, tx_self, in_insert}
 use Rattle.law_base.proofs.Changed.{some_same, none_some}
 use Rattle.law_base.proofs.Tables.{stage_by, in_pair}
 use Rattle.protocol_laws.specs.SessionLaws.{tx_of, works_on, ended_by}
-use Rattle.protocol_laws.proofs.InOrder.{sessions_keep_order}
+use Rattle.protocol_laws.proofs.SessionsKeepOrder.{sessions_keep_order}
 use Rattle.law_base.proofs.LockRows.{violated_row}
 use Rattle.history_cases.proofs.Merging.{Placed, Before, before_of, before_then, not_before_itself, Among, among_is, is_among, in_own, among_right, Precedes, front_precedes}
 use Rattle.history_laws.specs.Openings.{LegalFrom}

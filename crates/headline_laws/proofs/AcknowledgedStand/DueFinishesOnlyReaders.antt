@@ -36,7 +36,7 @@ use Rattle.fate_laws.proofs.Parts.PutVotesAreHeld.{votes_get}
 use Rattle.fate_laws.proofs.FallenAreUncommitted.RulingsThatEndNothing.{ack_refused, ack_end, no_end_undecided}
 use Rattle.fate_laws.proofs.Logs.RestartsWriteNoUpdate.{wrote_grown}
 use Rattle.headline_laws.proofs.AcknowledgedStand.NonWritersStayGone.{Quiet, agreed_closed, quiet_due, quiet_purged}
-use Rattle.protocol_laws.proofs.Records.{prepared_there}
+use Rattle.protocol_laws.proofs.LogsInOrder.OneRecordMore.{prepared_there}
 
 -- ---- votes. V: who voted what
 

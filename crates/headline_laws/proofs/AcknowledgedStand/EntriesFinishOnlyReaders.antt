@@ -34,7 +34,7 @@ use Rattle.fate_laws.proofs.Parts.PutVotesAreHeld.{votes_put}
 use Rattle.fate_laws.proofs.Logs.RestartsWriteNoUpdate.{wrote_grown}
 use Rattle.headline_laws.proofs.AcknowledgedStand.NonWritersStayGone.{active_here, closed_here}
 use Rattle.headline_laws.proofs.AcknowledgedStand.DueFinishesOnlyReaders.{Told, RowIs, Within, unwritten_before, within_finish}
-use Rattle.protocol_laws.proofs.Records.{prepared_there}
+use Rattle.protocol_laws.proofs.LogsInOrder.OneRecordMore.{prepared_there}
 use Rattle.shard_laws.proofs.Order.ChangesKeepOrder.{prepare_some}
 
 -- ---- what an entry begins with, and owes

@@ -39,7 +39,7 @@ use Rattle.fate_laws.proofs.FallenAreUncommitted.{fell_out}
 use Rattle.headline_laws.proofs.AcknowledgedStand.NonWritersStayGone.{Quiet, quiet_absent, quiet_undoomed, quiet_made}
 use Rattle.headline_laws.proofs.AcknowledgedStand.DueFinishesOnlyReaders.{Told, Ends, RowIs}
 use Rattle.headline_laws.proofs.AcknowledgedStand.EntriesFinishOnlyReaders.{IsFinished, IsIdle, Begins, Owes, rows_made}
-use Rattle.protocol_laws.proofs.Records.{prepared_there}
+use Rattle.protocol_laws.proofs.LogsInOrder.OneRecordMore.{prepared_there}
 
 -- ---- what stands in a front of the history
 

@@ -56,7 +56,7 @@ use Rattle.fate_laws.proofs.Parts.RestartsKeepParts.{revived_prepares}
 use Rattle.fate_laws.proofs.Parts.BoundStaysBound.{NotOwn}
 use Rattle.fate_laws.proofs.Logs.RestartsWriteNoUpdate.{restart_writes_none, wrote_take}
 use Rattle.history_laws.proofs.Logs.DoubtedAreUndecided.{doubt_prepared}
-use Rattle.protocol_laws.proofs.Records.{prepared_there}
+use Rattle.protocol_laws.proofs.LogsInOrder.OneRecordMore.{prepared_there}
 
 -- its part was never known here since the shard came up, or it is finished
 abbrev pub IsOut : Option Stage → Type 0

@@ -12,7 +12,7 @@ use Rattle.clv_base.specs.Shards.{shard_count}
 use Rattle.clv_base.specs.Restarts.{run_after, restart_records, log_after_restart, log_left}
 use Rattle.clv_base.specs.Journals.{History, final_of}
 use Rattle.protocol_laws.specs.Growth.{IsPrefixOf}
-use Rattle.protocol_laws.proofs.Growing.{chain, more}
+use Rattle.protocol_laws.proofs.LogOnlyGrows.DueGrowsLogs.{chain, more}
 use Rattle.history_laws.specs.Openings.{LegalFrom}
 use Rattle.history_laws.proofs.Logs.FoundLogsAreInOrder.{log_found}
 use Rattle.history_laws.proofs.NeverTakenBack.LaterHistoriesHoldMembers.{committed_front}
@@ -27,7 +27,7 @@ use Rattle.headline_laws.proofs.AtOpening.RecordedAreCommittedOrDoubted.{doubted
 use Rattle.headline_laws.proofs.SharesAreMaps.{somewhere_at}
 use Rattle.headline_laws.proofs.AtOpening.EarlierOnesStoodThere.{left_begins}
 use Rattle.history_laws.proofs.Logs.DoubtedAreUndecided.{doubt_prepared, doubt_undecided, doubted_is_old}
-use Rattle.protocol_laws.proofs.Records.{prepared_there}
+use Rattle.protocol_laws.proofs.LogsInOrder.OneRecordMore.{prepared_there}
 use Rattle.shard_laws.proofs.Order.ChangesKeepOrder.{prepare_some}
 use Rattle.law_base.proofs.Names.{all_from}
 

@@ -14,7 +14,7 @@ use Rattle.clv_base.specs.History.{Legal, logs_left}
 use Rattle.clv_base.proofs.SameNames.{tx_true}
 use Rattle.law_base.proofs.Changed.{none_some, some_same}
 use Rattle.protocol_laws.specs.Growth.{IsPrefixOf}
-use Rattle.protocol_laws.proofs.Growing.{chain, more}
+use Rattle.protocol_laws.proofs.LogOnlyGrows.DueGrowsLogs.{chain, more}
 use Rattle.history_laws.specs.Openings.{LegalFrom}
 use Rattle.shard_laws.proofs.Order.RecordByRecord.{Follows, Plainly, from_disorder, last_push}
 use Rattle.shard_laws.proofs.Keeping.RecordsAndFrontsKeep.{wrote_append}

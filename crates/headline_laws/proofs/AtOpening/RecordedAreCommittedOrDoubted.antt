@@ -12,7 +12,7 @@ use Rattle.clv_base.specs.FileRules.{may_open}
 use Rattle.clv_base.proofs.SameNames.{tx_true, insert_has}
 use Rattle.law_base.proofs.Changed.{none_some, some_same}
 use Rattle.law_base.proofs.Doubts.{stays_in}
-use Rattle.protocol_laws.proofs.Records.{committed_there}
+use Rattle.protocol_laws.proofs.LogsInOrder.OneRecordMore.{committed_there}
 use Rattle.fate_laws.proofs.Homes.FoundCommitsHaveHomes.{part_agreed, home_of}
 
 -- ---- who is in doubt

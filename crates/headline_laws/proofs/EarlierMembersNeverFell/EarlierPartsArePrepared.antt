@@ -33,7 +33,7 @@ use Rattle.fate_laws.proofs.FallenAreUncommitted.NoPartWithoutOperation.{DoesNow
 use Rattle.fate_laws.proofs.FallenAreUncommitted.FrontsKeepOutUncommitted.{walk_on}
 use Rattle.headline_laws.proofs.GoneAreLost.WhyPreparedOnesGo.{inside_finish}
 use Rattle.history_laws.proofs.Logs.DoubtedAreUndecided.{doubt_prepared}
-use Rattle.protocol_laws.proofs.Records.{prepared_there}
+use Rattle.protocol_laws.proofs.LogsInOrder.OneRecordMore.{prepared_there}
 
 -- a shard that came back has parts of those in doubt alone
 restored_prepared : (shard : ℕ) (log : List LogRecord) (s : Shard) (t : TxId) (st : Stage) → ((u : TxId) → tx_in u (in_doubt shard log) ≡ false → stage_of s.local u ≡ None) → stage_of s.local t ≡ Some st → prepared_in log t ≡ true

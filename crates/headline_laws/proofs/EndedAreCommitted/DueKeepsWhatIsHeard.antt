@@ -29,7 +29,7 @@ use Rattle.clv_base.specs.Events.{finish}
 use Rattle.law_base.proofs.Changed.{none_some, some_same, get_set}
 use Rattle.law_base.proofs.Lists.{all_append}
 use Rattle.law_base.proofs.Commits.{parts_keep}
-use Rattle.protocol_laws.proofs.Records.{committed_there}
+use Rattle.protocol_laws.proofs.LogsInOrder.OneRecordMore.{committed_there}
 use Rattle.shard_laws.proofs.Order.WhatRulingsMayWrite.{parts_new}
 use Rattle.shard_laws.proofs.Events.DueKeeps.{waiting_here}
 use Rattle.history_cases.proofs.Stepping.{Due, commits, votes, rules, KeptByDue, settled}

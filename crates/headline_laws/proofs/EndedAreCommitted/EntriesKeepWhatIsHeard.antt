@@ -33,7 +33,7 @@ use Rattle.clv_base.specs.Restarts.{log_left, revived, opened, unended_in, log_a
 use Rattle.clv_base.specs.Journals.{event_state, after_entry, up_to_restart}
 use Rattle.law_base.proofs.Lists.{all_mono, all_append, insert_in as in_inserted}
 use Rattle.law_base.proofs.Commits.{commit_durable, durable_keeps}
-use Rattle.protocol_laws.proofs.Growing.{grows_settled}
+use Rattle.protocol_laws.proofs.LogOnlyGrows.DueGrowsLogs.{grows_settled}
 use Rattle.shard_laws.proofs.Restarts.RestoredRequestsAndPairs.{request_from}
 use Rattle.history_cases.proofs.Stepping.{Step, op_dies, op_answers, request_new, request_closes, drops, sends, prepare_closes, prepare_again, vote_counts, decision_comes, decision_again, done_counts, asked, reminds, flushes, Happens, finishes, stops}
 use Rattle.history_cases.proofs.Entering.{Makes, by_event, by_flush, by_failure, by_restart}

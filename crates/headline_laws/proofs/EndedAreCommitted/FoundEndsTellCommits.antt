@@ -14,7 +14,7 @@ use Rattle.clv_base.specs.Restarts.{run_after, log_after_restart}
 use Rattle.clv_base.proofs.SameNames.{tx_true}
 use Rattle.law_base.proofs.Changed.{none_some, some_same}
 use Rattle.law_base.proofs.Commits.{committed_keeps}
-use Rattle.protocol_laws.proofs.Records.{committed_there}
+use Rattle.protocol_laws.proofs.LogsInOrder.OneRecordMore.{committed_there}
 use Rattle.shard_laws.proofs.Order.RecordByRecord.{Follows, through}
 use Rattle.shard_laws.proofs.Order.WhatRulingsMayWrite.{parts_new}
 use Rattle.history_cases.proofs.Uncommitting.{with_more}

@@ -29,7 +29,7 @@ use Rattle.fate_laws.proofs.FallenAreUncommitted.OutIsLost.{Absent, Out, Lost, l
 use Rattle.fate_laws.proofs.FallenAreUncommitted.FrontsKeepOutUncommitted.{Denied, Met, WasOut, empty_front, last_front, Stands, stands_front, walk_on}
 use Rattle.headline_laws.proofs.GoneAreLost.FrontsKeepAbortedAway.{struck_front}
 use Rattle.headline_laws.proofs.GoneAreLost.WhyPreparedOnesGo.{opening_doubts, WasPrepared, GoesBy, prepares_made, goes_made, aborted_take}
-use Rattle.protocol_laws.proofs.Records.{prepared_there}
+use Rattle.protocol_laws.proofs.LogsInOrder.OneRecordMore.{prepared_there}
 use Rattle.fate_laws.proofs.Origins.OldPartsWereInDoubt.{found_follows as log_follows}
 
 -- ---- why it is lost

@@ -35,7 +35,7 @@ use Rattle.fate_laws.proofs.Logs.WhatPreparesOrCommits.{step_prepares}
 use Rattle.fate_laws.proofs.Parts.YesVotesArePrepared.{front_same}
 use Rattle.fate_laws.proofs.FallenAreUncommitted.PreparesListEarlierOnes.{Ahead, Why, ahead_take, not_in_doubt, listed_front}
 use Rattle.fate_laws.proofs.FallenAreUncommitted.OutIsLost.{Absent}
-use Rattle.protocol_laws.proofs.Records.{prepared_there}
+use Rattle.protocol_laws.proofs.LogsInOrder.OneRecordMore.{prepared_there}
 
 -- ---- a PREPARE after an entry stood before it, or the part was active
 

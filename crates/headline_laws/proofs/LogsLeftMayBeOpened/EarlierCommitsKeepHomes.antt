@@ -14,7 +14,7 @@ use Rattle.clv_base.specs.Journals.{History, final_of}
 use Rattle.clv_base.specs.History.{logs_left}
 use Rattle.clv_base.proofs.SameNames.{tx_true}
 use Rattle.law_base.proofs.Commits.{committed_append, parts_keep}
-use Rattle.protocol_laws.proofs.Records.{committed_there, prepared_there}
+use Rattle.protocol_laws.proofs.LogsInOrder.OneRecordMore.{committed_there, prepared_there}
 use Rattle.history_cases.proofs.Uncommitting.{opening_adds}
 use Rattle.history_laws.specs.Openings.{LegalFrom}
 use Rattle.history_laws.proofs.Logs.FoundLogsAreInOrder.{log_found}

@@ -10,7 +10,7 @@ use Rattle.clv_base.specs.Logs.{is_update_of, is_commit_of, is_prepare_of, is_ab
 use Rattle.clv_base.specs.LogRules.{may_follow, home_is}
 use Rattle.clv_base.proofs.SameNames.{tx_true}
 use Rattle.law_base.proofs.Commits.{committed_keeps}
-use Rattle.protocol_laws.proofs.Records.{push_cases, push_right}
+use Rattle.protocol_laws.proofs.LogsInOrder.OneRecordMore.{push_cases, push_right}
 use Rattle.shard_laws.proofs.Order.RecordByRecord.{Follows, through, follows_append, since_wrote}
 use Rattle.shard_laws.proofs.Order.WritesLieOnListed.{ended_committed}
 use Rattle.fate_laws.proofs.Logs.WhatAddsNoPrepare.{prepare_from}

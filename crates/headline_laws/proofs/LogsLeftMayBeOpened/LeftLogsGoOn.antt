@@ -9,7 +9,7 @@ use Rattle.clv_base.specs.Restarts.{run_after, restart_records, log_after_restar
 use Rattle.clv_base.specs.Journals.{History, final_of}
 use Rattle.clv_base.specs.History.{Legal, logs_left}
 use Rattle.protocol_laws.specs.Growth.{IsPrefixOf}
-use Rattle.protocol_laws.proofs.Growing.{chain, more}
+use Rattle.protocol_laws.proofs.LogOnlyGrows.DueGrowsLogs.{chain, more}
 use Rattle.headline_laws.proofs.GoneAreLost.WhyPreparedOnesGo.{aborted_take}
 use Rattle.headline_laws.proofs.AtOpening.EarlierOnesStoodThere.{left_begins}
 use Rattle.history_laws.proofs.NeverTakenBack.{log_now}

@@ -39,7 +39,7 @@ use Rattle.headline_laws.proofs.YesVotersNeverFell.{bound_unaborted}
 use Rattle.headline_laws.specs.ReplayingHere.{IsHere}
 use Rattle.headline_laws.proofs.AtOpening.RecordedAreCommittedOrDoubted.{doubted}
 use Rattle.headline_laws.proofs.SharesAreMaps.{at_somewhere}
-use Rattle.protocol_laws.proofs.Records.{prepared_there}
+use Rattle.protocol_laws.proofs.LogsInOrder.OneRecordMore.{prepared_there}
 
 module _ {splits : List ℕ} {before after : List (List LogRecord)} {h : History} (l : LegalFrom splits before h after) (choice : ℕ → Bool)
     (n : ℕ) (i : n < shard_count splits) (t : TxId) (home : ℕ) (e : Entry) (touched : List (ℕ × ℕ)) (a : IsAmong home e h)

@@ -33,9 +33,9 @@ use Rattle.clv_base.specs.Restarts.{log_left, revived, opened, unended_in, log_a
 use Rattle.clv_base.specs.Journals.{event_state, after_entry, up_to_restart}
 use Rattle.law_base.proofs.Changed.{none_some, some_same, get_set}
 use Rattle.law_base.proofs.Lists.{all_mono, good_at}
-use Rattle.protocol_laws.proofs.Records.{committed_there}
+use Rattle.protocol_laws.proofs.LogsInOrder.OneRecordMore.{committed_there}
 use Rattle.protocol_laws.specs.Growth.{IsPrefixOf}
-use Rattle.protocol_laws.proofs.Growing.{same, more, more_twice}
+use Rattle.protocol_laws.proofs.LogOnlyGrows.DueGrowsLogs.{same, more, more_twice}
 use Rattle.shard_laws.proofs.Restarts.RestoredRequestsAndPairs.{request_from}
 use Rattle.shard_laws.proofs.Order.WhatRulingsMayWrite.{parts_new}
 use Rattle.history_cases.proofs.Stepping.{commits, votes, rules, KeptByDue, settled, Step, op_dies, op_answers, request_refused, request_doomed, request_again, request_new, request_closes, looks_well, looks_ill, drops, prepare_closes, vote_counts, decision_comes, done_counts, Happens, finishes, stops}

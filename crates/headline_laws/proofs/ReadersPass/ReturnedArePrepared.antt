@@ -25,7 +25,7 @@ use Rattle.clv_base.specs.Journals.{History, event_state, up_to_restart}
 use Rattle.clv_base.proofs.SameNames.{tx_true, tx_self}
 use Rattle.protocol_laws.specs.Growth.{IsPrefixOf}
 use Rattle.protocol_laws.specs.SessionLaws.{tx_of}
-use Rattle.protocol_laws.proofs.Growing.{same as same_log}
+use Rattle.protocol_laws.proofs.LogOnlyGrows.DueGrowsLogs.{same as same_log}
 use Rattle.history_laws.specs.Openings.{LegalFrom}
 use Rattle.shard_laws.proofs.Restarts.RestoredLocksAndParts.{restored_none}
 use Rattle.shard_laws.proofs.Order.ChangesKeepOrder.{prepare_some}
@@ -48,7 +48,7 @@ use Rattle.fate_laws.proofs.Parts.BoundStaysBound.{NotOwn}
 use Rattle.fate_laws.proofs.FallenAreUncommitted.FrontsKeepOutUncommitted.{Met, WasOut, walk_on, none_held, last_front}
 use Rattle.headline_laws.proofs.ReadersPass.AbortedWereHere.{present_back}
 use Rattle.headline_laws.proofs.ReadersPass.CommittedWroteOrAreHome.{finish_prefix}
-use Rattle.protocol_laws.proofs.Records.{prepared_there}
+use Rattle.protocol_laws.proofs.LogsInOrder.OneRecordMore.{prepared_there}
 
 -- ---- an entry
 

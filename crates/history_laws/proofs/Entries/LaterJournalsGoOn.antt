@@ -11,7 +11,7 @@ use Rattle.clv_base.specs.Events.{with_entry}
 use Rattle.clv_base.specs.Restarts.{log_left, revived}
 use Rattle.clv_base.specs.Journals.{event_state, after_entry, after_entries, MayRun}
 use Rattle.protocol_laws.specs.Growth.{IsPrefixOf}
-use Rattle.protocol_laws.proofs.Growing.{chain}
+use Rattle.protocol_laws.proofs.LogOnlyGrows.DueGrowsLogs.{chain}
 use Rattle.history_laws.specs.Continuing.{SameAtRestart, SameAtRestarts}
 use Rattle.history_cases.proofs.Entering.{after_append, run_second}
 use Rattle.history_cases.proofs.Durability.{Counted, fronts_entry, fronts_entries, left_front}

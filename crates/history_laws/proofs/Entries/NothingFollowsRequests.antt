@@ -21,7 +21,7 @@ use Rattle.clv_base.specs.Sessions.{SessionState, is_number, lies_in, goes_on, b
 use Rattle.clv_base.proofs.SameNames.{tx_true}
 use Rattle.law_base.proofs.Anchors.{cmp_equal}
 use Rattle.protocol_laws.specs.SessionLaws.{tx_of, SerialsRise, works_on, ended_by, NoneWorksOn, EndsStay}
-use Rattle.protocol_laws.proofs.InOrder.{sessions_keep_order}
+use Rattle.protocol_laws.proofs.SessionsKeepOrder.{sessions_keep_order}
 use Rattle.history_cases.proofs.Merging.{Placed, Among, Precedes}
 
 -- ---- whose the entries are

@@ -12,8 +12,8 @@ use Rattle.clv_base.specs.LogRules.{log_of}
 use Rattle.clv_base.specs.FileRules.{may_open}
 use Rattle.clv_base.specs.Restarts.{greatest_run, run_after}
 use Rattle.protocol_laws.proofs.LogsInOrder.{runs_in_order}
-use Rattle.protocol_laws.proofs.Records.{own_prepare}
-use Rattle.protocol_laws.proofs.Runs.{record_fits}
+use Rattle.protocol_laws.proofs.LogsInOrder.OneRecordMore.{own_prepare}
+use Rattle.protocol_laws.proofs.LogsInOrder.RunsAreOfRestarts.{record_fits}
 use Rattle.history_cases.proofs.OldRuns.{below_next_run}
 use Rattle.history_laws.proofs.Logs.FoundLogsAreInOrder.{found_in_order}
 

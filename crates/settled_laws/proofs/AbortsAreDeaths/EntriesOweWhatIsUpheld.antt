@@ -38,7 +38,7 @@ use Rattle.law_base.proofs.Sets.{in_filter}
 use Rattle.law_base.proofs.Successors.{through_all}
 use Rattle.law_base.proofs.Tables.{is_pair}
 use Rattle.protocol_laws.specs.SessionLaws.{tx_of, works_on, ended_by}
-use Rattle.protocol_laws.proofs.InOrder.{sessions_keep_order}
+use Rattle.protocol_laws.proofs.SessionsKeepOrder.{sessions_keep_order}
 use Rattle.history_cases.proofs.Merging.{Placed, Among, is_among, among_is, in_turn, in_order, own_in_order, precedes_before, before_then}
 use Rattle.history_cases.proofs.Telling.{IsRequest}
 use Rattle.history_cases.proofs.Worlds.{state_at}

@@ -26,7 +26,7 @@ use Rattle.clv_base.specs.Machines.{BecomesBy, Runs}
 use Rattle.law_base.proofs.Changed.{none_some}
 use Rattle.protocol_laws.specs.Growth.{is_restart}
 use Rattle.protocol_laws.specs.SessionLaws.{tx_of}
-use Rattle.protocol_laws.proofs.GrowingEvents.{entries_keep_logs}
+use Rattle.protocol_laws.proofs.LogOnlyGrows.{entries_keep_logs}
 use Rattle.history_cases.proofs.Entering.{Makes, by_event, by_flush, by_failure, by_restart, makes}
 use Rattle.history_cases.proofs.Merging.{Placed, Among, among_left, among_right, in_journal, is_among}
 use Rattle.history_cases.proofs.Stepping.{settled, finishes, stops}

@@ -21,7 +21,7 @@ use Rattle.clv_base.specs.declared.state.Ruling.TheVariants.{Commit as CommitRul
 use Rattle.clv_base.specs.OneShard.{purge, mark_dropped}
 use Rattle.clv_base.specs.Due.{finish_part, or_else, with_commit_done, commit_due, with_vote, finish_reader, give_vote, vote_due, with_ruling, do_ruling, rule, request_due, due_of, first_due, known_txs, next_due, do_due, with_due_done, work}
 use Rattle.clv_base.specs.Events.{finish}
-use Rattle.protocol_laws.proofs.Facts.{durable_before}
+use Rattle.protocol_laws.proofs.PredecessorsByFacts.{durable_before}
 use Rattle.shard_laws.proofs.Keeping.MarkingKeeps.{same_again, pairs_none, keeps_marked, gone_stays, keeps_again}
 use Rattle.law_base.proofs.Stages.{stage_marked, present_is, was_present}
 use Rattle.law_base.specs.Items.{Item}

@@ -5,7 +5,7 @@ use Rattle.std.proofs.lemmas.List.Folds.{list_any-append}
 use Rattle.clv_base.specs.declared.names.TxId.{TxId}
 use Rattle.clv_base.specs.declared.logs.LogRecord.{LogRecord}
 use Rattle.clv_base.specs.declared.logs.LogRecord.TheVariants.{Prepare, Commit}
-use Rattle.protocol_laws.proofs.Records.{prepared_there}
+use Rattle.protocol_laws.proofs.LogsInOrder.OneRecordMore.{prepared_there}
 use Rattle.shard_laws.proofs.Keeping.ChangesKeepPrepared.{prepare_here, unprepared_append}
 use Rattle.shard_laws.proofs.Order.StepsKeepOrder.{KeepsOrder, order_asked, order_closes}
 use Rattle.shard_laws.proofs.Order.WhatRulingsMayWrite.{Ruled}

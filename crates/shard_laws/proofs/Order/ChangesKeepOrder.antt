@@ -19,7 +19,7 @@ use Rattle.law_base.proofs.Lists.{all_mono, all_both}
 use Rattle.law_base.proofs.Tables.{stage_in, is_pair}
 use Rattle.law_base.proofs.Commits.{committed_keeps}
 use Rattle.law_base.proofs.Stages.{present_is}
-use Rattle.protocol_laws.proofs.Writes.{Falling}
+use Rattle.protocol_laws.proofs.LogsInOrder.StandingUpdatesLie.{Falling}
 use Rattle.shard_laws.proofs.Keeping.ChangesKeepPrepared.{by_prepare, prepared_append}
 use Rattle.shard_laws.proofs.Keeping.RecordsAndFrontsKeep.{wrote_keeps}
 use Rattle.shard_laws.proofs.Order.RecordByRecord.{Follows, follows_append, Plainly, last_push, before_push, greatest_plain, wrote_since}

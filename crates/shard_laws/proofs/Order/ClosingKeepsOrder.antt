@@ -21,7 +21,7 @@ use Rattle.law_base.proofs.Tables.{stage_in, is_pair, without_pairs, pairs_stay}
 use Rattle.law_base.proofs.Commits.{committed_keeps}
 use Rattle.law_base.proofs.Undoing.{Upward, standing_undone}
 use Rattle.protocol_laws.specs.Order.{LieOnThese}
-use Rattle.protocol_laws.proofs.Records.{push_cases}
+use Rattle.protocol_laws.proofs.LogsInOrder.OneRecordMore.{push_cases}
 use Rattle.shard_laws.proofs.Cuts.MembersRunSerially.{Once, once_filter}
 use Rattle.shard_laws.proofs.Keeping.RecordsAndFrontsKeep.{wrote_keeps}
 use Rattle.shard_laws.proofs.Keeping.ChangesKeepPrepared.{prepared_append}

@@ -31,7 +31,7 @@ use Rattle.law_base.proofs.Running.{value_top}
 use Rattle.law_base.proofs.Undoing.{standing_append}
 use Rattle.law_base.proofs.Tables.{stage_in, stage_by, is_pair, insert_from, add_keeps, add_has}
 use Rattle.law_base.proofs.Commits.{commit_durable, durable_committed, committed_keeps}
-use Rattle.protocol_laws.proofs.Records.{push_cases}
+use Rattle.protocol_laws.proofs.LogsInOrder.OneRecordMore.{push_cases}
 use Rattle.protocol_laws.proofs.LogsInOrder.{Order}
 use Rattle.law_base.proofs.LockRows.{conflict, violates, violated_row, holds, asks}
 use Rattle.shard_laws.proofs.Operations.NeedsCoverKeys.{asks_by, asks_written}

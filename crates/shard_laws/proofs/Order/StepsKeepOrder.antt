@@ -21,7 +21,7 @@ use Rattle.clv_base.proofs.SameNames.{or_left, or_right, tx_true, tx_self}
 use Rattle.law_base.proofs.Tables.{stage_in, is_pair}
 use Rattle.law_base.proofs.Undoing.{standing_append}
 use Rattle.protocol_laws.proofs.LogsInOrder.{Order}
-use Rattle.protocol_laws.proofs.Records.{push_right, push_cases}
+use Rattle.protocol_laws.proofs.LogsInOrder.OneRecordMore.{push_right, push_cases}
 use Rattle.shard_laws.proofs.Cuts.MembersRunSerially.{Once}
 use Rattle.shard_laws.proofs.Keeping.ChangesKeepPrepared.{by_prepare, prepare_here}
 use Rattle.shard_laws.proofs.Keeping.WhatOneShardKeeps.{Past, Kept, view_of}

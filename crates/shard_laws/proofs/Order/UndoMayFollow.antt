@@ -14,7 +14,7 @@ use Rattle.law_base.specs.Undone.{stays_of}
 use Rattle.law_base.proofs.Lists.{all_mono, all_push}
 use Rattle.law_base.proofs.Undoing.{Upward, standing_append}
 use Rattle.law_base.proofs.Options.{option_self}
-use Rattle.protocol_laws.proofs.Records.{push_right, push_false}
+use Rattle.protocol_laws.proofs.LogsInOrder.OneRecordMore.{push_right, push_false}
 use Rattle.shard_laws.proofs.Cuts.MembersRunSerially.{Once}
 use Rattle.shard_laws.proofs.Order.RecordByRecord.{Follows, follows_append, last_push}
 use Rattle.law_base.proofs.Logs.{push_left}

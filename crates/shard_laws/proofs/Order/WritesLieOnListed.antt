@@ -14,8 +14,8 @@ use Rattle.law_base.proofs.Undoing.{standing_append}
 use Rattle.law_base.proofs.Commits.{committed_keeps}
 use Rattle.law_base.proofs.Sets.{list_all_at}
 use Rattle.protocol_laws.specs.Order.{LieOnThese}
-use Rattle.protocol_laws.proofs.Records.{push_cases, push_same, committed_there, push_right}
-use Rattle.protocol_laws.proofs.Writes.{Falling}
+use Rattle.protocol_laws.proofs.LogsInOrder.OneRecordMore.{push_cases, push_same, committed_there, push_right}
+use Rattle.protocol_laws.proofs.LogsInOrder.StandingUpdatesLie.{Falling}
 use Rattle.protocol_laws.proofs.LogsInOrder.{Order, in_order}
 use Rattle.shard_laws.proofs.Keeping.ChangesKeepPrepared.{by_prepare, prepare_here, listed_keeps}
 use Rattle.shard_laws.proofs.Cuts.WhoIsInDoubt.{Doubted, doubted}

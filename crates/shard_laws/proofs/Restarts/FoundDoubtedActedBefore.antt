@@ -19,7 +19,7 @@ use Rattle.law_base.proofs.Lists.{all_mono, all_push, later_push}
 use Rattle.law_base.proofs.Running.{top_value, runs_push, pile_value, pile_push}
 use Rattle.law_base.proofs.Undoing.{Chain, standing_append}
 use Rattle.protocol_laws.specs.Order.{LieOnThese}
-use Rattle.protocol_laws.proofs.Records.{push_cases}
+use Rattle.protocol_laws.proofs.LogsInOrder.OneRecordMore.{push_cases}
 use Rattle.shard_laws.specs.OneShard.{found_op, found_item, items_found, prepared_order}
 use Rattle.shard_laws.proofs.Operations.WritesAtEachKey.{key_writes, SameAtKeys, top_at}
 use Rattle.shard_laws.proofs.Keeping.WhatOneShardKeeps.{of_kept, place}

@@ -30,9 +30,9 @@ use Rattle.law_base.proofs.Undoing.{write_met}
 use Rattle.law_base.proofs.Tables.{stage_in, is_pair}
 use Rattle.law_base.proofs.Commits.{commit_durable}
 use Rattle.law_base.proofs.Sets.{filter_in, list_all_at}
-use Rattle.protocol_laws.proofs.Records.{own_commit, own_prepare}
-use Rattle.protocol_laws.proofs.Runs.{record_fits}
-use Rattle.protocol_laws.proofs.Writes.{chain_kept}
+use Rattle.protocol_laws.proofs.LogsInOrder.OneRecordMore.{own_commit, own_prepare}
+use Rattle.protocol_laws.proofs.LogsInOrder.RunsAreOfRestarts.{record_fits}
+use Rattle.protocol_laws.proofs.LogsInOrder.StandingUpdatesLie.{chain_kept}
 use Rattle.protocol_laws.proofs.LogsInOrder.{Order, in_order, undone_open}
 use Rattle.shard_laws.specs.OneShard.{MayServe, is_doomed, found_items, found_asked, found_met}
 use Rattle.shard_laws.proofs.Operations.WritesAtEachKey.{SameAtKeys, key_writes}

@@ -24,7 +24,7 @@ use Rattle.law_base.proofs.Sets.{filter_in, in_filter, list_all_at, each_writer}
 use Rattle.law_base.proofs.Bools.{and_first as front, and_second as last}
 use Rattle.law_base.proofs.Stages.{present_is}
 use Rattle.protocol_laws.specs.Order.{LieOnThese}
-use Rattle.protocol_laws.proofs.Records.{push_false}
+use Rattle.protocol_laws.proofs.LogsInOrder.OneRecordMore.{push_false}
 use Rattle.protocol_laws.proofs.LogsInOrder.{Order, undone_open}
 use Rattle.shard_laws.proofs.Cuts.MembersRunSerially.{once_filter}
 use Rattle.shard_laws.proofs.Cuts.WhatCutsHold.{of_kept}

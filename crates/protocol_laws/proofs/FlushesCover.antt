@@ -24,11 +24,11 @@ use Rattle.clv_base.specs.Coordinator.{is_agreed, agreed_ruling, undecided_rulin
 use Rattle.clv_base.specs.Events.{with_durable}
 use Rattle.clv_base.proofs.SameNames.{or_left, or_right, tx_true, tx_self, tx_flip}
 use Rattle.law_base.proofs.Tables.{is_pair, in_pair}
-use Rattle.protocol_laws.proofs.Facts.{predecessors_by_facts}
+use Rattle.protocol_laws.proofs.PredecessorsByFacts.{predecessors_by_facts}
 use Rattle.protocol_laws.specs.Candidates.{is_vote_due, is_ruling_due, is_due}
 use Rattle.protocol_laws.specs.Changes.{successors_of, landed_txs, landed_records, FlushesCover}
-use Rattle.protocol_laws.proofs.Deciding.{due_by_facts, three}
-use Rattle.protocol_laws.proofs.DueFacts.{successor_in}
+use Rattle.protocol_laws.proofs.Due.DueByFacts.{due_by_facts, three}
+use Rattle.protocol_laws.proofs.Due.WhoseFactsChange.{successor_in}
 use Rattle.law_base.proofs.Names.{in_append}
 
 -- ---- records that became durable

@@ -1,4 +1,7 @@
 -- What each change keeps.
+pub mod UndoIsSpelled
+pub mod RowsAreSpelled
+pub mod ListsAreSpelled
 use Rattle.std.proofs.Common.{◌≡◌, ◌<◌, ◌^◌, refl, sym, subst, ℕ, Bool, true, false, not, List, [], ◌∷◌, ◌++◌, length, Option, Some, None, arith}
 use Rattle.std.specs.List.{AllByRecursion, filter, list_all}
 use Rattle.std.proofs.lemmas.Bool.{cond_both, and_parts, and_from}
@@ -18,9 +21,9 @@ use Rattle.clv_base.specs.Facts.{undecided_of}
 use Rattle.clv_base.specs.Undo.{stage_of, doomed_here, aborts_of, clrs_of, undo}
 use Rattle.clv_base.specs.OneShard.{locked, written, closing, without_part, rolled_back_if, drop_part}
 use Rattle.protocol_laws.specs.Spelled.{IsSpelled, fits_op, OperationsKeep, ClosingsKeep, AbortsKeep, DropsKeep, EndsKeep, RecordsKeep, PurgesKeep, RestartsAreSpelled}
-use Rattle.protocol_laws.proofs.Undoing.{fit_standing, clrs_spelled, Named, aborts_spelled}
-use Rattle.protocol_laws.proofs.Rows.{takes_named, inserts_named, close_named, release_named, violated_are_named, restored_named, add_seconds, set_value, value_fits, undone_values}
-use Rattle.protocol_laws.proofs.Lists.{wrote_named, undecided_spelled, restored_seconds, restored_values}
+use Rattle.protocol_laws.proofs.ChangesKeepSpelling.UndoIsSpelled.{fit_standing, clrs_spelled, Named, aborts_spelled}
+use Rattle.protocol_laws.proofs.ChangesKeepSpelling.RowsAreSpelled.{takes_named, inserts_named, close_named, release_named, violated_are_named, restored_named, add_seconds, set_value, value_fits, undone_values}
+use Rattle.protocol_laws.proofs.ChangesKeepSpelling.ListsAreSpelled.{wrote_named, undecided_spelled, restored_seconds, restored_values}
 use Rattle.law_base.proofs.Lists.{all_kept as all_filter}
 use Rattle.law_base.proofs.Logs.{spelled_append as all_append}
 

@@ -28,9 +28,9 @@ use Rattle.protocol_laws.specs.Candidates.{is_vote_due, is_ruling_due, is_commit
 use Rattle.protocol_laws.specs.Rooms.{voter_of}
 use Rattle.protocol_laws.specs.Left.{is_finished_stage, is_over, is_finished, is_idle, is_lone, left_voter, left_by, left_request, total_by, left}
 use Rattle.protocol_laws.specs.Open.{txs_here, votes_owed, waits_in, count_waiting, open_work, LeftByOpen}
-use Rattle.protocol_laws.proofs.Deciding.{due_by_facts}
-use Rattle.protocol_laws.proofs.Least.{at_rest_none}
-use Rattle.protocol_laws.proofs.Naming.{get_first, get_later, row_sum, at_name, name_sum, named_total, by_rows}
+use Rattle.protocol_laws.proofs.Due.DueByFacts.{due_by_facts}
+use Rattle.protocol_laws.proofs.Due.LeastIsNext.{at_rest_none}
+use Rattle.protocol_laws.proofs.LeftFalls.SumsByTransaction.{get_first, get_later, row_sum, at_name, name_sum, named_total, by_rows}
 use Rattle.std.specs.List.Sorted.{IsStrictlySortedBy}
 use Rattle.clv_base.specs.Orders.{tx_cmp}
 use Rattle.law_base.proofs.Names.{not_above as above_none}

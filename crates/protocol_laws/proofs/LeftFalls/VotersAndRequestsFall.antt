@@ -22,8 +22,8 @@ use Rattle.clv_base.specs.Coordinator.{others, first_no, is_good, vote_from, cau
 use Rattle.protocol_laws.specs.Candidates.{is_ruling_due}
 use Rattle.protocol_laws.specs.Candidates.{is_vote_due}
 use Rattle.protocol_laws.specs.Left.{is_finished, is_idle, left_voter, is_lone, left_by, left_request, count_of}
-use Rattle.protocol_laws.proofs.Finished.{FallsBy, finished_stage, idle_stage}
-use Rattle.protocol_laws.proofs.Spending.{open_end}
+use Rattle.protocol_laws.proofs.LeftFalls.FinishedStayFinished.{FallsBy, finished_stage, idle_stage}
+use Rattle.protocol_laws.proofs.OnlyWorkIsDue.{open_end}
 use Rattle.std.proofs.lemmas.Bool.{and_parts}
 use Rattle.std.proofs.Common.{is_none, is_some, ⊎_elim}
 use Rattle.clv_base.specs.Facts.{is_closed_state}

@@ -31,10 +31,10 @@ use Rattle.clv_base.specs.Due.{commit_messages, with_commit_done, first_due, kno
 use Rattle.clv_base.proofs.Settling.{each_leaves_less}
 use Rattle.protocol_laws.specs.Candidates.{is_commit_due, is_vote_due, is_ruling_due}
 use Rattle.protocol_laws.specs.Rooms.{part_of, voter_of, request_of, OnlyWorkIsDue, parts_of, FewParts, MessagesByWork, is_decision, decisions, RecordsByWork}
-use Rattle.protocol_laws.proofs.Deciding.{due_by_facts}
+use Rattle.protocol_laws.proofs.Due.DueByFacts.{due_by_facts}
 use Rattle.law_base.proofs.Names.{by_state}
 use Rattle.law_base.proofs.Lists.{filter_fewer as fewer}
-use Rattle.protocol_laws.proofs.DueCases.{IfDue, due_holds, first_holds}
+use Rattle.protocol_laws.proofs.Due.DueCaseByCase.{IfDue, due_holds, first_holds}
 
 -- ---- who has something due has work
 

@@ -24,7 +24,7 @@ use Rattle.clv_base.specs.Needs.{Records, found_by, live_of, value_at, record_se
 use Rattle.clv_base.specs.Undo.{value_before, records_without}
 use Rattle.clv_base.specs.OneShard.{add_pairs, inserted_locks}
 use Rattle.clv_base.specs.Restarts.{old_birth, restored_locks}
-use Rattle.protocol_laws.proofs.Undoing.{AreFit, Named, named_insert}
+use Rattle.protocol_laws.proofs.ChangesKeepSpelling.UndoIsSpelled.{AreFit, Named, named_insert}
 use Rattle.law_base.proofs.Lists.{all_kept as all_filter}
 
 -- ---- holders

@@ -16,7 +16,7 @@ use Rattle.clv_base.specs.Due.{due_of, first_due, known_txs}
 use Rattle.clv_base.proofs.SameNames.{or_left, or_right, tx_true, tx_flip, insert_keeps, insert_has}
 use Rattle.law_base.proofs.Sets.{tx_total, union_right, union_rises}
 use Rattle.protocol_laws.specs.Candidates.{is_commit_due, is_vote_due, is_ruling_due, is_due, Cover, LeastIsNext, OthersCover, NoneIsNothing, AtRestNone}
-use Rattle.protocol_laws.proofs.Deciding.{due_by_facts}
+use Rattle.protocol_laws.proofs.Due.DueByFacts.{due_by_facts}
 use Rattle.law_base.proofs.Names.{Rise, not_less, above_in}
 use Rattle.law_base.proofs.Shards.{rest_of}
 

@@ -24,8 +24,8 @@ use Rattle.clv_base.specs.OneShard.{closing_record, closing}
 use Rattle.clv_base.specs.Restarts.{records_of, ghost_if_absent, with_ghosts, pairs_of_listed, restored_pairs}
 use Rattle.clv_base.proofs.SameNames.{tx_true}
 use Rattle.law_base.proofs.Sets.{predecessors_rise}
-use Rattle.protocol_laws.proofs.Undoing.{Named, named_insert}
-use Rattle.protocol_laws.proofs.Rows.{Seconds, Values, set_value}
+use Rattle.protocol_laws.proofs.ChangesKeepSpelling.UndoIsSpelled.{Named, named_insert}
+use Rattle.protocol_laws.proofs.ChangesKeepSpelling.RowsAreSpelled.{Seconds, Values, set_value}
 use Rattle.law_base.proofs.Names.{Rise as Rises}
 use Rattle.law_base.proofs.Lists.{all_kept as all_filter}
 

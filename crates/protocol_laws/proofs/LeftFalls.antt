@@ -1,4 +1,7 @@
 -- Each thing that is done leaves less that may still be done: what is over counts for nothing.
+pub mod FinishedStayFinished
+pub mod VotersAndRequestsFall
+pub mod SumsByTransaction
 use Rattle.std.proofs.Common.{◌≡◌, refl, sym, ap, ◌∙◌, subst, ℕ, zero, suc, pred, ◌+◌, ◌<◌, ◌≤◌, true, false, Bool, [], ◌∷◌, Some, None, ◌||◌, ◌==◌, arith, is_some}
 use Rattle.clv_base.specs.declared.names.TxId.{TxId}
 use Rattle.clv_base.specs.declared.causes.Vote.{Vote}
@@ -25,18 +28,18 @@ use Rattle.clv_base.specs.declared.ops.Op.{Op}
 use Rattle.clv_base.specs.Orders.{tx_same, tx_cmp}
 use Rattle.clv_base.specs.OneShard.{performed}
 use Rattle.clv_base.proofs.SameNames.{tx_true}
-use Rattle.protocol_laws.proofs.Naming.{other_total}
+use Rattle.protocol_laws.proofs.LeftFalls.SumsByTransaction.{other_total}
 use Rattle.protocol_laws.specs.Left.{is_over, total_by, is_finished, is_idle, left_voter, left_request, left, LeftFalls, OnlyLeftIsDue, MessagesByLeft, RecordsByLeft}
-use Rattle.protocol_laws.proofs.Finished.{Stay, finished_stage, performed_known, performed_other, total_by_at, PartsStay, stay_total, finish_stay, rolled_stay}
-use Rattle.protocol_laws.proofs.Deciding.{due_by_facts}
-use Rattle.protocol_laws.proofs.Counting.{voter_falls, request_falls, finished_facts, idle_facts, vote_counts, voted_counts, RulingLess, less_in, request_left, voter_left}
-use Rattle.protocol_laws.proofs.Spending.{closed_work, Sends, sends_first, Writes, writes_first}
+use Rattle.protocol_laws.proofs.LeftFalls.FinishedStayFinished.{Stay, finished_stage, performed_known, performed_other, total_by_at, PartsStay, stay_total, finish_stay, rolled_stay}
+use Rattle.protocol_laws.proofs.Due.DueByFacts.{due_by_facts}
+use Rattle.protocol_laws.proofs.LeftFalls.VotersAndRequestsFall.{voter_falls, request_falls, finished_facts, idle_facts, vote_counts, voted_counts, RulingLess, less_in, request_left, voter_left}
+use Rattle.protocol_laws.proofs.OnlyWorkIsDue.{closed_work, Sends, sends_first, Writes, writes_first}
 use Rattle.std.proofs.lemmas.Bool.{or_cases, and_parts}
 use Rattle.std.proofs.Common.{length, ⊎_elim, is_some}
 use Rattle.std.proofs.lemmas.Bool.{both_ways}
 use Rattle.clv_base.specs.Facts.{is_closed_state}
 use Rattle.clv_base.proofs.Settling.{owes, gone_closed, gone_le}
-use Rattle.protocol_laws.proofs.DueCases.{IfDue, due_holds, first_holds}
+use Rattle.protocol_laws.proofs.Due.DueCaseByCase.{IfDue, due_holds, first_holds}
 
 -- ---- voters and requests whose parts change
 

@@ -1,4 +1,6 @@
 -- Each event leaves the log with more behind it, and a shard that is up at rest.
+pub mod DueGrowsLogs
+pub mod GhostsGoUnnoticed
 use Rattle.std.proofs.Common.{◌≡◌, refl, subst, ℕ, zero, suc, ◌+◌, true, false, cond, Bool, List, [], ◌∷◌, Option, Some, None, ◌==◌}
 use Rattle.clv_base.specs.declared.names.TxId.{TxId}
 use Rattle.clv_base.specs.declared.names.Birth.{Birth}
@@ -40,8 +42,8 @@ use Rattle.clv_base.specs.declared.events.Outcome.TheVariants.{Durable}
 use Rattle.clv_base.specs.Journals.{event_state, reply_state, flush_state}
 use Rattle.protocol_laws.specs.Growth.{IsPrefixOf, LogOnlyGrows, EntriesKeepLogs, is_restart}
 use Rattle.protocol_laws.specs.Resting.{IsAtRest, EventsEndAtRest}
-use Rattle.protocol_laws.proofs.Growing.{same, more, more_twice, chain, grows_settled}
-use Rattle.protocol_laws.proofs.Resting.{rests}
+use Rattle.protocol_laws.proofs.LogOnlyGrows.DueGrowsLogs.{same, more, more_twice, chain, grows_settled}
+use Rattle.protocol_laws.proofs.LogOnlyGrows.GhostsGoUnnoticed.{rests}
 use Rattle.std.proofs.lemmas.Bool.{both_ways}
 
 -- where there is a next state, its log is the one before with more behind it, and if it is up it is at rest

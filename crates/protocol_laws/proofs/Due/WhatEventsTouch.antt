@@ -15,7 +15,7 @@ use Rattle.clv_base.proofs.SameNames.{tx_true, tx_flip}
 use Rattle.law_base.proofs.Tables.{get_put}
 use Rattle.protocol_laws.specs.Changes.{ChangesOnly, successors_of}
 use Rattle.protocol_laws.specs.Steps.{CommitsTouch, VotesTouch, RulingsTouch, OperationsTouch, RequestsTouch, DropsTouch, PreparesTouch, AnswersTouch, DecisionsTouch, NobodyIsTouched}
-use Rattle.protocol_laws.proofs.DueFacts.{releases_change, roll_backs_change, commits_change, ends_change, closes_change, operations_change, marks_change}
+use Rattle.protocol_laws.proofs.Due.WhoseFactsChange.{releases_change, roll_backs_change, commits_change, ends_change, closes_change, operations_change, marks_change}
 
 -- ---- tables
 

@@ -1,3 +1,4 @@
+-- Beginnings of a list; and that all that is due leaves the log with more behind it.
 use Rattle.std.proofs.Common.{refl, sym, ap, ◌∙◌, ℕ, zero, suc, true, false, cond, Bool, List, [], ◌∷◌, ◌++◌, Option, Some, None, append_assoc, append-nil}
 use Rattle.clv_base.specs.declared.names.TxId.{TxId}
 use Rattle.clv_base.specs.declared.causes.Vote.{Vote}

@@ -1,4 +1,5 @@
 -- Whatever restarts fail in between, the log up to a RESTART is one.
+pub mod UndoRecordByRecord
 use Rattle.std.proofs.Common.{◌≡◌, ℕ, zero, suc, ◌+◌, ◌-◌, ◌≤◌, ⊎_elim, Bool, true, false, ◌&&◌, ◌||◌, List, [], ◌∷◌, ◌++◌, take, length, Option, Some, None, ◌==◌, refl, sym, ap, subst, ◌∙◌, arith, append_assoc, append-nil, eqb-true, eq-eqb}
 use Rattle.std.specs.Prelude.{max, nat_le}
 use Rattle.std.proofs.lemmas.Bool.{both_ways, leb-true, le-leb, cond-true, and_parts, and_from, or_cases, or_left, or_right}
@@ -11,7 +12,7 @@ use Rattle.clv_base.specs.Restarts.{undo_records, restart_records, log_after_res
 use Rattle.clv_base.proofs.SameNames.{tx_true, tx_self}
 use Rattle.law_base.proofs.Options.{option_true, option_self}
 use Rattle.protocol_laws.specs.RestartLaws.{RestartsLeadToOne, RestartsReach, MisfitIsExact}
-use Rattle.protocol_laws.proofs.Undone.{Stepped, stepped, after_restart, greatest_more}
+use Rattle.protocol_laws.proofs.RestartsLeadToOneLog.UndoRecordByRecord.{Stepped, stepped, after_restart, greatest_more}
 
 -- ---- one record written
 

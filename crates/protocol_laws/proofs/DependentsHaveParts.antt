@@ -47,7 +47,7 @@ use Rattle.law_base.proofs.Lists.{all_mono, all_kept}
 use Rattle.protocol_laws.specs.Depending.{HasPart, DependentsHaveParts, RestartsHaveParts, DueKeepsParts, EventsKeepParts, LandingKeepsParts}
 use Rattle.law_base.proofs.Names.{keys_restored, own_in}
 use Rattle.law_base.proofs.Logs.{restored_have}
-use Rattle.protocol_laws.proofs.DueCases.{IfDue, due_holds, do_holds}
+use Rattle.protocol_laws.proofs.Due.DueCaseByCase.{IfDue, due_holds, do_holds}
 
 -- ---- parts stay in the table
 

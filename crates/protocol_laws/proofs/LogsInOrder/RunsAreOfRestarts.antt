@@ -9,7 +9,7 @@ use Rattle.clv_base.specs.Logs.{own_tx, is_update_of, is_commit_of, is_prepare_o
 use Rattle.clv_base.specs.LogRules.{last_restart, since_restart, in_last_run, commit_by_prepare, some_parts, may_follow}
 use Rattle.clv_base.specs.Restarts.{greatest_run}
 use Rattle.protocol_laws.specs.Order.{OfRun, RunFits}
-use Rattle.protocol_laws.proofs.Records.{own_update, own_commit, own_prepare, own_abort, prepared_there, committed_there}
+use Rattle.protocol_laws.proofs.LogsInOrder.OneRecordMore.{own_update, own_commit, own_prepare, own_abort, prepared_there, committed_there}
 use Rattle.law_base.proofs.Bools.{and_first as front, and_second as last}
 
 run_more : (n m : ℕ) (o : Option TxId) → n ≤ m → OfRun n o → OfRun m o

@@ -14,8 +14,8 @@ use Rattle.clv_base.specs.Participant.{voted}
 use Rattle.clv_base.specs.Coordinator.{ruled_request}
 use Rattle.clv_base.specs.Due.{due_of, finish_reader, with_vote, do_ruling, with_ruling}
 use Rattle.protocol_laws.specs.Depending.{DueKeepsKeys}
-use Rattle.protocol_laws.proofs.Dependents.{keys_stay}
-use Rattle.protocol_laws.proofs.DueCases.{IfDue, due_holds}
+use Rattle.protocol_laws.proofs.DependentsHaveParts.{keys_stay}
+use Rattle.protocol_laws.proofs.Due.DueCaseByCase.{IfDue, due_holds}
 
 pub set_keys : {V : Type 0} (t : TxId) (v : V) (rs : Table V) → keys_of (tx_set t v rs) ≡ keys_of rs
 set_keys t v [] = refl

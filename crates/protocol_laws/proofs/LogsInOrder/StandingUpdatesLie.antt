@@ -15,7 +15,7 @@ use Rattle.law_base.proofs.Running.{top_value, after_of, value_top}
 use Rattle.law_base.proofs.Undoing.{Chain}
 use Rattle.law_base.proofs.Options.{option_true}
 use Rattle.protocol_laws.specs.Order.{LieOnThese}
-use Rattle.protocol_laws.proofs.Records.{push_cases, push_right, push_same}
+use Rattle.protocol_laws.proofs.LogsInOrder.OneRecordMore.{push_cases, push_right, push_same}
 use Rattle.law_base.proofs.Bools.{and_first as front, and_second as last}
 use Rattle.law_base.proofs.Logs.{push_left}
 use Rattle.law_base.proofs.Names.{all_without}
