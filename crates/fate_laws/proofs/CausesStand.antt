@@ -1,10 +1,10 @@
 -- Each cause that is told stands in the history.
-pub mod TakenVotesAreOfParts
+pub mod VotersAreParts
 pub mod NoneRefusedAtRest
 pub mod GoneEndedOrDoomed
 pub mod EventsEndTheirOwn
 pub mod NextFrontHasCauses
-pub mod EntriesEndWhomTheyTake
+pub mod EntriesEndTheDying
 pub mod FrontsHaveCauses
 pub mod SeenWasAnswered
 pub mod WhyOneDies
@@ -54,7 +54,7 @@ use Rattle.fate_laws.specs.Causes.{TellsCause, op_died, request_died, look_found
 use Rattle.fate_laws.proofs.CausesStand.SeenWasAnswered.{lookup_row, seen_before}
 use Rattle.fate_laws.proofs.CausesStand.WhyOneDies.{OpWhy, unseen, closed, doomed, older, RequestWhy, late, fell, op_why, request_why, seen_other}
 use Rattle.fate_laws.proofs.CausesStand.NextFrontHasCauses.{Ended, Fallen, GoneHow, RefusedHow, StateHow, Caused, fallen_more}
-use Rattle.fate_laws.proofs.CausesStand.EntriesEndWhomTheyTake.{Before_entry}
+use Rattle.fate_laws.proofs.CausesStand.EntriesEndTheDying.{Before_entry}
 use Rattle.fate_laws.proofs.CausesStand.FrontsHaveCauses.{before_entry, caused_front}
 use Rattle.history_laws.proofs.Entries.WalkedEntryByEntry.{from_own, first_among}
 

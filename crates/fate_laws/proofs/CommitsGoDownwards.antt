@@ -38,7 +38,7 @@ use Rattle.history_cases.proofs.Uncommitting.{with_more, rolled}
 use Rattle.history_cases.proofs.Worlds.{state_at}
 use Rattle.protocol_laws.specs.SessionLaws.{tx_of}
 use Rattle.fate_laws.specs.Downwards.{CommitsGoDownwards}
-use Rattle.fate_laws.proofs.Parts.OthersOnlyCloseOrGo.{calm_step, calm_one}
+use Rattle.fate_laws.proofs.Parts.OthersCloseOrGo.{calm_step, calm_one}
 use Rattle.fate_laws.proofs.Logs.WhatPreparesOrCommits.{Commits, alone, decided, step_commits}
 use Rattle.fate_laws.proofs.History.EntryByEntry.{Next, walk_front, each_shard}
 use Rattle.fate_laws.proofs.Parts.CommittedAreVotedFor.{commit_agreed}

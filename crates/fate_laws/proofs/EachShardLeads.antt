@@ -1,12 +1,12 @@
 -- Along a legal history each shard's entries are steps of the laws of one shard.
 pub mod CommitsSpareTheFallen
 pub mod RecordsTellTheirOrigin
-pub mod DoubtedAreOfEarlierRuns
+pub mod DoubtedAreEarlier
 pub mod RestoredStayPrepared
 pub mod SessionsMayAsk
 pub mod MessagesMayCome
 pub mod WhatCommitsFind
-pub mod AskedHereOrByOthers
+pub mod WhoAsksHere
 pub mod DeedsWereAnswered
 use Rattle.std.proofs.Common.{◌≡◌, inr, refl, sym, ap, subst, ◌∙◌, ℕ, ◌<◌, true, false, Bool, List, [], ◌∷◌, ◌++◌, Option, Some, None, ◌==◌, eqb-true, append-nil, append_assoc, length}
 use Rattle.std.specs.List.{AllByRecursion}
@@ -38,17 +38,17 @@ use Rattle.history_cases.proofs.Merging.{Placed}
 use Rattle.history_cases.proofs.OldRuns.{below_next_run}
 use Rattle.history_laws.proofs.NeverTakenBack.{is_request, walker_of}
 use Rattle.history_laws.proofs.Entries.WalkedEntryByEntry.{Behind, next_entry}
-use Rattle.history_laws.proofs.Logs.FoundLogsAreInOrder.{found_in_order, log_found}
+use Rattle.history_laws.proofs.Logs.FoundLogsInOrder.{found_in_order, log_found}
 use Rattle.fate_laws.proofs.History.EntriesInTurn.{Requested, request_no_request}
 use Rattle.fate_laws.proofs.Origins.FrontsKeepOrigins.{IsOld, DidOrOld, Traced, Brings, brought, traced_front}
 use Rattle.fate_laws.specs.Leading.{deeds_with, own_deeds, with_found, falling, requests_of, EachShardLeads}
 use Rattle.fate_laws.proofs.History.DeedsOfOneEntry.{deeds_own, deeds_other, state_other, requests_push}
 use Rattle.fate_laws.proofs.EachShardLeads.RestoredStayPrepared.{RestoredArePrepared, restored_prepared}
-use Rattle.fate_laws.proofs.EachShardLeads.DoubtedAreOfEarlierRuns.{items_are_old, asked_are_old, met_are_old, one_after, found_with}
+use Rattle.fate_laws.proofs.EachShardLeads.DoubtedAreEarlier.{items_are_old, asked_are_old, met_are_old, one_after, found_with}
 use Rattle.fate_laws.proofs.EachShardLeads.SessionsMayAsk.{Here, Remembers, AskedFrom, asked_from, not_asked, may_ask, may_touch}
 use Rattle.fate_laws.proofs.EachShardLeads.MessagesMayCome.{when_up, comes_to, decide_taken, may_prepare}
 use Rattle.fate_laws.proofs.EachShardLeads.WhatCommitsFind.{AllFound, DropsSpared, all_found, drops_spared}
-use Rattle.fate_laws.proofs.EachShardLeads.AskedHereOrByOthers.{with_others, asked_own}
+use Rattle.fate_laws.proofs.EachShardLeads.WhoAsksHere.{with_others, asked_own}
 use Rattle.fate_laws.proofs.EachShardLeads.DeedsWereAnswered.{remembers_more, remembers_own}
 
 -- ---- the entry of a shard, by its case

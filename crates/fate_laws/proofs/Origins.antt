@@ -4,4 +4,4 @@ pub mod EventsKeepOrigins
 pub mod FrontsKeepOrigins
 pub mod AllComesOfEntries
 pub mod DoubtedWereFoundSo
-pub mod OldPartsWereInDoubt
+pub mod OldPartsWereDoubted

@@ -1,5 +1,5 @@
 -- What binds the parts of a transaction, from its votes to its commit.
-pub mod OthersOnlyCloseOrGo
+pub mod OthersCloseOrGo
 pub mod YesVotesArePrepared
 pub mod CommittedAreVotedFor
 pub mod EventsKeepParts

@@ -1,5 +1,5 @@
 -- Whoever waits, waits for one that asked before.
-pub mod ActiveInWayAreYounger
+pub mod OnlyYoungerInWay
 pub mod PredecessorsAskedFirst
 pub mod AllOfOneBirth
 pub mod DependsOnEarlierAsker

@@ -1,8 +1,8 @@
 -- Where a transaction is ended, each of its parts is committed, along a history.
 pub mod EndsStandBehindCommits
 pub mod RestoredAreUnended
-pub mod DueKeepsWhatIsHeard
-pub mod EntriesKeepWhatIsHeard
+pub mod DueKeepsTheHeard
+pub mod EntriesKeepTheHeard
 pub mod FoundEndsTellCommits
 use Rattle.std.proofs.Common.{◌≡◌, inl, inr, ⊎_elim, refl, sym, subst, ℕ, ◌<◌, true, false, cond, Bool, nat_lt, List, [], ◌∷◌, ◌++◌, Some, arith}
 use Rattle.std.specs.List.{list_all}
@@ -28,7 +28,7 @@ use Rattle.history_cases.proofs.Entering.{makes}
 use Rattle.history_cases.proofs.Merging.{Placed, Among, among_append, is_among}
 use Rattle.history_cases.proofs.Worlds.{state_at}
 use Rattle.history_laws.specs.Openings.{LegalFrom}
-use Rattle.history_laws.proofs.Logs.FoundLogsAreInOrder.{log_found}
+use Rattle.history_laws.proofs.Logs.FoundLogsInOrder.{log_found}
 use Rattle.history_laws.proofs.LogsLeftPass.{logs_left_pass, left_length}
 use Rattle.fate_laws.proofs.Homes.DecidedStaysDecided.{durable_left}
 use Rattle.fate_laws.proofs.Homes.EntriesKeepHomes.{durable_front}
@@ -37,8 +37,8 @@ use Rattle.fate_laws.proofs.History.EntryByEntry.{Next, walk, each_shard, Durabl
 use Rattle.fate_laws.proofs.Homes.FoundCommitsHaveHomes.{nat_at}
 use Rattle.headline_laws.specs.Ended.{EndedAreCommitted}
 use Rattle.headline_laws.proofs.EndedAreCommitted.EndsStandBehindCommits.{tell_front}
-use Rattle.headline_laws.proofs.EndedAreCommitted.DueKeepsWhatIsHeard.{Hears}
-use Rattle.headline_laws.proofs.EndedAreCommitted.EntriesKeepWhatIsHeard.{Brings, Enters, SaysOut, hears_mono, hears_opened, hears_made, hears_noted, out_made}
+use Rattle.headline_laws.proofs.EndedAreCommitted.DueKeepsTheHeard.{Hears}
+use Rattle.headline_laws.proofs.EndedAreCommitted.EntriesKeepTheHeard.{Brings, Enters, SaysOut, hears_mono, hears_opened, hears_made, hears_noted, out_made}
 use Rattle.headline_laws.proofs.EndedAreCommitted.FoundEndsTellCommits.{opening_tells}
 use Rattle.law_base.proofs.Logs.{passes_at as each_passes}
 use Rattle.history_laws.proofs.NeverTakenBack.{log_now}

@@ -1,5 +1,6 @@
 pub mod MembersReplay
 pub mod PredecessorsStandBefore
+pub mod SettledIsTheMap
 pub mod MembersReplayToTheEnd
 pub mod Promise
 pub mod OneShard

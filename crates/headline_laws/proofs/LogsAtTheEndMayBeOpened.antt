@@ -34,7 +34,7 @@ use Rattle.fate_laws.specs.Leading.{deeds_before, with_found}
 use Rattle.fate_laws.proofs.EachShardLeads.{each_shard_leads}
 use Rattle.headline_laws.proofs.AtOpening.EarlierOnesStoodThere.{follows_behind}
 use Rattle.fate_laws.proofs.Homes.FoundCommitsHaveHomes.{home_of}
-use Rattle.headline_laws.proofs.AtOpening.RecordedAreCommittedOrDoubted.{doubted}
+use Rattle.headline_laws.proofs.AtOpening.RecordedAreKnown.{doubted}
 use Rattle.headline_laws.specs.Ends.{LogsAtTheEndMayBeOpened, TellTheSame, LogsAtTheEndAreWhatIsLeft}
 use Rattle.headline_laws.proofs.LogsLeftMayBeOpened.LogsAgreeByHomes.{HomeIs, HasHome, PartIs, home_from, part_here, part_from, agree}
 use Rattle.fate_laws.proofs.Logs.RecordNamesItsTransaction.{update_is, commit_is}

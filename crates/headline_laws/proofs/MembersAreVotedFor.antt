@@ -22,7 +22,7 @@ use Rattle.history_cases.proofs.OldRuns.{none_of_this_run}
 use Rattle.history_cases.proofs.Uncommitting.{opening_adds}
 use Rattle.history_cases.proofs.Worlds.{state_at}
 use Rattle.history_laws.specs.Openings.{LegalFrom}
-use Rattle.history_laws.proofs.Logs.FoundLogsAreInOrder.{log_found}
+use Rattle.history_laws.proofs.Logs.FoundLogsInOrder.{log_found}
 use Rattle.history_laws.proofs.NeverTakenBack.{walker_of}
 use Rattle.fate_laws.proofs.History.EntryByEntry.{Next, each_shard, asked_later, next_at}
 use Rattle.fate_laws.proofs.Homes.FrontsKeepHomes.{delivered}

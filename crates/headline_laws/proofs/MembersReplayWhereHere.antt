@@ -22,7 +22,7 @@ use Rattle.law_base.proofs.Running.{fold_writers}
 use Rattle.history_laws.specs.Openings.{LegalFrom}
 use Rattle.history_laws.specs.Continuing.{serial_left}
 use Rattle.history_cases.proofs.Durability.{Fronts, fronts_entries, opened_counted}
-use Rattle.history_laws.proofs.Logs.FoundLogsAreInOrder.{log_found}
+use Rattle.history_laws.proofs.Logs.FoundLogsInOrder.{log_found}
 use Rattle.history_laws.proofs.NeverTakenBack.{walker_of, log_now}
 use Rattle.shard_laws.specs.OneShard.{Leads, MayChoose, Passes, ops_by, answers_by, found_items, found_asked, map_found}
 use Rattle.shard_laws.proofs.Keeping.RecordsAndFrontsKeep.{wrote_append}
@@ -36,7 +36,7 @@ use Rattle.fate_laws.proofs.Origins.DueKeepsOrigins.{SomeRequest}
 use Rattle.fate_laws.proofs.Origins.FrontsKeepOrigins.{DidOrOld, IsOld, traced_front}
 use Rattle.fate_laws.specs.Falls.{Fell}
 use Rattle.fate_laws.specs.Leading.{deeds_before, with_found, requests_of}
-use Rattle.fate_laws.proofs.EachShardLeads.DoubtedAreOfEarlierRuns.{items_are_old}
+use Rattle.fate_laws.proofs.EachShardLeads.DoubtedAreEarlier.{items_are_old}
 use Rattle.fate_laws.proofs.EachShardLeads.CommitsSpareTheFallen.{fell_is}
 use Rattle.fate_laws.proofs.EachShardLeads.{at_front, each_shard_leads}
 use Rattle.fate_laws.proofs.EachShardLeads.RecordsTellTheirOrigin.{committed_from}

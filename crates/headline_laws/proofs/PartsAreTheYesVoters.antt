@@ -23,7 +23,7 @@ use Rattle.history_cases.proofs.OldRuns.{none_of_this_run}
 use Rattle.history_cases.proofs.TellingEvents.{front_committed}
 use Rattle.history_cases.proofs.Worlds.{state_at, in_a_shard}
 use Rattle.history_laws.specs.Openings.{LegalFrom}
-use Rattle.history_laws.proofs.Logs.FoundLogsAreInOrder.{log_found}
+use Rattle.history_laws.proofs.Logs.FoundLogsInOrder.{log_found}
 use Rattle.fate_laws.proofs.Parts.FrontsKeepParts.{WasTaken, once}
 use Rattle.fate_laws.proofs.Homes.FrontsKeepHomes.{Fated, fated_next, fated_start, delivered}
 use Rattle.fate_laws.proofs.History.EntryByEntry.{Next, walk, each_shard, one_home, DurableIn}

@@ -1,17 +1,7 @@
--- Predecessors of members, and settled histories, with no premise on where members are.
-use Rattle.std.proofs.Common.{sym, subst, [], append-nil}
-use Rattle.history_laws.specs.Openings.{LegalFrom}
-use Rattle.headline_laws.proofs.ReadersPass.{readers_pass}
+-- Predecessors of members, with no premise on where members are.
 use Rattle.headline_laws.proofs.PredecessorsStandBeforeWhereHere.{predecessors_stand_before_where_here}
-use Rattle.headline_laws.proofs.SettledIsTheMapWhereReadersWroteNothing.{settled_is_the_map_where_readers_wrote_nothing}
 use Rattle.headline_laws.specs.Recovering.{PredecessorsStandBefore}
-use Rattle.headline_laws.specs.Settling.{SettledIsTheMap}
 use Rattle.headline_laws.proofs.MembersReplay.{members_are_found}
 
 pub predecessors_stand_before : PredecessorsStandBefore
 predecessors_stand_before splits before h after choice n t p l i k = predecessors_stand_before_where_here splits before h after choice n t p l i k (members_are_found splits before h after choice n t l i k)
-
-pub settled_is_the_map : SettledIsTheMap
-settled_is_the_map splits before h after choice l quiet =
-    settled_is_the_map_where_readers_wrote_nothing splits before h after choice l
-    (λ n k home e t i a v. (readers_pass splits before h [] after k e home n t (subst (λ z. LegalFrom splits before z after) (sym (append-nil h)) l) i a v).0) quiet

@@ -18,7 +18,7 @@ use Rattle.clv_base.specs.History.{logs_left}
 use Rattle.clv_base.proofs.SameNames.{tx_true, tx_self}
 use Rattle.law_base.proofs.Sets.{in_filter}
 use Rattle.history_laws.specs.Openings.{LegalFrom}
-use Rattle.history_laws.proofs.Logs.FoundLogsAreInOrder.{log_found}
+use Rattle.history_laws.proofs.Logs.FoundLogsInOrder.{log_found}
 use Rattle.shard_laws.specs.OneShard.{Deeds, MayChoose, has_met, place, found_asked, found_met}
 use Rattle.shard_laws.proofs.ChosenReplay.{chosen_stand_before}
 use Rattle.shard_laws.proofs.Keeping.LeavingKeeps.{in_more}
@@ -30,7 +30,7 @@ use Rattle.history_laws.specs.Continuing.{serial_left}
 use Rattle.fate_laws.specs.Members.{is_member}
 use Rattle.fate_laws.proofs.Origins.FrontsKeepOrigins.{IsOld}
 use Rattle.fate_laws.specs.Leading.{deeds_before, with_found, requests_of}
-use Rattle.fate_laws.proofs.EachShardLeads.DoubtedAreOfEarlierRuns.{ordered_is, asked_are_old}
+use Rattle.fate_laws.proofs.EachShardLeads.DoubtedAreEarlier.{ordered_is, asked_are_old}
 use Rattle.fate_laws.proofs.DeedsAreTold.{deeds_are_told}
 use Rattle.headline_laws.specs.ReplayingHere.{IsHere}
 use Rattle.headline_laws.specs.RecoveringHere.{PredecessorsStandBeforeWhereHere}

@@ -8,7 +8,8 @@ use Rattle.headline_laws.proofs.LogsLeftMayBeOpened.{logs_left_may_be_opened}
 use Rattle.headline_laws.proofs.LogsAtTheEndMayBeOpened.{logs_at_the_end_may_be_opened}
 use Rattle.headline_laws.specs.Promise.{Promise}
 use Rattle.headline_laws.proofs.MembersReplay.{members_replay}
-use Rattle.headline_laws.proofs.PredecessorsStandBefore.{predecessors_stand_before, settled_is_the_map}
+use Rattle.headline_laws.proofs.PredecessorsStandBefore.{predecessors_stand_before}
+use Rattle.headline_laws.proofs.SettledIsTheMap.{settled_is_the_map}
 
 pub promise : Promise
 promise splits before h after choice l =

@@ -2,7 +2,7 @@
 pub mod AbortedWereHere
 pub mod OnlyOwnOperationsUpdate
 pub mod ReadVotersWroteNothing
-pub mod CommittedWroteOrAreHome
+pub mod WhyCommittedHere
 pub mod ReturnedArePrepared
 pub mod FrontsPassReaders
 use Rattle.std.proofs.Common.{◌≡◌, inl, inr, ⊎_elim, refl, sym, subst, ◌∙◌, ℕ, ◌<◌, true, List, [], ◌∷◌, ◌++◌, map, None, append-nil}
@@ -31,7 +31,7 @@ use Rattle.headline_laws.proofs.OnlyReadersMayFall.{only_readers_may_fall}
 use Rattle.headline_laws.specs.Passing.{ReadersPass}
 use Rattle.headline_laws.specs.Falling.{ReadersNeverFell, MembersNeverFell}
 use Rattle.headline_laws.proofs.ReadersPass.FrontsPassReaders.{Passed, passing_front}
-use Rattle.headline_laws.proofs.ReadersPass.CommittedWroteOrAreHome.{committed_by}
+use Rattle.headline_laws.proofs.ReadersPass.WhyCommittedHere.{committed_by}
 
 -- ---- who voted read
 

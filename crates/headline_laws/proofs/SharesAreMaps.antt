@@ -9,7 +9,7 @@ use Rattle.clv_base.specs.LogRules.{log_of}
 use Rattle.clv_base.specs.FileRules.{may_open}
 use Rattle.law_base.proofs.Running.{fold_writers}
 use Rattle.headline_laws.specs.ReplayingHere.{SharesAreMaps}
-use Rattle.headline_laws.proofs.AtOpening.RecordedAreCommittedOrDoubted.{Known, known_here}
+use Rattle.headline_laws.proofs.AtOpening.RecordedAreKnown.{Known, known_here}
 use Rattle.fate_laws.proofs.Logs.RecordNamesItsTransaction.{update_is}
 use Rattle.law_base.proofs.Bools.{same_truth as same_test}
 

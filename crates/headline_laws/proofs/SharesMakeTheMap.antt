@@ -16,7 +16,7 @@ use Rattle.clv_base.specs.Folding.{IsRising}
 use Rattle.clv_base.proofs.Folding.{eq_true, same_map}
 use Rattle.headline_laws.specs.Shares.{AreLogsOf, share_of, in_turn, SharesMakeTheMap}
 use Rattle.headline_laws.proofs.TransactionsReplayByShards.SpansShareNoKey.{one_shard, follow, whose}
-use Rattle.headline_laws.proofs.TransactionsReplayByShards.LogsAgreeWithTheMap.{fold_away, logs_agree}
+use Rattle.headline_laws.proofs.TransactionsReplayByShards.LogsAgreeWithMap.{fold_away, logs_agree}
 use Rattle.law_base.proofs.Lists.{all_append as all_two}
 use Rattle.law_base.proofs.Anchors.{less_true as less_test}
 use Rattle.law_base.proofs.Bools.{t_true as of_true}

@@ -1,7 +1,7 @@
 -- What replays on each shard replays on all.
 pub mod SpansShareNoKey
 pub mod OperationsKeepAgreement
-pub mod LogsAgreeWithTheMap
+pub mod LogsAgreeWithMap
 use Rattle.std.proofs.Common.{◌≡◌, ℕ, ◌<◌, ⊎_elim, Bool, true, false, cond, List, [], ◌∷◌, ◌==◌, refl, sym, ap, ◌∙◌}
 use Rattle.std.specs.List.{AllByRecursion}
 use Rattle.std.proofs.lemmas.Bool.{eq-eqb}
@@ -14,7 +14,7 @@ use Rattle.clv_base.proofs.Folding.{same_map}
 use Rattle.headline_laws.specs.Shares.{ShardOp, ops_of, answers_of, on_shard, all_ops, all_answers, parts_on, LiesIn, LieIn, AreLogsOf, share_of, ReplaysTo}
 use Rattle.headline_laws.proofs.TransactionsReplayByShards.SpansShareNoKey.{whose}
 use Rattle.headline_laws.proofs.TransactionsReplayByShards.OperationsKeepAgreement.{Agrees, agrees_alike, answer_alike, with_share, agrees_after}
-use Rattle.headline_laws.proofs.TransactionsReplayByShards.LogsAgreeWithTheMap.{logs_agree}
+use Rattle.headline_laws.proofs.TransactionsReplayByShards.LogsAgreeWithMap.{logs_agree}
 use Rattle.law_base.proofs.Names.{first_of}
 
 -- ---- one transaction

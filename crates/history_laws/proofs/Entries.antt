@@ -3,7 +3,7 @@ pub mod SublistsOfHistories
 pub mod LaterJournalsGoOn
 pub mod NothingFollowsRequests
 pub mod WalkedEntryByEntry
-pub mod AllHaveWhatEachHas
+pub mod AllFromEach
 pub mod WhatOperationsDo
 pub mod WhatLooksFind
 pub mod WhatEntriesAdd

@@ -22,7 +22,7 @@ use Rattle.history_cases.proofs.Worlds.{state_at}
 use Rattle.history_cases.proofs.Durability.{Counted, fronts_entry, opened_counted}
 use Rattle.history_laws.specs.Openings.{LegalFrom}
 use Rattle.history_laws.specs.Passing.{LogsLeftPass}
-use Rattle.history_laws.proofs.Logs.FoundLogsAreInOrder.{log_found}
+use Rattle.history_laws.proofs.Logs.FoundLogsInOrder.{log_found}
 use Rattle.history_laws.proofs.Entries.WalkedEntryByEntry.{Walked, Steps, walked}
 use Rattle.history_laws.proofs.LogsLeftPass.SessionsOfferOwnKeys.{OffersBy, offered}
 use Rattle.history_laws.proofs.LogsLeftPass.WhatPassingRecordsAre.{Passes, passes_all, passes_front, all_pass}

@@ -1,7 +1,7 @@
 -- What each change keeps.
 pub mod UndoIsSpelled
-pub mod RowsAreSpelled
-pub mod ListsAreSpelled
+mod RowsAreSpelled
+mod ListsAreSpelled
 use Rattle.std.proofs.Common.{◌≡◌, ◌<◌, ◌^◌, refl, sym, subst, ℕ, Bool, true, false, not, List, [], ◌∷◌, ◌++◌, length, Option, Some, None, arith}
 use Rattle.std.specs.List.{AllByRecursion, filter, list_all}
 use Rattle.std.proofs.lemmas.Bool.{cond_both, and_parts, and_from}

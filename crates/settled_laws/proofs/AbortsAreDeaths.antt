@@ -1,10 +1,9 @@
 -- Each death and each abort that is told is that of a younger one in the way of an older one.
 pub mod DueUpholdsOldParts
 pub mod EventsUpholdOldParts
-pub mod EntriesOweWhatIsUpheld
+pub mod WhatEntriesOwe
 pub mod FrontsUpholdOldParts
 pub mod OldClosedAreCommitted
-
 use Rattle.std.proofs.Common.{◌≡◌, ⊎_elim, refl, sym, ap, ◌∙◌, ℕ, suc, ◌<◌, List, [], ◌∷◌, ◌++◌, take, drop, Some, arith, append_assoc, take-append-drop}
 use Rattle.clv_base.specs.declared.names.TxId.{TxId}
 use Rattle.clv_base.specs.declared.logs.LogRecord.{LogRecord}
@@ -23,7 +22,7 @@ use Rattle.fate_laws.specs.Causes.{TellsCause, op_died, request_died, look_found
 use Rattle.fate_laws.proofs.History.EntryByEntry.{next_at}
 use Rattle.fate_laws.proofs.CausesStand.{causes_stand}
 use Rattle.settled_laws.specs.Deaths.{BeginsSettled, AbortsAreDeaths}
-use Rattle.settled_laws.proofs.AbortsAreDeaths.EntriesOweWhatIsUpheld.{AllUpheld}
+use Rattle.settled_laws.proofs.AbortsAreDeaths.WhatEntriesOwe.{AllUpheld}
 use Rattle.settled_laws.proofs.AbortsAreDeaths.FrontsUpholdOldParts.{facing, upheld_front, never_restarted}
 use Rattle.settled_laws.proofs.AbortsAreDeaths.OldClosedAreCommitted.{calm, begins}
 

@@ -32,7 +32,7 @@ use Rattle.shard_laws.proofs.Cuts.WhatCutsHold.{of_kept}
 use Rattle.shard_laws.proofs.Order.RecordByRecord.{from_disorder}
 use Rattle.shard_laws.proofs.Restarts.FoundDoubtedActedBefore.{order_once}
 use Rattle.shard_laws.specs.OneShard.{is_doomed, doomed_in, left_out}
-use Rattle.shard_laws.proofs.Keeping.WhoFellAndIsLost.{Fell}
+use Rattle.shard_laws.proofs.Keeping.FallenAndLost.{Fell}
 use Rattle.shard_laws.proofs.Restarts.UnrestoredFell.{stage_name}
 use Rattle.shard_laws.proofs.Keeping.LeavingKeeps.{in_first, in_more, in_two, none_two}
 use Rattle.clv_base.specs.State.{is_present}

@@ -5,6 +5,6 @@ pub mod RecordsAndFrontsKeep
 pub mod ClosingKeeps
 pub mod LeavingKeeps
 pub mod GrantingKeeps
-pub mod WhoFellAndIsLost
+pub mod FallenAndLost
 pub mod DoomedMayGo
 pub mod MarkingKeeps

@@ -37,10 +37,10 @@ use Rattle.law_base.proofs.Tables.{stage_by, stage_in, is_pair, get_put}
 use Rattle.law_base.proofs.Stages.{stage_closed, closed_other as stage_other, written_parts, stage_marked}
 use Rattle.history_cases.proofs.Stepping.{with_work, Step, op_dies, op_answers, request_refused, request_doomed, request_again, request_new, request_closes, looks_well, looks_ill, drops, prepare_closes, prepare_again, vote_counts, decision_comes, done_counts}
 use Rattle.history_laws.proofs.Entries.WhatOperationsDo.{OpIs, dies, rolls, performs, reply_is}
-use Rattle.fate_laws.proofs.CausesStand.TakenVotesAreOfParts.{votes_more}
+use Rattle.fate_laws.proofs.CausesStand.VotersAreParts.{votes_more}
 use Rattle.fate_laws.proofs.CausesStand.NoneRefusedAtRest.{Unopposed}
 use Rattle.fate_laws.proofs.CausesStand.GoneEndedOrDoomed.{RowFits, Within, Dooms, Alike, row_alike, doom_alike, within_alike, relinked, as_it_is, within_rolled, within_voter}
-use Rattle.history_laws.proofs.Entries.AllHaveWhatEachHas.{put_row}
+use Rattle.history_laws.proofs.Entries.AllFromEach.{put_row}
 
 -- ---- what an entry owes
 

@@ -23,7 +23,7 @@ use Rattle.fate_laws.proofs.CausesStand.NoneRefusedAtRest.{unopposed}
 use Rattle.fate_laws.proofs.CausesStand.GoneEndedOrDoomed.{within_alike, as_it_is, within_finish}
 use Rattle.fate_laws.proofs.CausesStand.EventsEndTheirOwn.{IsCalm, Owes, within_step}
 use Rattle.fate_laws.proofs.CausesStand.NextFrontHasCauses.{Ended, Took, Fallen, Caused, AtEntry, enters, leaves, caused_other, caused_restored}
-use Rattle.fate_laws.proofs.CausesStand.EntriesEndWhomTheyTake.{Before_entry, owes}
+use Rattle.fate_laws.proofs.CausesStand.EntriesEndTheDying.{Before_entry, owes}
 
 -- ---- one entry
 

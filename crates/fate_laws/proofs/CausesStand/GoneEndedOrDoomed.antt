@@ -34,7 +34,7 @@ use Rattle.protocol_laws.proofs.Laws.{doomed_is_closure}
 use Rattle.law_base.proofs.Stages.{gone_by, stage_own, stage_other}
 use Rattle.shard_laws.proofs.Events.DueKeeps.{waiting_here}
 use Rattle.history_cases.proofs.Stepping.{commits, votes, rules, KeptByDue, settled}
-use Rattle.fate_laws.proofs.CausesStand.TakenVotesAreOfParts.{VotesFit, no_in}
+use Rattle.fate_laws.proofs.CausesStand.VotersAreParts.{VotesFit, no_in}
 use Rattle.fate_laws.proofs.CausesStand.NoneRefusedAtRest.{Unopposed}
 use Rattle.fate_laws.proofs.Origins.DueKeepsOrigins.{in_one}
 

@@ -34,7 +34,7 @@ use Rattle.law_base.proofs.Rows.{rows_get}
 use Rattle.law_base.proofs.Tables.{stage_by}
 use Rattle.history_cases.proofs.Merging.{Placed, Among, among_left}
 use Rattle.history_cases.proofs.Worlds.{state_at}
-use Rattle.fate_laws.proofs.CausesStand.TakenVotesAreOfParts.{VotesFit, votes_mono}
+use Rattle.fate_laws.proofs.CausesStand.VotersAreParts.{VotesFit, votes_mono}
 use Rattle.fate_laws.proofs.CausesStand.GoneEndedOrDoomed.{GoneBy, RefusedFor, StateFits, RowFits, Within}
 use Rattle.fate_laws.proofs.CausesStand.EventsEndTheirOwn.{IsCalm}
 

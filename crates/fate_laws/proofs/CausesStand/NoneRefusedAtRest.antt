@@ -19,7 +19,7 @@ use Rattle.clv_base.proofs.SameNames.{tx_true}
 use Rattle.law_base.proofs.Changed.{none_some}
 use Rattle.law_base.proofs.Sets.{union_right}
 use Rattle.shard_laws.proofs.Events.DueKeeps.{waiting_here}
-use Rattle.fate_laws.proofs.CausesStand.TakenVotesAreOfParts.{VotesFit, all_good}
+use Rattle.fate_laws.proofs.CausesStand.VotersAreParts.{VotesFit, all_good}
 use Rattle.law_base.proofs.Names.{has_key}
 
 -- ---- what is known is looked at

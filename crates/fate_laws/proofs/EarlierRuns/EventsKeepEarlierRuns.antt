@@ -39,7 +39,7 @@ use Rattle.fate_laws.proofs.Logs.WhatAddsNoPrepare.{front_prepare, opening_adds 
 use Rattle.fate_laws.proofs.Homes.EventsKeepHomes.{none_committed}
 use Rattle.fate_laws.proofs.EarlierRuns.TellsOnlyFoundCommits.{MayHave, MayAnswer, Tells, Opens, Elder, elder_log, elder_same, elder_commit, elder_prepare, elder_send, elder_set, opens_at, elder_durable, elder_finish}
 use Rattle.history_laws.proofs.Logs.DoubtedAreUndecided.{doubt_prepared}
-use Rattle.history_laws.proofs.Entries.AllHaveWhatEachHas.{all_in}
+use Rattle.history_laws.proofs.Entries.AllFromEach.{all_in}
 use Rattle.shard_laws.proofs.Order.ChangesKeepOrder.{prepare_some}
 
 -- ---- what is owed

@@ -38,7 +38,7 @@ use Rattle.fate_laws.proofs.Homes.ShardKnowsHomes.{set_there, new_commit}
 use Rattle.fate_laws.proofs.Logs.LogOnlyGrows.{inside_self, inside_due}
 use Rattle.fate_laws.proofs.Parts.CommittedAreVotedFor.{commit_agreed, abort_undecided}
 use Rattle.fate_laws.proofs.Parts.YesVotesArePrepared.{VoteIs, kept, yes, read, no, vote_is}
-use Rattle.fate_laws.proofs.Parts.OthersOnlyCloseOrGo.{calm_one, due_prepares, was_there}
+use Rattle.fate_laws.proofs.Parts.OthersCloseOrGo.{calm_one, due_prepares, was_there}
 use Rattle.fate_laws.proofs.CommitsGoDownwards.{down_due}
 use Rattle.fate_laws.proofs.FallenAreUncommitted.RulingsThatEndNothing.{ack_refused, ack_end}
 use Rattle.fate_laws.proofs.FallenAreUncommitted.PreparesListEarlierOnes.{aborts_ahead, clrs_ahead}

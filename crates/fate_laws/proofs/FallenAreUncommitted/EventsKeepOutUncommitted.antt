@@ -41,7 +41,7 @@ use Rattle.law_base.proofs.LockRows.{Rows}
 use Rattle.shard_laws.proofs.Order.ChangesKeepOrder.{prepare_some}
 use Rattle.history_laws.proofs.Entries.WhatOperationsDo.{OpIs, dies, rolls, reply_is}
 use Rattle.fate_laws.proofs.Logs.LogOnlyGrows.{inside_step}
-use Rattle.fate_laws.proofs.Parts.OthersOnlyCloseOrGo.{calm_step, was_there}
+use Rattle.fate_laws.proofs.Parts.OthersCloseOrGo.{calm_step, was_there}
 use Rattle.fate_laws.proofs.Logs.WhatPreparesOrCommits.{Commits, alone, decided, step_prepares, step_commits}
 use Rattle.fate_laws.proofs.CommitsGoDownwards.{down_step, Owes as OwesDown}
 use Rattle.fate_laws.proofs.Homes.EventsKeepHomes.{put_get, awaits}

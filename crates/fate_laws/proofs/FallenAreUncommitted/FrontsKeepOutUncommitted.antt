@@ -41,7 +41,7 @@ use Rattle.history_cases.proofs.Entering.{Makes, by_event, by_flush, by_failure,
 use Rattle.history_cases.proofs.Merging.{Placed, Among, among_append, among_left}
 use Rattle.history_cases.proofs.Worlds.{state_at}
 use Rattle.history_laws.specs.Openings.{LegalFrom}
-use Rattle.history_laws.proofs.Logs.FoundLogsAreInOrder.{log_found}
+use Rattle.history_laws.proofs.Logs.FoundLogsInOrder.{log_found}
 use Rattle.history_laws.proofs.NeverTakenBack.{walker_of}
 use Rattle.history_cases.proofs.TellingEvents.{front_committed}
 use Rattle.shard_laws.proofs.Restarts.RestoredLocksAndParts.{restored_closed}
@@ -71,7 +71,7 @@ use Rattle.fate_laws.proofs.FallenAreUncommitted.EventsKeepOutUncommitted.{Owes}
 use Rattle.fate_laws.proofs.FallenAreUncommitted.EntriesKeepOutUncommitted.{Frame, barred_state, barred_made}
 use Rattle.protocol_laws.proofs.LogsInOrder.OneRecordMore.{prepared_there}
 use Rattle.law_base.proofs.Names.{MayStand}
-use Rattle.fate_laws.proofs.Origins.OldPartsWereInDoubt.{found_follows as log_follows}
+use Rattle.fate_laws.proofs.Origins.OldPartsWereDoubted.{found_follows as log_follows}
 
 -- ---- what is told of transactions after a front of the history
 

@@ -46,7 +46,7 @@ use Rattle.fate_laws.proofs.Logs.WhatAddsNoPrepare.{prepare_new, front_prepare, 
 use Rattle.fate_laws.proofs.Logs.RestoredRequestsAreCommitted.{unended_committed, restored_committed}
 use Rattle.fate_laws.proofs.Homes.ShardKnowsHomes.{Known, Tells, Alone, Opens, Homed, tells_on, words_on, MayCommit, homed_log, homed_same, homed_commit, homed_send, homed_set, durable_known, alone_log, still_not, open_undecided, open_committed}
 use Rattle.history_laws.proofs.Logs.DoubtedAreUndecided.{doubt_prepared}
-use Rattle.history_laws.proofs.Entries.AllHaveWhatEachHas.{all_in}
+use Rattle.history_laws.proofs.Entries.AllFromEach.{all_in}
 use Rattle.protocol_laws.proofs.LogsInOrder.OneRecordMore.{prepared_there}
 
 -- ---- what is owed

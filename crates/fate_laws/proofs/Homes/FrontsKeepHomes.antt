@@ -35,7 +35,7 @@ use Rattle.history_cases.proofs.TellingEvents.{front_committed}
 use Rattle.history_cases.proofs.OldRuns.{below_next_run, none_of_this_run}
 use Rattle.history_cases.proofs.Worlds.{state_at}
 use Rattle.history_laws.specs.Openings.{LegalFrom}
-use Rattle.history_laws.proofs.Logs.FoundLogsAreInOrder.{log_found}
+use Rattle.history_laws.proofs.Logs.FoundLogsInOrder.{log_found}
 use Rattle.fate_laws.proofs.Homes.ShardKnowsHomes.{Known, Dead, Tells, Alone, Homed, words_on, MayCommit}
 use Rattle.fate_laws.proofs.Homes.EventsKeepHomes.{Fresh, Owes, homed_opened}
 use Rattle.fate_laws.proofs.Homes.EntriesKeepHomes.{Enters, ToldDead, SaysOut, homed_mono, durable_front, homed_made, says_made}

@@ -11,7 +11,7 @@ use Rattle.clv_base.specs.Restarts.{unended_with, unended_in}
 use Rattle.clv_base.specs.Coordinator.{restored_requests, restored_request}
 use Rattle.clv_base.proofs.SameNames.{tx_self}
 use Rattle.law_base.proofs.Changed.{none_some}
-use Rattle.history_laws.proofs.Entries.AllHaveWhatEachHas.{put_row}
+use Rattle.history_laws.proofs.Entries.AllFromEach.{put_row}
 
 -- ---- COMMITs with parts and no END
 

@@ -46,7 +46,7 @@ use Rattle.history_cases.proofs.Stepping.{with_work, Step, op_dies, op_answers, 
 use Rattle.history_cases.proofs.Telling.{all_map}
 use Rattle.history_laws.proofs.Entries.WhatOperationsDo.{OpIs, dies, rolls, performs, reply_is}
 use Rattle.fate_laws.proofs.Origins.DueKeepsOrigins.{SomeRequest, OwnRequest, AwayRequest, away_some, own_some, BirthFrom, StageFrom, PartFrom, CommitFrom, RecordFrom, StateFrom, RowFrom, MessageFrom, Origins, part_of, none_changed, AllFrom, push_records, clrs_all, standing_of, from_rolled, from_send, from_push, row_of, from_set, from_finish}
-use Rattle.history_laws.proofs.Entries.AllHaveWhatEachHas.{all_in}
+use Rattle.history_laws.proofs.Entries.AllFromEach.{all_in}
 
 -- ---- what an entry owes: an operation that is answered, a request that is taken, a Prepare that comes
 

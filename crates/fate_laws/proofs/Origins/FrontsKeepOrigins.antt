@@ -45,7 +45,7 @@ use Rattle.protocol_laws.proofs.LogsInOrder.{runs_in_order}
 use Rattle.protocol_laws.specs.Order.{RunFits}
 use Rattle.history_cases.proofs.Worlds.{state_at}
 use Rattle.history_laws.specs.Openings.{LegalFrom}
-use Rattle.history_laws.proofs.Logs.FoundLogsAreInOrder.{log_found}
+use Rattle.history_laws.proofs.Logs.FoundLogsInOrder.{log_found}
 use Rattle.history_laws.proofs.RequestsNameWhatAnswered.SessionsFollowTheirOperations.{SeenIs, AnswersAt}
 use Rattle.history_laws.proofs.Entries.WhatOperationsDo.{OpIs, performs, reply_is, answered_epoch}
 use Rattle.history_laws.proofs.Entries.WalkedEntryByEntry.{Behind, Walked, Steps, walked_front}

@@ -24,7 +24,7 @@ use Rattle.history_cases.proofs.TellingEvents.{front_committed}
 use Rattle.fate_laws.proofs.Logs.LogOnlyGrows.{inside_self}
 use Rattle.fate_laws.proofs.Logs.WhatAddsNoPrepare.{prepare_more, front_prepare}
 use Rattle.fate_laws.proofs.Homes.ShardKnowsHomes.{still_not}
-use Rattle.fate_laws.proofs.Parts.OthersOnlyCloseOrGo.{Calm, calm_same, calm_step, calm_finish}
+use Rattle.fate_laws.proofs.Parts.OthersCloseOrGo.{Calm, calm_same, calm_step, calm_finish}
 use Rattle.fate_laws.proofs.Parts.YesVotesArePrepared.{Bound, Reads, bound_calm, reads_calm}
 use Rattle.fate_laws.proofs.Parts.RestartsKeepParts.{bound_state, reads_state, revived_prepares}
 

@@ -35,7 +35,7 @@ use Rattle.clv_base.proofs.SameNames.{tx_self}
 use Rattle.protocol_laws.specs.Growth.{IsPrefixOf}
 use Rattle.law_base.proofs.Sets.{in_filter}
 use Rattle.fate_laws.proofs.Logs.LogOnlyGrows.{Inside}
-use Rattle.fate_laws.proofs.Parts.OthersOnlyCloseOrGo.{Calm}
+use Rattle.fate_laws.proofs.Parts.OthersCloseOrGo.{Calm}
 use Rattle.fate_laws.proofs.Logs.WhatPreparesOrCommits.{ClosedNow}
 use Rattle.fate_laws.proofs.Parts.YesVotesArePrepared.{Bound, Reads, bound_calm, reads_calm, Ordered, Listed}
 use Rattle.fate_laws.proofs.Parts.PutVotesAreHeld.{votes_get}

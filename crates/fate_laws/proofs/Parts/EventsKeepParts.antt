@@ -44,7 +44,7 @@ use Rattle.history_cases.proofs.Telling.{all_map}
 use Rattle.protocol_laws.proofs.LogOnlyGrows.DueGrowsLogs.{same as same_log}
 use Rattle.history_cases.proofs.Uncommitting.{with_more, rolled}
 use Rattle.fate_laws.proofs.Logs.LogOnlyGrows.{Inside, inside_self, inside_step, inside_due}
-use Rattle.fate_laws.proofs.Parts.OthersOnlyCloseOrGo.{Calm, calm_same, calm_step, step_keeps, calm_one, due_closed, due_prepares, there_closed}
+use Rattle.fate_laws.proofs.Parts.OthersCloseOrGo.{Calm, calm_same, calm_step, step_keeps, calm_one, due_closed, due_prepares, there_closed}
 use Rattle.fate_laws.proofs.Logs.WhatPreparesOrCommits.{step_prepares, Closes, by_request, by_prepare, step_closed, Commits, alone, decided, step_commits}
 use Rattle.fate_laws.proofs.Parts.YesVotesArePrepared.{ordered_wrote, VoteIs, kept, yes, read, no, vote_is, yes_binds}
 use Rattle.fate_laws.proofs.Parts.CommittedAreVotedFor.{Touched, HomeOr, Good, Base, base_next, VotedIs, VoterIs, VoteTells, RowIs, Tells, Parted, voted_calm, voters_calm, tells_calm, agreed_good, commit_agreed, abort_undecided, others_all}

@@ -22,7 +22,7 @@ use Rattle.fate_laws.proofs.Parts.YesVotesArePrepared.{Ordered}
 use Rattle.fate_laws.proofs.Parts.CommittedAreVotedFor.{longer_ordered}
 use Rattle.fate_laws.proofs.Homes.FoundCommitsHaveHomes.{part_agreed, home_of}
 use Rattle.fate_laws.proofs.Logs.RecordNamesItsTransaction.{prepare_is}
-use Rattle.history_laws.proofs.Logs.FoundLogsAreInOrder.{found_in_order}
+use Rattle.history_laws.proofs.Logs.FoundLogsInOrder.{found_in_order}
 use Rattle.law_base.proofs.Bools.{and_first as front, and_second as last}
 use Rattle.law_base.proofs.Logs.{order_case}
 

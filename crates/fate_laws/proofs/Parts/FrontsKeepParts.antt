@@ -41,7 +41,7 @@ use Rattle.history_cases.proofs.Entering.{Makes, by_event, by_flush, by_failure,
 use Rattle.history_cases.proofs.Durability.{Counted}
 use Rattle.history_cases.proofs.Merging.{Placed, in_order, not_before_itself, before_then, Among, among_append, is_among, in_turn, precedes_before, own_in_order}
 use Rattle.history_laws.specs.Openings.{LegalFrom}
-use Rattle.history_laws.proofs.Logs.FoundLogsAreInOrder.{log_found}
+use Rattle.history_laws.proofs.Logs.FoundLogsInOrder.{log_found}
 use Rattle.history_laws.proofs.Entries.NothingFollowsRequests.{nothing_follows}
 use Rattle.history_cases.proofs.Telling.{IsRequest}
 use Rattle.history_cases.proofs.OldRuns.{none_of_this_run}
@@ -52,7 +52,7 @@ use Rattle.fate_laws.proofs.Logs.LogOnlyGrows.{Inside}
 use Rattle.fate_laws.proofs.Logs.WhatAddsNoPrepare.{prepare_more, opening_adds as opening_prepares}
 use Rattle.fate_laws.proofs.History.EntryByEntry.{Next, walk_front, each_shard, stays_as_it_was, AskedIn, asked_later, DurableIn, durable_later}
 use Rattle.fate_laws.proofs.Homes.FrontsKeepHomes.{Fated, fated_next, fated_start, delivered, none_prepared}
-use Rattle.fate_laws.proofs.Parts.OthersOnlyCloseOrGo.{calm_same}
+use Rattle.fate_laws.proofs.Parts.OthersCloseOrGo.{calm_same}
 use Rattle.fate_laws.proofs.Parts.YesVotesArePrepared.{Bound, Reads}
 use Rattle.fate_laws.proofs.Parts.CommittedAreVotedFor.{Touched, Good, VotedIs, VoterIs, VoteTells, RowIs, Tells, Parted}
 use Rattle.fate_laws.proofs.Parts.EventsKeepParts.{Owes, Once, parted_step, parted_same, parted_finish}

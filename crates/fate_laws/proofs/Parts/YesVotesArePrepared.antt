@@ -29,7 +29,7 @@ use Rattle.history_laws.proofs.NeverTakenBack.LaterHistoriesHoldMembers.{committ
 use Rattle.fate_laws.proofs.Logs.LogOnlyGrows.{Inside}
 use Rattle.fate_laws.proofs.Logs.WhatAddsNoPrepare.{front_prepare}
 use Rattle.fate_laws.proofs.Homes.EntriesKeepHomes.{durable_front}
-use Rattle.fate_laws.proofs.Parts.OthersOnlyCloseOrGo.{Calm}
+use Rattle.fate_laws.proofs.Parts.OthersCloseOrGo.{Calm}
 use Rattle.fate_laws.proofs.Logs.RestartsWriteNoUpdate.{wrote_take}
 use Rattle.protocol_laws.proofs.LogsInOrder.OneRecordMore.{prepared_there}
 

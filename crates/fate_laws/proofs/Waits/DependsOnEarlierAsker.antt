@@ -39,7 +39,7 @@ use Rattle.history_cases.proofs.Worlds.{state_at}
 use Rattle.history_laws.specs.Openings.{LegalFrom}
 use Rattle.history_laws.proofs.Entries.WhatOperationsDo.{OpIs, performs, reply_is}
 use Rattle.history_laws.proofs.Entries.WalkedEntryByEntry.{Behind, Walked, Steps, walked}
-use Rattle.history_laws.proofs.Logs.FoundLogsAreInOrder.{found_in_order, log_found}
+use Rattle.history_laws.proofs.Logs.FoundLogsInOrder.{found_in_order, log_found}
 use Rattle.fate_laws.proofs.History.EntriesInTurn.{Requested, turn_of, same_epoch, op_no_request}
 use Rattle.fate_laws.proofs.Origins.DueKeepsOrigins.{SomeRequest, StageFrom, PartFrom, part_of}
 use Rattle.fate_laws.proofs.Origins.EventsKeepOrigins.{active_done}
@@ -47,7 +47,7 @@ use Rattle.fate_laws.proofs.Origins.FrontsKeepOrigins.{Did, IsOld, Traced, Says,
 use Rattle.law_base.proofs.Lists.{all_mono}
 use Rattle.fate_laws.specs.Waiting.{OpenedInDoubt}
 use Rattle.fate_laws.proofs.Origins.DoubtedWereFoundSo.{has_stage}
-use Rattle.fate_laws.proofs.Origins.OldPartsWereInDoubt.{MayHave, MayPrepare, Opened, opened_opens, opened_entry}
+use Rattle.fate_laws.proofs.Origins.OldPartsWereDoubted.{MayHave, MayPrepare, Opened, opened_opens, opened_entry}
 use Rattle.fate_laws.proofs.Waits.PredecessorsAskedFirst.{ListsAre, Tied, OpOwes, tied_happens, tied_flushed, tied_down, tied_revived, tied_opened, tied_mono, tied_as}
 use Rattle.law_base.proofs.Names.{MayStand}
 

@@ -40,7 +40,7 @@ use Rattle.protocol_laws.proofs.SessionsKeepOrder.{sessions_keep_order}
 use Rattle.law_base.proofs.LockRows.{violated_row}
 use Rattle.history_cases.proofs.Merging.{Placed, Before, before_of, before_then, not_before_itself, Among, among_is, is_among, in_own, among_right, Precedes, front_precedes}
 use Rattle.history_laws.specs.Openings.{LegalFrom}
-use Rattle.history_laws.proofs.Logs.FoundLogsAreInOrder.{log_found}
+use Rattle.history_laws.proofs.Logs.FoundLogsInOrder.{log_found}
 use Rattle.history_laws.proofs.Entries.NothingFollowsRequests.{of_session, nothing_follows}
 use Rattle.history_cases.proofs.Telling.{IsRequest}
 use Rattle.history_laws.proofs.NeverTakenBack.{walker_of, one_request, is_request}
@@ -50,9 +50,9 @@ use Rattle.fate_laws.proofs.Origins.EventsKeepOrigins.{active_done}
 use Rattle.fate_laws.proofs.Origins.FrontsKeepOrigins.{Did, IsOld}
 use Rattle.law_base.proofs.Rows.{rows_get}
 use Rattle.fate_laws.specs.Waiting.{OpenedInDoubt, IsRequestOf, AskedBefore, birth_waiting, IsActiveAs, WithoutRequest, WithRequest, WaitsGoDown, WaitsThrough, at_once, through, WaitsHaveNoCycle}
-use Rattle.fate_laws.proofs.Waits.ActiveInWayAreYounger.{Older, older_of_test, older_is_told, either, older_then, not_older_itself, in_way}
+use Rattle.fate_laws.proofs.Waits.OnlyYoungerInWay.{Older, older_of_test, older_is_told, either, older_then, not_older_itself, in_way}
 use Rattle.fate_laws.proofs.Origins.DoubtedWereFoundSo.{has_stage}
-use Rattle.fate_laws.proofs.Origins.OldPartsWereInDoubt.{MayHave, MayPrepare}
+use Rattle.fate_laws.proofs.Origins.OldPartsWereDoubted.{MayHave, MayPrepare}
 use Rattle.fate_laws.proofs.Waits.PredecessorsAskedFirst.{LockOf}
 use Rattle.fate_laws.proofs.Waits.AllOfOneBirth.{one_birth}
 use Rattle.fate_laws.proofs.Waits.DependsOnEarlierAsker.{AskedFirst, Earlier, Depends, depends}

@@ -30,7 +30,7 @@ use Rattle.protocol_laws.specs.Growth.{IsPrefixOf}
 use Rattle.law_base.proofs.Stages.{gone_by, stage_own}
 use Rattle.shard_laws.proofs.Order.ChangesKeepOrder.{prepare_some}
 use Rattle.history_cases.proofs.Stepping.{Due, commits, votes, rules, KeptByDue, settled}
-use Rattle.fate_laws.proofs.Parts.OthersOnlyCloseOrGo.{due_closed, due_prepares}
+use Rattle.fate_laws.proofs.Parts.OthersCloseOrGo.{due_closed, due_prepares}
 use Rattle.fate_laws.proofs.Logs.LogOnlyGrows.{inside_self, inside_due}
 use Rattle.fate_laws.proofs.Parts.PutVotesAreHeld.{votes_get}
 use Rattle.fate_laws.proofs.FallenAreUncommitted.RulingsThatEndNothing.{ack_refused, ack_end, no_end_undecided}

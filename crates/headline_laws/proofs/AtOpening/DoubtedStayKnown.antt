@@ -14,7 +14,7 @@ use Rattle.clv_base.specs.Journals.{History, final_of}
 use Rattle.protocol_laws.specs.Growth.{IsPrefixOf}
 use Rattle.protocol_laws.proofs.LogOnlyGrows.DueGrowsLogs.{chain, more}
 use Rattle.history_laws.specs.Openings.{LegalFrom}
-use Rattle.history_laws.proofs.Logs.FoundLogsAreInOrder.{log_found}
+use Rattle.history_laws.proofs.Logs.FoundLogsInOrder.{log_found}
 use Rattle.history_laws.proofs.NeverTakenBack.LaterHistoriesHoldMembers.{committed_front}
 use Rattle.fate_laws.proofs.Parts.FoundCommitsAreBound.{opening_settled, opening_home}
 use Rattle.fate_laws.proofs.Logs.WhatAddsNoPrepare.{prepare_more, front_prepare}
@@ -23,7 +23,7 @@ use Rattle.fate_laws.specs.Falls.{Fell}
 use Rattle.headline_laws.proofs.GoneAreLost.WhyPreparedOnesGo.{aborted_take}
 use Rattle.headline_laws.proofs.GoneAreLost.FrontsKeepAbortedAway.{struck_front}
 use Rattle.headline_laws.proofs.EarlierMembersNeverFell.{never_out, earlier_members_never_fell}
-use Rattle.headline_laws.proofs.AtOpening.RecordedAreCommittedOrDoubted.{doubted}
+use Rattle.headline_laws.proofs.AtOpening.RecordedAreKnown.{doubted}
 use Rattle.headline_laws.proofs.SharesAreMaps.{somewhere_at}
 use Rattle.headline_laws.proofs.AtOpening.EarlierOnesStoodThere.{left_begins}
 use Rattle.history_laws.proofs.Logs.DoubtedAreUndecided.{doubt_prepared, doubt_undecided, doubted_is_old}

@@ -25,7 +25,7 @@ use Rattle.fate_laws.proofs.Logs.RecordNamesItsTransaction.{commit_is}
 use Rattle.fate_laws.proofs.Homes.ShardKnowsHomes.{new_commit}
 use Rattle.headline_laws.proofs.EndedAreCommitted.EndsStandBehindCommits.{parts_back, EndsFrom, Tell}
 use Rattle.law_base.proofs.Bools.{and_first as front, and_second as last}
-use Rattle.fate_laws.proofs.Origins.OldPartsWereInDoubt.{found_follows as in_order}
+use Rattle.fate_laws.proofs.Origins.OldPartsWereDoubted.{found_follows as in_order}
 
 -- ---- a log in order
 

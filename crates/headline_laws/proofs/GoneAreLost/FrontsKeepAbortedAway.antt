@@ -16,7 +16,7 @@ use Rattle.history_cases.proofs.Entering.{makes}
 use Rattle.history_cases.proofs.Merging.{Placed}
 use Rattle.history_cases.proofs.Worlds.{state_at}
 use Rattle.history_laws.specs.Openings.{LegalFrom}
-use Rattle.history_laws.proofs.Logs.FoundLogsAreInOrder.{log_found}
+use Rattle.history_laws.proofs.Logs.FoundLogsInOrder.{log_found}
 use Rattle.shard_laws.proofs.Order.WritesLieOnListed.{order_of}
 use Rattle.fate_laws.proofs.Origins.DueKeepsOrigins.{AllFrom}
 use Rattle.fate_laws.proofs.Origins.FrontsKeepOrigins.{DidOrOld}
@@ -25,7 +25,7 @@ use Rattle.fate_laws.proofs.CommitsGoDownwards.{owed as owed_down}
 use Rattle.fate_laws.proofs.AbortedAreCommittedNowhere.{owed as owed_kept}
 use Rattle.fate_laws.proofs.FallenAreUncommitted.FrontsKeepOutUncommitted.{Met, At, entry_at, Stands, stands_front, no_return, walk_on}
 use Rattle.headline_laws.proofs.GoneAreLost.EntriesKeepAbortedAway.{Struck, NoAnswer, struck_opened, struck_made}
-use Rattle.fate_laws.proofs.Origins.OldPartsWereInDoubt.{found_follows as log_follows}
+use Rattle.fate_laws.proofs.Origins.OldPartsWereDoubted.{found_follows as log_follows}
 
 -- whose ABORT stands in a log did an operation there, or is of an earlier run
 aborts_from : (A : TxId → Type 0) (Q : TxId → ℕ → Type 0) (O : TxId → Type 0) (n : ℕ) (rs : List LogRecord) (t : TxId) → AllFrom A Q O n rs → aborted_in rs t ≡ true → A t

@@ -16,7 +16,7 @@ use Rattle.history_cases.proofs.Entering.{Makes, makes}
 use Rattle.history_cases.proofs.Merging.{Placed}
 use Rattle.history_cases.proofs.Worlds.{state_at}
 use Rattle.history_laws.specs.Openings.{LegalFrom}
-use Rattle.history_laws.proofs.Logs.FoundLogsAreInOrder.{log_found}
+use Rattle.history_laws.proofs.Logs.FoundLogsInOrder.{log_found}
 use Rattle.shard_laws.proofs.Restarts.RestoredLocksAndParts.{restored_closed}
 use Rattle.fate_laws.proofs.Logs.WhatAddsNoPrepare.{opening_adds as opening_prepares}
 use Rattle.fate_laws.proofs.Parts.FoundCommitsAreBound.{opening_settled, opening_home, opening_unaborted}
@@ -30,7 +30,7 @@ use Rattle.fate_laws.proofs.FallenAreUncommitted.FrontsKeepOutUncommitted.{Denie
 use Rattle.headline_laws.proofs.GoneAreLost.FrontsKeepAbortedAway.{struck_front}
 use Rattle.headline_laws.proofs.GoneAreLost.WhyPreparedOnesGo.{opening_doubts, WasPrepared, GoesBy, prepares_made, goes_made, aborted_take}
 use Rattle.protocol_laws.proofs.LogsInOrder.OneRecordMore.{prepared_there}
-use Rattle.fate_laws.proofs.Origins.OldPartsWereInDoubt.{found_follows as log_follows}
+use Rattle.fate_laws.proofs.Origins.OldPartsWereDoubted.{found_follows as log_follows}
 
 -- ---- why it is lost
 

@@ -30,7 +30,7 @@ use Rattle.shard_laws.proofs.Order.ChangesKeepOrder.{prepare_some}
 use Rattle.fate_laws.proofs.Homes.ShardKnowsHomes.{still_not}
 use Rattle.fate_laws.proofs.Logs.LogOnlyGrows.{Inside, inside_self, inside_due, inside_step}
 use Rattle.fate_laws.proofs.Logs.WhatAddsNoPrepare.{prepare_more, front_prepare, restarts_add}
-use Rattle.fate_laws.proofs.Parts.OthersOnlyCloseOrGo.{due_prepares}
+use Rattle.fate_laws.proofs.Parts.OthersCloseOrGo.{due_prepares}
 use Rattle.fate_laws.proofs.Logs.WhatPreparesOrCommits.{step_prepares}
 use Rattle.fate_laws.proofs.Parts.YesVotesArePrepared.{front_same}
 use Rattle.fate_laws.proofs.FallenAreUncommitted.PreparesListEarlierOnes.{Ahead, Why, ahead_take, not_in_doubt, listed_front}

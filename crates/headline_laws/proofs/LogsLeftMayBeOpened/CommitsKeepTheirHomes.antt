@@ -46,7 +46,7 @@ use Rattle.fate_laws.proofs.EachShardLeads.RecordsTellTheirOrigin.{wrote_from}
 use Rattle.headline_laws.proofs.GoneAreLost.FrontsKeepAbortedAway.{struck_front}
 use Rattle.headline_laws.proofs.RequestsNameTheirShards.{names_shard}
 use Rattle.headline_laws.proofs.YesVotersNeverFell.{bound_never_out}
-use Rattle.headline_laws.proofs.ReadersPass.CommittedWroteOrAreHome.{committed_by}
+use Rattle.headline_laws.proofs.ReadersPass.WhyCommittedHere.{committed_by}
 use Rattle.headline_laws.proofs.ReadersPass.{readers_pass}
 use Rattle.headline_laws.proofs.LogsLeftMayBeOpened.LogsAgreeByHomes.{HomeIs, PartIs, part_here}
 use Rattle.headline_laws.proofs.LogsLeftMayBeOpened.FrontsTellHomes.{wrote_or_committed}

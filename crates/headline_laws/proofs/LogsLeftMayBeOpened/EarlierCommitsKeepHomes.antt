@@ -17,7 +17,7 @@ use Rattle.law_base.proofs.Commits.{committed_append, parts_keep}
 use Rattle.protocol_laws.proofs.LogsInOrder.OneRecordMore.{committed_there, prepared_there}
 use Rattle.history_cases.proofs.Uncommitting.{opening_adds}
 use Rattle.history_laws.specs.Openings.{LegalFrom}
-use Rattle.history_laws.proofs.Logs.FoundLogsAreInOrder.{log_found}
+use Rattle.history_laws.proofs.Logs.FoundLogsInOrder.{log_found}
 use Rattle.shard_laws.proofs.Order.RecordByRecord.{Follows, from_disorder}
 use Rattle.shard_laws.proofs.Order.WritesLieOnListed.{prepared_wrote}
 use Rattle.fate_laws.proofs.Homes.DecidedStaysDecided.{left_committed}

@@ -37,7 +37,7 @@ use Rattle.fate_laws.proofs.Logs.WhatAddsNoPrepare.{prepare_more, front_prepare}
 use Rattle.headline_laws.proofs.GoneAreLost.WhyPreparedOnesGo.{aborted_take}
 use Rattle.headline_laws.proofs.YesVotersNeverFell.{bound_unaborted}
 use Rattle.headline_laws.specs.ReplayingHere.{IsHere}
-use Rattle.headline_laws.proofs.AtOpening.RecordedAreCommittedOrDoubted.{doubted}
+use Rattle.headline_laws.proofs.AtOpening.RecordedAreKnown.{doubted}
 use Rattle.headline_laws.proofs.SharesAreMaps.{at_somewhere}
 use Rattle.protocol_laws.proofs.LogsInOrder.OneRecordMore.{prepared_there}
 

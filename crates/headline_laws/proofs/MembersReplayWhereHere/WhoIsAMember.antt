@@ -16,7 +16,7 @@ use Rattle.protocol_laws.specs.SessionLaws.{tx_of}
 use Rattle.history_laws.specs.Openings.{LegalFrom}
 use Rattle.history_laws.specs.Continuing.{serial_left}
 use Rattle.history_cases.proofs.Merging.{Placed, Among}
-use Rattle.history_laws.proofs.Logs.FoundLogsAreInOrder.{log_found}
+use Rattle.history_laws.proofs.Logs.FoundLogsInOrder.{log_found}
 use Rattle.history_laws.proofs.NeverTakenBack.{walker_of, one_request, is_request}
 use Rattle.fate_laws.specs.Members.{is_member}
 use Rattle.fate_laws.proofs.Homes.DecidedStaysDecided.{commits_are_members}

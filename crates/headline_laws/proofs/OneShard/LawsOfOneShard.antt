@@ -5,7 +5,8 @@ use Rattle.clv_base.specs.Orders.{tx_in}
 use Rattle.clv_base.specs.Needs.{live_pairs}
 use Rattle.clv_base.specs.Journals.{final_of}
 use Rattle.headline_laws.proofs.MembersReplay.{members_replay as all_replay}
-use Rattle.headline_laws.proofs.PredecessorsStandBefore.{predecessors_stand_before as all_stand_before, settled_is_the_map as all_are_the_map}
+use Rattle.headline_laws.proofs.PredecessorsStandBefore.{predecessors_stand_before as all_stand_before}
+use Rattle.headline_laws.proofs.SettledIsTheMap.{settled_is_the_map as all_are_the_map}
 use Rattle.headline_laws.specs.Replaying.{MembersReplay}
 use Rattle.headline_laws.specs.OneShardRecovering.{PredecessorsStandBefore}
 use Rattle.headline_laws.specs.OneShardSettling.{SettledIsTheMap}

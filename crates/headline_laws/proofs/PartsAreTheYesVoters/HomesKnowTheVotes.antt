@@ -48,7 +48,7 @@ use Rattle.fate_laws.proofs.Parts.EventsKeepParts.{Once}
 use Rattle.fate_laws.proofs.Parts.PutVotesAreHeld.{votes_get, votes_put}
 use Rattle.fate_laws.proofs.Homes.ShardKnowsHomes.{new_commit}
 use Rattle.headline_laws.proofs.EndedAreCommitted.EndsStandBehindCommits.{parts_back, parts_front, on_restarted}
-use Rattle.history_laws.proofs.Entries.AllHaveWhatEachHas.{put_row}
+use Rattle.history_laws.proofs.Entries.AllFromEach.{put_row}
 
 -- ---- lists of shards
 

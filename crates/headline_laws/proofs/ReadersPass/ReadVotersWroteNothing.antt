@@ -44,7 +44,7 @@ use Rattle.history_cases.proofs.Stepping.{Due, commits, votes, rules, KeptByDue,
 use Rattle.history_cases.proofs.Entering.{Makes, by_event, by_flush, by_failure, by_restart}
 use Rattle.fate_laws.proofs.Logs.LogOnlyGrows.{inside_self, inside_due, inside_step}
 use Rattle.fate_laws.proofs.Parts.YesVotesArePrepared.{VoteIs, kept, yes, read, no, vote_is}
-use Rattle.fate_laws.proofs.Parts.OthersOnlyCloseOrGo.{due_closed}
+use Rattle.fate_laws.proofs.Parts.OthersCloseOrGo.{due_closed}
 use Rattle.fate_laws.proofs.Logs.WhatPreparesOrCommits.{Closes, by_request, by_prepare, step_closed}
 use Rattle.fate_laws.proofs.Parts.EventsKeepParts.{Tables, same, coordinates, owes, counts, done, sent, again, answers, reminds, step_tables, reader_tables}
 use Rattle.fate_laws.proofs.Homes.ShardKnowsHomes.{still_not}
@@ -52,7 +52,7 @@ use Rattle.fate_laws.proofs.Logs.RestartsWriteNoUpdate.{wrote_grown}
 use Rattle.fate_laws.proofs.CausesStand.EventsEndTheirOwn.{set_row}
 use Rattle.headline_laws.proofs.ReadersPass.AbortedWereHere.{Fewer, fewer_same, fewer_finished, present_back, rolled_doomed}
 use Rattle.headline_laws.proofs.ReadersPass.OnlyOwnOperationsUpdate.{due_updates}
-use Rattle.history_laws.proofs.Entries.AllHaveWhatEachHas.{put_row}
+use Rattle.history_laws.proofs.Entries.AllFromEach.{put_row}
 
 -- ---- votes of read that a shard holds or is about to send. R: who was asked for its vote; P: what holds of each that voted read
 

@@ -40,14 +40,14 @@ use Rattle.history_laws.proofs.Entries.WhatOperationsDo.{OpIs, dies, rolls, perf
 use Rattle.fate_laws.proofs.History.EntriesInTurn.{same_epoch, turn_of}
 use Rattle.fate_laws.proofs.Origins.FrontsKeepOrigins.{DidNow, traced_front}
 use Rattle.fate_laws.proofs.Parts.FrontsKeepParts.{asked_not_own}
-use Rattle.fate_laws.proofs.Parts.OthersOnlyCloseOrGo.{Calm, calm_step, calm_finish, calm_self, was_there}
+use Rattle.fate_laws.proofs.Parts.OthersCloseOrGo.{Calm, calm_step, calm_finish, calm_self, was_there}
 use Rattle.fate_laws.proofs.Logs.LogOnlyGrows.{inside_step}
 use Rattle.fate_laws.proofs.History.EntryByEntry.{Next, next_at, each_shard}
 use Rattle.fate_laws.proofs.Logs.WhatAddsNoPrepare.{prepare_more}
 use Rattle.fate_laws.proofs.Parts.BoundStaysBound.{NotOwn}
 use Rattle.fate_laws.proofs.FallenAreUncommitted.FrontsKeepOutUncommitted.{Met, WasOut, walk_on, none_held, last_front}
 use Rattle.headline_laws.proofs.ReadersPass.AbortedWereHere.{present_back}
-use Rattle.headline_laws.proofs.ReadersPass.CommittedWroteOrAreHome.{finish_prefix}
+use Rattle.headline_laws.proofs.ReadersPass.WhyCommittedHere.{finish_prefix}
 use Rattle.protocol_laws.proofs.LogsInOrder.OneRecordMore.{prepared_there}
 
 -- ---- an entry

@@ -15,7 +15,7 @@ use Rattle.protocol_laws.proofs.LogsInOrder.{runs_in_order}
 use Rattle.protocol_laws.proofs.LogsInOrder.OneRecordMore.{own_prepare}
 use Rattle.protocol_laws.proofs.LogsInOrder.RunsAreOfRestarts.{record_fits}
 use Rattle.history_cases.proofs.OldRuns.{below_next_run}
-use Rattle.history_laws.proofs.Logs.FoundLogsAreInOrder.{found_in_order}
+use Rattle.history_laws.proofs.Logs.FoundLogsInOrder.{found_in_order}
 
 abbrev pub Undecided : List LogRecord → List LogRecord → TxId → Type 0
 Undecided log rs t = (prepared_in rs t ≡ true) × (committed_in log t ≡ false) × (aborted_in log t ≡ false)

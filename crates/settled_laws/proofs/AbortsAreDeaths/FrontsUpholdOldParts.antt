@@ -42,7 +42,7 @@ use Rattle.history_cases.proofs.Merging.{Placed, Among, among_append, among_left
 use Rattle.history_cases.proofs.Stepping.{finishes, stops}
 use Rattle.history_cases.proofs.Worlds.{state_at}
 use Rattle.history_laws.specs.Openings.{LegalFrom}
-use Rattle.history_laws.proofs.Entries.AllHaveWhatEachHas.{all_in}
+use Rattle.history_laws.proofs.Entries.AllFromEach.{all_in}
 use Rattle.shard_laws.proofs.Restarts.RestoredLocksAndParts.{restored_closed, restored_stage}
 use Rattle.fate_laws.specs.Causes.{TellsCause, look_found}
 use Rattle.fate_laws.proofs.Parts.FrontsKeepParts.{WasTaken, once, bindings_front}
@@ -53,7 +53,7 @@ use Rattle.fate_laws.proofs.History.EntryByEntry.{AskedIn, next_at, stays_as_it_
 use Rattle.fate_laws.proofs.CausesStand.{causes_stand}
 use Rattle.settled_laws.proofs.AbortsAreDeaths.DueUpholdsOldParts.{Spares, VoteStands, RowStands, VoterStands, IsOnce, Upheld, upheld_finish}
 use Rattle.settled_laws.proofs.AbortsAreDeaths.EventsUpholdOldParts.{Owes, step_upheld, SaidBy, LosesNone, step_says, TakesNoNo, step_takes, AsksNow, asks_there}
-use Rattle.settled_laws.proofs.AbortsAreDeaths.EntriesOweWhatIsUpheld.{VotedRead, UpheldAt, Said, AllUpheld, Begins, Facing, owes}
+use Rattle.settled_laws.proofs.AbortsAreDeaths.WhatEntriesOwe.{VotedRead, UpheldAt, Said, AllUpheld, Begins, Facing, owes}
 
 -- ---- more votes are known
 

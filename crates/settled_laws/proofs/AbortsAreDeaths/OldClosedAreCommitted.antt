@@ -37,7 +37,7 @@ use Rattle.history_laws.proofs.NeverTakenBack.LaterHistoriesHoldMembers.{committ
 use Rattle.history_laws.proofs.NeverTakenBack.{walker_of}
 use Rattle.shard_laws.proofs.Restarts.RestoredLocksAndParts.{restored_none}
 use Rattle.fate_laws.specs.Origins.{answered_as, WasEverAnswered}
-use Rattle.fate_laws.proofs.Parts.OthersOnlyCloseOrGo.{due_closed}
+use Rattle.fate_laws.proofs.Parts.OthersCloseOrGo.{due_closed}
 use Rattle.fate_laws.proofs.Logs.WhatPreparesOrCommits.{Closes, by_request, by_prepare, step_closed}
 use Rattle.fate_laws.proofs.Origins.AllComesOfEntries.{all_comes_of_entries}
 use Rattle.fate_laws.proofs.Origins.FrontsKeepOrigins.{Did, IsOld, traced_front}
@@ -46,7 +46,7 @@ use Rattle.fate_laws.proofs.FallenAreUncommitted.NoPartWithoutOperation.{DoesNow
 use Rattle.fate_laws.proofs.Origins.DueKeepsOrigins.{BirthFrom, part_of}
 use Rattle.fate_laws.proofs.History.EntryByEntry.{Next, next_at, stays_as_it_was}
 use Rattle.settled_laws.specs.Deaths.{BeginsSettled}
-use Rattle.settled_laws.proofs.AbortsAreDeaths.EntriesOweWhatIsUpheld.{Begins}
+use Rattle.settled_laws.proofs.AbortsAreDeaths.WhatEntriesOwe.{Begins}
 
 -- ---- what all entries of a list are
 

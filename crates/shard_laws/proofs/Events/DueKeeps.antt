@@ -43,7 +43,7 @@ use Rattle.shard_laws.proofs.Keeping.WhatOneShardKeeps.{view_of}
 use Rattle.shard_laws.proofs.Keeping.DoomedMayGo.{may_go}
 use Rattle.shard_laws.proofs.Order.RisingAreDistinct.{doomed_once}
 use Rattle.shard_laws.specs.OneShard.{Deeds, is_doomed}
-use Rattle.shard_laws.proofs.Keeping.WhoFellAndIsLost.{Falls, falls_more, falls_parts, falls_over, falls_finish, falls_taken}
+use Rattle.shard_laws.proofs.Keeping.FallenAndLost.{Falls, falls_more, falls_parts, falls_over, falls_finish, falls_taken}
 use Rattle.shard_laws.proofs.Order.WritesLieOnListed.{order_of, prepared_wrote, committed_lists}
 use Rattle.shard_laws.proofs.Order.ClosingKeepsOrder.{upward_under}
 use Rattle.shard_laws.proofs.Order.ChangesKeepOrder.{unlisted, asked_more}

@@ -17,7 +17,7 @@ use Rattle.shard_laws.proofs.Keeping.WhatOneShardKeeps.{view_of}
 use Rattle.shard_laws.specs.OneShard.{MayHappen}
 use Rattle.shard_laws.proofs.Keeping.RecordsAndFrontsKeep.{keeps_front}
 use Rattle.std.proofs.lemmas.Option.{none-some}
-use Rattle.shard_laws.proofs.Keeping.WhoFellAndIsLost.{falls_front}
+use Rattle.shard_laws.proofs.Keeping.FallenAndLost.{falls_front}
 use Rattle.shard_laws.proofs.Events.DueKeeps.{did}
 use Rattle.shard_laws.proofs.Events.DueKeeps.{Sound, After, finish_sound}
 use Rattle.shard_laws.proofs.Events.KeptAfterReplies.{Later, Keeps_reply, at_cond, early, does}

@@ -26,7 +26,7 @@ use Rattle.clv_base.specs.declared.events.Outcome.TheVariants.{Acknowledged, Abo
 use Rattle.shard_laws.proofs.Keeping.WhatOneShardKeeps.{view_of}
 use Rattle.shard_laws.proofs.Keeping.RecordsAndFrontsKeep.{keeps_flight}
 use Rattle.std.proofs.lemmas.Option.{same_Some}
-use Rattle.shard_laws.proofs.Keeping.WhoFellAndIsLost.{falls_over}
+use Rattle.shard_laws.proofs.Keeping.FallenAndLost.{falls_over}
 use Rattle.law_base.proofs.Lists.{all_mono}
 use Rattle.shard_laws.proofs.Events.DueKeeps.{Sound, at_once, marked_sound}
 use Rattle.shard_laws.proofs.Events.KeptAfterReplies.{Keeps_reply, ends_told, ends, at_cond, quietly, early}

@@ -32,7 +32,7 @@ use Rattle.clv_base.proofs.SameNames.{cases_tx}
 use Rattle.std.proofs.lemmas.Option.{none-some}
 use Rattle.shard_laws.proofs.Keeping.GrantingKeeps.{keeps_performed, keeps_lost_op, own_part}
 use Rattle.law_base.proofs.Stages.{other_part}
-use Rattle.shard_laws.proofs.Keeping.WhoFellAndIsLost.{Falls, falls_alive, falls_lost}
+use Rattle.shard_laws.proofs.Keeping.FallenAndLost.{Falls, falls_alive, falls_lost}
 use Rattle.shard_laws.proofs.Order.WritesLieOnListed.{listed_prepared}
 use Rattle.shard_laws.proofs.Events.DueKeeps.{did, own_kept}
 use Rattle.law_base.proofs.Undoing.{keeps_of}

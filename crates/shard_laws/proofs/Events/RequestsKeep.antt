@@ -39,7 +39,7 @@ use Rattle.law_base.proofs.Stages.{stage_closed, closed_other as stage_left}
 use Rattle.std.proofs.Common.{append-nil}
 use Rattle.std.proofs.lemmas.Option.{none-some}
 use Rattle.shard_laws.specs.OneShard.{is_doomed}
-use Rattle.shard_laws.proofs.Keeping.WhoFellAndIsLost.{Falls, falls_more, falls_prepare, falls_parts, falls_asked}
+use Rattle.shard_laws.proofs.Keeping.FallenAndLost.{Falls, falls_more, falls_prepare, falls_parts, falls_asked}
 use Rattle.shard_laws.proofs.Keeping.ChangesKeepPrepared.{by_prepare}
 use Rattle.shard_laws.proofs.Keeping.WhatOneShardKeeps.{Dep}
 use Rattle.shard_laws.proofs.Events.DueKeeps.{did, here_alive}

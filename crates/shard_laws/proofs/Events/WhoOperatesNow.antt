@@ -34,7 +34,7 @@ use Rattle.shard_laws.specs.OneShard.{Fresh, items_of}
 use Rattle.law_base.proofs.Stages.{active_not_closed}
 use Rattle.shard_laws.proofs.Keeping.GrantingKeeps.{log_by}
 use Rattle.shard_laws.specs.OneShard.{is_doomed}
-use Rattle.shard_laws.proofs.Keeping.WhoFellAndIsLost.{Falls, falls_more}
+use Rattle.shard_laws.proofs.Keeping.FallenAndLost.{Falls, falls_more}
 use Rattle.shard_laws.proofs.Events.DueKeeps.{did}
 use Rattle.shard_laws.proofs.Events.DueKeeps.{Sound, After, at_once, rolled}
 use Rattle.law_base.proofs.Names.{MayStand, none_closed}

@@ -41,7 +41,7 @@ use Rattle.shard_laws.proofs.Events.DueKeeps.{part_same, Sound}
 use Rattle.shard_laws.proofs.Cuts.WhatCutsHold.{of_kept, fold_alike, fold_values}
 use Rattle.shard_laws.proofs.Cuts.MembersOfCutsReplay.{filter_all_kept}
 use Rattle.shard_laws.proofs.Restarts.UnrestoredFell.{all_durable}
-use Rattle.shard_laws.proofs.Keeping.WhoFellAndIsLost.{Falls}
+use Rattle.shard_laws.proofs.Keeping.FallenAndLost.{Falls}
 use Rattle.shard_laws.proofs.Order.UndoMayFollow.{aborted_now}
 use Rattle.shard_laws.proofs.Cuts.WhoIsInDoubt.{Doubted, doubted}
 use Rattle.shard_laws.proofs.Restarts.RestoredLocksAndParts.{restored_closed, restored_stage, restored_none, rows_restored, wrote_of}

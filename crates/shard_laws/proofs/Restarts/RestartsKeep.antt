@@ -50,7 +50,7 @@ use Rattle.shard_laws.proofs.Restarts.RestoredLocksAndParts.{wrote_of, restored_
 use Rattle.shard_laws.proofs.Order.RecordByRecord.{follows_take, greatest_front}
 use Rattle.shard_laws.proofs.Order.StepsKeepOrder.{KeepsOrder}
 use Rattle.shard_laws.proofs.Restarts.RestartsKeepOrder.{found_self, Renewed, Fine, renewed_by, ordered_restored, lying_restored, rulings_restored}
-use Rattle.shard_laws.proofs.Keeping.WhoFellAndIsLost.{Fell, Falls, take_further}
+use Rattle.shard_laws.proofs.Keeping.FallenAndLost.{Fell, Falls, take_further}
 use Rattle.shard_laws.proofs.Order.WritesLieOnListed.{order_of, prepared_wrote}
 use Rattle.protocol_laws.proofs.LogsInOrder.{Order}
 use Rattle.shard_laws.proofs.Restarts.UnrestoredFell.{all_durable, falls_restarted, stage_name}

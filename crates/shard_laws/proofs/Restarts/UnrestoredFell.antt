@@ -25,7 +25,7 @@ use Rattle.shard_laws.proofs.Order.RecordByRecord.{Follows}
 use Rattle.shard_laws.proofs.Order.ChangesKeepOrder.{unlisted}
 use Rattle.shard_laws.proofs.Order.WritesLieOnListed.{order_of, committed_lists}
 use Rattle.shard_laws.proofs.Restarts.RestoredRequestsAndPairs.{pair_there, pair_lists}
-use Rattle.shard_laws.proofs.Keeping.WhoFellAndIsLost.{Fell, Falls, take_further}
+use Rattle.shard_laws.proofs.Keeping.FallenAndLost.{Fell, Falls, take_further}
 
 -- who has a part is named
 get_name : (u : TxId) (h : Held) (ps : Table Held) → tx_get u ps ≡ Some h → tx_in u (map (λ p. p.0) ps) ≡ true

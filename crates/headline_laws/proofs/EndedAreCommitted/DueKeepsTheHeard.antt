@@ -40,7 +40,7 @@ use Rattle.fate_laws.proofs.Parts.CommittedAreVotedFor.{commit_agreed}
 use Rattle.fate_laws.proofs.Homes.FoundCommitsHaveHomes.{nat_at}
 use Rattle.fate_laws.proofs.FallenAreUncommitted.RulingsThatEndNothing.{no_end_undecided}
 use Rattle.headline_laws.proofs.EndedAreCommitted.EndsStandBehindCommits.{GoesOn, on_same, on_more, on_rolled, Tell, tell_on, tell_end}
-use Rattle.history_laws.proofs.Entries.AllHaveWhatEachHas.{put_row}
+use Rattle.history_laws.proofs.Entries.AllFromEach.{put_row}
 
 -- ---- what is known. K: where whose COMMIT is durable
 

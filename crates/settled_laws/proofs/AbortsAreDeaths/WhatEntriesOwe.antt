@@ -56,7 +56,7 @@ use Rattle.fate_laws.proofs.Origins.FrontsKeepOrigins.{IsOld, Brings}
 use Rattle.fate_laws.proofs.Homes.FrontsKeepHomes.{delivered}
 use Rattle.fate_laws.proofs.FallenAreUncommitted.PreparedPairsAreListed.{Decided}
 use Rattle.fate_laws.proofs.Origins.DueKeepsOrigins.{SomeRequest, AwayRequest, part_of}
-use Rattle.fate_laws.proofs.CausesStand.EntriesEndWhomTheyTake.{Before_entry}
+use Rattle.fate_laws.proofs.CausesStand.EntriesEndTheDying.{Before_entry}
 use Rattle.fate_laws.proofs.Parts.CommittedAreVotedFor.{Touched}
 use Rattle.fate_laws.proofs.History.EntryByEntry.{Next, AskedIn}
 use Rattle.fate_laws.proofs.History.EntriesInTurn.{Requested, own_precedes, named_at, request_no_request}

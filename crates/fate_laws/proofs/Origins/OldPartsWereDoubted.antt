@@ -28,7 +28,7 @@ use Rattle.history_laws.specs.Openings.{LegalFrom}
 use Rattle.history_laws.proofs.NeverTakenBack.{walker_of}
 use Rattle.fate_laws.proofs.Origins.FrontsKeepOrigins.{IsOld}
 use Rattle.fate_laws.proofs.Origins.DoubtedWereFoundSo.{Has, AnswersOf, doubt_found, opening_prepares, left_prepares, has_as, has_happens, has_flushed, has_down, has_revived, has_opened}
-use Rattle.history_laws.proofs.Logs.FoundLogsAreInOrder.{found_in_order, log_found}
+use Rattle.history_laws.proofs.Logs.FoundLogsInOrder.{found_in_order, log_found}
 use Rattle.history_laws.proofs.Logs.DoubtedAreUndecided.{doubt_undecided}
 
 -- of this run, or in doubt in the log found; or prepared in it

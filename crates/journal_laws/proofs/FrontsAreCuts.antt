@@ -11,8 +11,8 @@ use Rattle.protocol_laws.specs.Growth.{IsPrefixOf}
 use Rattle.law_base.proofs.Lists.{all_mono}
 use Rattle.history_cases.proofs.Merging.{Placed, Before, InOrder, in_order, stamps_follow, among_left}
 use Rattle.history_cases.proofs.Worlds.{journal_append}
-use Rattle.journal_laws.proofs.Ordering.{ordered}
-use Rattle.journal_laws.proofs.Owning.{own_append, was_sent_more}
+use Rattle.journal_laws.proofs.Entries.JournalsTellHistories.{ordered}
+use Rattle.journal_laws.proofs.Entries.WalkersOwnEntries.{own_append, was_sent_more}
 use Rattle.journal_laws.specs.Cuts.{FrontsAreCuts, entries_until, MomentsAreCuts, WholeWalkersServe, LegalFrontsAreCuts}
 
 -- ---- what is delivered in a legal history was sent in it

@@ -18,7 +18,7 @@ use Rattle.protocol_laws.proofs.LogOnlyGrows.DueGrowsLogs.{chain}
 use Rattle.history_laws.specs.Continuing.{SameAtRestart, SameAtRestarts}
 use Rattle.history_cases.proofs.Durability.{Counted}
 use Rattle.clv_base.specs.Machines.{BecomesBy, Makes, Runs}
-use Rattle.journal_laws.proofs.Running.{enters, fronts_made, fronts_run}
+use Rattle.journal_laws.proofs.RunsGoOn.{enters, fronts_made, fronts_run}
 
 -- ---- a run by what its restarts left
 

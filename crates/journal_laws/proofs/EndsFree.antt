@@ -41,7 +41,7 @@ use Rattle.history_cases.proofs.Stepping.{commits, votes, rules, KeptByDue, sett
 use Rattle.clv_base.specs.Machines.{BecomesBy, Runs}
 use Rattle.journal_laws.specs.Endings.{RunsFindActive, EndsHere, InactiveIsFree, EndsFree, RestartsFree}
 use Rattle.journal_laws.specs.Births.{LeavesBirth}
-use Rattle.journal_laws.proofs.Bearing.{free_rows, has_none, free_restored, free_event, Free, Leaves}
+use Rattle.journal_laws.proofs.FreeBirthsStay.{free_rows, has_none, free_restored, free_event, Free, Leaves}
 use Rattle.law_base.proofs.Names.{in_doomed}
 
 -- ---- what is due only takes parts away: what holds of a table and stays where parts go, stays

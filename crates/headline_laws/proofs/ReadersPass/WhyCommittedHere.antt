@@ -27,7 +27,7 @@ use Rattle.history_cases.proofs.Stepping.{Due, commits, votes, rules, KeptByDue,
 use Rattle.history_cases.proofs.Entering.{Makes, by_event, by_flush, by_failure, by_restart, makes}
 use Rattle.history_cases.proofs.Merging.{Placed, among_right}
 use Rattle.history_laws.specs.Openings.{LegalFrom}
-use Rattle.history_laws.proofs.Logs.FoundLogsAreInOrder.{log_found}
+use Rattle.history_laws.proofs.Logs.FoundLogsInOrder.{log_found}
 use Rattle.shard_laws.proofs.Keeping.RecordsAndFrontsKeep.{wrote_keeps}
 use Rattle.history_cases.proofs.OldRuns.{none_of_this_run}
 use Rattle.history_cases.proofs.TellingEvents.{front_committed}

@@ -18,10 +18,10 @@ use Rattle.history_replay.specs.Entries.{on_shard, entries_of}
 use Rattle.clv_base.specs.Machines.{Runs}
 use Rattle.journal_laws.specs.Walkers.{StampsRise, is_numbered, by_walker}
 use Rattle.journal_laws.specs.Gathered.{journal_at, Gathered, GatheredIsLegal}
-use Rattle.journal_laws.proofs.Running.{runs_fit}
-use Rattle.journal_laws.proofs.Ordering.{ordered, told_by_journals}
-use Rattle.journal_laws.proofs.Merged.{none_there, same_journal, in_shards, entries_in_order, IsOff}
-use Rattle.journal_laws.proofs.Owning.{own_journals, rising_in_order, all_rise, each_among, among_each, all_sent}
+use Rattle.journal_laws.proofs.RunsGoOn.{runs_fit}
+use Rattle.journal_laws.proofs.Entries.JournalsTellHistories.{ordered, told_by_journals}
+use Rattle.journal_laws.proofs.Entries.MergedJournalsInOrder.{none_there, same_journal, in_shards, entries_in_order, IsOff}
+use Rattle.journal_laws.proofs.Entries.WalkersOwnEntries.{own_journals, rising_in_order, all_rise, each_among, among_each, all_sent}
 
 -- ---- a history is legal where each shard ran, its entries are in order, and each walker kept the rules
 

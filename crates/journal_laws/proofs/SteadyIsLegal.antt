@@ -1,4 +1,6 @@
 -- A world stays steady through each step, and a steady world's history is legal.
+pub mod SameMessagesWereSent
+pub mod AnsweredStepsMakeEntries
 use Rattle.std.proofs.Common.{◌≡◌, ◌⊎◌, inl, inr, ⊎_elim, refl, sym, ap, subst, ◌∙◌, ℕ, zero, suc, ◌+◌, ◌<◌, ◌≤◌, max, true, false, cond, not, ◌&&◌, Bool, List, [], ◌∷◌, ◌++◌, length, Option, Some, None, ◌==◌, nat_lt, nat_le, arith, eqb-true}
 use Rattle.std.specs.Prelude.{◌^◌, slice_get, slice_set, is_none}
 use Rattle.std.specs.List.{AllByRecursion, list_all}
@@ -30,14 +32,14 @@ use Rattle.history_laws.proofs.NeverTakenBack.LaterHistoriesHoldMembers.{left_at
 use Rattle.clv_base.specs.Machines.{Makes, Runs}
 use Rattle.journal_laws.specs.Walkers.{StampsRise, is_numbered}
 use Rattle.journal_laws.specs.Worlds.{empty_logs, count_past, LandsInTime, Steady, StepsKeepSteady, shard_at, logs_now, SteadyIsLegal, RunEventsIsLegal, EmptyLogsMayBeOpened}
-use Rattle.journal_laws.proofs.Running.{runs_go_on, fronts_run}
-use Rattle.journal_laws.proofs.Ordering.{ordered}
-use Rattle.journal_laws.proofs.Owning.{own_mine, own_append}
-use Rattle.journal_laws.proofs.Gathering.{whole_is_legal}
-use Rattle.journal_laws.proofs.Sending.{was_sent_before}
-use Rattle.journal_laws.proofs.Placing.{Above, Place, place, put_in_order, put_here, put_there, put_own, put_others, put_all, put_tests, put_sent, rises_push, tests_push, stands_first}
-use Rattle.journal_laws.proofs.Stepping.{Answers, answers, Bounds, has_room, may_pass, bounds, makes_entry, lands_after}
-use Rattle.journal_laws.proofs.Walking.{others_keep_sessions}
+use Rattle.journal_laws.proofs.RunsGoOn.{runs_go_on, fronts_run}
+use Rattle.journal_laws.proofs.Entries.JournalsTellHistories.{ordered}
+use Rattle.journal_laws.proofs.Entries.WalkersOwnEntries.{own_mine, own_append}
+use Rattle.journal_laws.proofs.GatheredIsLegal.{whole_is_legal}
+use Rattle.journal_laws.proofs.SteadyIsLegal.SameMessagesWereSent.{was_sent_before}
+use Rattle.journal_laws.proofs.Entries.EntryAtItsPlace.{Above, Place, place, put_in_order, put_here, put_there, put_own, put_others, put_all, put_tests, put_sent, rises_push, tests_push, stands_first}
+use Rattle.journal_laws.proofs.SteadyIsLegal.AnsweredStepsMakeEntries.{Answers, answers, Bounds, has_room, may_pass, bounds, makes_entry, lands_after}
+use Rattle.journal_laws.proofs.WalkersGoOn.{others_keep_sessions}
 use Rattle.law_base.proofs.Shards.{shard_inside as within}
 
 -- ---- one shard of a list, and a new one in its place

@@ -21,7 +21,7 @@ use Rattle.history_cases.proofs.Stepping.{Step, op_dies, Happens, finishes, stop
 use Rattle.clv_base.specs.Machines.{BecomesBy, Makes, Runs}
 use Rattle.journal_laws.specs.Worlds.{LandsInTime}
 use Rattle.journal_laws.specs.Offers.{hoped_for, EachOutcomeGoesOn, FlyingIsInTime}
-use Rattle.journal_laws.proofs.Stepping.{lands_after}
+use Rattle.journal_laws.proofs.SteadyIsLegal.AnsweredStepsMakeEntries.{lands_after}
 use Rattle.law_base.proofs.Shards.{is_told as fits_look, fits_op, fits_request}
 
 -- ---- outcomes

@@ -1,4 +1,6 @@
 -- A cut of a legal history is legal.
+pub mod OwnEntriesOfSublists
+pub mod MadeEntriesAreRuns
 use Rattle.std.proofs.Common.{append_assoc, Some, ◌≡◌, inl, inr, ⊎_elim, refl, sym, ap, subst, ◌∙◌, ℕ, ◌<◌, true, false, not, ◌||◌, List, [], ◌∷◌, ◌++◌, arith}
 use Rattle.std.specs.List.{AllByRecursion}
 use Rattle.clv_base.specs.declared.logs.LogRecord.{LogRecord}
@@ -19,12 +21,12 @@ use Rattle.history_laws.proofs.Entries.SublistsOfHistories.{sublist}
 use Rattle.history_cases.proofs.Entering.{after_append, run_first, run_second}
 use Rattle.history_cases.proofs.Durability.{opened_counted}
 use Rattle.clv_base.specs.Machines.{Runs}
-use Rattle.journal_laws.proofs.Running.{fronts_run, leaves_front}
-use Rattle.journal_laws.proofs.Owning.{each_among, among_each}
-use Rattle.journal_laws.proofs.Gathering.{Whole, whole_state, whole_is_legal}
+use Rattle.journal_laws.proofs.RunsGoOn.{fronts_run, leaves_front}
+use Rattle.journal_laws.proofs.Entries.WalkersOwnEntries.{each_among, among_each}
+use Rattle.journal_laws.proofs.GatheredIsLegal.{Whole, whole_state, whole_is_legal}
 use Rattle.journal_laws.specs.Cuts.{session_entries, IsCut, CutLeaves, CutIsLegal}
-use Rattle.journal_laws.proofs.Owned.{own_sublist, rise_of_sublist, own_rise, own_numbered, each_session, by_session_events, session_front}
-use Rattle.journal_laws.proofs.Made.{run_made, run_above, runs_same, same_got}
+use Rattle.journal_laws.proofs.CutIsLegal.OwnEntriesOfSublists.{own_sublist, rise_of_sublist, own_rise, own_numbered, each_session, by_session_events, session_front}
+use Rattle.journal_laws.proofs.CutIsLegal.MadeEntriesAreRuns.{run_made, run_above, runs_same, same_got}
 use Rattle.history_cases.proofs.Worlds.{all_in as on_its_shard}
 
 -- ---- a cut's entries are the history's

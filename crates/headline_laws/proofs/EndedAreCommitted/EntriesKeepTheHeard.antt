@@ -42,7 +42,7 @@ use Rattle.history_cases.proofs.Telling.{all_map}
 use Rattle.fate_laws.proofs.Logs.LogOnlyGrows.{inside_self, inside_step}
 use Rattle.headline_laws.proofs.EndedAreCommitted.EndsStandBehindCommits.{on_more, on_rolled, on_dropped, on_closed, on_opened, on_restarted, step_on, Tell, tell_on, tell_front, tell_mono}
 use Rattle.headline_laws.proofs.EndedAreCommitted.RestoredAreUnended.{unended}
-use Rattle.headline_laws.proofs.EndedAreCommitted.DueKeepsWhatIsHeard.{Says, Row, Hears, hears_local, hears_set, hears_put, hears_send, hears_finish}
+use Rattle.headline_laws.proofs.EndedAreCommitted.DueKeepsTheHeard.{Says, Row, Hears, hears_local, hears_set, hears_put, hears_send, hears_finish}
 
 -- ---- more is known
 

@@ -1,4 +1,5 @@
 -- A shard's run by what its restarts left is one by each log that it may leave at the end.
+pub mod LogsUpToRestart
 use Rattle.std.proofs.Common.{◌≡◌, ⊎_elim, refl, sym, ap, subst, ◌∙◌, false, List, [], ◌∷◌, length, arith}
 use Rattle.std.proofs.lemmas.List.{take_all}
 use Rattle.clv_base.specs.declared.logs.LogRecord.{LogRecord}
@@ -14,7 +15,7 @@ use Rattle.protocol_laws.specs.Growth.{IsPrefixOf}
 use Rattle.protocol_laws.proofs.LogOnlyGrows.DueGrowsLogs.{same, chain}
 use Rattle.history_cases.proofs.Durability.{Counted, Fronts, opened_counted, left_front, failed_front, fronts_entry}
 use Rattle.clv_base.specs.Machines.{BecomesBy, Makes, Runs, RunsGoOn, RunsFit}
-use Rattle.journal_laws.proofs.Restarting.{up_to_after}
+use Rattle.journal_laws.proofs.RunsGoOn.LogsUpToRestart.{up_to_after}
 
 pub runs_go_on : RunsGoOn
 runs_go_on s t u [] e r m = (u, subst (λ x. Makes x e u) (sym r) m, refl)
