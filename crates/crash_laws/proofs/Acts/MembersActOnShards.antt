@@ -18,7 +18,7 @@ use Rattle.protocol_laws.specs.SessionLaws.{tx_of}
 use Rattle.history_cases.proofs.Merging.{Placed, Among}
 use Rattle.history_cases.proofs.Worlds.{in_a_shard}
 use Rattle.history_laws.specs.Openings.{LegalFrom}
-use Rattle.history_laws.proofs.Logs.FoundLogsAreInOrder.{log_found}
+use Rattle.history_laws.proofs.Logs.FoundLogsInOrder.{log_found}
 use Rattle.history_laws.proofs.NeverTakenBack.{walker_of}
 use Rattle.law_base.specs.Items.{Item, Runs, after, AllLater, Clash}
 use Rattle.law_base.proofs.Lists.{all_mono, filters_swap, all_filter}
@@ -36,8 +36,8 @@ use Rattle.headline_laws.proofs.MembersReplayWhereHere.WhoIsAMember.{chosen, Cho
 use Rattle.headline_laws.proofs.MembersReplayWhereHere.{leads, fronts, left_is, may_choose, writers_chosen}
 use Rattle.headline_laws.proofs.MembersReplay.{members_are_found}
 use Rattle.crash_laws.specs.Acts.{Act, act_of, with_act, acts, member_acts}
-use Rattle.crash_laws.proofs.Lists.{filter_map_is, filter_where, all_of_map}
-use Rattle.crash_laws.proofs.Telling.{told, deeds_are_acts}
+use Rattle.crash_laws.proofs.Acts.ActsByShards.{filter_map_is, filter_where, all_of_map}
+use Rattle.crash_laws.proofs.Acts.ActsAreDeeds.{told, deeds_are_acts}
 use Rattle.law_base.proofs.Bools.{same_truth as same_test}
 
 -- ---- each act is of this run, and on its shard's keys

@@ -11,8 +11,8 @@ use Rattle.clv_base.specs.Core.{World, clock_of}
 use Rattle.clv_base.specs.Journals.{journal_of, start_of}
 use Rattle.history_cases.proofs.Durability.{opened_counted}
 use Rattle.journal_laws.specs.Worlds.{Steady, count_past, empty_logs}
-use Rattle.journal_laws.proofs.Running.{fronts_run}
-use Rattle.journal_laws.proofs.Steadily.{empty_run, past_not_all, clock_below}
+use Rattle.journal_laws.proofs.RunsGoOn.{fronts_run}
+use Rattle.journal_laws.proofs.SteadyIsLegal.{empty_run, past_not_all, clock_below}
 use Rattle.crash_laws.specs.Fronts.{FrontsFit, LandsBy}
 
 -- a shard of a steady world has its number, is of run 1, and its fronts are in its log

@@ -14,8 +14,8 @@ use Rattle.history_laws.proofs.NeverTakenBack.LaterHistoriesHoldMembers.{left_at
 use Rattle.fate_laws.proofs.LogsLeftAreInOrder.{logs_left_are_in_order}
 use Rattle.headline_laws.proofs.Promise.{promise}
 use Rattle.journal_laws.specs.Worlds.{empty_logs, shard_at, logs_now}
-use Rattle.journal_laws.proofs.Running.{runs_fit}
-use Rattle.journal_laws.proofs.Steadily.{steady_is_legal, empty_count, empty_fits, empty_logs_may_be_opened, run_events_is_legal}
+use Rattle.journal_laws.proofs.RunsGoOn.{runs_fit}
+use Rattle.journal_laws.proofs.SteadyIsLegal.{steady_is_legal, empty_count, empty_fits, empty_logs_may_be_opened, run_events_is_legal}
 use Rattle.clv_base.specs.Runs.{run_events}
 use Rattle.crash_laws.specs.PromiseLaws.{LogsStayInOrder, WorldsKeepPromise}
 use Rattle.law_base.proofs.Shards.{shard_inside as within}

@@ -25,15 +25,15 @@ use Rattle.shard_laws.proofs.Keeping.LeavingKeeps.{in_more}
 use Rattle.history_laws.specs.Places.{transactions_of, StandsBefore}
 use Rattle.history_laws.proofs.Entries.LowerPlacesStandBefore.{placed_before}
 use Rattle.fate_laws.specs.Leading.{deeds_before, requests_of}
-use Rattle.fate_laws.proofs.EachShardLeads.DoubtedAreOfEarlierRuns.{asked_are_old}
+use Rattle.fate_laws.proofs.EachShardLeads.DoubtedAreEarlier.{asked_are_old}
 use Rattle.headline_laws.specs.Shares.{LiesIn}
 use Rattle.headline_laws.proofs.TransactionsReplayByShards.SpansShareNoKey.{one_shard, between}
 use Rattle.headline_laws.proofs.MembersReplayWhereHere.WhoIsAMember.{chosen, chosen_are_members}
-use Rattle.history_laws.proofs.Logs.FoundLogsAreInOrder.{log_found}
+use Rattle.history_laws.proofs.Logs.FoundLogsInOrder.{log_found}
 use Rattle.crash_laws.specs.Acts.{Act, Meet, member_acts, MeetingsFollowPlaces}
-use Rattle.crash_laws.proofs.Lists.{later_told, later_by_shard}
-use Rattle.crash_laws.proofs.Telling.{told}
-use Rattle.crash_laws.proofs.Shards.{IsFine, members_are_fine, chosen_member, deeds_run, chosen_acts, acted}
+use Rattle.crash_laws.proofs.Acts.ActsByShards.{later_told, later_by_shard}
+use Rattle.crash_laws.proofs.Acts.ActsAreDeeds.{told}
+use Rattle.crash_laws.proofs.Acts.MembersActOnShards.{IsFine, members_are_fine, chosen_member, deeds_run, chosen_acts, acted}
 use Rattle.law_base.proofs.Names.{written_at}
 use Rattle.headline_laws.proofs.PredecessorsStandBeforeWhereHere.{stands_later}
 

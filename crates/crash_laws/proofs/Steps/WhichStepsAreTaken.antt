@@ -19,8 +19,8 @@ use Rattle.clv_base.specs.Journals.{History, own}
 use Rattle.clv_base.specs.Runs.{goes_on_session}
 use Rattle.clv_base.specs.Sessions.{SessionState, is_number, lies_in, session_for, op_answered, op_in_session, is_touching, same_touched, is_lowest, requested, stands_at, looked, may_drop, after_drop, session_after, is_session, is_of_session, is_session_number}
 use Rattle.journal_laws.specs.Offers.{hoped_for, may_make}
-use Rattle.journal_laws.proofs.Offering.{each_outcome_goes_on}
-use Rattle.journal_laws.proofs.Owning.{own_append, own_mine}
+use Rattle.journal_laws.proofs.EachOutcomeGoesOn.{each_outcome_goes_on}
+use Rattle.journal_laws.proofs.Entries.WalkersOwnEntries.{own_append, own_mine}
 use Rattle.cluster_turns.specs.States.{session_of}
 use Rattle.cluster_turns.proofs.Laws.{sessions_have_states, states_go_on, states_tell_may_make}
 use Rattle.crash_laws.specs.Running.{session_may}

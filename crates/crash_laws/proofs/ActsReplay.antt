@@ -38,10 +38,10 @@ use Rattle.headline_laws.proofs.MembersReplayWhereHere.WhoIsAMember.{chosen, cho
 use Rattle.headline_laws.proofs.MembersReplayWhereHere.{leads}
 use Rattle.headline_laws.specs.Found.{MembersReplay}
 use Rattle.crash_laws.specs.Acts.{Act, act_of, with_act, acts, member_acts, AnswersFrom, Meet, AreDistinct, ops_of_each, answers_of_each, ActsReplay, MembersHaveTheirActs}
-use Rattle.headline_laws.proofs.TransactionsReplayByShards.LogsAgreeWithTheMap.{logs_agree}
-use Rattle.crash_laws.proofs.Lists.{filter_map_is, later_told}
-use Rattle.crash_laws.proofs.Meeting.{meetings_follow_places}
-use Rattle.crash_laws.proofs.Basing.{answers_are_of_earlier}
+use Rattle.headline_laws.proofs.TransactionsReplayByShards.LogsAgreeWithMap.{logs_agree}
+use Rattle.crash_laws.proofs.Acts.ActsByShards.{filter_map_is, later_told}
+use Rattle.crash_laws.proofs.MeetingsFollowPlaces.{meetings_follow_places}
+use Rattle.crash_laws.proofs.AnswersAreOfEarlier.{answers_are_of_earlier}
 use Rattle.law_base.proofs.Logs.{only_passes, from_history}
 use Rattle.law_base.proofs.Shards.{FromHistory}
 

@@ -20,9 +20,9 @@ use Rattle.headline_laws.proofs.TransactionsReplayByShards.{replay_by_shards}
 use Rattle.headline_laws.proofs.MembersReplayWhereHere.WhoIsAMember.{chosen}
 use Rattle.headline_laws.proofs.MembersReplayWhereHere.{starts}
 use Rattle.crash_laws.specs.Acts.{Act, AnswersFrom, member_acts, AnswersAreOfEarlier}
-use Rattle.crash_laws.proofs.Lists.{filter_map_is}
-use Rattle.crash_laws.proofs.Telling.{told}
-use Rattle.crash_laws.proofs.Shards.{IsFine, members_are_fine, chosen_acts, acted}
+use Rattle.crash_laws.proofs.Acts.ActsByShards.{filter_map_is}
+use Rattle.crash_laws.proofs.Acts.ActsAreDeeds.{told}
+use Rattle.crash_laws.proofs.Acts.MembersActOnShards.{IsFine, members_are_fine, chosen_acts, acted}
 use Rattle.law_base.proofs.Names.{first_of}
 use Rattle.law_base.proofs.Logs.{only_passes}
 
