@@ -4,4 +4,3 @@ pub mod Spans
 pub mod Settling
 pub mod Folding
 pub mod Grouping
-pub mod FirstNo

@@ -20,8 +20,8 @@ use Rattle.clv_base.specs.Events.{finish, put_down, with_durable, taken}
 use Rattle.clv_base.specs.Restarts.{log_left, revived, opened, next_epoch, restart_records, FailedRestarts, untouched, failed_first, Restarts}
 use Rattle.clv_base.specs.Journals.{up_to_restart, event_state, after_entry, after_entries, MayEnter, MayRun}
 use Rattle.protocol_laws.specs.Growth.{IsPrefixOf}
-use Rattle.protocol_laws.proofs.Growing.{same, more, chain, grows_settled}
-use Rattle.protocol_laws.proofs.GrowingEvents.{log_only_grows}
+use Rattle.protocol_laws.proofs.LogOnlyGrows.DueGrowsLogs.{same, more, chain, grows_settled}
+use Rattle.protocol_laws.proofs.LogOnlyGrows.{log_only_grows}
 use Rattle.history_cases.proofs.Stepping.{commits, votes, rules, KeptByDue, settled, Step, decision_comes, flushes, Happens, finishes, stops}
 use Rattle.history_cases.proofs.Entering.{Makes, by_event, by_flush, by_failure, by_restart, makes}
 use Rattle.law_base.proofs.Logs.{few_fit as fitting_length}

@@ -9,8 +9,8 @@ use Rattle.clv_base.specs.LogRules.{disorder, log_of, all_logs_from, apart}
 use Rattle.clv_base.specs.FileRules.{may_open, log_passes, passes_file_rules}
 use Rattle.clv_base.specs.Restarts.{greatest_run, run_after}
 use Rattle.law_base.proofs.Options.{none_of}
-use Rattle.protocol_laws.proofs.Records.{own_commit}
-use Rattle.protocol_laws.proofs.Runs.{record_fits}
+use Rattle.protocol_laws.proofs.LogsInOrder.OneRecordMore.{own_commit}
+use Rattle.protocol_laws.proofs.LogsInOrder.RunsAreOfRestarts.{record_fits}
 use Rattle.protocol_laws.proofs.LogsInOrder.{runs_in_order}
 use Rattle.law_base.proofs.Logs.{passes_at as each_passes}
 

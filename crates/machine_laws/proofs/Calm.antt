@@ -12,7 +12,7 @@ use Rattle.clv_base.specs.State.{Shard}
 use Rattle.clv_base.specs.Events.{finish, happen, Does, with_flight}
 use Rattle.clv_base.specs.Journals.{stamp_bound}
 use Rattle.protocol_laws.specs.Growth.{IsPrefixOf}
-use Rattle.protocol_laws.proofs.GrowingEvents.{log_only_grows}
+use Rattle.protocol_laws.proofs.LogOnlyGrows.{log_only_grows}
 use Rattle.history_cases.proofs.Stepping.{Step, op_dies, op_answers, request_refused, request_doomed, request_again, request_new, request_closes, looks_well, looks_ill, drops, sends, prepare_closes, prepare_again, vote_counts, decision_comes, decision_again, done_counts, asked, reminds, flushes, Happens, finishes, stops, happened}
 use Rattle.history_cases.proofs.Durability.{framed_finish, happens_steps}
 use Rattle.machine_laws.specs.Homes.{is_turned, is_failed, has_failed, taker_after}

@@ -57,7 +57,7 @@ use Rattle.machine_laws.proofs.Rows.{get_passes, put_passes, set_passes}
 use Rattle.protocol_laws.proofs.Laws.{operations_keep, closings_keep, aborts_keep, drops_keep, ends_keep, records_keep, purges_keep}
 use Rattle.law_base.proofs.Names.{by_state}
 use Rattle.law_base.proofs.Bools.{and_three as three}
-use Rattle.protocol_laws.proofs.DueCases.{IfDue, due_holds, do_holds}
+use Rattle.protocol_laws.proofs.Due.DueCaseByCase.{IfDue, due_holds, do_holds}
 
 -- ---- messages
 

@@ -8,7 +8,7 @@ use Rattle.clv_base.specs.declared.events.Entry.{Entry}
 use Rattle.clv_base.specs.State.{Shard}
 use Rattle.clv_base.specs.Journals.{after_entry}
 use Rattle.clv_base.specs.Machines.{BecomesBy, Makes}
-use Rattle.protocol_laws.proofs.Growing.{same, chain}
+use Rattle.protocol_laws.proofs.LogOnlyGrows.DueGrowsLogs.{same, chain}
 use Rattle.turn_lock.specs.Journals.{entries_by}
 use Rattle.journal_laws.specs.Notes.{after_notes, MayNotes}
 use Rattle.machine_laws.specs.declared.notes.Note.{Note}

@@ -16,9 +16,9 @@ use Rattle.clv_base.specs.Machines.{BecomesBy, Makes, Runs}
 use Rattle.turn_lock.specs.Journals.{entries_by}
 use Rattle.journal_laws.specs.Notes.{MayNotes, after_notes}
 use Rattle.journal_laws.specs.Births.{LeavesBirth, BearsWalker}
-use Rattle.journal_laws.proofs.Noting.{notes_are_runs}
-use Rattle.journal_laws.proofs.Bearing.{free_births_stay, others_leave_births}
-use Rattle.journal_laws.proofs.Ending.{restarts_free}
+use Rattle.journal_laws.proofs.NotesAreRuns.{notes_are_runs}
+use Rattle.journal_laws.proofs.FreeBirthsStay.{free_births_stay, others_leave_births}
+use Rattle.journal_laws.proofs.EndsFree.{restarts_free}
 use Rattle.machine_laws.specs.declared.notes.Note.{Note}
 use Rattle.machine_laws.specs.declared.notes.Note.TheVariants.{Made, Fetched}
 use Rattle.machine_laws.specs.Notes.{noter, told}

@@ -11,11 +11,11 @@ use Rattle.clv_base.specs.declared.events.Entry.{Entry}
 use Rattle.clv_base.specs.State.{Shard}
 use Rattle.clv_base.specs.Events.{Enters, next_stamp, step, land, with_entry, finish, with_durable, put_down, landed, land_up, Quiet}
 use Rattle.protocol_laws.specs.Growth.{IsPrefixOf}
-use Rattle.protocol_laws.proofs.Growing.{grows_settled}
+use Rattle.protocol_laws.proofs.LogOnlyGrows.DueGrowsLogs.{grows_settled}
 use Rattle.history_cases.proofs.Durability.{framed_finish, Counted, opened_counted}
-use Rattle.journal_laws.proofs.Running.{fronts_run}
-use Rattle.journal_laws.proofs.Offering.{flying_is_in_time}
-use Rattle.journal_laws.proofs.Noting.{notes_are_runs}
+use Rattle.journal_laws.proofs.RunsGoOn.{fronts_run}
+use Rattle.journal_laws.proofs.EachOutcomeGoesOn.{flying_is_in_time}
+use Rattle.journal_laws.proofs.NotesAreRuns.{notes_are_runs}
 use Rattle.machine_calls.specs.declared.machine.StepError.{StepError}
 use Rattle.machine_calls.specs.Steps.{Made as IsMade, Tells}
 use Rattle.log_gate.specs.View.{Only, OnlyOrMore}

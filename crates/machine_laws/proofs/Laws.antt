@@ -6,10 +6,10 @@ pub use Rattle.machine_laws.proofs.Fits.{finishes_keep_names, events_keep_names,
 pub use Rattle.machine_laws.proofs.Begun.{restarts_are_named}
 pub use Rattle.machine_laws.proofs.Staying.{finishes_stay, events_stay}
 pub use Rattle.history_cases.proofs.Durability.{framed_finish}
-pub use Rattle.journal_laws.proofs.Noting.{notes_are_runs}
-pub use Rattle.journal_laws.proofs.Offering.{each_outcome_goes_on}
-pub use Rattle.journal_laws.proofs.Viewing.{own_entries_go_on, views_are_legal}
-pub use Rattle.journal_laws.proofs.Walking.{walkers_go_on, others_keep_sessions, walkers_begin}
+pub use Rattle.journal_laws.proofs.NotesAreRuns.{notes_are_runs}
+pub use Rattle.journal_laws.proofs.EachOutcomeGoesOn.{each_outcome_goes_on}
+pub use Rattle.journal_laws.proofs.ViewsAreLegal.{own_entries_go_on, views_are_legal}
+pub use Rattle.journal_laws.proofs.WalkersGoOn.{walkers_go_on, others_keep_sessions, walkers_begin}
 pub use Rattle.machine_laws.proofs.Beginning.{sound_opened}
 pub use Rattle.machine_laws.proofs.Calm.{does_calm, failed_append, does_fly, Calm}
 pub use Rattle.machine_laws.proofs.Departing.{sound_departs, Gone, gone, still_landable, sound_lands}

@@ -16,15 +16,15 @@ use Rattle.clv_base.specs.Restarts.{revived, log_left}
 use Rattle.clv_base.specs.Events.{Reply, QuietBeforeWorn, QuietAfterWorn, Does, Enters, next_stamp, step, stamped, land, with_entry, happen, happen_up}
 use Rattle.clv_base.specs.Journals.{stamp_bound, event_state, reply_state, after_entry, has_no_equal_active_birth}
 use Rattle.clv_base.specs.Machines.{BecomesBy, Makes}
-use Rattle.protocol_laws.proofs.Growing.{same}
-use Rattle.journal_laws.proofs.Stepping.{Answers, answers, makes_entry}
-use Rattle.journal_laws.proofs.Running.{enters}
-use Rattle.journal_laws.proofs.Noting.{notes_go_on, notes_are_seen}
+use Rattle.protocol_laws.proofs.LogOnlyGrows.DueGrowsLogs.{same}
+use Rattle.journal_laws.proofs.SteadyIsLegal.AnsweredStepsMakeEntries.{Answers, answers, makes_entry}
+use Rattle.journal_laws.proofs.RunsGoOn.{enters}
+use Rattle.journal_laws.proofs.NotesAreRuns.{notes_go_on, notes_are_seen}
 use Rattle.journal_laws.specs.Notes.{after_note, after_notes, RestartsByHolder, MayNote, MayNotes}
 use Rattle.machine_calls.specs.declared.machine.StepError.{StepError}
 use Rattle.machine_calls.specs.Steps.{entry, Made as IsMade, Tells, listed}
 use Rattle.machine_calls.specs.Restored.{revives}
-use Rattle.protocol_laws.proofs.Reaching.{misfit_is_exact}
+use Rattle.protocol_laws.proofs.RestartsLeadToOneLog.{misfit_is_exact}
 use Rattle.clv_base.specs.Restarts.{misfit}
 use Rattle.machine_laws.specs.declared.notes.Note.{Note}
 use Rattle.machine_laws.specs.declared.notes.Note.TheVariants.{Made, Fetched}

@@ -33,7 +33,7 @@ use Rattle.clv_base.specs.OneShard.{close_part}
 use Rattle.clv_base.specs.Due.{send}
 use Rattle.clv_base.specs.Events.{is_alone, coordinate, owe_vote, with_votes, with_done, with_outbox, ask_messages}
 use Rattle.machine_laws.specs.Frame.{FinishesStay, EventsStay, is_grounded}
-use Rattle.protocol_laws.proofs.DueCases.{IfDue, due_holds, do_holds}
+use Rattle.protocol_laws.proofs.Due.DueCaseByCase.{IfDue, due_holds, do_holds}
 
 -- the same number, and the same in flight
 record Stays (s t : Shard) : Type 0 where

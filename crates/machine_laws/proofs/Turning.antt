@@ -10,7 +10,7 @@ use Rattle.clv_base.specs.State.{Shard}
 use Rattle.clv_base.specs.Events.{CallAnswer, Enters, next_stamp, step, message_stamp, happen}
 use Rattle.turn_lock.specs.Journals.{GrownBy, GrownByOthers}
 use Rattle.journal_laws.specs.Notes.{MayNotes, after_notes}
-use Rattle.journal_laws.proofs.Noting.{notes_are_seen}
+use Rattle.journal_laws.proofs.NotesAreRuns.{notes_are_seen}
 use Rattle.machine_calls.specs.declared.machine.StepError.{StepError}
 use Rattle.machine_calls.specs.Steps.{Made as IsMade, Tells, clock_by, clock_after, listed}
 use Rattle.machine_laws.specs.declared.notes.Note.{Note}

@@ -40,7 +40,7 @@ use Rattle.clv_base.specs.Due.{total, due_of, do_due, work, finish_reader, with_
 use Rattle.clv_base.specs.Events.{Reply, QuietBeforeWorn, QuietAfterWorn, Does, finish, op_event, epoch_in, request_by_stage, request_event, look_lost, look_state, look_known, request_epoch, drop_event, on_prepare, on_vote, decided, on_decide, on_done, on_message, to_of, send_event, reminders, remind_with, out_event, taken, landed, happen_up, happen}
 use Rattle.clv_base.specs.Restarts.{restored_parts}
 use Rattle.machine_laws.specs.Undropped.{to_drop, undropped, new_part_by, new_parts, FinishesKeepParts, EventsAddParts, LandingsKeepParts, FirstDropsTake, RestartsHaveDoubtful}
-use Rattle.protocol_laws.proofs.DueCases.{IfDue, due_holds, do_holds}
+use Rattle.protocol_laws.proofs.Due.DueCaseByCase.{IfDue, due_holds, do_holds}
 
 abbrev count : Table Held → ℕ
 count parts = total to_drop parts

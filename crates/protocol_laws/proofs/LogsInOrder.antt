@@ -1,4 +1,7 @@
 -- What holds of a log in order, record by record.
+pub mod OneRecordMore
+pub mod RunsAreOfRestarts
+pub mod StandingUpdatesLie
 use Rattle.std.proofs.Common.{◌≡◌, ⊎_elim, refl, sym, ap, subst, ◌∙◌, ℕ, zero, suc, true, false, List, [], ◌∷◌, ◌++◌, length, Some, None, append-nil, append_assoc}
 use Rattle.std.specs.Prelude.{⊤, take}
 use Rattle.std.specs.List.{AllByRecursion}
@@ -12,9 +15,9 @@ use Rattle.clv_base.specs.LogRules.{may_follow, disorder_from, disorder}
 use Rattle.clv_base.specs.Restarts.{greatest_run}
 use Rattle.clv_base.proofs.SameNames.{tx_true}
 use Rattle.protocol_laws.specs.Order.{is_clr_of, undone_in, moves, Open_at, Tidy, Unprepared, Sealed, RunFits, NothingAfterCommit, NothingAfterPrepare, UndoneAreUncommitted, CommittedLieOnCommitted, RunsAreThoseOfRestarts, FrontsKeepOrder}
-use Rattle.protocol_laws.proofs.Records.{push_cases, push_false}
-use Rattle.protocol_laws.proofs.Runs.{runs_step}
-use Rattle.protocol_laws.proofs.Writes.{Writes, writes_step}
+use Rattle.protocol_laws.proofs.LogsInOrder.OneRecordMore.{push_cases, push_false}
+use Rattle.protocol_laws.proofs.LogsInOrder.RunsAreOfRestarts.{runs_step}
+use Rattle.protocol_laws.proofs.LogsInOrder.StandingUpdatesLie.{Writes, writes_step}
 use Rattle.law_base.proofs.Bools.{and_first as front, and_second as last}
 use Rattle.law_base.proofs.Logs.{push_left, order_case, standing_push}
 

@@ -1,7 +1,2 @@
-pub mod Upheld
-pub mod UpheldEvents
-pub mod Owing
-pub mod Fronts
-pub mod Beginnings
-pub mod Dying
+pub mod AbortsAreDeaths
 pub mod Laws

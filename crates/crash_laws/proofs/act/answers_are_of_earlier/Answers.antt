@@ -1,4 +1,4 @@
-use Rattle.crash_laws.proofs.Basing.{answers_are_of_earlier}
+use Rattle.crash_laws.proofs.AnswersAreOfEarlier.{answers_are_of_earlier}
 use Rattle.crash_laws.proofs.act.answers_are_of_earlier.Goals as goal
 
 pub returns : goal.returns

@@ -1,4 +1,4 @@
-use Rattle.crash_laws.proofs.Folding.{members_replay_by_acts}
+use Rattle.crash_laws.proofs.ActsReplay.{members_replay_by_acts}
 use Rattle.crash_laws.proofs.act.members_replay_by_acts.Goals as goal
 
 pub returns : goal.returns

@@ -1,4 +1,4 @@
-use Rattle.crash_laws.proofs.PromiseWorlds.{logs_stay_in_order}
+use Rattle.crash_laws.proofs.WorldsKeepPromise.{logs_stay_in_order}
 use Rattle.crash_laws.proofs.run_worlds.logs_stay_in_order.Goals as goal
 
 pub returns : goal.returns

@@ -1,4 +1,4 @@
-use Rattle.crash_laws.proofs.Crashing.{crashes_keep}
+use Rattle.crash_laws.proofs.CrashesKeep.{crashes_keep}
 use Rattle.crash_laws.proofs.statements.crashes_keep.Goals as goal
 
 pub returns : goal.returns

@@ -1,4 +1,4 @@
-use Rattle.crash_laws.proofs.Crashing.{moments_keep}
+use Rattle.crash_laws.proofs.CrashesKeep.{moments_keep}
 use Rattle.crash_laws.proofs.statements.moments_keep.Goals as goal
 
 pub returns : goal.returns

@@ -1,4 +1,4 @@
-use Rattle.fate_laws.proofs.Sparing.{aborted_are_committed_nowhere}
+use Rattle.fate_laws.proofs.AbortedAreCommittedNowhere.{aborted_are_committed_nowhere}
 use Rattle.fate_laws.proofs.aborts.aborted_are_committed_nowhere.Goals as goal
 
 pub returns : goal.returns

@@ -1,4 +1,4 @@
-use Rattle.fate_laws.proofs.Sparing.{doomed_are_uncommitted}
+use Rattle.fate_laws.proofs.AbortedAreCommittedNowhere.{doomed_are_uncommitted}
 use Rattle.fate_laws.proofs.aborts.doomed_are_uncommitted.Goals as goal
 
 pub returns : goal.returns

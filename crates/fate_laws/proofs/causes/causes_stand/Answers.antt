@@ -1,5 +1,5 @@
 use Rattle.fate_laws.proofs.causes.causes_stand.Goals as goal
-use Rattle.fate_laws.proofs.Telling.{causes_stand}
+use Rattle.fate_laws.proofs.CausesStand.{causes_stand}
 
 pub returns : goal.returns
 returns c = causes_stand

@@ -1,4 +1,4 @@
-use Rattle.fate_laws.proofs.Earlier.{aborts_stay}
+use Rattle.fate_laws.proofs.EarlierRuns.EarlierFatesAreKnown.{aborts_stay}
 use Rattle.fate_laws.proofs.earlier_runs.aborts_stay.Goals as goal
 
 pub returns : goal.returns

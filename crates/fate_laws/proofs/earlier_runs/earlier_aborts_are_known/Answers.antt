@@ -1,4 +1,4 @@
-use Rattle.fate_laws.proofs.Earlier.{earlier_aborts_are_known}
+use Rattle.fate_laws.proofs.EarlierRuns.EarlierFatesAreKnown.{earlier_aborts_are_known}
 use Rattle.fate_laws.proofs.earlier_runs.earlier_aborts_are_known.Goals as goal
 
 pub returns : goal.returns

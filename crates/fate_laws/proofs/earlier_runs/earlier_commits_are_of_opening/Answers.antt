@@ -1,4 +1,4 @@
-use Rattle.fate_laws.proofs.Earlier.{earlier_commits_are_of_opening}
+use Rattle.fate_laws.proofs.EarlierRuns.EarlierFatesAreKnown.{earlier_commits_are_of_opening}
 use Rattle.fate_laws.proofs.earlier_runs.earlier_commits_are_of_opening.Goals as goal
 
 pub returns : goal.returns

@@ -1,4 +1,4 @@
-use Rattle.fate_laws.proofs.Finding.{commits_find_the_unfallen}
+use Rattle.fate_laws.proofs.FallenAreUncommitted.{commits_find_the_unfallen}
 use Rattle.fate_laws.proofs.falls.commits_find_the_unfallen.Goals as goal
 
 pub returns : goal.returns

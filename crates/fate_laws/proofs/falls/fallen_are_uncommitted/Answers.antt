@@ -1,4 +1,4 @@
-use Rattle.fate_laws.proofs.Finding.{fallen_are_uncommitted}
+use Rattle.fate_laws.proofs.FallenAreUncommitted.{fallen_are_uncommitted}
 use Rattle.fate_laws.proofs.falls.fallen_are_uncommitted.Goals as goal
 
 pub returns : goal.returns

@@ -1,4 +1,4 @@
-use Rattle.fate_laws.proofs.Finding.{members_never_fell_at_home}
+use Rattle.fate_laws.proofs.FallenAreUncommitted.{members_never_fell_at_home}
 use Rattle.fate_laws.proofs.falls.members_never_fell_at_home.Goals as goal
 
 pub returns : goal.returns

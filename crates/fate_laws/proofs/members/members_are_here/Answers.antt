@@ -1,4 +1,4 @@
-use Rattle.fate_laws.proofs.Here.{members_are_here}
+use Rattle.fate_laws.proofs.MembersAreHere.{members_are_here}
 use Rattle.fate_laws.proofs.members.members_are_here.Goals as goal
 
 pub returns : goal.returns

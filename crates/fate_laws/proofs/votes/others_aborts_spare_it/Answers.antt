@@ -1,4 +1,4 @@
-use Rattle.fate_laws.proofs.Voting.{others_aborts_spare_it}
+use Rattle.fate_laws.proofs.VotesBind.{others_aborts_spare_it}
 use Rattle.fate_laws.proofs.votes.others_aborts_spare_it.Goals as goal
 
 pub returns : goal.returns

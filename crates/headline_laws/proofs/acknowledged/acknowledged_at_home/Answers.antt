@@ -1,4 +1,4 @@
-use Rattle.headline_laws.proofs.MembersStanding.{acknowledged_at_home}
+use Rattle.headline_laws.proofs.AcknowledgedStand.{acknowledged_at_home}
 use Rattle.headline_laws.proofs.acknowledged.acknowledged_at_home.Goals as goal
 
 pub returns : goal.returns

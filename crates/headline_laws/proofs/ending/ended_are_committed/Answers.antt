@@ -1,4 +1,4 @@
-use Rattle.headline_laws.proofs.Ended.{ended_are_committed}
+use Rattle.headline_laws.proofs.EndedAreCommitted.{ended_are_committed}
 use Rattle.headline_laws.proofs.ending.ended_are_committed.Goals as goal
 
 pub returns : goal.returns

@@ -1,4 +1,4 @@
-use Rattle.headline_laws.proofs.Readers.{members_never_fell}
+use Rattle.headline_laws.proofs.ReadersPass.{members_never_fell}
 use Rattle.headline_laws.proofs.reader.members_never_fell.Goals as goal
 
 pub returns : goal.returns

@@ -1,4 +1,4 @@
-use Rattle.headline_laws.proofs.Readers.{readers_never_fell}
+use Rattle.headline_laws.proofs.ReadersPass.{readers_never_fell}
 use Rattle.headline_laws.proofs.reader.readers_never_fell.Goals as goal
 
 pub returns : goal.returns

@@ -1,4 +1,4 @@
-use Rattle.headline_laws.proofs.Readers.{readers_pass}
+use Rattle.headline_laws.proofs.ReadersPass.{readers_pass}
 use Rattle.headline_laws.proofs.reader.readers_pass.Goals as goal
 
 pub returns : goal.returns

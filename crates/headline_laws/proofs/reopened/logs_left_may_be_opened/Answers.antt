@@ -1,4 +1,4 @@
-use Rattle.headline_laws.proofs.Reopening.{logs_left_may_be_opened}
+use Rattle.headline_laws.proofs.LogsLeftMayBeOpened.{logs_left_may_be_opened}
 use Rattle.headline_laws.proofs.reopened.logs_left_may_be_opened.Goals as goal
 
 pub returns : goal.returns

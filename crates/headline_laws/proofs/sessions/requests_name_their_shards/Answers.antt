@@ -1,4 +1,4 @@
-use Rattle.headline_laws.proofs.Naming.{requests_name_their_shards}
+use Rattle.headline_laws.proofs.RequestsNameTheirShards.{requests_name_their_shards}
 use Rattle.headline_laws.proofs.sessions.requests_name_their_shards.Goals as goal
 
 pub returns : goal.returns

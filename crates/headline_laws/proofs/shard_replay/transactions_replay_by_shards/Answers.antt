@@ -1,4 +1,4 @@
-use Rattle.headline_laws.proofs.ShardReplaying.{replay_by_shards}
+use Rattle.headline_laws.proofs.TransactionsReplayByShards.{replay_by_shards}
 use Rattle.headline_laws.proofs.shard_replay.transactions_replay_by_shards.Goals as goal
 
 pub returns : goal.returns

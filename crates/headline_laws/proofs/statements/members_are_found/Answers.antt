@@ -1,4 +1,4 @@
-use Rattle.headline_laws.proofs.Found.{members_are_found}
+use Rattle.headline_laws.proofs.MembersReplay.{members_are_found}
 use Rattle.headline_laws.proofs.statements.members_are_found.Goals as goal
 
 pub returns : goal.returns

@@ -1,4 +1,4 @@
-use Rattle.headline_laws.proofs.Found.{members_replay}
+use Rattle.headline_laws.proofs.MembersReplay.{members_replay}
 use Rattle.headline_laws.proofs.statements.members_replay.Goals as goal
 
 pub returns : goal.returns

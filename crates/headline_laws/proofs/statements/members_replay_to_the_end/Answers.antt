@@ -1,4 +1,4 @@
-use Rattle.headline_laws.proofs.Chaining.{members_replay_to_the_end}
+use Rattle.headline_laws.proofs.MembersReplayToTheEnd.{members_replay_to_the_end}
 use Rattle.headline_laws.proofs.statements.members_replay_to_the_end.Goals as goal
 
 pub returns : goal.returns

@@ -1,4 +1,4 @@
-use Rattle.headline_laws.proofs.Headline.{predecessors_stand_before}
+use Rattle.headline_laws.proofs.PredecessorsStandBefore.{predecessors_stand_before}
 use Rattle.headline_laws.proofs.statements.predecessors_stand_before.Goals as goal
 
 pub returns : goal.returns

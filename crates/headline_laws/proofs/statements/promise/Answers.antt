@@ -1,4 +1,4 @@
-use Rattle.headline_laws.proofs.Promising.{promise}
+use Rattle.headline_laws.proofs.Promise.{promise}
 use Rattle.headline_laws.proofs.statements.promise.Goals as goal
 
 pub returns : goal.returns

@@ -1,4 +1,4 @@
-use Rattle.headline_laws.proofs.EarlierVoting.{earlier_members_never_fell}
+use Rattle.headline_laws.proofs.EarlierMembersNeverFell.{earlier_members_never_fell}
 use Rattle.headline_laws.proofs.unfallen_members.earlier_members_never_fell.Goals as goal
 
 pub returns : goal.returns

@@ -1,4 +1,4 @@
-use Rattle.headline_laws.proofs.Voting.{members_are_voted_for}
+use Rattle.headline_laws.proofs.MembersAreVotedFor.{members_are_voted_for}
 use Rattle.headline_laws.proofs.unfallen_members.members_are_voted_for.Goals as goal
 
 pub returns : goal.returns

@@ -1,4 +1,4 @@
-use Rattle.headline_laws.proofs.Reading.{only_readers_may_fall}
+use Rattle.headline_laws.proofs.OnlyReadersMayFall.{only_readers_may_fall}
 use Rattle.headline_laws.proofs.unfallen_members.only_readers_may_fall.Goals as goal
 
 pub returns : goal.returns

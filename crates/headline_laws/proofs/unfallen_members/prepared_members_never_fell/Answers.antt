@@ -1,4 +1,4 @@
-use Rattle.headline_laws.proofs.Sparing.{prepared_members_never_fell}
+use Rattle.headline_laws.proofs.YesVotersNeverFell.{prepared_members_never_fell}
 use Rattle.headline_laws.proofs.unfallen_members.prepared_members_never_fell.Goals as goal
 
 pub returns : goal.returns

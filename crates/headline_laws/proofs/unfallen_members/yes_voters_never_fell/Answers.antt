@@ -1,4 +1,4 @@
-use Rattle.headline_laws.proofs.Sparing.{yes_voters_never_fell}
+use Rattle.headline_laws.proofs.YesVotersNeverFell.{yes_voters_never_fell}
 use Rattle.headline_laws.proofs.unfallen_members.yes_voters_never_fell.Goals as goal
 
 pub returns : goal.returns

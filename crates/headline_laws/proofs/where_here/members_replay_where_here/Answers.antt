@@ -1,4 +1,4 @@
-use Rattle.headline_laws.proofs.Replaying.{members_replay_where_here}
+use Rattle.headline_laws.proofs.MembersReplayWhereHere.{members_replay_where_here}
 use Rattle.headline_laws.proofs.where_here.members_replay_where_here.Goals as goal
 
 pub returns : goal.returns

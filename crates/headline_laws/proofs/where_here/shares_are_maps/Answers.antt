@@ -1,4 +1,4 @@
-use Rattle.headline_laws.proofs.Shares.{shares_are_maps}
+use Rattle.headline_laws.proofs.SharesAreMaps.{shares_are_maps}
 use Rattle.headline_laws.proofs.where_here.shares_are_maps.Goals as goal
 
 pub returns : goal.returns

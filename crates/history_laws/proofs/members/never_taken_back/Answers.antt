@@ -1,4 +1,4 @@
-use Rattle.history_laws.proofs.Staying.{never_taken_back}
+use Rattle.history_laws.proofs.NeverTakenBack.{never_taken_back}
 use Rattle.history_laws.proofs.members.never_taken_back.Goals as goal
 
 pub returns : goal.returns

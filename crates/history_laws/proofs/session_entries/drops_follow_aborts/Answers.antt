@@ -1,4 +1,4 @@
-use Rattle.history_laws.proofs.Turns.{drops_follow_aborts}
+use Rattle.history_laws.proofs.RequestsNameWhatAnswered.{drops_follow_aborts}
 use Rattle.history_laws.proofs.session_entries.drops_follow_aborts.Goals as goal
 
 pub returns : goal.returns

@@ -1,4 +1,4 @@
-use Rattle.history_laws.proofs.InTurn.{sessions_keep_their_order}
+use Rattle.history_laws.proofs.SessionsKeepTheirOrder.{sessions_keep_their_order}
 use Rattle.history_laws.proofs.sessions.sessions_keep_their_order.Goals as goal
 
 pub returns : goal.returns

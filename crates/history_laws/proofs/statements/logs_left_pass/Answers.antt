@@ -1,4 +1,4 @@
-use Rattle.history_laws.proofs.Passing.{logs_left_pass}
+use Rattle.history_laws.proofs.LogsLeftPass.{logs_left_pass}
 use Rattle.history_laws.proofs.statements.logs_left_pass.Goals as goal
 
 pub returns : goal.returns

@@ -1,4 +1,4 @@
-use Rattle.journal_laws.proofs.Leaving.{crashes_leave}
+use Rattle.journal_laws.proofs.CrashesLeave.{crashes_leave}
 use Rattle.journal_laws.proofs.cut_statements.crashes_leave.Goals as goal
 
 pub returns : goal.returns

@@ -1,4 +1,4 @@
-use Rattle.journal_laws.proofs.Fronts.{fronts_are_cuts}
+use Rattle.journal_laws.proofs.FrontsAreCuts.{fronts_are_cuts}
 use Rattle.journal_laws.proofs.cut_statements.fronts_are_cuts.Goals as goal
 
 pub returns : goal.returns

@@ -1,4 +1,4 @@
-use Rattle.journal_laws.proofs.Fronts.{whole_walkers_serve}
+use Rattle.journal_laws.proofs.FrontsAreCuts.{whole_walkers_serve}
 use Rattle.journal_laws.proofs.cut_statements.whole_walkers_serve.Goals as goal
 
 pub returns : goal.returns

@@ -1,4 +1,4 @@
-use Rattle.journal_laws.proofs.Offering.{each_outcome_goes_on}
+use Rattle.journal_laws.proofs.EachOutcomeGoesOn.{each_outcome_goes_on}
 use Rattle.journal_laws.proofs.statements.each_outcome_goes_on.Goals as goal
 
 pub returns : goal.returns

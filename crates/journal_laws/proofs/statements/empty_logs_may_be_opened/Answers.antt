@@ -1,4 +1,4 @@
-use Rattle.journal_laws.proofs.Steadily.{empty_logs_may_be_opened}
+use Rattle.journal_laws.proofs.SteadyIsLegal.{empty_logs_may_be_opened}
 use Rattle.journal_laws.proofs.statements.empty_logs_may_be_opened.Goals as goal
 
 pub returns : goal.returns

@@ -1,4 +1,4 @@
-use Rattle.journal_laws.proofs.Noting.{entries_do_not_tell}
+use Rattle.journal_laws.proofs.NotesAreRuns.{entries_do_not_tell}
 use Rattle.journal_laws.proofs.statements.entries_do_not_tell.Goals as goal
 
 pub returns : goal.returns

@@ -1,4 +1,4 @@
-use Rattle.journal_laws.proofs.Bearing.{free_births_stay}
+use Rattle.journal_laws.proofs.FreeBirthsStay.{free_births_stay}
 use Rattle.journal_laws.proofs.statements.free_births_stay.Goals as goal
 
 pub returns : goal.returns

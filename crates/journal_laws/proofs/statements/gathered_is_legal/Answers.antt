@@ -1,4 +1,4 @@
-use Rattle.journal_laws.proofs.Gathering.{gathered_is_legal}
+use Rattle.journal_laws.proofs.GatheredIsLegal.{gathered_is_legal}
 use Rattle.journal_laws.proofs.statements.gathered_is_legal.Goals as goal
 
 pub returns : goal.returns

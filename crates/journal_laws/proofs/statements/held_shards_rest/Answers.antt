@@ -1,4 +1,4 @@
-use Rattle.journal_laws.proofs.Noting.{held_shards_rest}
+use Rattle.journal_laws.proofs.NotesAreRuns.{held_shards_rest}
 use Rattle.journal_laws.proofs.statements.held_shards_rest.Goals as goal
 
 pub returns : goal.returns

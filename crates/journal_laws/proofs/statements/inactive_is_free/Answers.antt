@@ -1,4 +1,4 @@
-use Rattle.journal_laws.proofs.Ending.{inactive_is_free}
+use Rattle.journal_laws.proofs.EndsFree.{inactive_is_free}
 use Rattle.journal_laws.proofs.statements.inactive_is_free.Goals as goal
 
 pub returns : goal.returns

@@ -1,4 +1,4 @@
-use Rattle.journal_laws.proofs.Noting.{notes_are_shared}
+use Rattle.journal_laws.proofs.NotesAreRuns.{notes_are_shared}
 use Rattle.journal_laws.proofs.statements.notes_are_shared.Goals as goal
 
 pub returns : goal.returns

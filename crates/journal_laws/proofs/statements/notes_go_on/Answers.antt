@@ -1,4 +1,4 @@
-use Rattle.journal_laws.proofs.Noting.{notes_go_on}
+use Rattle.journal_laws.proofs.NotesAreRuns.{notes_go_on}
 use Rattle.journal_laws.proofs.statements.notes_go_on.Goals as goal
 
 pub returns : goal.returns

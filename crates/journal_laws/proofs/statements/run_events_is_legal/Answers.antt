@@ -1,4 +1,4 @@
-use Rattle.journal_laws.proofs.Steadily.{run_events_is_legal}
+use Rattle.journal_laws.proofs.SteadyIsLegal.{run_events_is_legal}
 use Rattle.journal_laws.proofs.statements.run_events_is_legal.Goals as goal
 
 pub returns : goal.returns

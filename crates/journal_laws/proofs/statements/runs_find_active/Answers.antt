@@ -1,4 +1,4 @@
-use Rattle.journal_laws.proofs.Ending.{runs_find_active}
+use Rattle.journal_laws.proofs.EndsFree.{runs_find_active}
 use Rattle.journal_laws.proofs.statements.runs_find_active.Goals as goal
 
 pub returns : goal.returns

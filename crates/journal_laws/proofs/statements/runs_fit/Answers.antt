@@ -1,4 +1,4 @@
-use Rattle.journal_laws.proofs.Running.{runs_fit}
+use Rattle.journal_laws.proofs.RunsGoOn.{runs_fit}
 use Rattle.journal_laws.proofs.statements.runs_fit.Goals as goal
 
 pub returns : goal.returns

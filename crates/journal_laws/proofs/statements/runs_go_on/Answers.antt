@@ -1,4 +1,4 @@
-use Rattle.journal_laws.proofs.Running.{runs_go_on}
+use Rattle.journal_laws.proofs.RunsGoOn.{runs_go_on}
 use Rattle.journal_laws.proofs.statements.runs_go_on.Goals as goal
 
 pub returns : goal.returns

@@ -1,4 +1,4 @@
-use Rattle.journal_laws.proofs.Steadily.{steady_is_legal}
+use Rattle.journal_laws.proofs.SteadyIsLegal.{steady_is_legal}
 use Rattle.journal_laws.proofs.statements.steady_is_legal.Goals as goal
 
 pub returns : goal.returns

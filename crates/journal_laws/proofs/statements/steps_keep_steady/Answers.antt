@@ -1,4 +1,4 @@
-use Rattle.journal_laws.proofs.Steadily.{steps_keep_steady}
+use Rattle.journal_laws.proofs.SteadyIsLegal.{steps_keep_steady}
 use Rattle.journal_laws.proofs.statements.steps_keep_steady.Goals as goal
 
 pub returns : goal.returns

@@ -1,4 +1,4 @@
-use Rattle.journal_laws.proofs.Walking.{walkers_go_on}
+use Rattle.journal_laws.proofs.WalkersGoOn.{walkers_go_on}
 use Rattle.journal_laws.proofs.statements.walkers_go_on.Goals as goal
 
 pub returns : goal.returns

@@ -1,4 +1,4 @@
-use Rattle.protocol_laws.proofs.Least.{at_rest_none}
+use Rattle.protocol_laws.proofs.Due.LeastIsNext.{at_rest_none}
 use Rattle.protocol_laws.proofs.candidates.at_rest_none.Goals as goal
 
 pub returns : goal.returns

@@ -1,4 +1,4 @@
-use Rattle.protocol_laws.proofs.Going.{doing_goes_on}
+use Rattle.protocol_laws.proofs.Due.DoingGoesOn.{doing_goes_on}
 use Rattle.protocol_laws.proofs.candidates.doing_goes_on.Goals as goal
 
 pub returns : goal.returns

@@ -1,4 +1,4 @@
-use Rattle.protocol_laws.proofs.Deciding.{due_by_facts}
+use Rattle.protocol_laws.proofs.Due.DueByFacts.{due_by_facts}
 use Rattle.protocol_laws.proofs.candidates.due_by_facts.Goals as goal
 
 pub returns : goal.returns

@@ -1,4 +1,4 @@
-use Rattle.protocol_laws.proofs.Least.{none_is_nothing}
+use Rattle.protocol_laws.proofs.Due.LeastIsNext.{none_is_nothing}
 use Rattle.protocol_laws.proofs.candidates.none_is_nothing.Goals as goal
 
 pub returns : goal.returns

@@ -1,4 +1,4 @@
-use Rattle.protocol_laws.proofs.Going.{nothing_to_do}
+use Rattle.protocol_laws.proofs.Due.DoingGoesOn.{nothing_to_do}
 use Rattle.protocol_laws.proofs.candidates.nothing_to_do.Goals as goal
 
 pub returns : goal.returns

@@ -1,4 +1,4 @@
-use Rattle.protocol_laws.proofs.Least.{others_cover}
+use Rattle.protocol_laws.proofs.Due.LeastIsNext.{others_cover}
 use Rattle.protocol_laws.proofs.candidates.others_cover.Goals as goal
 
 pub returns : goal.returns

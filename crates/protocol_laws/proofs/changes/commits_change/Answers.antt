@@ -1,4 +1,4 @@
-use Rattle.protocol_laws.proofs.DueFacts.{commits_change}
+use Rattle.protocol_laws.proofs.Due.WhoseFactsChange.{commits_change}
 use Rattle.protocol_laws.proofs.changes.commits_change.Goals as goal
 
 pub returns : goal.returns

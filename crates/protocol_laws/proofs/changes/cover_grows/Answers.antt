@@ -1,4 +1,4 @@
-use Rattle.protocol_laws.proofs.Deciding.{cover_grows}
+use Rattle.protocol_laws.proofs.Due.DueByFacts.{cover_grows}
 use Rattle.protocol_laws.proofs.changes.cover_grows.Goals as goal
 
 pub returns : goal.returns

@@ -1,4 +1,4 @@
-use Rattle.protocol_laws.proofs.Landing.{flushes_cover}
+use Rattle.protocol_laws.proofs.FlushesCover.{flushes_cover}
 use Rattle.protocol_laws.proofs.changes.flushes_cover.Goals as goal
 
 pub returns : goal.returns

@@ -1,4 +1,4 @@
-use Rattle.protocol_laws.proofs.Purging.{purges_dont_matter}
+use Rattle.protocol_laws.proofs.PurgesDontMatter.{purges_dont_matter}
 use Rattle.protocol_laws.proofs.changes.purges_dont_matter.Goals as goal
 
 pub returns : goal.returns

@@ -1,4 +1,4 @@
-use Rattle.protocol_laws.proofs.DueFacts.{releases_change}
+use Rattle.protocol_laws.proofs.Due.WhoseFactsChange.{releases_change}
 use Rattle.protocol_laws.proofs.changes.releases_change.Goals as goal
 
 pub returns : goal.returns

@@ -1,4 +1,4 @@
-use Rattle.protocol_laws.proofs.DueFacts.{roll_backs_change}
+use Rattle.protocol_laws.proofs.Due.WhoseFactsChange.{roll_backs_change}
 use Rattle.protocol_laws.proofs.changes.roll_backs_change.Goals as goal
 
 pub returns : goal.returns

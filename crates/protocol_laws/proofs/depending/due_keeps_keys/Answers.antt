@@ -1,4 +1,4 @@
-use Rattle.protocol_laws.proofs.Keys.{due_keeps_keys}
+use Rattle.protocol_laws.proofs.DueKeepsKeys.{due_keeps_keys}
 use Rattle.protocol_laws.proofs.depending.due_keeps_keys.Goals as goal
 
 pub returns : goal.returns

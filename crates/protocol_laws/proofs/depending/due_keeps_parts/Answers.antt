@@ -1,4 +1,4 @@
-use Rattle.protocol_laws.proofs.Dependents.{due_keeps_parts}
+use Rattle.protocol_laws.proofs.DependentsHaveParts.{due_keeps_parts}
 use Rattle.protocol_laws.proofs.depending.due_keeps_parts.Goals as goal
 
 pub returns : goal.returns

@@ -1,4 +1,4 @@
-use Rattle.protocol_laws.proofs.GrowingEvents.{entries_keep_logs}
+use Rattle.protocol_laws.proofs.LogOnlyGrows.{entries_keep_logs}
 use Rattle.protocol_laws.proofs.events.entries_keep_logs.Goals as goal
 
 pub returns : goal.returns

@@ -1,4 +1,4 @@
-use Rattle.protocol_laws.proofs.GrowingEvents.{events_end_at_rest}
+use Rattle.protocol_laws.proofs.LogOnlyGrows.{events_end_at_rest}
 use Rattle.protocol_laws.proofs.events.events_end_at_rest.Goals as goal
 
 pub returns : goal.returns

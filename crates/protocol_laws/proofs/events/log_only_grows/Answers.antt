@@ -1,4 +1,4 @@
-use Rattle.protocol_laws.proofs.GrowingEvents.{log_only_grows}
+use Rattle.protocol_laws.proofs.LogOnlyGrows.{log_only_grows}
 use Rattle.protocol_laws.proofs.events.log_only_grows.Goals as goal
 
 pub returns : goal.returns

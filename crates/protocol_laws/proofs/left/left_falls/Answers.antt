@@ -1,4 +1,4 @@
-use Rattle.protocol_laws.proofs.Remaining.{left_falls}
+use Rattle.protocol_laws.proofs.LeftFalls.{left_falls}
 use Rattle.protocol_laws.proofs.left.left_falls.Goals as goal
 
 pub returns : goal.returns

@@ -1,4 +1,4 @@
-use Rattle.protocol_laws.proofs.Reaching.{misfit_is_exact}
+use Rattle.protocol_laws.proofs.RestartsLeadToOneLog.{misfit_is_exact}
 use Rattle.protocol_laws.proofs.restarts.misfit_is_exact.Goals as goal
 
 pub returns : goal.returns

@@ -1,4 +1,4 @@
-use Rattle.protocol_laws.proofs.Reaching.{restarts_lead_to_one}
+use Rattle.protocol_laws.proofs.RestartsLeadToOneLog.{restarts_lead_to_one}
 use Rattle.protocol_laws.proofs.restarts.restarts_lead_to_one_log.Goals as goal
 
 pub returns : goal.returns

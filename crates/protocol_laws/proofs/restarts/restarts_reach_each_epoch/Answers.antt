@@ -1,4 +1,4 @@
-use Rattle.protocol_laws.proofs.Reaching.{restarts_reach}
+use Rattle.protocol_laws.proofs.RestartsLeadToOneLog.{restarts_reach}
 use Rattle.protocol_laws.proofs.restarts.restarts_reach_each_epoch.Goals as goal
 
 pub returns : goal.returns

@@ -1,4 +1,4 @@
-use Rattle.protocol_laws.proofs.SpellingChanges.{aborts_keep, drops_keep}
+use Rattle.protocol_laws.proofs.ChangesKeepSpelling.{aborts_keep, drops_keep}
 use Rattle.protocol_laws.proofs.spelling.aborts_keep.Goals as goal
 
 pub returns-clause-aborts : goal.returns-clause-aborts

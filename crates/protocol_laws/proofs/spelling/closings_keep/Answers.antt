@@ -1,4 +1,4 @@
-use Rattle.protocol_laws.proofs.SpellingChanges.{closings_keep}
+use Rattle.protocol_laws.proofs.ChangesKeepSpelling.{closings_keep}
 use Rattle.protocol_laws.proofs.spelling.closings_keep.Goals as goal
 
 pub returns : goal.returns

@@ -1,4 +1,4 @@
-use Rattle.protocol_laws.proofs.SpellingChanges.{ends_keep, records_keep, purges_keep}
+use Rattle.protocol_laws.proofs.ChangesKeepSpelling.{ends_keep, records_keep, purges_keep}
 use Rattle.protocol_laws.proofs.spelling.others_keep.Goals as goal
 
 pub returns-clause-ends : goal.returns-clause-ends

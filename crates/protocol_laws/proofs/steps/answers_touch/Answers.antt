@@ -1,4 +1,4 @@
-use Rattle.protocol_laws.proofs.Touching.{answers_touch}
+use Rattle.protocol_laws.proofs.Due.WhatEventsTouch.{answers_touch}
 use Rattle.protocol_laws.proofs.steps.answers_touch.Goals as goal
 
 pub returns : goal.returns

@@ -1,4 +1,4 @@
-use Rattle.protocol_laws.proofs.Touching.{decisions_touch}
+use Rattle.protocol_laws.proofs.Due.WhatEventsTouch.{decisions_touch}
 use Rattle.protocol_laws.proofs.steps.decisions_touch.Goals as goal
 
 pub returns : goal.returns

@@ -1,4 +1,4 @@
-use Rattle.protocol_laws.proofs.Touching.{drops_touch}
+use Rattle.protocol_laws.proofs.Due.WhatEventsTouch.{drops_touch}
 use Rattle.protocol_laws.proofs.steps.drops_touch.Goals as goal
 
 pub returns : goal.returns

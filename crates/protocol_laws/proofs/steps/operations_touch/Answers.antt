@@ -1,4 +1,4 @@
-use Rattle.protocol_laws.proofs.Touching.{operations_touch}
+use Rattle.protocol_laws.proofs.Due.WhatEventsTouch.{operations_touch}
 use Rattle.protocol_laws.proofs.steps.operations_touch.Goals as goal
 
 pub returns : goal.returns

@@ -1,4 +1,4 @@
-use Rattle.protocol_laws.proofs.Touching.{votes_touch}
+use Rattle.protocol_laws.proofs.Due.WhatEventsTouch.{votes_touch}
 use Rattle.protocol_laws.proofs.steps.votes_touch.Goals as goal
 
 pub returns : goal.returns

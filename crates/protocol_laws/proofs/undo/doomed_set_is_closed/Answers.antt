@@ -1,4 +1,4 @@
-use Rattle.protocol_laws.proofs.Laws.{doomed_is_closure}
+use Rattle.protocol_laws.proofs.DoomedSetIsClosed.{doomed_is_closure}
 use Rattle.protocol_laws.proofs.undo.doomed_set_is_closed.Goals as goal
 
 pub returns : goal.returns

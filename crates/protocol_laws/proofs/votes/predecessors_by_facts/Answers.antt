@@ -1,4 +1,4 @@
-use Rattle.protocol_laws.proofs.Facts.{predecessors_by_facts}
+use Rattle.protocol_laws.proofs.PredecessorsByFacts.{predecessors_by_facts}
 use Rattle.protocol_laws.proofs.votes.predecessors_by_facts.Goals as goal
 
 pub returns : goal.returns

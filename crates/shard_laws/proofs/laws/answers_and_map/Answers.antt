@@ -1,4 +1,4 @@
-use Rattle.shard_laws.proofs.Histories.{answers_and_map}
+use Rattle.shard_laws.proofs.AnswersAndMap.{answers_and_map}
 use Rattle.shard_laws.proofs.laws.answers_and_map.Goals as goal
 
 pub returns : goal.returns

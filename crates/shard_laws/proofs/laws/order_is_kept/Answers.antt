@@ -1,4 +1,4 @@
-use Rattle.shard_laws.proofs.OrderKept.{order_is_kept}
+use Rattle.shard_laws.proofs.OrderIsKept.{order_is_kept}
 use Rattle.shard_laws.proofs.laws.order_is_kept.Goals as goal
 
 pub returns : goal.returns

@@ -1,4 +1,4 @@
-use Rattle.shard_laws.proofs.Histories.{recoverable}
+use Rattle.shard_laws.proofs.AnswersAndMap.{recoverable}
 use Rattle.shard_laws.proofs.laws.recoverable.Goals as goal
 
 pub returns : goal.returns

@@ -1,0 +1,4 @@
+-- What the members of a history did, shard by shard.
+pub mod ActsByShards
+pub mod ActsAreDeeds
+pub mod MembersActOnShards

@@ -1,0 +1,138 @@
+-- What a message that comes owes the shard: a Prepare, and word of a commit.
+use Rattle.std.proofs.Common.{◌≡◌, ◌⊎◌, inl, inr, ⊎_elim, refl, sym, ap, subst, ◌∙◌, ℕ, true, false, cond, Bool, List, [], ◌∷◌, arith, eqb-true, ◌==◌, ◌&&◌}
+use Rattle.std.specs.List.{list_any}
+use Rattle.std.proofs.lemmas.Bool.{both_ways, false_from_ne_true, or_cases, and_from}
+use Rattle.clv_base.specs.declared.names.TxId.{TxId}
+use Rattle.clv_base.specs.declared.logs.LogRecord.{LogRecord}
+use Rattle.clv_base.specs.declared.logs.LogRecord.TheVariants.{Update, Clr, Prepare as PrepareRecord, Commit, Abort, End, Restart as RestartRecord}
+use Rattle.clv_base.specs.declared.messages.Message.{Message}
+use Rattle.clv_base.specs.declared.messages.Message.TheVariants.{Prepare, Decide}
+use Rattle.clv_base.specs.declared.state.Taken.{Taken as DecisionTaken}
+use Rattle.clv_base.specs.declared.state.Taken.TheVariants.{Done as IsDone, Waiting as IsAwaited, Stale as IsStale}
+use Rattle.clv_base.specs.declared.events.Event.{Event}
+use Rattle.clv_base.specs.declared.events.Event.TheVariants.{Deliver}
+use Rattle.clv_base.specs.declared.events.Outcome.{Outcome}
+use Rattle.clv_base.specs.declared.events.Outcome.TheVariants.{Taken, Stale, Down}
+use Rattle.clv_base.specs.declared.events.Entry.{Entry}
+use Rattle.clv_base.specs.Orders.{tx_same, tx_in, tx_get}
+use Rattle.clv_base.specs.Logs.{wrote_in, committed_in, is_update_of, is_commit_of}
+use Rattle.clv_base.specs.LogRules.{may_follow, some_parts}
+use Rattle.clv_base.specs.State.{Shard}
+use Rattle.clv_base.specs.Facts.{facts_of}
+use Rattle.clv_base.specs.Participant.{taken_by}
+use Rattle.clv_base.specs.Events.{QuietBeforeWorn, Does, happen, happen_up, on_message, on_decide, to_of}
+use Rattle.clv_base.specs.Restarts.{run_after}
+use Rattle.clv_base.specs.Journals.{History}
+use Rattle.clv_base.proofs.SameNames.{tx_true}
+use Rattle.law_base.proofs.Rows.{rows_get}
+use Rattle.protocol_laws.proofs.LogsInOrder.OneRecordMore.{push_cases, push_right}
+use Rattle.protocol_laws.specs.SessionLaws.{tx_of}
+use Rattle.shard_laws.specs.OneShard.{Deeds, Leads, MayDeliver}
+use Rattle.shard_laws.proofs.Order.RecordByRecord.{Follows, from_disorder, through}
+use Rattle.shard_laws.proofs.OrderIsKept.{order_is_kept}
+use Rattle.history_laws.proofs.NeverTakenBack.{walker_of, one_request}
+use Rattle.fate_laws.proofs.History.EntriesInTurn.{Requested}
+use Rattle.fate_laws.proofs.Origins.DueKeepsOrigins.{OwnRequest, RowFrom, RecordFrom, AllFrom}
+use Rattle.fate_laws.proofs.Origins.FrontsKeepOrigins.{DidOrOld, IsOld}
+use Rattle.fate_laws.specs.Leading.{requests_of}
+use Rattle.fate_laws.proofs.History.DeedsOfOneEntry.{request_is_in}
+use Rattle.fate_laws.proofs.EachShardLeads.RecordsTellTheirOrigin.{any_from}
+use Rattle.fate_laws.proofs.EachShardLeads.SessionsMayAsk.{Here, none_of}
+use Rattle.law_base.proofs.Bools.{and_second as last}
+use Rattle.law_base.proofs.Logs.{push_left}
+
+-- ---- where a message comes, and what it comes to
+
+pub when_up : {X : Type 0} (s : Shard) (e : Event) (o : Outcome) (t : Shard) → (happen_up s e ≡ Does o t → X) → happen s e ≡ Does o t → X
+when_up {X} s e o t k = at s.is_up
+  where
+    at : (b : Bool) → elim b [ true ↦ happen_up s e | false ↦ QuietBeforeWorn Down ] ≡ Does o t → X
+    at true f = k f
+    at false f = absurd cc
+
+for_it : {X : Type 0} (s : Shard) (m : Message) (o : Outcome) (t : Shard) → (to_of m ≡ s.shard → on_message s m ≡ Does o t → X) → cond (to_of m == s.shard) (on_message s m) (QuietBeforeWorn Stale) ≡ Does o t → X
+for_it {X} s m o t k = at (to_of m == s.shard) refl
+  where
+    at : (b : Bool) → (to_of m == s.shard) ≡ b → cond b (on_message s m) (QuietBeforeWorn Stale) ≡ Does o t → X
+    at true e f = k (eqb-true (to_of m) s.shard e) f
+    at false e f = absurd cc
+
+pub comes_to : (s : Shard) (m : Message) (stamp : ℕ) (o : Outcome) (t : Shard) → happen s (Deliver m stamp) ≡ Does o t → to_of m ≡ s.shard
+comes_to s m stamp o t f = when_up s (Deliver m stamp) o t (for_it s m o t (λ e g. e)) f
+
+pub decide_taken : (s : Shard) (to : ℕ) (tx : TxId) (home stamp : ℕ) (o : Outcome) (t : Shard) → happen s (Deliver (Decide to tx home true) stamp) ≡ Does o t → o ≡ Taken
+decide_taken s to tx home stamp o t f = when_up s (Deliver (Decide to tx home true) stamp) o t (for_it s (Decide to tx home true) o t (λ e g. at (taken_by (facts_of s tx) true) g)) f
+  where
+    at : (d : DecisionTaken) → on_decide s tx home true d ≡ Does o t → o ≡ Taken
+    at IsAwaited g = cc
+    at IsDone g = cc
+    at IsStale g = absurd cc
+
+-- ---- who is committed in a log in order wrote there, or it is the home of its parts
+
+is_home_commit : TxId → LogRecord → Bool
+is_home_commit t (Commit u ps) = tx_same t u && some_parts ps
+is_home_commit t _ = false
+
+abbrev WroteOrHome : List LogRecord → Type 0
+WroteOrHome log = (t : TxId) → committed_in log t ≡ true → (wrote_in log t ≡ true) ⊎ (list_any (is_home_commit t) log ≡ true)
+
+new_commit : (shard : ℕ) (log : List LogRecord) (r : LogRecord) (t : TxId) → may_follow shard log r ≡ true → is_commit_of t r ≡ true → (wrote_in log t ≡ true) ⊎ (is_home_commit t r ≡ true)
+unfolding is_home_commit
+new_commit shard log (Commit u ps) t m e =
+    ⊎_elim (λ w. inl (subst (λ v. wrote_in log v ≡ true) (sym (tx_true t u e)) w)) (λ p. inr (and_from (tx_same t u) (some_parts ps) e p)) (or_cases (wrote_in log u) (some_parts ps) (last _ _ m))
+new_commit shard log _ t m e = absurd (both_ways false refl e)
+
+wrote_or_home : (shard : ℕ) (log : List LogRecord) → Follows shard [] log → WroteOrHome log
+wrote_or_home shard log f =
+    through WroteOrHome shard [] log tt f (λ t c. absurd (both_ways false refl c))
+    (λ l r k p m t c.
+    ⊎_elim (λ old. ⊎_elim (λ w. inl (push_left (is_update_of t) l r w)) (λ w. inr (push_left (is_home_commit t) l r w)) (p t old))
+    (λ new. ⊎_elim (λ w. inl (push_left (is_update_of t) l r w)) (λ w. inr (push_right (is_home_commit t) l r w)) (new_commit shard l r t m new))
+    (push_cases (is_commit_of t) l r c))
+
+home_from : (A : TxId → Type 0) (Q : TxId → ℕ → Type 0) (O : TxId → Type 0) (n : ℕ) (t : TxId) (r : LogRecord) → RecordFrom A Q O n r → is_home_commit t r ≡ true → OwnRequest Q O n t
+unfolding is_home_commit
+home_from A Q O n t (Commit u []) p e = absurd (at (tx_same t u) e)
+  where
+    at : (b : Bool) → (b && false) ≡ true → ⊥
+    at true e = both_ways false refl e
+    at false e = both_ways false refl e
+home_from A Q O n t (Commit u (x ∷ xs)) p e = subst (OwnRequest Q O n) (sym (tx_true t u (at (tx_same t u) e))) p
+  where
+    at : (b : Bool) → (b && true) ≡ true → b ≡ true
+    at true e = refl
+    at false e = absurd (both_ways false refl e)
+home_from A Q O n t (Update u k b x) p e = absurd (both_ways false refl e)
+home_from A Q O n t (Clr u k b x) p e = absurd (both_ways false refl e)
+home_from A Q O n t (PrepareRecord u hm ps) p e = absurd (both_ways false refl e)
+home_from A Q O n t (Abort u) p e = absurd (both_ways false refl e)
+home_from A Q O n t (End u) p e = absurd (both_ways false refl e)
+home_from A Q O n t (RestartRecord rn ep) p e = absurd (both_ways false refl e)
+
+-- who is committed wrote there, or made its request there
+pub committed_wrote : (A : TxId → Type 0) (Q : TxId → ℕ → Type 0) (O : TxId → Type 0) (n : ℕ) (log : List LogRecord) (t : TxId) → AllFrom A Q O n log → Follows n [] log → committed_in log t ≡ true → (wrote_in log t ≡ true) ⊎ OwnRequest Q O n t
+committed_wrote A Q O n log t a f c = ⊎_elim (λ y. inl y) (λ y. inr (any_from (RecordFrom A Q O n) (is_home_commit t) log (home_from A Q O n t) a y)) (wrote_or_home n log f t c)
+
+-- ---- a Prepare
+
+-- whose request was taken at another shard has none here
+not_own : (splits : List ℕ) (before after : List (List LogRecord)) (h pre : History) (n : ℕ) (x : Entry) (s : Shard) (t : TxId) (home : ℕ) → Here splits before after h pre n x s → Requested pre t home → (n ≡ home → ⊥) → OwnRequest (Requested pre) (IsOld (run_after before)) n t → ⊥
+not_own splits before after h pre n x s t home here (r, ts, i, q, p) k (inl (r2, us, j, q2, p2)) =
+    k (sym p2 ∙ ap (λ z. z.0) (one_request splits before after h r2 r t us ts here.legal ((here.behind).turn r2 j).0 ((here.behind).turn r i).0 q2 q) ∙ p)
+not_own splits before after h pre n x s t home here (r, ts, i, q, p) k (inr o) =
+    let w = (walker_of splits before after h r t here.legal ((here.behind).turn r i).0 (ap tx_of q.0)).0 in omega (arith, o, w)
+
+pub may_prepare : (splits : List ℕ) (before after : List (List LogRecord)) (h pre : History) (n : ℕ) (x : Entry) (s : Shard) (d : Deeds) (log0 : List LogRecord) (to : ℕ) (t : TxId) (home seen : ℕ)
+    → Here splits before after h pre n x s → Leads n (run_after before) log0 d s → (tx_in t (requests_of pre) ≡ true → tx_in t d.asked ≡ true) → to ≡ s.shard → Requested pre t home → (to ≡ home → ⊥) → MayDeliver d s (Prepare to t home seen)
+may_prepare splits before after h pre n x s d log0 to t home seen here leads among z req away = (
+  among (request_is_in pre t req.0 req.1 req.2 req.3),
+  none_of (tx_get t s.requests) (λ q g. here_not (rows_get (λ r. RowFrom (Requested pre) (IsOld (run_after before)) n r.0 r.1) t q s.requests ((here.traced).origins).requests g).0),
+  (λ w. false_from_ne_true _ (λ c.
+      ⊎_elim (λ y. both_ways _ w y)
+      here_not
+      (committed_wrote (DidOrOld (run_after before) pre n) (Requested pre) (IsOld (run_after before)) n s.local.log t ((here.traced).origins).log (from_disorder n 0 [] s.local.log (order_is_kept n (run_after before) log0 d s leads)) c))),
+)
+  where
+    here_not : OwnRequest (Requested pre) (IsOld (run_after before)) n t → ⊥
+    here_not = not_own splits before after h pre n x s t home here req (λ e. away (z ∙ ((here.traced).origins).shard ∙ e))

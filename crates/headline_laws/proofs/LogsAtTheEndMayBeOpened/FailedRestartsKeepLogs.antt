@@ -1,0 +1,112 @@
+-- What failed restarts add to a log: ABORTs, CLRs and RESTARTs, and no ABORT of one that is in doubt. So the log stays in order and keeps what it tells.
+use Rattle.std.proofs.Common.{◌≡◌, refl, sym, ap, subst, ◌∙◌, ℕ, true, false, Bool, ◌||◌, List, [], ◌∷◌, ◌++◌, append_assoc, append-nil}
+use Rattle.std.specs.Prelude.{take}
+use Rattle.std.specs.List.{AllByRecursion, list_any}
+use Rattle.std.proofs.lemmas.Bool.{both_ways, false_from_ne_true, or_left}
+use Rattle.std.proofs.lemmas.List.Folds.{list_any-append}
+use Rattle.clv_base.specs.declared.names.TxId.{TxId}
+use Rattle.clv_base.specs.declared.logs.LogRecord.{LogRecord}
+use Rattle.clv_base.specs.declared.logs.LogRecord.TheVariants.{Update, Commit, End}
+use Rattle.clv_base.specs.Orders.{tx_in}
+use Rattle.clv_base.specs.State.{Shard}
+use Rattle.clv_base.specs.Logs.{is_update_of, is_commit_of, is_end_of, is_abort_of, wrote_in, committed_in, ended_in, aborted_in, in_doubt}
+use Rattle.clv_base.specs.Restarts.{restart_records, next_epoch, FailedRestarts, untouched, failed_first, Restarts}
+use Rattle.law_base.proofs.Lists.{all_append}
+use Rattle.shard_laws.proofs.Order.RecordByRecord.{Follows, follows_front}
+use Rattle.shard_laws.proofs.Order.WritesLieOnListed.{order_of}
+use Rattle.shard_laws.proofs.Cuts.WhoIsInDoubt.{doubted}
+use Rattle.shard_laws.proofs.Restarts.WinnersKeepTheirWrites.{of_restarts}
+use Rattle.shard_laws.proofs.Restarts.RestartsKeepOrder.{Fine, found_self, renewed_by}
+use Rattle.history_laws.proofs.LogsLeftPass.WhatPassingRecordsAre.{Passes, restarts_pass}
+use Rattle.law_base.proofs.Logs.{IsUndo, all_take, undo_passes_none as none_of, restart_undoes}
+
+-- ---- the records
+
+record Adds (found left : List LogRecord) : Type 0 where
+  more : List LogRecord
+  goes : found ++ more ≡ left
+  kinds : AllByRecursion IsUndo more
+
+added : (s : Shard) (found left : List LogRecord) → FailedRestarts s found left → Adds found left
+added s found _ untouched = record { more = []; goes = append-nil found; kinds = tt }
+added s found left (failed_first n f) =
+    let rs = restart_records s.shard found s.run (next_epoch s found) in
+    let r = added s (found ++ take n rs) left f in
+    record {
+      more = take n rs ++ r.more;
+      goes = sym (append_assoc found (take n rs) r.more) ∙ r.goes;
+      kinds = all_append IsUndo (take n rs) r.more (all_take n rs (restart_undoes s.shard found s.run (next_epoch s found))) r.kinds;
+    }
+
+-- ---- what a log with such records behind it tells
+
+same_any : (f : LogRecord → Bool) (log more : List LogRecord) → ((r : LogRecord) → IsUndo r → f r ≡ false) → AllByRecursion IsUndo more → list_any f (log ++ more) ≡ list_any f log
+same_any f log more k a = list_any-append f log more ∙ ap (λ b. list_any f log || b) (none_of f more k a) ∙ or_nothing (list_any f log)
+  where
+    or_nothing : (b : Bool) → (b || false) ≡ b
+    or_nothing true = refl
+    or_nothing false = refl
+
+pub same_wrote : (log more : List LogRecord) (t : TxId) → AllByRecursion IsUndo more → wrote_in (log ++ more) t ≡ wrote_in log t
+same_wrote log more t a = same_any (is_update_of t) log more one a
+  where
+    one : (r : LogRecord) → IsUndo r → is_update_of t r ≡ false
+    one (Update tx k b v) u = absurd u
+    one _ u = refl
+
+pub same_committed : (log more : List LogRecord) (t : TxId) → AllByRecursion IsUndo more → committed_in (log ++ more) t ≡ committed_in log t
+same_committed log more t a = same_any (is_commit_of t) log more one a
+  where
+    one : (r : LogRecord) → IsUndo r → is_commit_of t r ≡ false
+    one (Commit tx ps) u = absurd u
+    one _ u = refl
+
+pub same_ended : (log more : List LogRecord) (t : TxId) → AllByRecursion IsUndo more → ended_in (log ++ more) t ≡ ended_in log t
+same_ended log more t a = same_any (is_end_of t) log more one a
+  where
+    one : (r : LogRecord) → IsUndo r → is_end_of t r ≡ false
+    one (End tx) u = absurd u
+    one _ u = refl
+
+-- ---- a log and what failed restarts left of it
+
+-- the second goes on from the first with such records, in order and by the file rules, and aborts none that was in doubt
+pub record Stays (splits : List ℕ) (shard : ℕ) (cut log : List LogRecord) : Type 0 where
+  pub more : List LogRecord
+  pub goes : cut ++ more ≡ log
+  pub kinds : AllByRecursion IsUndo more
+  pub follows : Follows shard [] log
+  pub passes : Passes splits shard log
+  pub spares : (t : TxId) → tx_in t (in_doubt shard cut) ≡ true → aborted_in log t ≡ false
+
+pub stays_same : (splits : List ℕ) (shard : ℕ) (log : List LogRecord) → Follows shard [] log → Passes splits shard log → Stays splits shard log log
+stays_same splits shard log f p = record {
+  more = [];
+  goes = append-nil log;
+  kinds = tt;
+  follows = f;
+  passes = p;
+  spares = λ t i. (doubted shard log t (order_of shard log f).sealed i).unaborted;
+}
+
+passes_first : (splits : List ℕ) (n : ℕ) (xs ys : List LogRecord) → Passes splits n (xs ++ ys) → Passes splits n xs
+passes_first splits n [] ys a = tt
+passes_first splits n (x ∷ xs) ys a = (a.0, passes_first splits n xs ys a.1)
+
+-- one more that is whole would go on from it
+pub stays_failed : (splits : List ℕ) (s : Shard) (cut log : List LogRecord) → Fine s cut → Passes splits s.shard cut → FailedRestarts s cut log → Stays splits s.shard cut log
+stays_failed splits s cut log x p f =
+    let epoch = next_epoch s log in
+    let rs = restart_records s.shard log s.run epoch in
+    let r : Restarts s cut epoch (log ++ rs) = (log, f, refl, refl) in
+    let k = (of_restarts s cut cut epoch (log ++ rs) (found_self s.shard cut (order_of s.shard cut x.0)) r).found in
+    let a = added s cut log f in
+    record {
+      more = a.more;
+      goes = a.goes;
+      kinds = a.kinds;
+      follows = follows_front s.shard [] log rs (renewed_by s cut epoch (log ++ rs) x r).follows;
+      passes = passes_first splits s.shard log rs (restarts_pass splits s.shard s cut epoch (log ++ rs) r p);
+      spares = λ t i. false_from_ne_true _ (λ z.
+          both_ways _ (doubted s.shard (log ++ rs) t k.sealed (subst (λ l. tx_in t l ≡ true) (sym k.doubts) i)).unaborted (list_any-append (is_abort_of t) log rs ∙ or_left _ _ z));
+    }

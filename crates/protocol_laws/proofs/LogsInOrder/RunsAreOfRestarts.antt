@@ -1,0 +1,103 @@
+-- The transactions of a log in order are of the runs of its RESTARTs.
+use Rattle.std.proofs.Common.{◌≡◌, refl, subst, ℕ, ◌≤◌, true, false, Bool, List, [], ◌∷◌, ◌++◌, Option, Some, None, ◌==◌, ⊎_elim, max, arith, eqb-true}
+use Rattle.std.specs.List.{AllByRecursion, list_any}
+use Rattle.std.proofs.lemmas.Bool.{both_ways, or_cases}
+use Rattle.clv_base.specs.declared.names.TxId.{TxId}
+use Rattle.clv_base.specs.declared.logs.LogRecord.{LogRecord}
+use Rattle.clv_base.specs.declared.logs.LogRecord.TheVariants.{Update, Clr, Prepare, Commit, Abort, End, Restart}
+use Rattle.clv_base.specs.Logs.{own_tx, is_update_of, is_commit_of, is_prepare_of, is_abort_of, prepare_of, commit_parts}
+use Rattle.clv_base.specs.LogRules.{last_restart, since_restart, in_last_run, commit_by_prepare, some_parts, may_follow}
+use Rattle.clv_base.specs.Restarts.{greatest_run}
+use Rattle.protocol_laws.specs.Order.{OfRun, RunFits}
+use Rattle.protocol_laws.proofs.LogsInOrder.OneRecordMore.{own_update, own_commit, own_prepare, own_abort, prepared_there, committed_there}
+use Rattle.law_base.proofs.Bools.{and_first as front, and_second as last}
+
+run_more : (n m : ℕ) (o : Option TxId) → n ≤ m → OfRun n o → OfRun m o
+run_more n m None l f = tt
+run_more n m (Some t) l f = omega (arith, l, f)
+
+pub all_fit_more : (n m : ℕ) (rs : List LogRecord) → n ≤ m → AllByRecursion (RunFits n) rs → AllByRecursion (RunFits m) rs
+all_fit_more n m [] l a = tt
+all_fit_more n m (r ∷ rs) l a = (run_more n m (own_tx r) l a.0, all_fit_more n m rs l a.1)
+
+push_all : (n : ℕ) (rs : List LogRecord) (r : LogRecord) → AllByRecursion (RunFits n) rs → RunFits n r → AllByRecursion (RunFits n) (rs ++ r ∷ [])
+push_all n [] r a f = (f, tt)
+push_all n (q ∷ qs) r a f = (a.0, push_all n qs r a.1 f)
+
+greatest_grows : (rs : List LogRecord) (r : LogRecord) → greatest_run rs ≤ greatest_run (rs ++ r ∷ [])
+greatest_grows [] r = omega arith
+greatest_grows (Restart run epoch ∷ rs) r = let k = greatest_grows rs r in omega (arith, k)
+greatest_grows (Update tx key before after ∷ rs) r = greatest_grows rs r
+greatest_grows (Clr tx next key after ∷ rs) r = greatest_grows rs r
+greatest_grows (Prepare tx home ps ∷ rs) r = greatest_grows rs r
+greatest_grows (Commit tx parts ∷ rs) r = greatest_grows rs r
+greatest_grows (Abort tx ∷ rs) r = greatest_grows rs r
+greatest_grows (End tx ∷ rs) r = greatest_grows rs r
+
+-- the last RESTART's run is no later
+data LastFits (n : ℕ) : Option (ℕ × ℕ) → Type 0 where
+  none : LastFits n None
+  some : {p : ℕ × ℕ} → p.0 ≤ n → LastFits n (Some p)
+
+last_case : (run epoch n : ℕ) (o : Option (ℕ × ℕ)) → LastFits n o → LastFits (max run n) (elim o [ Some p ↦ Some p | None ↦ Some (run, epoch) ])
+last_case run epoch n None l = some (omega arith)
+last_case run epoch n (Some p) (some l) = some (omega (arith, l))
+
+last_fits : (rs : List LogRecord) → LastFits (greatest_run rs) (last_restart rs)
+last_fits [] = none
+last_fits (Restart run epoch ∷ rs) = last_case run epoch (greatest_run rs) (last_restart rs) (last_fits rs)
+last_fits (Update tx key before after ∷ rs) = last_fits rs
+last_fits (Clr tx next key after ∷ rs) = last_fits rs
+last_fits (Prepare tx home ps ∷ rs) = last_fits rs
+last_fits (Commit tx parts ∷ rs) = last_fits rs
+last_fits (Abort tx ∷ rs) = last_fits rs
+last_fits (End tx ∷ rs) = last_fits rs
+
+in_last_case : (n : ℕ) (tx : TxId) (o : Option (ℕ × ℕ)) → LastFits n o → elim o [ Some p ↦ tx.run == p.0 | None ↦ false ] ≡ true → tx.run ≤ n
+in_last_case n tx None l e = absurd (both_ways false refl e)
+in_last_case n tx (Some p) (some l) e = let q = eqb-true tx.run p.0 e in omega (arith, l, q)
+
+in_last_fits : (rs : List LogRecord) (tx : TxId) → in_last_run rs tx ≡ true → tx.run ≤ greatest_run rs
+in_last_fits rs tx e = in_last_case (greatest_run rs) tx (last_restart rs) (last_fits rs) e
+
+-- who has a record there is of no later run
+pub record_fits : (n : ℕ) (t : TxId) (test : LogRecord → Bool) → ((r : LogRecord) → test r ≡ true → own_tx r ≡ Some t) → (rs : List LogRecord) → AllByRecursion (RunFits n) rs → list_any test rs ≡ true → t.run ≤ n
+record_fits n t test own [] a e = absurd (both_ways false refl e)
+record_fits n t test own (r ∷ rs) a e = ⊎_elim (λ s. subst (OfRun n) (own r s) a.0) (λ s. record_fits n t test own rs a.1 s) (or_cases (test r) (list_any test rs) e)
+
+-- the records after the last RESTART are the log's
+since_fit : (n : ℕ) (sf rs : List LogRecord) → AllByRecursion (RunFits n) sf → AllByRecursion (RunFits n) rs → AllByRecursion (RunFits n) (since_restart sf rs)
+since_fit n sf [] a b = a
+since_fit n sf (Restart run epoch ∷ rs) a b = since_fit n [] rs tt b.1
+since_fit n sf (Update u key before after ∷ rs) a b = since_fit n (sf ++ Update u key before after ∷ []) rs (push_all n sf (Update u key before after) a b.0) b.1
+since_fit n sf (Clr u next key after ∷ rs) a b = since_fit n (sf ++ Clr u next key after ∷ []) rs (push_all n sf (Clr u next key after) a b.0) b.1
+since_fit n sf (Prepare u home ps ∷ rs) a b = since_fit n (sf ++ Prepare u home ps ∷ []) rs (push_all n sf (Prepare u home ps) a b.0) b.1
+since_fit n sf (Commit u parts ∷ rs) a b = since_fit n (sf ++ Commit u parts ∷ []) rs (push_all n sf (Commit u parts) a b.0) b.1
+since_fit n sf (Abort u ∷ rs) a b = since_fit n (sf ++ Abort u ∷ []) rs (push_all n sf (Abort u) a b.0) b.1
+since_fit n sf (End u ∷ rs) a b = since_fit n (sf ++ End u ∷ []) rs (push_all n sf (End u) a b.0) b.1
+
+commit_case : (shard n : ℕ) (log : List LogRecord) (tx : TxId) (parts : List ℕ) (o : Option (ℕ × List TxId)) → prepare_of log tx ≡ o → AllByRecursion (RunFits n) log → (in_last_run log tx ≡ true → tx.run ≤ n)
+    → commit_by_prepare shard log tx parts o ≡ true → tx.run ≤ n
+commit_case shard n log tx parts None e a k c = k c
+commit_case shard n log tx parts (Some p) e a k c = record_fits n tx (is_prepare_of tx) (own_prepare tx) log a (prepared_there log tx p e)
+
+end_case : (n : ℕ) (log : List LogRecord) (tx : TxId) (o : Option (List ℕ)) → commit_parts log tx ≡ o → AllByRecursion (RunFits n) log → elim o [ Some ps ↦ some_parts ps | None ↦ false ] ≡ true → tx.run ≤ n
+end_case n log tx None e a c = absurd (both_ways false refl c)
+end_case n log tx (Some ps) e a c = record_fits n tx (is_commit_of tx) (own_commit tx) log a (committed_there log tx ps e)
+
+-- a record that may follow is of no later run
+follow_fits : (shard : ℕ) (log : List LogRecord) (r : LogRecord) → AllByRecursion (RunFits (greatest_run log)) log → may_follow shard log r ≡ true → RunFits (greatest_run log) r
+follow_fits shard log (Update tx key before after) a m = in_last_fits log tx (front _ _ (front _ _ (front _ _ (front _ _ (front _ _ (front _ _ (front _ _ m)))))))
+follow_fits shard log (Prepare tx home ps) a m =
+    record_fits (greatest_run log) tx (is_update_of tx) (own_update tx) (since_restart [] log) (since_fit (greatest_run log) [] log tt a) (last _ _ (front _ _ (front _ _ (front _ _ (front _ _ (front _ _ m))))))
+follow_fits shard log (Commit tx parts) a m = commit_case shard (greatest_run log) log tx parts (prepare_of log tx) refl a (in_last_fits log tx) (last _ _ (front _ _ m))
+follow_fits shard log (Clr tx next key after) a m = record_fits (greatest_run log) tx (is_abort_of tx) (own_abort tx) log a (last _ _ (front _ _ m))
+follow_fits shard log (Abort tx) a m = record_fits (greatest_run log) tx (is_update_of tx) (own_update tx) log a (last _ _ (front _ _ (front _ _ m)))
+follow_fits shard log (End tx) a m = end_case (greatest_run log) log tx (commit_parts log tx) refl a (last _ _ m)
+follow_fits shard log (Restart run epoch) a m = tt
+
+pub runs_step : (shard : ℕ) (log : List LogRecord) (r : LogRecord) → AllByRecursion (RunFits (greatest_run log)) log → may_follow shard log r ≡ true → AllByRecursion (RunFits (greatest_run (log ++ r ∷ []))) (log ++ r ∷ [])
+runs_step shard log r a m =
+    let g = greatest_grows log r in
+    push_all (greatest_run (log ++ r ∷ [])) log r (all_fit_more (greatest_run log) (greatest_run (log ++ r ∷ [])) log g a)
+    (run_more (greatest_run log) (greatest_run (log ++ r ∷ [])) (own_tx r) g (follow_fits shard log r a m))

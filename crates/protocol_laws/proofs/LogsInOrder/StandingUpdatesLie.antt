@@ -1,0 +1,210 @@
+-- The standing UPDATEs of a log in order.
+use Rattle.std.proofs.Common.{◌≡◌, ⊎_elim, refl, sym, ap, subst, ◌∙◌, ℕ, suc, ◌<◌, Bool, true, false, cond, not, ◌&&◌, List, [], ◌∷◌, ◌++◌, length, Option, Some, None, ◌==◌, nat_lt, arith, eqb-true, eq-eqb}
+use Rattle.std.specs.List.{AllByRecursion, filter, list_any}
+use Rattle.std.proofs.lemmas.Bool.{cases_Bool, both_ways, cond_both, cond-true, cond-false, not-true, false_from_ne_true, and_from, lt-ltb}
+use Rattle.std.proofs.lemmas.Option.{same_Some}
+use Rattle.clv_base.specs.declared.names.TxId.{TxId}
+use Rattle.clv_base.specs.declared.logs.LogRecord.{LogRecord}
+use Rattle.clv_base.specs.declared.logs.LogRecord.TheVariants.{Update, Clr, Prepare, Commit, Abort, End, Restart}
+use Rattle.clv_base.specs.Orders.{tx_same}
+use Rattle.clv_base.specs.Logs.{StandingUpdate, standing, standing_after, without_newest, newest_at, newest_of, committed_in, is_commit_of, value_in}
+use Rattle.clv_base.specs.LogRules.{has_above, compensates, may_follow}
+use Rattle.clv_base.proofs.SameNames.{or_left, or_right, tx_true, tx_self}
+use Rattle.law_base.proofs.Lists.{all_mono, all_both, filter_passes}
+use Rattle.law_base.proofs.Running.{top_value, after_of, value_top}
+use Rattle.law_base.proofs.Undoing.{Chain}
+use Rattle.law_base.proofs.Options.{option_true}
+use Rattle.protocol_laws.specs.Order.{LieOnThese}
+use Rattle.protocol_laws.proofs.LogsInOrder.OneRecordMore.{push_cases, push_right, push_same}
+use Rattle.law_base.proofs.Bools.{and_first as front, and_second as last}
+use Rattle.law_base.proofs.Logs.{push_left}
+use Rattle.law_base.proofs.Names.{all_without}
+
+-- each is at a lower place than those before it
+abbrev pub Falling : List StandingUpdate → Type 0
+Falling [] = Unit {0}
+Falling (w ∷ ws) = AllByRecursion (λ v. v.lsn < w.lsn) ws × Falling ws
+
+pub record Writes (these : TxId → Bool) (n : ℕ) (ws : List StandingUpdate) : Type 0 where
+  pub chain : Chain ws
+  pub falls : Falling ws
+  pub low : AllByRecursion (λ w. w.lsn < n) ws
+  pub lie : LieOnThese these ws
+
+-- ---- without the newest of a transaction
+
+falls_without : (t : TxId) (ws : List StandingUpdate) → Falling ws → Falling (without_newest t ws)
+falls_without t [] f = tt
+falls_without t (w ∷ ws) f = cond_both (tx_same t w.tx) ws (w ∷ without_newest t ws) Falling (λ e. f.1) (λ e. (all_without _ t ws f.0, falls_without t ws f.1))
+
+lie_without : (these : TxId → Bool) (t : TxId) (ws : List StandingUpdate) → LieOnThese these ws → LieOnThese these (without_newest t ws)
+lie_without these t [] l = tt
+lie_without these t (w ∷ ws) l =
+    cond_both (tx_same t w.tx) ws (w ∷ without_newest t ws) (LieOnThese these) (λ e. l.1) (λ e. ((λ c. all_without _ t ws (l.0 c)), lie_without these t ws l.1))
+
+none_some : {X : Type 0} {Y : Type 0} (x : X) → ◌≡◌ {A = Option X} None (Some x) → Y
+none_some x e = absurd cc
+
+-- where the newest of the transaction is of another key, the key's value stays
+top_without : (t : TxId) (k : ℕ) (u : StandingUpdate) (ws : List StandingUpdate) → newest_of t ws ≡ Some u → (k == u.key) ≡ false → top_value k (without_newest t ws) ≡ top_value k ws
+top_without t k u [] e d = none_some u e
+top_without t k u (w ∷ ws) e d = at (tx_same t w.tx) e (λ f. top_without t k u ws f d)
+  where
+    same_later : top_value k (without_newest t ws) ≡ top_value k ws → top_value k (w ∷ without_newest t ws) ≡ top_value k (w ∷ ws)
+    same_later ih = by (k == w.key)
+      where
+        by : (b : Bool) → after_of (cond b (Some w) (newest_at k (without_newest t ws))) ≡ after_of (cond b (Some w) (newest_at k ws))
+        by true = refl
+        by false = ih
+
+    at : (b : Bool) → cond b (Some w) (newest_of t ws) ≡ Some u → (newest_of t ws ≡ Some u → top_value k (without_newest t ws) ≡ top_value k ws) → top_value k (cond b ws (w ∷ without_newest t ws)) ≡ top_value k (w ∷ ws)
+    at true f ih = ap after_of (sym (cond-false (k == w.key) (Some w) (newest_at k ws) (subst (λ z. (k == z.key) ≡ false) (sym (same_Some w u f)) d)))
+    at false f ih = same_later (ih f)
+
+low_of : (t : TxId) (u : StandingUpdate) (n : ℕ) (ws : List StandingUpdate) → newest_of t ws ≡ Some u → AllByRecursion (λ v. v.lsn < n) ws → u.lsn < n
+low_of t u n [] e a = none_some u e
+low_of t u n (w ∷ ws) e a = at (tx_same t w.tx) e (λ f. low_of t u n ws f a.1)
+  where
+    at : (b : Bool) → cond b (Some w) (newest_of t ws) ≡ Some u → (newest_of t ws ≡ Some u → u.lsn < n) → u.lsn < n
+    at true f ih = subst (λ z. z.lsn < n) (same_Some w u f) a.0
+    at false f ih = ih f
+
+-- the newest of a transaction that is the newest of its key too
+abbrev NewestHere : StandingUpdate → List StandingUpdate → Type 0
+NewestHere u ws = (v : StandingUpdate) × (newest_at u.key ws ≡ Some v) × (v.lsn ≡ u.lsn)
+
+chain_without : (t : TxId) (u : StandingUpdate) (ws : List StandingUpdate) → newest_of t ws ≡ Some u → NewestHere u ws → Falling ws → Chain ws → Chain (without_newest t ws)
+chain_without t u [] e n f c = tt
+chain_without t u (w ∷ ws) e n f c = at (tx_same t w.tx) e (λ g k. chain_without t u ws g k f.1 c.1)
+  where
+    other : newest_of t ws ≡ Some u → (u.key == w.key) ≡ false
+    other g = false_from_ne_true _ (λ k.
+        let same : w ≡ n.0 = same_Some w n.0 (sym (cond-true (u.key == w.key) (Some w) (newest_at u.key ws) k) ∙ n.1) in
+        let l = low_of t u w.lsn ws g f.0 in
+        let q : w.lsn ≡ u.lsn = ap (λ z. z.lsn) same ∙ n.2 in
+        omega (arith, l, q))
+
+    flipped : (u.key == w.key) ≡ false → (w.key == u.key) ≡ false
+    flipped d = false_from_ne_true _ (λ k. both_ways _ d (eq-eqb u.key w.key (sym (eqb-true w.key u.key k))))
+
+    later : newest_of t ws ≡ Some u → (u.key == w.key) ≡ false → (newest_of t ws ≡ Some u → NewestHere u ws → Chain (without_newest t ws)) → Chain (w ∷ without_newest t ws)
+    later g d ih = (c.0 ∙ sym (top_without t w.key u ws g (flipped d)), ih g (n.0, sym (cond-false (u.key == w.key) (Some w) (newest_at u.key ws) d) ∙ n.1, n.2))
+
+    at : (b : Bool) → cond b (Some w) (newest_of t ws) ≡ Some u → (newest_of t ws ≡ Some u → NewestHere u ws → Chain (without_newest t ws)) → Chain (cond b ws (w ∷ without_newest t ws))
+    at true g ih = c.1
+    at false g ih = later g (other g) ih
+
+-- what a CLR compensates
+newest_by : (u : StandingUpdate) (key : ℕ) (o : Option StandingUpdate) → elim o [ Some v ↦ v.lsn == u.lsn | None ↦ false ] ≡ true → (v : StandingUpdate) × (o ≡ Some v) × (v.lsn ≡ u.lsn)
+newest_by u key None e = absurd (both_ways false refl e)
+newest_by u key (Some v) e = (v, refl, eqb-true v.lsn u.lsn e)
+
+compensated : (log : List LogRecord) (tx : TxId) (next : Option ℕ) (key : ℕ) (after : Option ℕ) (o : Option StandingUpdate) → newest_of tx (standing log) ≡ o → compensates log tx next key after o ≡ true → Falling (standing log) → Chain (standing log)
+    → Chain (without_newest tx (standing log))
+compensated log tx next key after None e c f k = absurd (both_ways false refl c)
+compensated log tx next key after (Some u) e c f k =
+    let same : u.key ≡ key = eqb-true u.key key (front _ _ (front _ _ (front _ _ c))) in
+    let v = newest_by u key (newest_at key (standing log)) (last _ _ (front _ _ c)) in
+    chain_without tx u (standing log) e (v.0, subst (λ z. newest_at z (standing log) ≡ Some v.0) (sym same) v.1, v.2) f k
+
+-- ---- these, and more of them
+
+pub lie_alike : (f h : TxId → Bool) (ws : List StandingUpdate) → ((t : TxId) → f t ≡ h t) → LieOnThese f ws → LieOnThese h ws
+lie_alike f h [] e l = tt
+lie_alike f h (w ∷ ws) e l = ((λ c. all_mono _ _ (λ v k q. sym (e v.tx) ∙ k q) ws (l.0 (e w.tx ∙ c))), lie_alike f h ws e l.1)
+
+-- one more of these: what lies below its writes is of these already
+module _ (tx : TxId) (f h : TxId → Bool) (all : List StandingUpdate) (more : (t : TxId) → f t ≡ true → h t ≡ true) (only : (t : TxId) → h t ≡ true → f t ≡ false → t ≡ tx) (own : h tx ≡ true) where
+  abbrev Below : StandingUpdate → Type 0
+  Below v = (not (tx_same tx v.tx) && has_above tx v all) ≡ true → f v.tx ≡ true
+
+  -- a write of its own above it
+  under : (w v : StandingUpdate) → w.tx ≡ tx → list_any (λ u. tx_same tx u.tx && (u.key == v.key) && nat_lt v.lsn u.lsn) all ≡ true → Below v → h v.tx ≡ true
+  under w v e a b = ⊎_elim (λ s. subst (λ z. h z ≡ true) (tx_true tx v.tx s) own) (λ s. more v.tx (b (and_from _ _ (ap not s) a))) (cases_Bool (tx_same tx v.tx))
+
+  pub lie_more : (ws : List StandingUpdate) → ((test : StandingUpdate → Bool) → list_any test ws ≡ true → list_any test all ≡ true) → AllByRecursion Below ws → Falling ws → LieOnThese f ws → LieOnThese h ws
+  lie_more [] part b fall l = tt
+  lie_more (w ∷ ws) part b fall l = (head, lie_more ws (λ test e. part test (or_right (test w) _ e)) b.1 fall.1 l.1)
+    where
+      passes : (v : StandingUpdate) → w.tx ≡ tx → v.lsn < w.lsn → v.key ≡ w.key → (tx_same tx w.tx && (w.key == v.key) && nat_lt v.lsn w.lsn) ≡ true
+      passes v e low k = and_from _ _ (and_from _ _ (subst (λ z. tx_same tx z ≡ true) (sym e) (tx_self tx)) (eq-eqb w.key v.key (sym k))) (lt-ltb v.lsn w.lsn low)
+
+      one : (v : StandingUpdate) → w.tx ≡ tx → Below v × (v.lsn < w.lsn) → v.key ≡ w.key → h v.tx ≡ true
+      one v e p k = under w v e (part (λ u. tx_same tx u.tx && (u.key == v.key) && nat_lt v.lsn u.lsn) (or_left _ _ (passes v e p.1 k))) p.0
+
+      head : h w.tx ≡ true → AllByRecursion (λ v. v.key ≡ w.key → h v.tx ≡ true) ws
+      head c =
+          ⊎_elim (λ old. all_mono _ _ (λ v k q. more v.tx (k q)) ws (l.0 old))
+          (λ new. let e = only w.tx c new in all_mono _ _ (λ v p k. one v e p k) ws (all_both _ _ ws b.1 fall.0))
+          (cases_Bool (f w.tx))
+
+-- ---- a record more
+
+quiet : (log : List LogRecord) (r : LogRecord) (ws : List StandingUpdate) → ((t : TxId) → is_commit_of t r ≡ false) → Writes (committed_in log) (length log) ws → Writes (committed_in (log ++ r ∷ [])) (suc (length log)) ws
+quiet log r ws none k =
+    record {
+      chain = k.chain;
+      falls = k.falls;
+      low = all_mono _ _ (λ w l. omega (arith, l)) ws k.low;
+      lie = lie_alike (committed_in log) (committed_in (log ++ r ∷ [])) ws (λ t. push_same (is_commit_of t) log r (none t)) k.lie;
+    }
+
+commit_only : (log : List LogRecord) (tx : TxId) (parts : List ℕ) (t : TxId) → committed_in (log ++ Commit tx parts ∷ []) t ≡ true → committed_in log t ≡ false → t ≡ tx
+commit_only log tx parts t c n = ⊎_elim (λ a. absurd (both_ways _ n a)) (λ a. tx_true t tx a) (push_cases (is_commit_of t) log (Commit tx parts) c)
+
+pub writes_step : (shard : ℕ) (log : List LogRecord) (r : LogRecord) → may_follow shard log r ≡ true → Writes (committed_in log) (length log) (standing log) → Writes (committed_in (log ++ r ∷ [])) (suc (length log)) (standing_after (length log) r (standing log))
+writes_step shard log (Update tx key before after) m k =
+    let r = Update tx key before after in
+    let q = quiet log r (standing log) (λ t. refl) k in
+    record {
+      chain = (option_true before (value_in log key) (last _ _ (front _ _ (front _ _ m))) ∙ value_top (newest_at key (standing log)), k.chain);
+      falls = (k.low, k.falls);
+      low = (omega arith, q.low);
+      lie = ((λ c. absurd (both_ways _ (sym (push_same (is_commit_of tx) log r refl) ∙ not-true _ (last _ _ (front _ _ (front _ _ (front _ _ (front _ _ (front _ _ m))))))) c)), q.lie);
+    }
+writes_step shard log (Clr tx next key after) m k =
+    let q = quiet log (Clr tx next key after) (standing log) (λ t. refl) k in
+    record {
+      chain = compensated log tx next key after (newest_of tx (standing log)) refl (last _ _ m) k.falls k.chain;
+      falls = falls_without tx (standing log) k.falls;
+      low = all_without _ tx (standing log) q.low;
+      lie = lie_without _ tx (standing log) q.lie;
+    }
+writes_step shard log (Commit tx parts) m k =
+    let r = Commit tx parts in
+    record {
+      chain = k.chain;
+      falls = k.falls;
+      low = all_mono _ _ (λ w l. omega (arith, l)) (standing log) k.low;
+      lie = lie_more tx (committed_in log) (committed_in (log ++ r ∷ [])) (standing log) (λ t c. push_left (is_commit_of t) log r c) (commit_only log tx parts) (push_right (is_commit_of tx) log r (tx_self tx))
+          (standing log) (λ test e. e) (filter_passes (λ w. committed_in log w.tx) (λ w. not (tx_same tx w.tx) && has_above tx w (standing log)) (standing log) (last _ _ (front _ _ (front _ _ m)))) k.falls k.lie;
+    }
+writes_step shard log (Prepare tx home ps) m k = quiet log (Prepare tx home ps) (standing log) (λ t. refl) k
+writes_step shard log (Abort tx) m k = quiet log (Abort tx) (standing log) (λ t. refl) k
+writes_step shard log (End tx) m k = quiet log (End tx) (standing log) (λ t. refl) k
+writes_step shard log (Restart run epoch) m k = quiet log (Restart run epoch) (standing log) (λ t. refl) k
+
+-- ---- those of these alone
+
+top_kept : (these : TxId → Bool) (k : ℕ) (ws : List StandingUpdate) → AllByRecursion (λ v. v.key ≡ k → these v.tx ≡ true) ws → top_value k (filter (λ w. these w.tx) ws) ≡ top_value k ws
+top_kept these k [] a = refl
+top_kept these k (w ∷ ws) a = at (k == w.key) refl (top_kept these k ws a.1)
+  where
+    here : (c : Bool) → c ≡ true → (k == w.key) ≡ true → top_value k (cond c (w ∷ filter (λ w. these w.tx) ws) (filter (λ w. these w.tx) ws)) ≡ top_value k (w ∷ ws)
+    here true e q = ap after_of (cond-true (k == w.key) (Some w) (newest_at k (filter (λ w. these w.tx) ws)) q ∙ sym (cond-true (k == w.key) (Some w) (newest_at k ws) q))
+    here false e q = absurd (both_ways false refl e)
+
+    other : (c : Bool) → (k == w.key) ≡ false → top_value k (filter (λ w. these w.tx) ws) ≡ top_value k ws → top_value k (cond c (w ∷ filter (λ w. these w.tx) ws) (filter (λ w. these w.tx) ws)) ≡ top_value k (w ∷ ws)
+    other true q ih = ap after_of (cond-false (k == w.key) (Some w) (newest_at k (filter (λ w. these w.tx) ws)) q) ∙ ih ∙ sym (ap after_of (cond-false (k == w.key) (Some w) (newest_at k ws) q))
+    other false q ih = ih ∙ sym (ap after_of (cond-false (k == w.key) (Some w) (newest_at k ws) q))
+
+    at : (b : Bool) → (k == w.key) ≡ b → top_value k (filter (λ w. these w.tx) ws) ≡ top_value k ws → top_value k (filter (λ w. these w.tx) (w ∷ ws)) ≡ top_value k (w ∷ ws)
+    at true q ih = here (these w.tx) (a.0 (sym (eqb-true k w.key q))) q
+    at false q ih = other (these w.tx) q ih
+
+-- a chain that lies so is one without the others
+pub chain_kept : (these : TxId → Bool) (ws : List StandingUpdate) → LieOnThese these ws → Chain ws → Chain (filter (λ w. these w.tx) ws)
+chain_kept these [] l c = tt
+chain_kept these (w ∷ ws) l c =
+    cond_both (these w.tx) (w ∷ filter (λ w. these w.tx) ws) (filter (λ w. these w.tx) ws) Chain
+    (λ e. (c.0 ∙ sym (top_kept these w.key ws (l.0 e)), chain_kept these ws l.1 c.1)) (λ e. chain_kept these ws l.1 c.1)

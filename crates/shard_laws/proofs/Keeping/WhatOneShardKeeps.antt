@@ -1,0 +1,203 @@
+-- What one shard keeps.
+use Rattle.std.proofs.Common.{◌≡◌, ℕ, ◌≤◌, ◌<◌, ◌⊎◌, Bool, true, false, not, List, [], Option, Some, None}
+use Rattle.std.specs.List.{AllByRecursion, filter}
+use Rattle.clv_base.specs.declared.names.TxId.{TxId}
+use Rattle.clv_base.specs.declared.names.Birth.{Birth}
+use Rattle.clv_base.specs.declared.logs.LogRecord.{LogRecord}
+use Rattle.clv_base.specs.declared.modes.Part.TheVariants.{S, X}
+use Rattle.clv_base.specs.declared.modes.Anchor.TheVariants.{At}
+use Rattle.clv_base.specs.declared.state.Stage.{Stage}
+use Rattle.clv_base.specs.declared.state.Stage.TheVariants.{Active, Closed, Gone}
+use Rattle.clv_base.specs.declared.state.Held.{Held}
+use Rattle.clv_base.specs.Orders.{Table, tx_in, tx_get}
+use Rattle.clv_base.specs.Maps.{KeyMap, map_get}
+use Rattle.clv_base.specs.Logs.{StandingUpdate, standing, committed_in, wrote_in}
+use Rattle.clv_base.specs.Locks.{Locks}
+use Rattle.clv_base.specs.State.{Shard}
+use Rattle.clv_base.specs.State.{is_present}
+use Rattle.clv_base.specs.Needs.{Records, value_at}
+use Rattle.law_base.proofs.Cells.{record_at}
+use Rattle.clv_base.specs.Folding.{IsRising}
+use Rattle.law_base.specs.Items.{Item, writes, meets, Runs, AllLater, Reaches, Clash, pile}
+use Rattle.protocol_laws.specs.Order.{undone_in, Tidy}
+pub use Rattle.shard_laws.specs.OneShard.{place}
+use Rattle.law_base.proofs.Running.{top_value}
+use Rattle.law_base.proofs.Undoing.{Chain}
+use Rattle.law_base.proofs.Anchors.{Rising}
+use Rattle.law_base.proofs.LockRows.{holds, Rows}
+use Rattle.shard_laws.proofs.Operations.NeedsCoverKeys.{holds_at}
+use Rattle.shard_laws.proofs.Operations.WritesAtEachKey.{SameAtKeys}
+use Rattle.law_base.proofs.Tables.{stage_in, is_pair}
+use Rattle.law_base.proofs.Commits.{CommitBefore, commit_durable}
+use Rattle.shard_laws.proofs.Keeping.ChangesKeepPrepared.{Prepared}
+
+-- the parts of a shard's state that count
+pub record View : Type 0 where
+  pub records : Records
+  pub locks : Locks
+  pub parts : Table Held
+  pub pairs : List (TxId × TxId)
+  pub log : List LogRecord
+  pub durable : ℕ
+  pub flight : Option ℕ
+
+abbrev pub view_of : Shard → View
+view_of s = record { records = s.local.records; locks = s.local.locks; parts = s.local.parts; pairs = s.local.pairs; log = s.local.log; durable = s.durable; flight = s.flight }
+
+-- what was there at opening, what was done and not taken back, and who made a request, in that order
+pub record Past : Type 0 where
+  pub start : KeyMap
+  pub base : List StandingUpdate
+  pub items : List Item
+  pub asked : List TxId
+  -- who may have been told of success: with a durable COMMIT, or finished after reading alone
+  pub over : List TxId
+  -- transactions with those whose writes they violated
+  pub met : List (TxId × TxId)
+  -- who fell before this step; and who is lost: who fell, or depends on one that is lost
+  pub fell : List TxId
+  pub lost : List TxId
+
+-- a lock is that of a part which is there, with its birth, and closed as it is
+abbrev pub StageFits : Bool → Stage → Type 0
+StageFits false Active = Unit {0}
+StageFits true Closed = Unit {0}
+StageFits true Active = ⊥
+StageFits false Closed = ⊥
+StageFits c (Gone d) = ⊥
+
+abbrev pub Belongs : Table Held → TxId → Birth → Bool → Type 0
+Belongs parts tx birth closed = (h : Held) × (tx_get tx parts ≡ Some h) × (h.birth ≡ birth) × StageFits closed h.stage
+
+-- an active part holds what its operations met, and more where they wrote
+abbrev pub Covers : Records → Locks → Item → Type 0
+Covers records locks y = ((k : ℕ) → meets y k ≡ true → holds_at S locks records y.tx k ≡ true) × ((k : ℕ) → writes y k ≡ true → holds_at X locks records y.tx k ≡ true)
+
+-- who wrote and whose COMMIT is not durable holds the key, and a record stands there
+abbrev pub WroteIn : Records → Locks → List LogRecord → ℕ → StandingUpdate → Type 0
+WroteIn records locks log durable w = commit_durable log durable w.tx ≡ false → (holds true X (At w.key) w.tx locks ≡ true) × (record_at w.key records ≡ None → ⊥)
+
+abbrev pub Wrote : View → StandingUpdate → Type 0
+Wrote v = WroteIn v.records v.locks v.log v.durable
+
+-- what a transaction has met: its own writes, those of a predecessor, or of one that was committed before
+abbrev pub DepIn : List (TxId × TxId) → List LogRecord → ℕ → TxId → TxId → Type 0
+DepIn pairs log durable t p = (commit_durable log durable p ≡ true) ⊎ ((is_pair pairs t p ≡ true) ⊎ CommitBefore log p t)
+
+abbrev pub Dep : View → TxId → TxId → Type 0
+Dep v = DepIn v.pairs v.log v.durable
+
+abbrev pub KnownIn : List TxId → Table Held → TxId → Type 0
+KnownIn asked parts t = (stage_in parts t ≡ Some Active) ⊎ ((tx_in t asked ≡ true) × (stage_in parts t ≡ Some Active → ⊥))
+
+abbrev pub Known : Past → View → TxId → Type 0
+Known g v = KnownIn g.asked v.parts
+
+-- it is committed for good, or has only read and left
+abbrev pub EndedIn : List TxId → Table Held → List LogRecord → ℕ → TxId → Type 0
+EndedIn asked parts log durable t = (commit_durable log durable t ≡ true) ⊎ ((committed_in log t ≡ false) × (wrote_in log t ≡ false) × (is_present (stage_in parts t) ≡ false) × (tx_in t asked ≡ true))
+
+abbrev pub Ended : Past → View → TxId → Type 0
+Ended g v = EndedIn g.asked v.parts v.log v.durable
+
+-- it is neither committed nor finished, and never will be
+abbrev pub OutIn : List TxId → Table Held → TxId → Type 0
+OutIn lost parts t = (tx_in t lost ≡ true) × (stage_in parts t ≡ Some Active → ⊥)
+
+abbrev pub Out : Past → View → TxId → Type 0
+Out g v = OutIn g.lost v.parts
+
+-- who did something is here, or has ended
+abbrev pub LeftIn : List TxId → Table Held → List LogRecord → ℕ → TxId → Type 0
+LeftIn over parts log durable t = (is_present (stage_in parts t) ≡ true) ⊎ ((tx_in t over ≡ true) ⊎ (commit_durable log durable t ≡ true))
+
+abbrev pub Left : Past → View → TxId → Type 0
+Left g v = LeftIn g.over v.parts v.log v.durable
+
+-- the writes of those that pass
+abbrev pub of_kept : (TxId → Bool) → StandingUpdate → Bool
+of_kept keep w = keep w.tx
+
+abbrev pub is_alive : List TxId → TxId → Bool
+is_alive lost t = not (tx_in t lost)
+
+-- what was there at opening: the map, and the writes that it came from
+pub record KeptStart (start : KeyMap) (base : List StandingUpdate) : Type 0 where
+  pub start_rises : IsRising start
+  pub base_value : (k : ℕ) → map_get k start ≡ top_value k base
+  pub base_chain : Chain base
+
+-- what was done since gives its answers, none of it by one that is lost, and where two clash the earlier asked first
+pub record KeptPast (start : KeyMap) (items : List Item) (asked lost : List TxId) : Type 0 where
+  pub runs : Runs start items
+  pub alive : AllByRecursion (λ x. tx_in x.tx lost ≡ false) items
+  pub order : AllLater (λ x y. Clash x y → (x.tx ≡ y.tx) ⊎ (place asked x.tx < place asked y.tx)) items
+
+-- the log has what was done, and nothing in it is written or undone after a COMMIT
+pub record KeptLog (base : List StandingUpdate) (items : List Item) (lost : List TxId) (log : List LogRecord) : Type 0 where
+  pub standing_is : SameAtKeys (filter (of_kept (is_alive lost)) (standing log)) (pile items base)
+  pub logged : AllByRecursion (λ x. (k : ℕ) → writes x k ≡ true → wrote_in log x.tx ≡ true) items
+  pub tidy : Tidy [] log
+
+-- the records have the newest values that stand in the log
+pub record KeptRecords (records : Records) (log : List LogRecord) : Type 0 where
+  pub rises : Rising records
+  pub values : (k : ℕ) → value_at k records ≡ top_value k (standing log)
+
+-- each lock is of a part that is here; who is active or wrote holds what it needs
+pub record KeptLocks (items : List Item) (records : Records) (locks : Locks) (parts : Table Held) (log : List LogRecord) (durable : ℕ) : Type 0 where
+  pub rows : Rows (Belongs parts) locks
+  pub covered : AllByRecursion (λ y. stage_in parts y.tx ≡ Some Active → Covers records locks y) items
+  pub wrote : AllByRecursion (WroteIn records locks log durable) (standing log)
+
+-- who did something is active or asked, who is closed asked, and pairs are of parts that are here
+pub record KeptParts (items : List Item) (asked : List TxId) (parts : Table Held) (pairs : List (TxId × TxId)) : Type 0 where
+  pub known : AllByRecursion (λ x. KnownIn asked parts x.tx) items
+  pub closed : (t : TxId) → stage_in parts t ≡ Some Closed → tx_in t asked ≡ true
+  pub successors : (t p : TxId) → is_pair pairs t p ≡ true → is_present (stage_in parts t) ≡ true
+
+-- who is active, undone or gone by an abort has no COMMIT; and what is kept of those that have a PREPARE
+pub record KeptFates (items : List Item) (met : List (TxId × TxId)) (parts : Table Held) (log : List LogRecord) : Type 0 where
+  pub uncommitted : (t : TxId) → stage_in parts t ≡ Some Active → committed_in log t ≡ false
+  pub dead : (t : TxId) → undone_in log t ≡ true → (committed_in log t ≡ false) × (stage_in parts t ≡ Some Active → ⊥) × (stage_in parts t ≡ Some Closed → ⊥)
+  pub doomed : (t d : TxId) → stage_in parts t ≡ Some (Gone (Some d)) → committed_in log t ≡ false
+  pub prepared : Prepared items met parts log
+
+-- who did something is here or has ended, who may have been told has ended, and what one met has ended before it or it never will
+pub record KeptEnds (items : List Item) (asked told : List TxId) (met : List (TxId × TxId)) (lost : List TxId) (parts : Table Held) (pairs : List (TxId × TxId)) (log : List LogRecord) (durable : ℕ) : Type 0 where
+  pub left : AllByRecursion (λ x. LeftIn told parts log durable x.tx) items
+  pub over : (t : TxId) → tx_in t told ≡ true → EndedIn asked parts log durable t
+  pub recover : (t p : TxId) → is_pair met t p ≡ true → OutIn lost parts t ⊎ (DepIn pairs log durable t p × (place asked p < place asked t))
+
+-- predecessors commit first, and each depends on those whose writes it reached
+pub record KeptPairs (items : List Item) (pairs : List (TxId × TxId)) (log : List LogRecord) (durable : ℕ) : Type 0 where
+  pub downwards : (t p : TxId) → is_pair pairs t p ≡ true → committed_in log t ≡ true → CommitBefore log p t
+  pub causes : AllLater (λ x y. Reaches x y → (x.tx ≡ y.tx) ⊎ DepIn pairs log durable y.tx x.tx) items
+
+-- what was there at opening is durable, and what is in flight lies beyond the front
+pub record KeptFront (base : List StandingUpdate) (log : List LogRecord) (durable : ℕ) (flight : Option ℕ) : Type 0 where
+  pub base_done : AllByRecursion (λ w. commit_durable log durable w.tx ≡ true) base
+  pub front : (n : ℕ) → flight ≡ Some n → durable ≤ n
+
+-- each group reads only what its type names, so a step that leaves this alone hands the group on
+pub record Kept (g : Past) (v : View) : Type 0 where
+  pub start : KeptStart g.start g.base
+  pub open start use *
+  pub past : KeptPast g.start g.items g.asked g.lost
+  pub open past use *
+  pub log : KeptLog g.base g.items g.lost v.log
+  pub open log use *
+  pub records : KeptRecords v.records v.log
+  pub open records use *
+  pub locks : KeptLocks g.items v.records v.locks v.parts v.log v.durable
+  pub open locks use *
+  pub parts : KeptParts g.items g.asked v.parts v.pairs
+  pub open parts use *
+  pub fates : KeptFates g.items g.met v.parts v.log
+  pub open fates use *
+  pub ends : KeptEnds g.items g.asked g.over g.met g.lost v.parts v.pairs v.log v.durable
+  pub open ends use *
+  pub pairs : KeptPairs g.items v.pairs v.log v.durable
+  pub open pairs use *
+  pub durable : KeptFront g.base v.log v.durable v.flight
+  pub open durable use *

@@ -1,0 +1,260 @@
+-- A granted operation keeps the order rules: its UPDATE may follow, and what lies under it is done or of a predecessor.
+use Rattle.std.proofs.Common.{◌≡◌, ◌⊎◌, inl, inr, ⊎_elim, refl, sym, ap, subst, ◌∙◌, ℕ, ◌+◌, Bool, true, false, cond, not, ◌||◌, List, [], ◌∷◌, ◌++◌, length, Option, Some, None, is_some, ◌==◌, eqb-true, eq-eqb}
+use Rattle.std.specs.List.{AllByRecursion}
+use Rattle.std.proofs.lemmas.List.Folds.{list_any-append}
+use Rattle.std.proofs.lemmas.Bool.{cases_Bool, both_ways, and_parts, and_from, false_from_ne_true}
+use Rattle.clv_base.specs.declared.names.TxId.{TxId}
+use Rattle.clv_base.specs.declared.names.Birth.{Birth}
+use Rattle.clv_base.specs.declared.logs.LogRecord.{LogRecord}
+use Rattle.clv_base.specs.declared.logs.LogRecord.TheVariants.{Update}
+use Rattle.clv_base.specs.declared.modes.Part.TheVariants.{X}
+use Rattle.clv_base.specs.declared.modes.Anchor.TheVariants.{At}
+use Rattle.clv_base.specs.declared.modes.Need.{Need}
+use Rattle.clv_base.specs.declared.modes.Decision.TheVariants.{Grant}
+use Rattle.clv_base.specs.declared.ops.Op.{Op}
+use Rattle.clv_base.specs.declared.ops.Op.TheVariants.{Get, Put, Del, Scan}
+use Rattle.clv_base.specs.declared.state.Stage.{Stage}
+use Rattle.clv_base.specs.declared.state.Stage.TheVariants.{Active, Closed}
+use Rattle.clv_base.specs.declared.state.Held.{Held}
+use Rattle.clv_base.specs.Orders.{Table, tx_same, tx_in, tx_get}
+use Rattle.clv_base.specs.State.{is_present}
+use Rattle.clv_base.specs.Locks.{Locks, decide, violated, take_all}
+use Rattle.clv_base.specs.Logs.{StandingUpdate, standing, committed_in, prepared_in, aborted_in, wrote_in, newest_at, value_in, is_update_of, is_abort_of}
+use Rattle.clv_base.specs.LogRules.{may_follow, same_option, may_cover, before_restart}
+use Rattle.clv_base.specs.Needs.{needs_of, found_at, value_at, key_of, inserts, writes_of}
+use Rattle.clv_base.specs.OneShard.{new_part, add_pairs, inserted_locks}
+use Rattle.clv_base.proofs.SameNames.{or_left, or_right, tx_true, tx_self, tx_eq, tx_ne, cases_tx}
+use Rattle.law_base.specs.Items.{is_write_at}
+use Rattle.law_base.proofs.Cells.{record_at}
+use Rattle.law_base.proofs.Lists.{all_mono, all_both}
+use Rattle.law_base.proofs.Running.{value_top}
+use Rattle.law_base.proofs.Undoing.{standing_append}
+use Rattle.law_base.proofs.Tables.{stage_in, stage_by, is_pair, insert_from, add_keeps, add_has}
+use Rattle.law_base.proofs.Commits.{commit_durable, durable_committed, committed_keeps}
+use Rattle.protocol_laws.proofs.LogsInOrder.OneRecordMore.{push_cases}
+use Rattle.protocol_laws.proofs.LogsInOrder.{Order}
+use Rattle.law_base.proofs.LockRows.{conflict, violates, violated_row, holds, asks}
+use Rattle.shard_laws.proofs.Operations.NeedsCoverKeys.{asks_by, asks_written}
+use Rattle.shard_laws.proofs.Keeping.WhatOneShardKeeps.{View, Past, Belongs, Kept}
+use Rattle.shard_laws.proofs.Keeping.RecordsAndFrontsKeep.{wrote_keeps}
+use Rattle.shard_laws.proofs.Keeping.ChangesKeepPrepared.{prepared_append}
+use Rattle.shard_laws.proofs.Keeping.GrantingKeeps.{Change, log_by, own_part, not_active, is_closed, closed_row, insert_writes, writing}
+use Rattle.law_base.proofs.Stages.{other_part, closed_not_active}
+use Rattle.shard_laws.proofs.Order.RecordByRecord.{follows_append, last_push, before_push, greatest_plain}
+use Rattle.shard_laws.proofs.Operations.HoldersOfXWrote.{writers_more, writers_all, writers_insert, needs_write, violated_wrote}
+use Rattle.shard_laws.proofs.Order.ChangesKeepOrder.{LiesOn, Under, Lying, Ordered, listed_same, under_more}
+use Rattle.shard_laws.proofs.Order.ClosingKeepsOrder.{all_wrote}
+use Rattle.law_base.proofs.Names.{MayStand}
+
+-- ---- an UPDATE of an active part
+
+pub ordered_update : (shard run : ℕ) (parts : Table Held) (pairs : List (TxId × TxId)) (log : List LogRecord) (t : TxId) (key : ℕ) (before after : Option ℕ) → Ordered shard run parts pairs log → may_follow shard log (Update t key before after) ≡ true
+    → stage_in parts t ≡ Some Active → Ordered shard run parts pairs (log ++ Update t key before after ∷ [])
+ordered_update shard run parts pairs log t key before after o m act = record {
+  follows = follows_append shard [] log (Update t key before after ∷ []) o.follows (m, tt);
+  last = ((o.last).0, last_push log (Update t key before after) tt ∙ (o.last).1);
+  latest = greatest_plain log (Update t key before after) run tt o.latest;
+  of_run = o.of_run;
+  new = λ u a. ap (λ l. wrote_in l u) (before_push [] log (Update t key before after) tt) ∙ o.new u a;
+  unaborted = λ u p. false_from_ne_true _ (λ e. ⊎_elim (λ a. both_ways _ (o.unaborted u p) a) (λ a. both_ways false refl a) (push_cases (is_abort_of u) log (Update t key before after) e));
+  decided = λ u c w. ⊎_elim (λ old. ⊎_elim (λ p. inl (prepared_append log (Update t key before after ∷ []) u ∙ or_left _ _ p)) (λ k. inr (committed_keeps log (Update t key before after ∷ []) u k)) (o.decided u c old))
+      (λ a. absurd (closed_not_active (sym c ∙ ap (stage_in parts) (tx_true u t a) ∙ act))) (push_cases (is_update_of u) log (Update t key before after) w);
+  others = λ u p e. let q = o.others u p e in (q.0, ⊎_elim (λ c. inl (committed_keeps log (Update t key before after ∷ []) p c)) (λ c. inr (c.0, wrote_keeps log (Update t key before after ∷ []) p c.1)) q.1);
+  lists = λ u p c i. ⊎_elim (λ k. inl (committed_keeps log (Update t key before after ∷ []) p k)) (λ e. inr e) (o.lists u p c (ap (tx_in p) (sym (listed_same log (Update t key before after ∷ []) u refl)) ∙ i));
+}
+
+-- ---- a new part, and more pairs
+
+pub add_which : (tx : TxId) (ps : List TxId) (pairs : List (TxId × TxId)) (t p : TxId) → is_pair (add_pairs tx ps pairs) t p ≡ true → (is_pair pairs t p ≡ true) ⊎ ((t ≡ tx) × (tx_in p ps ≡ true))
+add_which tx [] pairs t p e = inl e
+add_which tx (q ∷ qs) pairs t p e =
+    ⊎_elim
+    (λ h. ⊎_elim (λ i. inl i) (λ i. let m = and_parts (tx_same t tx) (tx_same p q) i in inr (tx_true t tx m.0, or_left _ _ (tx_eq q p (sym (tx_true p q m.1))))) (insert_from pairs (tx, q) t p h))
+    (λ h. inr (h.0, or_right (tx_same q p) _ h.1))
+    (add_which tx qs _ t p e)
+
+pub ordered_new : (shard run : ℕ) (parts parts2 : Table Held) (pairs : List (TxId × TxId)) (log : List LogRecord) (t : TxId) (vs : List TxId) → Ordered shard run parts pairs log
+    → (stage_in parts2 t ≡ Some Active) → ((u : TxId) → (u ≡ t → ⊥) → stage_in parts2 u ≡ stage_in parts u) → (stage_in parts t ≡ Some Closed → ⊥) → t.run ≡ run → wrote_in (before_restart [] log) t ≡ false → aborted_in log t ≡ false
+    → ((p : TxId) → tx_in p vs ≡ true → (t ≡ p → ⊥) × ((stage_in parts p ≡ Some Closed) × (wrote_in log p ≡ true))) → Ordered shard run parts2 (add_pairs t vs pairs) log
+ordered_new shard run parts parts2 pairs log t vs o own same was run_is unwritten unaborted viol = record {
+  follows = o.follows;
+  last = o.last;
+  latest = o.latest;
+  of_run = λ u a. ⊎_elim (λ e. ap (λ z. z.run) e ∙ run_is) (λ ne. o.of_run u (sym (same u ne) ∙ a)) (cases_tx u t);
+  new = λ u a. ⊎_elim (λ e. ap (λ z. wrote_in (before_restart [] log) z) e ∙ unwritten) (λ ne. o.new u (sym (same u ne) ∙ a)) (cases_tx u t);
+  unaborted = λ u p. ⊎_elim (λ e. ap (aborted_in log) e ∙ unaborted) (λ ne. o.unaborted u (ap is_present (sym (same u ne)) ∙ p)) (cases_tx u t);
+  decided = λ u c w. o.decided u (back u c) w;
+  others = λ u p e.
+      ⊎_elim
+      (λ old. let q = o.others u p old in (q.0, ⊎_elim (λ c. inl c) (λ c. inr (still p c.0, c.1)) q.1))
+      (λ n. let q = viol p n.1 in ((λ s. q.0 (sym n.0 ∙ s)), inr (still p q.1.0, q.1.1)))
+      (add_which t vs pairs u p e);
+  lists = λ u p c i. ⊎_elim (λ k. inl k) (λ e. inr (add_keeps t vs pairs u p e)) (o.lists u p (back u c) i);
+}
+  where
+    back : (u : TxId) → stage_in parts2 u ≡ Some Closed → stage_in parts u ≡ Some Closed
+    back u c = ⊎_elim (λ e. absurd (closed_not_active (sym c ∙ ap (stage_in parts2) e ∙ own))) (λ ne. sym (same u ne) ∙ c) (cases_tx u t)
+
+    still : (p : TxId) → stage_in parts p ≡ Some Closed → stage_in parts2 p ≡ Some Closed
+    still p c = same p (λ e. was (ap (stage_in parts) (sym e) ∙ c)) ∙ c
+
+-- ---- what an operation writes
+
+change_is : (op : Op) (b : Option ℕ) (w : ℕ × Option ℕ × Option ℕ) → writes_of op b ≡ Some w → (w.0 ≡ key_of op) × (w.1 ≡ b) × ((is_some w.1 || is_some w.2) ≡ true)
+change_is (Get k) b w e = absurd cc
+change_is (Put k v) b w e = subst (λ z. (z.0 ≡ k) × (z.1 ≡ b) × ((is_some z.1 || is_some z.2) ≡ true)) (same (k, b, Some v) w e) (refl, refl, or_right (is_some b) _ refl)
+  where
+    same : (x w : ℕ × Option ℕ × Option ℕ) → Some x ≡ Some w → x ≡ w
+    same x w e = cc
+change_is (Del k) None w e = absurd cc
+change_is (Del k) (Some x) w e = subst (λ z. (z.0 ≡ k) × (z.1 ≡ Some x) × ((is_some z.1 || is_some z.2) ≡ true)) (same (k, Some x, None) w e) (refl, refl, refl)
+  where
+    same : (x w : ℕ × Option ℕ × Option ℕ) → Some x ≡ Some w → x ≡ w
+    same x w e = cc
+change_is (Scan lo hi) b w e = absurd cc
+
+same_self : (a b : Option ℕ) → a ≡ b → same_option a b ≡ true
+same_self None b e = subst (λ z. same_option None z ≡ true) e refl
+same_self (Some n) b e = subst (λ z. same_option (Some n) z ≡ true) e (eq-eqb n n refl)
+
+-- the newest write at a key
+newest_holds : (P : StandingUpdate → Type 0) (k : ℕ) (ws : List StandingUpdate) (w : StandingUpdate) → AllByRecursion P ws → newest_at k ws ≡ Some w → P w × (k ≡ w.key)
+newest_holds P k [] w a e = absurd cc
+newest_holds P k (v ∷ vs) w a e = at (k == v.key) refl e (newest_holds P k vs w a.1)
+  where
+    same : (v w : StandingUpdate) → Some v ≡ Some w → v ≡ w
+    same v w e = cc
+
+    at : (b : Bool) → (k == v.key) ≡ b → cond b (Some v) (newest_at k vs) ≡ Some w → (newest_at k vs ≡ Some w → P w × (k ≡ w.key)) → P w × (k ≡ w.key)
+    at true q f ih = subst (λ z. P z × (k ≡ z.key)) (same v w f) (a.0, eqb-true k v.key q)
+    at false q f ih = ih f
+
+-- ---- all of it
+
+module _ (shard run : ℕ) (g : Past) (v : View) (tx : TxId) (birth : Birth) (op : Op) (k : Kept g v) (o : Ordered shard run v.parts v.pairs v.log) (l : Lying v.locks v.pairs v.log) (order : Order shard v.log)
+    (grant : decide tx birth (needs_of op v.records) v.locks ≡ Grant) (may : MayStand v.parts tx birth) (run_is : tx.run ≡ run) (open_ : committed_in v.log tx ≡ false) (unprepared : prepared_in v.log tx ≡ false) (unaborted : aborted_in v.log tx ≡ false)
+    (unwritten : wrote_in (before_restart [] v.log) tx ≡ false) where
+  abbrev needs : List Need
+  needs = needs_of op v.records
+
+  abbrev change : Change
+  change = writes_of op (value_at (key_of op) v.records)
+
+  abbrev ins : Option ℕ
+  ins = inserts op (found_at (key_of op) v.records)
+
+  abbrev parts_after : Table Held
+  parts_after = new_part tx birth (tx_get tx v.parts) v.parts
+
+  abbrev pairs_after : List (TxId × TxId)
+  pairs_after = add_pairs tx (violated tx needs v.locks) v.pairs
+
+  abbrev locks_after : Locks
+  locks_after = inserted_locks tx birth v.records ins (take_all tx birth needs v.locks)
+
+  stage_own : stage_in parts_after tx ≡ Some Active
+  stage_own = let h = own_part tx birth v.parts may in ap stage_by h.1 ∙ ap Some h.3
+
+  stage_same : (u : TxId) → (u ≡ tx → ⊥) → stage_in parts_after u ≡ stage_in v.parts u
+  stage_same u ne = ap stage_by (other_part tx birth v.parts u (tx_get tx v.parts) (tx_ne u tx ne))
+
+  not_closed : stage_in v.parts tx ≡ Some Closed → ⊥
+  not_closed e = ⊎_elim (λ none. none_stage (sym (ap stage_by none) ∙ e)) (λ m. closed_not_active (sym e ∙ ap stage_by m.1 ∙ ap Some m.3)) may
+    where
+      none_stage : ◌≡◌ {A = Option Stage} None (Some Closed) → ⊥
+      none_stage e = absurd cc
+
+  -- whose writes are violated is closed, and wrote
+  violated_closed : (p : TxId) → tx_in p (violated tx needs v.locks) ≡ true → (tx ≡ p → ⊥) × ((stage_in v.parts p ≡ Some Closed) × (wrote_in v.log p ≡ true))
+  violated_closed p i =
+      let w = violated_wrote (λ t. wrote_in v.log t ≡ true) tx p needs v.locks l.writers i in
+      let r = violated_row (Belongs v.parts) tx p needs v.locks k.rows i in
+      (w.0, (closed_row v.parts p r.0 r.1, w.1))
+
+  abbrev Held_write : StandingUpdate → Type 0
+  Held_write w = commit_durable v.log v.durable w.tx ≡ false → (holds true X (At w.key) w.tx v.locks ≡ true) × (record_at w.key v.records ≡ None → ⊥)
+
+  -- another's write of the key that is written is committed, or violated
+  write_met : (w : StandingUpdate) → Held_write w → is_write_at change w.key ≡ true → (w.tx ≡ tx) ⊎ ((committed_in v.log w.tx ≡ true) ⊎ (tx_in w.tx (violated tx needs v.locks) ≡ true))
+  write_met w h e =
+      ⊎_elim (λ s. inl s)
+      (λ ne. inr (⊎_elim (λ d. inl (durable_committed v.log v.durable w.tx d))
+      (λ out. let held = h out in inr (violates_here ne held.0 held.1))
+      (cases_Bool (commit_durable v.log v.durable w.tx))))
+      (cases_tx w.tx tx)
+    where
+      asked_X : (q : Option (Option ℕ)) → (q ≡ None → ⊥) → asks_by X needs v.records w.key q ≡ true → asks true X (At w.key) needs ≡ true
+      asked_X (Some x) n e = e
+      asked_X None n e = absurd (n refl)
+
+      violates_here : (w.tx ≡ tx → ⊥) → holds true X (At w.key) w.tx v.locks ≡ true → (record_at w.key v.records ≡ None → ⊥) → tx_in w.tx (violated tx needs v.locks) ≡ true
+      violates_here ne held there =
+          let a : asks true X (At w.key) needs ≡ true = asked_X (record_at w.key v.records) there (asks_written op v.records w.key e) in
+          let c = conflict (Belongs v.parts) tx w.tx birth true X X (At w.key) needs v.locks k.rows grant held a refl (λ s. ne (sym s)) in
+          violates (Belongs v.parts) tx w.tx true X (At w.key) needs v.locks k.rows
+          (λ b d z. is_closed v.parts w.tx b d z (λ active. not_active v.parts w.tx c.0 c.1 active)) held a refl (λ s. ne (sym s))
+
+  lies_new : (w : StandingUpdate) → Held_write w → is_write_at change w.key ≡ true → LiesOn pairs_after (committed_in v.log) tx w.tx
+  lies_new w h e = ⊎_elim (λ s. inl s) (λ m. inr (⊎_elim (λ c. inl c) (λ i. inr (add_has tx (violated tx needs v.locks) v.pairs w.tx i)) m)) (write_met w h e)
+
+  may_lie : (o2 : Option StandingUpdate) (q : ℕ) → newest_at q (standing v.log) ≡ o2 → is_write_at change q ≡ true → may_cover v.log tx o2 ≡ true
+  may_lie None q e w = refl
+  may_lie (Some u) q e w =
+      let f = newest_holds (λ z. Held_write z × (wrote_in v.log z.tx ≡ true)) q (standing v.log) u (all_both _ _ (standing v.log) k.wrote (all_wrote v.log)) e in
+      ⊎_elim (λ s. or_left _ _ (tx_eq tx u.tx (sym s)))
+      (λ m. or_right (tx_same tx u.tx) _ (⊎_elim
+      (λ c. and_from _ _ (or_right (prepared_in v.log u.tx) _ c) (ap not (order.apart u.tx c)))
+      (λ i. let x = violated_closed u.tx i in
+      and_from _ _ (⊎_elim (λ p. or_left _ _ p) (λ c. or_right (prepared_in v.log u.tx) _ c) (o.decided u.tx x.1.0 x.1.1)) (ap not (o.unaborted u.tx (ap is_present x.1.0)))) m))
+      (write_met u f.0.0 (subst (λ z. is_write_at change z ≡ true) f.1 w))
+
+  update_follows : (w : ℕ × Option ℕ × Option ℕ) → change ≡ Some w → may_follow shard v.log (Update tx w.0 w.1 w.2) ≡ true
+  update_follows w e =
+      let c = change_is op (value_at (key_of op) v.records) w e in
+      and_from _ _ (and_from _ _ (and_from _ _ (and_from _ _ (and_from _ _ (and_from _ _ (and_from _ _
+      (ap (λ z. elim z [ Some p ↦ tx.run == p.0 | None ↦ false ]) (o.last).1 ∙ eq-eqb tx.run run run_is) (ap not unprepared)) (ap not open_)) (ap not unaborted)) (ap not unwritten))
+      (same_self w.1 (value_in v.log w.0) (c.1 ∙ ap (λ q. value_at q v.records) (sym c.0) ∙ k.values w.0 ∙ sym (value_top (newest_at w.0 (standing v.log))))))
+      c.2) (may_lie (newest_at w.0 (standing v.log)) w.0 refl (ap (λ z. is_write_at z w.0) e ∙ eq-eqb w.0 w.0 refl))
+
+  new_ordered : Ordered shard run parts_after pairs_after v.log
+  new_ordered = ordered_new shard run v.parts parts_after v.pairs v.log tx (violated tx needs v.locks) o stage_own stage_same not_closed run_is unwritten unaborted violated_closed
+
+  ordered_by : (w : Change) → change ≡ w → Ordered shard run parts_after pairs_after (log_by tx w v.log)
+  ordered_by None e = new_ordered
+  ordered_by (Some w) e = ordered_update shard run parts_after pairs_after v.log tx w.0 w.1 w.2 new_ordered (update_follows w e) stage_own
+
+  pub ordered_performed : Ordered shard run parts_after pairs_after (log_by tx change v.log)
+  ordered_performed = ordered_by change refl
+
+  under_old : (ws : List StandingUpdate) → Under v.pairs (committed_in v.log) ws → Under pairs_after (committed_in v.log) ws
+  under_old [] u = tt
+  under_old (w ∷ ws) u = (all_mono _ _ (λ z h e. ⊎_elim (λ s. inl s) (λ m. inr (⊎_elim (λ c. inl c) (λ i. inr (add_keeps tx (violated tx needs v.locks) v.pairs w.tx z.tx i)) m)) (h e)) ws u.0, under_old ws u.1)
+
+  under_by : (w : Change) → change ≡ w → Under pairs_after (committed_in (log_by tx w v.log)) (standing (log_by tx w v.log))
+  under_by None e = under_old (standing v.log) l.under
+  under_by (Some w) e =
+      subst (Under pairs_after (committed_in (v.log ++ Update tx w.0 w.1 w.2 ∷ []))) (sym (standing_append 0 v.log (Update tx w.0 w.1 w.2 ∷ []) []))
+      (under_more pairs_after (committed_in v.log) (committed_in (v.log ++ Update tx w.0 w.1 w.2 ∷ [])) (record { lsn = 0 + length v.log; tx = tx; key = w.0; before = w.1; after = w.2 } ∷ standing v.log)
+      (λ t c. committed_keeps v.log (Update tx w.0 w.1 w.2 ∷ []) t c)
+      (all_mono _ _ (λ z h q. lies_new z h (ap (λ y. is_write_at y z.key) e ∙ eq-eqb z.key w.0 q)) (standing v.log) k.wrote, under_old (standing v.log) l.under))
+
+  own_by : (w : Change) (x : ℕ × Option ℕ × Option ℕ) → w ≡ Some x → wrote_in (log_by tx w v.log) tx ≡ true
+  own_by None x e = absurd cc
+  own_by (Some w) x e = list_any-append (is_update_of tx) v.log (Update tx w.0 w.1 w.2 ∷ []) ∙ or_right (wrote_in v.log tx) _ (or_left _ _ (tx_self tx))
+
+  more_by : (w : Change) (t : TxId) → wrote_in v.log t ≡ true → wrote_in (log_by tx w v.log) t ≡ true
+  more_by None t e = e
+  more_by (Some w) t e = wrote_keeps v.log (Update tx w.0 w.1 w.2 ∷ []) t e
+
+  write_some : (w : Change) (q : ℕ) → is_write_at w q ≡ true → (x : ℕ × Option ℕ × Option ℕ) × (w ≡ Some x)
+  write_some None q e = absurd (both_ways false refl e)
+  write_some (Some w) q e = (w, refl)
+
+  pub lying_performed : Lying locks_after pairs_after (log_by tx change v.log)
+  lying_performed = record {
+    under = under_by change refl;
+    writers = writers_insert (λ t. wrote_in (log_by tx change v.log) t ≡ true) tx birth v.records ins (take_all tx birth needs v.locks)
+        (λ q e. let x = write_some change q (insert_writes v.records change ins q (writing op v.records) e) in own_by change x.0 x.1)
+        (writers_all (λ t. wrote_in (log_by tx change v.log) t ≡ true) tx birth needs v.locks (needs_write (λ t. wrote_in (log_by tx change v.log) t ≡ true) tx op v.records (λ x e. own_by change x e))
+        (writers_more (λ t. wrote_in v.log t ≡ true) (λ t. wrote_in (log_by tx change v.log) t ≡ true) (λ t e. more_by change t e) v.locks l.writers));
+  }

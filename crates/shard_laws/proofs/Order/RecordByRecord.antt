@@ -1,0 +1,230 @@
+-- A log that keeps the order rules, record by record, and what RESTARTs of it say.
+use Rattle.std.proofs.Common.{◌≡◌, refl, sym, ap, subst, ◌∙◌, ℕ, suc, ◌≤◌, ◌<◌, Bool, true, false, ◌&&◌, ◌||◌, List, [], ◌∷◌, ◌++◌, Option, Some, None, nat_lt, ◌==◌, cond, max, arith, append-nil, append_assoc, eq-eqb}
+use Rattle.std.specs.Prelude.{⊤, take, drop}
+use Rattle.std.proofs.lemmas.Bool.{both_ways, and_from, lt-ltb, ltb-false, or_right, or_left}
+use Rattle.std.proofs.lemmas.List.{take-append-drop}
+use Rattle.std.proofs.Math.Bool.{or-false}
+use Rattle.clv_base.specs.declared.names.TxId.{TxId}
+use Rattle.clv_base.specs.declared.logs.LogRecord.{LogRecord}
+use Rattle.clv_base.specs.declared.logs.LogRecord.TheVariants.{Update, Clr, Prepare, Commit, Abort, End, Restart}
+use Rattle.clv_base.specs.Logs.{wrote_in}
+use Rattle.clv_base.specs.LogRules.{may_follow, disorder_from, last_restart, since_restart, before_restart, above_restarts}
+use Rattle.clv_base.specs.Restarts.{greatest_run, greatest_epoch}
+use Rattle.law_base.proofs.Restarts.{epoch_own}
+use Rattle.shard_laws.proofs.Keeping.RecordsAndFrontsKeep.{wrote_append}
+use Rattle.clv_base.proofs.Folding.{or_left as or_false_left}
+
+-- each record may follow those before it
+abbrev pub Follows : ℕ → List LogRecord → List LogRecord → Type 0
+Follows shard before [] = ⊤
+Follows shard before (r ∷ rs) = (may_follow shard before r ≡ true) × Follows shard (before ++ r ∷ []) rs
+
+some_none : (n : ℕ) → ◌≡◌ {A = Option ℕ} (Some n) None → ⊥
+some_none n e = absurd cc
+
+pub from_disorder : (shard n : ℕ) (before rs : List LogRecord) → disorder_from shard n before rs ≡ None → Follows shard before rs
+from_disorder shard n before [] d = tt
+from_disorder shard n before (r ∷ rs) d = at (may_follow shard before r) refl d (from_disorder shard (suc n) (before ++ r ∷ []) rs)
+  where
+    at : (b : Bool) → may_follow shard before r ≡ b → ◌≡◌ {A = Option ℕ} (elim b [ true ↦ disorder_from shard (suc n) (before ++ r ∷ []) rs | false ↦ Some n ]) None
+        → (disorder_from shard (suc n) (before ++ r ∷ []) rs ≡ None → Follows shard (before ++ r ∷ []) rs) → Follows shard before (r ∷ rs)
+    at true e d k = (e, k d)
+    at false e d k = absurd (some_none n d)
+
+pub to_disorder : (shard n : ℕ) (before rs : List LogRecord) → Follows shard before rs → disorder_from shard n before rs ≡ None
+to_disorder shard n before [] f = refl
+to_disorder shard n before (r ∷ rs) f =
+    ap (λ b. elim b [ true ↦ disorder_from shard (suc n) (before ++ r ∷ []) rs | false ↦ Some n ]) f.0 ∙ to_disorder shard (suc n) (before ++ r ∷ []) rs f.1
+
+pub follows_append : (shard : ℕ) (before xs ys : List LogRecord) → Follows shard before xs → Follows shard (before ++ xs) ys → Follows shard before (xs ++ ys)
+follows_append shard before [] ys f g = subst (λ l. Follows shard l ys) (append-nil before) g
+follows_append shard before (x ∷ xs) ys f g = (f.0, follows_append shard (before ++ x ∷ []) xs ys f.1 (subst (λ l. Follows shard l ys) (sym (append_assoc before (x ∷ []) xs)) g))
+
+pub follows_front : (shard : ℕ) (before xs ys : List LogRecord) → Follows shard before (xs ++ ys) → Follows shard before xs
+follows_front shard before [] ys f = tt
+follows_front shard before (x ∷ xs) ys f = (f.0, follows_front shard (before ++ x ∷ []) xs ys f.1)
+
+pub follows_take : (shard n : ℕ) (before log : List LogRecord) → Follows shard before log → Follows shard before (take n log)
+follows_take shard n before log f = follows_front shard before (take n log) (drop n log) (subst (Follows shard before) (sym (take-append-drop n log)) f)
+
+-- ---- the last RESTART
+
+-- no RESTART
+abbrev pub Plainly : LogRecord → Type 0
+Plainly (Restart run epoch) = ⊥
+Plainly _ = ⊤
+
+abbrev or_last : Option (ℕ × ℕ) → ℕ → ℕ → Option (ℕ × ℕ)
+or_last o run epoch = elim o [ Some p ↦ Some p | None ↦ Some (run, epoch) ]
+
+pub last_push : (log : List LogRecord) (r : LogRecord) → Plainly r → last_restart (log ++ r ∷ []) ≡ last_restart log
+last_push [] (Update tx k b a) p = refl
+last_push [] (Clr tx u k a) p = refl
+last_push [] (Prepare tx home ps) p = refl
+last_push [] (Commit tx parts) p = refl
+last_push [] (Abort tx) p = refl
+last_push [] (End tx) p = refl
+last_push [] (Restart run epoch) p = absurd p
+last_push (Restart run epoch ∷ rs) r p = ap (λ o. or_last o run epoch) (last_push rs r p)
+last_push (Update tx k b a ∷ rs) r p = last_push rs r p
+last_push (Clr tx u k a ∷ rs) r p = last_push rs r p
+last_push (Prepare tx home ps ∷ rs) r p = last_push rs r p
+last_push (Commit tx parts ∷ rs) r p = last_push rs r p
+last_push (Abort tx ∷ rs) r p = last_push rs r p
+last_push (End tx ∷ rs) r p = last_push rs r p
+
+pub before_push : (sf log : List LogRecord) (r : LogRecord) → Plainly r → before_restart sf (log ++ r ∷ []) ≡ before_restart sf log
+before_push sf [] (Update tx k b a) p = refl
+before_push sf [] (Clr tx u k a) p = refl
+before_push sf [] (Prepare tx home ps) p = refl
+before_push sf [] (Commit tx parts) p = refl
+before_push sf [] (Abort tx) p = refl
+before_push sf [] (End tx) p = refl
+before_push sf [] (Restart run epoch) p = absurd p
+before_push sf (Restart run epoch ∷ rs) r p = ap (λ l. sf ++ l) (before_push (Restart run epoch ∷ []) rs r p)
+before_push sf (Update tx k b a ∷ rs) r p = before_push (sf ++ Update tx k b a ∷ []) rs r p
+before_push sf (Clr tx u k a ∷ rs) r p = before_push (sf ++ Clr tx u k a ∷ []) rs r p
+before_push sf (Prepare tx home ps ∷ rs) r p = before_push (sf ++ Prepare tx home ps ∷ []) rs r p
+before_push sf (Commit tx parts ∷ rs) r p = before_push (sf ++ Commit tx parts ∷ []) rs r p
+before_push sf (Abort tx ∷ rs) r p = before_push (sf ++ Abort tx ∷ []) rs r p
+before_push sf (End tx ∷ rs) r p = before_push (sf ++ End tx ∷ []) rs r p
+
+-- who wrote, wrote before or since the last RESTART
+or_three : (a b c : Bool) → ((a || b) || c) ≡ (a || (b || c))
+or_three true b c = refl
+or_three false b c = refl
+
+one_more : (t : TxId) (sf rs : List LogRecord) (r : LogRecord) → (wrote_in sf t || wrote_in (r ∷ rs) t) ≡ (wrote_in (sf ++ r ∷ []) t || wrote_in rs t)
+one_more t sf rs r = sym (ap (λ b. b || wrote_in rs t) (wrote_append sf (r ∷ []) t) ∙ or_three (wrote_in sf t) (wrote_in (r ∷ []) t) (wrote_in rs t) ∙ ap (λ b. wrote_in sf t || b) (sym (wrote_append (r ∷ []) rs t)))
+
+-- the records before a RESTART, from two beginnings
+same_before : (t : TxId) (xs ys zs : List LogRecord) → wrote_in xs t ≡ wrote_in ys t → wrote_in (before_restart xs zs) t ≡ wrote_in (before_restart ys zs) t
+same_before t xs ys [] e = refl
+same_before t xs ys (Restart r f ∷ zs) e = wrote_append xs (before_restart (Restart r f ∷ []) zs) t ∙ ap (λ b. b || wrote_in (before_restart (Restart r f ∷ []) zs) t) e ∙ sym (wrote_append ys (before_restart (Restart r f ∷ []) zs) t)
+same_before t xs ys (Update tx k b a ∷ zs) e = same_before t (xs ++ Update tx k b a ∷ []) (ys ++ Update tx k b a ∷ []) zs (wrote_append xs (Update tx k b a ∷ []) t ∙ ap (λ z. z || wrote_in (Update tx k b a ∷ []) t) e ∙ sym (wrote_append ys (Update tx k b a ∷ []) t))
+same_before t xs ys (Clr tx u k a ∷ zs) e = same_before t (xs ++ Clr tx u k a ∷ []) (ys ++ Clr tx u k a ∷ []) zs (wrote_append xs (Clr tx u k a ∷ []) t ∙ ap (λ z. z || false) e ∙ sym (wrote_append ys (Clr tx u k a ∷ []) t))
+same_before t xs ys (Prepare tx h ps ∷ zs) e = same_before t (xs ++ Prepare tx h ps ∷ []) (ys ++ Prepare tx h ps ∷ []) zs (wrote_append xs (Prepare tx h ps ∷ []) t ∙ ap (λ z. z || false) e ∙ sym (wrote_append ys (Prepare tx h ps ∷ []) t))
+same_before t xs ys (Commit tx ps ∷ zs) e = same_before t (xs ++ Commit tx ps ∷ []) (ys ++ Commit tx ps ∷ []) zs (wrote_append xs (Commit tx ps ∷ []) t ∙ ap (λ z. z || false) e ∙ sym (wrote_append ys (Commit tx ps ∷ []) t))
+same_before t xs ys (Abort tx ∷ zs) e = same_before t (xs ++ Abort tx ∷ []) (ys ++ Abort tx ∷ []) zs (wrote_append xs (Abort tx ∷ []) t ∙ ap (λ z. z || false) e ∙ sym (wrote_append ys (Abort tx ∷ []) t))
+same_before t xs ys (End tx ∷ zs) e = same_before t (xs ++ End tx ∷ []) (ys ++ End tx ∷ []) zs (wrote_append xs (End tx ∷ []) t ∙ ap (λ z. z || false) e ∙ sym (wrote_append ys (End tx ∷ []) t))
+
+pub wrote_split : (t : TxId) (sf rs : List LogRecord) → (wrote_in sf t || wrote_in rs t) ≡ (wrote_in (before_restart sf rs) t || wrote_in (since_restart sf rs) t)
+wrote_split t sf [] = or-false (wrote_in sf t)
+wrote_split t sf (Restart run epoch ∷ rs) = ap (λ b. wrote_in sf t || b) (wrote_split t [] rs ∙ ap (λ b. b || wrote_in (since_restart [] rs) t) (same_before t [] (Restart run epoch ∷ []) rs refl)) ∙ sym (ap (λ b. b || wrote_in (since_restart [] rs) t) (wrote_append sf (before_restart (Restart run epoch ∷ []) rs) t) ∙ or_three (wrote_in sf t) _ _)
+wrote_split t sf (Update tx k b a ∷ rs) = one_more t sf rs (Update tx k b a) ∙ wrote_split t (sf ++ Update tx k b a ∷ []) rs
+wrote_split t sf (Clr tx u k a ∷ rs) = one_more t sf rs (Clr tx u k a) ∙ wrote_split t (sf ++ Clr tx u k a ∷ []) rs
+wrote_split t sf (Prepare tx home ps ∷ rs) = one_more t sf rs (Prepare tx home ps) ∙ wrote_split t (sf ++ Prepare tx home ps ∷ []) rs
+wrote_split t sf (Commit tx parts ∷ rs) = one_more t sf rs (Commit tx parts) ∙ wrote_split t (sf ++ Commit tx parts ∷ []) rs
+wrote_split t sf (Abort tx ∷ rs) = one_more t sf rs (Abort tx) ∙ wrote_split t (sf ++ Abort tx ∷ []) rs
+wrote_split t sf (End tx ∷ rs) = one_more t sf rs (End tx) ∙ wrote_split t (sf ++ End tx ∷ []) rs
+
+or_first : (a b : Bool) → (a || b) ≡ true → a ≡ false → b ≡ true
+or_first true b e f = absurd (both_ways true f refl)
+or_first false b e f = e
+
+pub wrote_since : (log : List LogRecord) (t : TxId) → wrote_in log t ≡ true → wrote_in (before_restart [] log) t ≡ false → wrote_in (since_restart [] log) t ≡ true
+wrote_since log t w e = or_first _ _ (sym (wrote_split t [] log) ∙ w) e
+
+pub unwritten_before : (log : List LogRecord) (t : TxId) → wrote_in log t ≡ false → wrote_in (before_restart [] log) t ≡ false
+unwritten_before log t e = or_false_left _ _ (sym (wrote_split t [] log) ∙ e)
+
+-- ---- runs and epochs
+
+pub greatest_push : (log : List LogRecord) (r : LogRecord) (n : ℕ) → greatest_run log ≤ n → greatest_run (r ∷ []) ≤ n → greatest_run (log ++ r ∷ []) ≤ n
+greatest_push [] r n l m = m
+greatest_push (Restart run epoch ∷ rs) r n l m = let k = greatest_push rs r n (omega (arith, l)) m in omega (arith, k, l)
+greatest_push (Update tx k b a ∷ rs) r n l m = greatest_push rs r n l m
+greatest_push (Clr tx u k a ∷ rs) r n l m = greatest_push rs r n l m
+greatest_push (Prepare tx home ps ∷ rs) r n l m = greatest_push rs r n l m
+greatest_push (Commit tx parts ∷ rs) r n l m = greatest_push rs r n l m
+greatest_push (Abort tx ∷ rs) r n l m = greatest_push rs r n l m
+greatest_push (End tx ∷ rs) r n l m = greatest_push rs r n l m
+
+pub greatest_plain : (log : List LogRecord) (r : LogRecord) (n : ℕ) → Plainly r → greatest_run log ≤ n → greatest_run (log ++ r ∷ []) ≤ n
+greatest_plain log r n p l = greatest_push log r n l (at r p)
+  where
+    at : (q : LogRecord) → Plainly q → greatest_run (q ∷ []) ≤ n
+    at (Update tx k b a) p = omega arith
+    at (Clr tx u k a) p = omega arith
+    at (Prepare tx home ps) p = omega arith
+    at (Commit tx parts) p = omega arith
+    at (Abort tx) p = omega arith
+    at (End tx) p = omega arith
+    at (Restart run epoch) p = absurd p
+
+pub greatest_front : (xs ys : List LogRecord) (n : ℕ) → greatest_run (xs ++ ys) ≤ n → greatest_run xs ≤ n
+greatest_front [] ys n l = omega arith
+greatest_front (Restart run epoch ∷ rs) ys n l = let k = greatest_front rs ys n (omega (arith, l)) in omega (arith, k, l)
+greatest_front (Update tx k b a ∷ rs) ys n l = greatest_front rs ys n l
+greatest_front (Clr tx u k a ∷ rs) ys n l = greatest_front rs ys n l
+greatest_front (Prepare tx home ps ∷ rs) ys n l = greatest_front rs ys n l
+greatest_front (Commit tx parts ∷ rs) ys n l = greatest_front rs ys n l
+greatest_front (Abort tx ∷ rs) ys n l = greatest_front rs ys n l
+greatest_front (End tx ∷ rs) ys n l = greatest_front rs ys n l
+
+pub greatest_both : (xs ys : List LogRecord) (n : ℕ) → greatest_run xs ≤ n → greatest_run ys ≤ n → greatest_run (xs ++ ys) ≤ n
+greatest_both [] ys n l m = m
+greatest_both (Restart run epoch ∷ rs) ys n l m = let k = greatest_both rs ys n (omega (arith, l)) m in omega (arith, k, l)
+greatest_both (Update tx k b a ∷ rs) ys n l m = greatest_both rs ys n l m
+greatest_both (Clr tx u k a ∷ rs) ys n l m = greatest_both rs ys n l m
+greatest_both (Prepare tx home ps ∷ rs) ys n l m = greatest_both rs ys n l m
+greatest_both (Commit tx parts ∷ rs) ys n l m = greatest_both rs ys n l m
+greatest_both (Abort tx ∷ rs) ys n l m = greatest_both rs ys n l m
+greatest_both (End tx ∷ rs) ys n l m = greatest_both rs ys n l m
+
+-- a later run is above, and so is a later epoch of the same run
+pub above_later : (run epoch : ℕ) (log : List LogRecord) → greatest_run log < run → above_restarts run epoch log ≡ true
+above_later run epoch [] l = refl
+above_later run epoch (Restart r e ∷ rs) l = and_from _ _ (or_left _ _ (lt-ltb r run (omega (arith, l)))) (above_later run epoch rs (omega (arith, l)))
+above_later run epoch (Update tx k b a ∷ rs) l = above_later run epoch rs l
+above_later run epoch (Clr tx u k a ∷ rs) l = above_later run epoch rs l
+above_later run epoch (Prepare tx home ps ∷ rs) l = above_later run epoch rs l
+above_later run epoch (Commit tx parts ∷ rs) l = above_later run epoch rs l
+above_later run epoch (Abort tx ∷ rs) l = above_later run epoch rs l
+above_later run epoch (End tx ∷ rs) l = above_later run epoch rs l
+
+pub above_next : (run own epoch : ℕ) (log : List LogRecord) → greatest_run log ≤ run → greatest_epoch run own log < epoch → above_restarts run epoch log ≡ true
+above_next run own epoch [] l m = refl
+above_next run own epoch (Restart r e ∷ rs) l m = and_from _ _ (at (nat_lt r run) refl) (above_next run (cond (r == run) (max own e) own) epoch rs (omega (arith, l)) m)
+  where
+    at : (b : Bool) → nat_lt r run ≡ b → (b || ((r == run) && nat_lt e epoch)) ≡ true
+    at true f = refl
+    at false f =
+        let same : r ≡ run = omega (arith, l, ltb-false r run f) in
+        let own_less = epoch_own run (cond (r == run) (max own e) own) rs in
+        let big : e ≤ cond (r == run) (max own e) own = subst (λ b. e ≤ cond b (max own e) own) (sym (eq-eqb r run same)) (omega arith) in
+        and_from _ _ (eq-eqb r run same) (lt-ltb e epoch (omega (arith, big, own_less, m)))
+above_next run own epoch (Update tx k b a ∷ rs) l m = above_next run own epoch rs l m
+above_next run own epoch (Clr tx u k a ∷ rs) l m = above_next run own epoch rs l m
+above_next run own epoch (Prepare tx home ps ∷ rs) l m = above_next run own epoch rs l m
+above_next run own epoch (Commit tx parts ∷ rs) l m = above_next run own epoch rs l m
+above_next run own epoch (Abort tx ∷ rs) l m = above_next run own epoch rs l m
+above_next run own epoch (End tx ∷ rs) l m = above_next run own epoch rs l m
+
+pub above_push : (run epoch : ℕ) (log : List LogRecord) (r : LogRecord) → Plainly r → above_restarts run epoch (log ++ r ∷ []) ≡ above_restarts run epoch log
+above_push run epoch [] (Update tx k b a) p = refl
+above_push run epoch [] (Clr tx u k a) p = refl
+above_push run epoch [] (Prepare tx home ps) p = refl
+above_push run epoch [] (Commit tx parts) p = refl
+above_push run epoch [] (Abort tx) p = refl
+above_push run epoch [] (End tx) p = refl
+above_push run epoch [] (Restart r e) p = absurd p
+above_push run epoch (Restart r e ∷ rs) q p = ap (λ b. (nat_lt r run || ((r == run) && nat_lt e epoch)) && b) (above_push run epoch rs q p)
+above_push run epoch (Update tx k b a ∷ rs) q p = above_push run epoch rs q p
+above_push run epoch (Clr tx u k a ∷ rs) q p = above_push run epoch rs q p
+above_push run epoch (Prepare tx home ps ∷ rs) q p = above_push run epoch rs q p
+above_push run epoch (Commit tx parts ∷ rs) q p = above_push run epoch rs q p
+above_push run epoch (Abort tx ∷ rs) q p = above_push run epoch rs q p
+above_push run epoch (End tx ∷ rs) q p = above_push run epoch rs q p
+
+-- ---- what holds of each front of a log in order
+
+pub through : (P : List LogRecord → Type 0) (shard : ℕ) (before rs : List LogRecord) → Follows shard [] before → Follows shard before rs → P before
+    → ((log : List LogRecord) (r : LogRecord) → Follows shard [] log → P log → may_follow shard log r ≡ true → P (log ++ r ∷ [])) → P (before ++ rs)
+through P shard before [] g f p step = subst P (sym (append-nil before)) p
+through P shard before (r ∷ rs) g f p step =
+    subst P (append_assoc before (r ∷ []) rs) (through P shard (before ++ r ∷ []) rs (follows_append shard [] before (r ∷ []) g (f.0, tt)) f.1 (step before r g p f.0) step)
+
+-- who wrote since the last RESTART wrote
+pub since_wrote : (log : List LogRecord) (t : TxId) → wrote_in (since_restart [] log) t ≡ true → wrote_in log t ≡ true
+since_wrote log t e = wrote_split t [] log ∙ or_right _ _ e

@@ -1,0 +1,134 @@
+-- The ABORTs and CLRs of a set may follow a log: each that wrote is aborted once, and each CLR compensates the newest write of its key.
+use Rattle.std.proofs.Common.{◌≡◌, ◌⊎◌, inl, inr, ⊎_elim, refl, sym, ap, subst, ◌∙◌, ℕ, suc, true, false, not, List, [], ◌∷◌, ◌++◌, map, Option, Some, None, is_some, ◌==◌, length, ◌+◌, append_assoc, eq-eqb, eqb-true}
+use Rattle.std.specs.List.{AllByRecursion}
+use Rattle.std.proofs.lemmas.Bool.{both_ways, or_cases, cond_both, cond-true, cond-false, and_from, not-true, false_from_ne_true}
+use Rattle.clv_base.specs.declared.names.TxId.{TxId}
+use Rattle.clv_base.specs.declared.logs.LogRecord.{LogRecord}
+use Rattle.clv_base.specs.declared.logs.LogRecord.TheVariants.{Clr, Abort}
+use Rattle.clv_base.specs.Orders.{tx_same, tx_in}
+use Rattle.clv_base.specs.Logs.{StandingUpdate, standing, standing_from, wrote_in, committed_in, aborted_in, is_update_of, is_commit_of, is_abort_of, newest_of, newest_at, without_newest}
+use Rattle.clv_base.specs.LogRules.{last_restart, same_option, compensates, may_follow}
+use Rattle.clv_base.specs.Undo.{clrs_of, newest_lsn}
+use Rattle.clv_base.proofs.SameNames.{or_left, or_right, tx_true, tx_self, tx_ne, tx_flip}
+use Rattle.law_base.specs.Undone.{stays_of}
+use Rattle.law_base.proofs.Lists.{all_mono, all_push}
+use Rattle.law_base.proofs.Undoing.{Upward, standing_append}
+use Rattle.law_base.proofs.Options.{option_self}
+use Rattle.protocol_laws.proofs.LogsInOrder.OneRecordMore.{push_right, push_false}
+use Rattle.shard_laws.proofs.Cuts.MembersRunSerially.{Once}
+use Rattle.shard_laws.proofs.Order.RecordByRecord.{Follows, follows_append, last_push}
+use Rattle.law_base.proofs.Logs.{push_left}
+
+-- ---- ABORTs
+
+pub aborts_follow : (shard : ℕ) (log : List LogRecord) (ts : List TxId) → is_some (last_restart log) ≡ true → Once ts → ((t : TxId) → tx_in t ts ≡ true → (wrote_in log t ≡ true) × (committed_in log t ≡ false) × (aborted_in log t ≡ false))
+    → Follows shard log (map (λ t. Abort t) ts)
+aborts_follow shard log [] s o h = tt
+aborts_follow shard log (t ∷ ts) s o h =
+    let m = h t (or_left _ _ (tx_self t)) in (
+      and_from _ _ (and_from _ _ (and_from _ _ s m.0) (ap not m.1)) (ap not m.2),
+      aborts_follow shard (log ++ Abort t ∷ []) ts (ap is_some (last_push log (Abort t) tt) ∙ s) o.1 (λ u i.
+          let n = h u (or_right (tx_same t u) _ i) in
+          (push_left (is_update_of u) log (Abort t) n.0, push_false (is_commit_of u) log (Abort t) n.1 refl, push_false (is_abort_of u) log (Abort t) n.2 (tx_ne u t (λ e. both_ways _ o.0 (subst (λ z. tx_in z ts ≡ true) e i))))),
+    )
+
+pub aborted_now : (log : List LogRecord) (ts : List TxId) (t : TxId) → (aborted_in log t ≡ true) ⊎ (tx_in t ts ≡ true) → aborted_in (log ++ map (λ t. Abort t) ts) t ≡ true
+aborted_now log [] t e = subst (λ l. aborted_in l t ≡ true) (sym (nothing log)) (⊎_elim (λ a. a) (λ a. absurd (both_ways false refl a)) e)
+  where
+    nothing : (l : List LogRecord) → l ++ [] ≡ l
+    nothing [] = refl
+    nothing (r ∷ rs) = ap (λ z. r ∷ z) (nothing rs)
+aborted_now log (u ∷ us) t e =
+    subst (λ l. aborted_in l t ≡ true) (append_assoc log (Abort u ∷ []) (map (λ t. Abort t) us))
+    (aborted_now (log ++ Abort u ∷ []) us t (⊎_elim (λ a. inl (push_left (is_abort_of t) log (Abort u) a)) (λ a. ⊎_elim (λ s. inl (push_right (is_abort_of t) log (Abort u) (tx_flip u t s))) (λ i. inr i) (or_cases (tx_same u t) (tx_in t us) a)) e))
+
+pub standing_aborted : (log : List LogRecord) (ts : List TxId) → standing (log ++ map (λ t. Abort t) ts) ≡ standing log
+standing_aborted log ts = standing_append 0 log (map (λ t. Abort t) ts) [] ∙ none (0 + length log) ts (standing log)
+  where
+    none : (n : ℕ) (us : List TxId) (ws : List StandingUpdate) → standing_from n (map (λ t. Abort t) us) ws ≡ ws
+    none n [] ws = refl
+    none n (u ∷ us) ws = none (suc n) us ws
+
+pub last_aborted : (log : List LogRecord) (ts : List TxId) → last_restart (log ++ map (λ t. Abort t) ts) ≡ last_restart log
+last_aborted log [] = ap last_restart (nothing log)
+  where
+    nothing : (l : List LogRecord) → l ++ [] ≡ l
+    nothing [] = refl
+    nothing (r ∷ rs) = ap (λ z. r ∷ z) (nothing rs)
+last_aborted log (u ∷ us) = ap last_restart (sym (append_assoc log (Abort u ∷ []) (map (λ t. Abort t) us))) ∙ last_aborted (log ++ Abort u ∷ []) us ∙ last_push log (Abort u) tt
+
+-- ---- CLRs
+
+newest_skip : (t : TxId) (pre ws : List StandingUpdate) → AllByRecursion (λ v. tx_same t v.tx ≡ false) pre → newest_of t (pre ++ ws) ≡ newest_of t ws
+newest_skip t [] ws none = refl
+newest_skip t (v ∷ vs) ws none = cond-false (tx_same t v.tx) (Some v) (newest_of t (vs ++ ws)) none.0 ∙ newest_skip t vs ws none.1
+
+at_skip : (k : ℕ) (pre ws : List StandingUpdate) → AllByRecursion (λ v. (k == v.key) ≡ false) pre → newest_at k (pre ++ ws) ≡ newest_at k ws
+at_skip k [] ws none = refl
+at_skip k (v ∷ vs) ws none = cond-false (k == v.key) (Some v) (newest_at k (vs ++ ws)) none.0 ∙ at_skip k vs ws none.1
+
+drop_first : (t : TxId) (pre : List StandingUpdate) (w : StandingUpdate) (ws : List StandingUpdate) → AllByRecursion (λ v. tx_same t v.tx ≡ false) pre → tx_same t w.tx ≡ true → without_newest t (pre ++ w ∷ ws) ≡ pre ++ ws
+drop_first t [] w ws none e = cond-true _ _ _ e
+drop_first t (v ∷ vs) w ws none e = cond-false _ _ _ none.0 ∙ ap (λ l. v ∷ l) (drop_first t vs w ws none.1 e)
+
+none_of : (set : List TxId) (t : TxId) (pre : List StandingUpdate) → tx_in t set ≡ true → AllByRecursion (λ v. stays_of set v ≡ true) pre → AllByRecursion (λ v. tx_same t v.tx ≡ false) pre
+none_of set t pre i all = all_mono _ _ (λ v h. false_from_ne_true _ (λ s. both_ways _ (not-true _ h) (subst (λ z. tx_in z set ≡ true) (tx_true t v.tx s) i))) pre all
+
+all_in : (P : StandingUpdate → Type 0) (pre : List StandingUpdate) (w : StandingUpdate) (ws : List StandingUpdate) → AllByRecursion P (pre ++ w ∷ ws) → P w
+all_in P [] w ws a = a.0
+all_in P (v ∷ vs) w ws a = all_in P vs w ws a.1
+
+all_drop : (P : StandingUpdate → Type 0) (pre : List StandingUpdate) (w : StandingUpdate) (ws : List StandingUpdate) → AllByRecursion P (pre ++ w ∷ ws) → AllByRecursion P (pre ++ ws)
+all_drop P [] w ws a = a.1
+all_drop P (v ∷ vs) w ws a = (a.0, all_drop P vs w ws a.1)
+
+apart_keys : (set : List TxId) (pre : List StandingUpdate) (w : StandingUpdate) (ws : List StandingUpdate) → AllByRecursion (λ v. stays_of set v ≡ true) pre → Upward set (pre ++ w ∷ ws) → tx_in w.tx set ≡ true → AllByRecursion (λ v. (w.key == v.key) ≡ false) pre
+apart_keys set [] w ws st up i = tt
+apart_keys set (v ∷ vs) w ws st up i = (
+  false_from_ne_true _ (λ e. both_ways _ (all_in (λ u. u.key ≡ v.key → tx_in u.tx set ≡ false) vs w ws (up.0 (not-true _ st.0)) (eqb-true w.key v.key e)) i),
+  apart_keys set vs w ws st.1 up.1 i,
+)
+
+upward_drop : (set : List TxId) (pre : List StandingUpdate) (w : StandingUpdate) (ws : List StandingUpdate) → Upward set (pre ++ w ∷ ws) → Upward set (pre ++ ws)
+upward_drop set [] w ws up = up.1
+upward_drop set (v ∷ vs) w ws up = ((λ out. all_drop _ vs w ws (up.0 out)), upward_drop set vs w ws up.1)
+
+-- the newest of its key and of its transaction is compensated
+clr_case : (log : List LogRecord) (w : StandingUpdate) (next : Option ℕ) (o : Option StandingUpdate) → o ≡ Some w → newest_at w.key (standing log) ≡ Some w → next ≡ newest_lsn w.tx (without_newest w.tx (standing log))
+    → compensates log w.tx next w.key w.before o ≡ true
+clr_case log w next o e at below = subst (λ z. compensates log w.tx next w.key w.before z ≡ true) (sym e)
+    (and_from _ _ (and_from _ _ (and_from _ _ (eq-eqb w.key w.key refl) (option_self w.before)) (subst (λ z. elim z [ Some v ↦ v.lsn == w.lsn | None ↦ false ] ≡ true) (sym at) (eq-eqb w.lsn w.lsn refl)))
+    (subst (λ z. same_option z (newest_lsn w.tx (without_newest w.tx (standing log))) ≡ true) (sym below) (option_self (newest_lsn w.tx (without_newest w.tx (standing log))))))
+
+clr_may : (shard : ℕ) (set : List TxId) (log : List LogRecord) (pre : List StandingUpdate) (w : StandingUpdate) (ws : List StandingUpdate) → is_some (last_restart log) ≡ true → standing log ≡ pre ++ w ∷ ws → AllByRecursion (λ v. stays_of set v ≡ true) pre
+    → Upward set (pre ++ w ∷ ws) → tx_in w.tx set ≡ true → aborted_in log w.tx ≡ true → may_follow shard log (Clr w.tx (newest_lsn w.tx ws) w.key w.before) ≡ true
+clr_may shard set log pre w ws s e st up i a =
+    let none = none_of set w.tx pre i st in
+    and_from _ _ (and_from _ _ s a)
+    (clr_case log w (newest_lsn w.tx ws) (newest_of w.tx (standing log))
+    (ap (newest_of w.tx) e ∙ newest_skip w.tx pre (w ∷ ws) none ∙ cond-true (tx_same w.tx w.tx) (Some w) (newest_of w.tx ws) (tx_self w.tx))
+    (ap (newest_at w.key) e ∙ at_skip w.key pre (w ∷ ws) (apart_keys set pre w ws st up i) ∙ cond-true (w.key == w.key) (Some w) (newest_at w.key ws) (eq-eqb w.key w.key refl))
+    (ap (λ o. elim o [ Some v ↦ Some v.lsn | None ↦ None ]) (sym (newest_skip w.tx pre ws none)) ∙ ap (newest_lsn w.tx) (sym (ap (without_newest w.tx) e ∙ drop_first w.tx pre w ws none (tx_self w.tx)))))
+
+pub clrs_follow : (shard : ℕ) (set : List TxId) (log : List LogRecord) (pre ws : List StandingUpdate) → is_some (last_restart log) ≡ true → standing log ≡ pre ++ ws → AllByRecursion (λ v. stays_of set v ≡ true) pre → Upward set (pre ++ ws)
+    → AllByRecursion (λ w. tx_in w.tx set ≡ true → aborted_in log w.tx ≡ true) ws → Follows shard log (clrs_of set ws)
+clrs_follow shard set log pre [] s e st up ab = tt
+clrs_follow shard set log pre (w ∷ ws) s e st up ab =
+    let r : LogRecord = Clr w.tx (newest_lsn w.tx ws) w.key w.before in
+    cond_both (tx_in w.tx set) (Clr w.tx (newest_lsn w.tx ws) w.key w.before ∷ clrs_of set ws) (clrs_of set ws) (Follows shard log)
+    (λ i. (
+      clr_may shard set log pre w ws s e st up i (ab.0 i),
+      clrs_follow shard set (log ++ r ∷ []) pre ws (ap is_some (last_push log r tt) ∙ s)
+          (standing_append 0 log (r ∷ []) [] ∙ ap (without_newest w.tx) e ∙ drop_first w.tx pre w ws (none_of set w.tx pre i st) (tx_self w.tx)) st (upward_drop set pre w ws up)
+          (all_mono _ _ (λ v h j. push_left (is_abort_of v.tx) log r (h j)) ws ab.1),
+    ))
+    (λ i. clrs_follow shard set log (pre ++ w ∷ []) ws s (e ∙ sym (append_assoc pre (w ∷ []) ws)) (all_push _ pre w st (ap not i)) (subst (Upward set) (sym (append_assoc pre (w ∷ []) ws)) up) ab.1)
+
+-- ---- both
+
+pub undo_follows : (shard : ℕ) (log : List LogRecord) (set ts : List TxId) → is_some (last_restart log) ≡ true → Once ts → ((t : TxId) → tx_in t ts ≡ true → (wrote_in log t ≡ true) × (committed_in log t ≡ false) × (aborted_in log t ≡ false))
+    → Upward set (standing log) → AllByRecursion (λ w. tx_in w.tx set ≡ true → (aborted_in log w.tx ≡ true) ⊎ (tx_in w.tx ts ≡ true)) (standing log) → Follows shard log (map (λ t. Abort t) ts ++ clrs_of set (standing log))
+undo_follows shard log set ts s once open_ up ab =
+    follows_append shard log (map (λ t. Abort t) ts) (clrs_of set (standing log)) (aborts_follow shard log ts s once open_)
+    (clrs_follow shard set (log ++ map (λ t. Abort t) ts) [] (standing log) (ap is_some (last_aborted log ts) ∙ s) (standing_aborted log ts) tt up
+    (all_mono _ _ (λ w h i. aborted_now log ts w.tx (h i)) (standing log) ab))

@@ -1,0 +1,275 @@
+-- In a log in order, under a write of a prepared transaction lie writes of its own, of committed ones, and of those that its PREPARE lists.
+use Rattle.std.proofs.Common.{◌≡◌, ◌⊎◌, inl, inr, ⊎_elim, refl, sym, ap, subst, ◌∙◌, ℕ, ◌+◌, ◌<◌, Bool, true, false, cond, not, ◌&&◌, ◌||◌, List, [], ◌∷◌, ◌++◌, length, Option, Some, None, is_some, ◌==◌, nat_lt, eq-eqb}
+use Rattle.std.specs.List.{AllByRecursion, list_any, list_all}
+use Rattle.std.proofs.lemmas.Bool.{cases_Bool, both_ways, cond_both, or_cases, and_from, not-true, lt-ltb, false_from_ne_true}
+use Rattle.clv_base.specs.declared.names.TxId.{TxId}
+use Rattle.clv_base.specs.declared.logs.LogRecord.{LogRecord}
+use Rattle.clv_base.specs.declared.logs.LogRecord.TheVariants.{Update, Clr, Prepare, Commit, Abort, End, Restart}
+use Rattle.clv_base.specs.Orders.{tx_same, tx_in}
+use Rattle.clv_base.specs.Logs.{StandingUpdate, standing, standing_after, without_newest, committed_in, prepared_in, ended_in, wrote_in, commit_parts, is_prepare_of, is_commit_of, is_end_of, is_update_of, in_doubt, is_winner, aborted_in}
+use Rattle.clv_base.specs.LogRules.{listed_in, may_follow, has_above, last_restart, some_parts}
+use Rattle.clv_base.proofs.SameNames.{or_left, or_right, tx_true, tx_self}
+use Rattle.law_base.proofs.Lists.{all_mono, all_both, filter_passes}
+use Rattle.law_base.proofs.Undoing.{standing_append}
+use Rattle.law_base.proofs.Commits.{committed_keeps}
+use Rattle.law_base.proofs.Sets.{list_all_at}
+use Rattle.protocol_laws.specs.Order.{LieOnThese}
+use Rattle.protocol_laws.proofs.LogsInOrder.OneRecordMore.{push_cases, push_same, committed_there, push_right}
+use Rattle.protocol_laws.proofs.LogsInOrder.StandingUpdatesLie.{Falling}
+use Rattle.protocol_laws.proofs.LogsInOrder.{Order, in_order}
+use Rattle.shard_laws.proofs.Keeping.ChangesKeepPrepared.{by_prepare, prepare_here, listed_keeps}
+use Rattle.shard_laws.proofs.Cuts.WhoIsInDoubt.{Doubted, doubted}
+use Rattle.shard_laws.proofs.Order.RecordByRecord.{Follows, to_disorder, through, last_push, since_wrote}
+use Rattle.shard_laws.proofs.Order.ChangesKeepOrder.{unlisted, listed_same}
+use Rattle.protocol_laws.specs.Order.{undone_in, is_clr_of}
+use Rattle.clv_base.specs.Logs.{writers}
+use Rattle.clv_base.specs.Orders.{tx_insert}
+use Rattle.clv_base.proofs.SameNames.{tx_eq, in_insert, insert_has, insert_keeps}
+use Rattle.std.proofs.lemmas.Bool.{and_parts}
+use Rattle.law_base.proofs.Bools.{and_first as front, and_second as last}
+use Rattle.law_base.proofs.Logs.{push_left, last_restart_push as last_new}
+use Rattle.law_base.proofs.Names.{all_without}
+
+abbrev pub Beneath : List LogRecord → TxId → TxId → Type 0
+Beneath log t p = (p ≡ t) ⊎ ((committed_in log p ≡ true) ⊎ (tx_in p (listed_in log t) ≡ true))
+
+abbrev pub LieListed : List LogRecord → List StandingUpdate → Type 0
+LieListed log [] = Unit {0}
+LieListed log (v ∷ vs) = (prepared_in log v.tx ≡ true → AllByRecursion (λ w. w.key ≡ v.key → Beneath log v.tx w.tx) vs) × LieListed log vs
+
+beneath_more : (log : List LogRecord) (r : LogRecord) (t p : TxId) → prepared_in log t ≡ true → Beneath log t p → Beneath (log ++ r ∷ []) t p
+beneath_more log r t p e (inl s) = inl s
+beneath_more log r t p e (inr (inl c)) = inr (inl (committed_keeps log (r ∷ []) p c))
+beneath_more log r t p e (inr (inr l)) = inr (inr (ap (tx_in p) (listed_keeps log (r ∷ []) t e) ∙ l))
+
+more_listed : (log : List LogRecord) (r : LogRecord) → ((t : TxId) → is_prepare_of t r ≡ false) → (ws : List StandingUpdate) → LieListed log ws → LieListed (log ++ r ∷ []) ws
+more_listed log r none [] l = tt
+more_listed log r none (v ∷ vs) l = (
+  (λ p. let old : prepared_in log v.tx ≡ true = push_same (is_prepare_of v.tx) log r (none v.tx) ∙ p in all_mono _ _ (λ w h k. beneath_more log r v.tx w.tx old (h k)) vs (l.0 old)),
+  more_listed log r none vs l.1,
+)
+
+without_listed : (log : List LogRecord) (t : TxId) (ws : List StandingUpdate) → LieListed log ws → LieListed log (without_newest t ws)
+without_listed log t [] l = tt
+without_listed log t (w ∷ ws) l =
+    cond_both (tx_same t w.tx) ws (w ∷ without_newest t ws) (LieListed log) (λ e. l.1) (λ e. ((λ c. all_without _ t ws (l.0 c)), without_listed log t ws l.1))
+
+-- a PREPARE: what lies under its writes is committed or listed
+module _ (log : List LogRecord) (tx : TxId) (home : ℕ) (ps : List TxId) (first : prepared_in log tx ≡ false) (all : List StandingUpdate) where
+  abbrev Below : StandingUpdate → Type 0
+  Below w = (not (tx_same tx w.tx) && has_above tx w all) ≡ true → (committed_in log w.tx || tx_in w.tx ps) ≡ true
+
+  below : (v w : StandingUpdate) → v.tx ≡ tx → list_any (λ u. tx_same tx u.tx && (u.key == w.key) && nat_lt w.lsn u.lsn) all ≡ true → Below w → Beneath (log ++ Prepare tx home ps ∷ []) v.tx w.tx
+  below v w e a b =
+      ⊎_elim (λ s. inl (sym (tx_true tx w.tx s) ∙ sym e))
+      (λ s. ⊎_elim (λ c. inr (inl (committed_keeps log (Prepare tx home ps ∷ []) w.tx c)))
+      (λ i. inr (inr (subst (λ z. tx_in w.tx (listed_in (log ++ Prepare tx home ps ∷ []) z) ≡ true) (sym e) (ap (λ o. tx_in w.tx (by_prepare o)) (prepare_here log [] tx home ps first) ∙ i))))
+      (or_cases (committed_in log w.tx) (tx_in w.tx ps) (b (and_from _ _ (ap not s) a))))
+      (cases_Bool (tx_same tx w.tx))
+
+  prepare_listed : (ws : List StandingUpdate) → ((test : StandingUpdate → Bool) → list_any test ws ≡ true → list_any test all ≡ true) → AllByRecursion Below ws → Falling ws → LieListed log ws → LieListed (log ++ Prepare tx home ps ∷ []) ws
+  prepare_listed [] part b fall l = tt
+  prepare_listed (v ∷ vs) part b fall l = (head, prepare_listed vs (λ test e. part test (or_right (test v) _ e)) b.1 fall.1 l.1)
+    where
+      passes : (w : StandingUpdate) → v.tx ≡ tx → w.lsn < v.lsn → w.key ≡ v.key → (tx_same tx v.tx && (v.key == w.key) && nat_lt w.lsn v.lsn) ≡ true
+      passes w e low k = and_from _ _ (and_from _ _ (subst (λ z. tx_same tx z ≡ true) (sym e) (tx_self tx)) (eq-eqb v.key w.key (sym k))) (lt-ltb w.lsn v.lsn low)
+
+      head : prepared_in (log ++ Prepare tx home ps ∷ []) v.tx ≡ true → AllByRecursion (λ w. w.key ≡ v.key → Beneath (log ++ Prepare tx home ps ∷ []) v.tx w.tx) vs
+      head p =
+          ⊎_elim (λ old. all_mono _ _ (λ w h k. beneath_more log (Prepare tx home ps) v.tx w.tx old (h k)) vs (l.0 old))
+          (λ new. let e : v.tx ≡ tx = tx_true v.tx tx new in
+          all_mono _ _ (λ w h k. below v w e (part (λ u. tx_same tx u.tx && (u.key == w.key) && nat_lt w.lsn u.lsn) (or_left _ _ (passes w e h.1 k))) h.0) vs (all_both _ _ vs b.1 fall.0))
+          (push_cases (is_prepare_of v.tx) log (Prepare tx home ps) p)
+
+listed_step : (shard : ℕ) (log : List LogRecord) (r : LogRecord) → Order shard log → may_follow shard log r ≡ true → LieListed log (standing log) → LieListed (log ++ r ∷ []) (standing_after (0 + length log) r (standing log))
+listed_step shard log (Update tx key b a) o m l =
+    let unprepared : prepared_in log tx ≡ false = not-true _ (last _ _ (front _ _ (front _ _ (front _ _ (front _ _ (front _ _ (front _ _ m))))))) in
+    ((λ p. absurd (both_ways _ unprepared (push_same (is_prepare_of tx) log (Update tx key b a) refl ∙ p))), more_listed log (Update tx key b a) (λ t. refl) (standing log) l)
+listed_step shard log (Clr tx next key a) o m l = without_listed (log ++ Clr tx next key a ∷ []) tx (standing log) (more_listed log (Clr tx next key a) (λ t. refl) (standing log) l)
+listed_step shard log (Prepare tx home ps) o m l =
+    prepare_listed log tx home ps (not-true _ (last _ _ (front _ _ (front _ _ (front _ _ (front _ _ m)))))) (standing log) (standing log) (λ test e. e)
+    (filter_passes (λ w. committed_in log w.tx || tx_in w.tx ps) (λ w. not (tx_same tx w.tx) && has_above tx w (standing log)) (standing log) (last _ _ m)) (o.writes).falls l
+listed_step shard log (Commit tx parts) o m l = more_listed log (Commit tx parts) (λ t. refl) (standing log) l
+listed_step shard log (Abort tx) o m l = more_listed log (Abort tx) (λ t. refl) (standing log) l
+listed_step shard log (End tx) o m l = more_listed log (End tx) (λ t. refl) (standing log) l
+listed_step shard log (Restart run epoch) o m l = more_listed log (Restart run epoch) (λ t. refl) (standing log) l
+
+pub order_of : (shard : ℕ) (log : List LogRecord) → Follows shard [] log → Order shard log
+order_of shard log f = in_order shard log (to_disorder shard 0 [] log f)
+
+pub lie_listed : (shard : ℕ) (log : List LogRecord) → Follows shard [] log → LieListed log (standing log)
+lie_listed shard log f = through (λ l. LieListed l (standing l)) shard [] log tt f tt
+    (λ l r g p m. subst (LieListed (l ++ r ∷ [])) (sym (standing_append 0 l (r ∷ []) [])) (listed_step shard l r (order_of shard l g) m p))
+
+-- ---- whose writes win lie on those that win
+
+beneath_wins : (shard : ℕ) (log : List LogRecord) (t p : TxId) → Doubted log (in_doubt shard log) t → is_winner shard log t ≡ true → Beneath log t p → is_winner shard log p ≡ true
+beneath_wins shard log t p d w (inl s) = subst (λ z. is_winner shard log z ≡ true) (sym s) w
+beneath_wins shard log t p d w (inr (inl c)) = or_left _ _ c
+beneath_wins shard log t p d w (inr (inr l)) = list_all_at (λ q. committed_in log q || tx_in q (in_doubt shard log)) p (listed_in log t) d.listed l
+
+pub winners_lie : (shard : ℕ) (log : List LogRecord) → Order shard log → (ws : List StandingUpdate) → LieOnThese (committed_in log) ws → LieListed log ws → LieOnThese (is_winner shard log) ws
+winners_lie shard log o [] c l = tt
+winners_lie shard log o (v ∷ vs) c l = (
+  (λ w. ⊎_elim (λ k. all_mono _ _ (λ u h e. or_left _ _ (h e)) vs (c.0 k))
+      (λ i. let d = doubted shard log v.tx o.sealed i in all_mono _ _ (λ u h e. beneath_wins shard log v.tx u.tx d w (h e)) vs (l.0 d.prepared))
+      (or_cases (committed_in log v.tx) (tx_in v.tx (in_doubt shard log)) w)),
+  winners_lie shard log o vs c.1 l.1,
+)
+
+-- ---- more of a log in order
+
+ended_step : (shard : ℕ) (log : List LogRecord) (r : LogRecord) → may_follow shard log r ≡ true → ((t : TxId) → ended_in log t ≡ true → committed_in log t ≡ true) → (t : TxId) → ended_in (log ++ r ∷ []) t ≡ true → committed_in (log ++ r ∷ []) t ≡ true
+ended_step shard log r m old t e = push_left (is_commit_of t) log r (⊎_elim (λ a. old t a) (λ a. new r m a) (push_cases (is_end_of t) log r e))
+  where
+    parts_there : (u : TxId) (o : Option (List ℕ)) → commit_parts log u ≡ o → elim o [ Some ps ↦ some_parts ps | None ↦ false ] ≡ true → committed_in log u ≡ true
+    parts_there u None f k = absurd (both_ways false refl k)
+    parts_there u (Some ps) f k = committed_there log u ps f
+
+    new : (r : LogRecord) → may_follow shard log r ≡ true → is_end_of t r ≡ true → committed_in log t ≡ true
+    new (End tx) m a = subst (λ z. committed_in log z ≡ true) (sym (tx_true t tx a)) (parts_there tx (commit_parts log tx) refl (last _ _ m))
+    new _ m a = absurd (both_ways false refl a)
+
+pub ended_committed : (shard : ℕ) (log : List LogRecord) → Follows shard [] log → (t : TxId) → ended_in log t ≡ true → committed_in log t ≡ true
+ended_committed shard log f = through (λ l. (t : TxId) → ended_in l t ≡ true → committed_in l t ≡ true) shard [] log tt f (λ t e. absurd (both_ways false refl e)) (λ l r g p m. ended_step shard l r m p)
+
+in_last_some : (tx : TxId) (o : Option (ℕ × ℕ)) → elim o [ Some p ↦ tx.run == p.0 | None ↦ false ] ≡ true → is_some o ≡ true
+in_last_some tx None e = e
+in_last_some tx (Some p) e = refl
+
+restart_step : (shard : ℕ) (log : List LogRecord) (r : LogRecord) → may_follow shard log r ≡ true → ((t : TxId) → wrote_in log t ≡ true → is_some (last_restart log) ≡ true) → (t : TxId) → wrote_in (log ++ r ∷ []) t ≡ true → is_some (last_restart (log ++ r ∷ [])) ≡ true
+restart_step shard log (Restart run epoch) m old t e = ap is_some (last_new log run epoch)
+restart_step shard log (Update tx key b a) m old t e =
+    ap is_some (last_push log (Update tx key b a) tt) ∙ in_last_some tx (last_restart log) (front _ _ (front _ _ (front _ _ (front _ _ (front _ _ (front _ _ (front _ _ m)))))))
+restart_step shard log (Clr tx next key a) m old t e = ap is_some (last_push log (Clr tx next key a) tt) ∙ old t (push_same (is_update_of t) log (Clr tx next key a) refl ∙ e)
+restart_step shard log (Prepare tx home ps) m old t e = ap is_some (last_push log (Prepare tx home ps) tt) ∙ old t (push_same (is_update_of t) log (Prepare tx home ps) refl ∙ e)
+restart_step shard log (Commit tx parts) m old t e = ap is_some (last_push log (Commit tx parts) tt) ∙ old t (push_same (is_update_of t) log (Commit tx parts) refl ∙ e)
+restart_step shard log (Abort tx) m old t e = ap is_some (last_push log (Abort tx) tt) ∙ old t (push_same (is_update_of t) log (Abort tx) refl ∙ e)
+restart_step shard log (End tx) m old t e = ap is_some (last_push log (End tx) tt) ∙ old t (push_same (is_update_of t) log (End tx) refl ∙ e)
+
+pub wrote_restart : (shard : ℕ) (log : List LogRecord) → Follows shard [] log → (t : TxId) → wrote_in log t ≡ true → is_some (last_restart log) ≡ true
+wrote_restart shard log f = through (λ l. (t : TxId) → wrote_in l t ≡ true → is_some (last_restart l) ≡ true) shard [] log tt f (λ t e. absurd (both_ways false refl e)) (λ l r g p m. restart_step shard l r m p)
+
+-- who is prepared wrote
+prepared_step : (shard : ℕ) (log : List LogRecord) (r : LogRecord) → may_follow shard log r ≡ true → ((t : TxId) → prepared_in log t ≡ true → wrote_in log t ≡ true) → (t : TxId) → prepared_in (log ++ r ∷ []) t ≡ true → wrote_in (log ++ r ∷ []) t ≡ true
+prepared_step shard log r m old t e = push_left (is_update_of t) log r (⊎_elim (λ a. old t a) (λ a. new r m a) (push_cases (is_prepare_of t) log r e))
+  where
+    new : (r : LogRecord) → may_follow shard log r ≡ true → is_prepare_of t r ≡ true → wrote_in log t ≡ true
+    new (Prepare tx home ps) m a =
+        subst (λ z. wrote_in log z ≡ true) (sym (tx_true t tx a)) (since_wrote log tx (last _ _ (front _ _ (front _ _ (front _ _ (front _ _ (front _ _ m)))))))
+    new _ m a = absurd (both_ways false refl a)
+
+pub prepared_wrote : (shard : ℕ) (log : List LogRecord) → Follows shard [] log → (t : TxId) → prepared_in log t ≡ true → wrote_in log t ≡ true
+prepared_wrote shard log f = through (λ l. (t : TxId) → prepared_in l t ≡ true → wrote_in l t ≡ true) shard [] log tt f (λ t e. absurd (both_ways false refl e)) (λ l r g p m. prepared_step shard l r m p)
+
+-- a PREPARE lists others
+abbrev ListsOthers : List LogRecord → Type 0
+ListsOthers log = (t p : TxId) → tx_in p (listed_in log t) ≡ true → tx_same p t ≡ false
+
+others_step : (shard : ℕ) (log : List LogRecord) (r : LogRecord) → may_follow shard log r ≡ true → ListsOthers log → ListsOthers (log ++ r ∷ [])
+others_step shard log r m old t p i =
+    ⊎_elim (λ a. old t p (ap (tx_in p) (sym (listed_keeps log (r ∷ []) t a)) ∙ i))
+    (λ a. ⊎_elim (λ b. new r m i a (⊎_elim (λ c. absurd (both_ways _ a c)) (λ c. c) (push_cases (is_prepare_of t) log r b))) (λ b. absurd (both_ways false refl (subst (λ l. tx_in p l ≡ true) (unlisted (log ++ r ∷ []) t b) i))) (cases_Bool (prepared_in (log ++ r ∷ []) t)))
+    (cases_Bool (prepared_in log t))
+  where
+    each : (tx : TxId) (ps : List TxId) → list_all (λ q. not (tx_same q tx) && prepared_in log q && not (committed_in log q) && not (aborted_in log q)) ps ≡ true → tx_in p ps ≡ true → tx_same p tx ≡ false
+    each tx ps a j =
+        not-true _ (and_parts (not (tx_same p tx)) (prepared_in log p)
+        (and_parts (not (tx_same p tx) && prepared_in log p) (not (committed_in log p)) (and_parts (not (tx_same p tx) && prepared_in log p && not (committed_in log p)) (not (aborted_in log p))
+        (list_all_at (λ q. not (tx_same q tx) && prepared_in log q && not (committed_in log q) && not (aborted_in log q)) p ps a j)).0).0).0
+
+    new : (r : LogRecord) → may_follow shard log r ≡ true → tx_in p (listed_in (log ++ r ∷ []) t) ≡ true → prepared_in log t ≡ false → is_prepare_of t r ≡ true → tx_same p t ≡ false
+    new (Prepare tx home ps) m j none s =
+        let e = tx_true t tx s in
+        subst (λ z. tx_same p z ≡ false) (sym e) (each tx ps (last _ _ (front _ _ m))
+        (ap (λ o. tx_in p (by_prepare o)) (sym (prepare_here log [] tx home ps (subst (λ z. prepared_in log z ≡ false) e none))) ∙ subst (λ z. tx_in p (listed_in (log ++ Prepare tx home ps ∷ []) z) ≡ true) e j))
+    new _ m j none s = absurd (both_ways false refl s)
+
+pub lists_others : (shard : ℕ) (log : List LogRecord) → Follows shard [] log → (t p : TxId) → tx_in p (listed_in log t) ≡ true → tx_same p t ≡ false
+lists_others shard log f = through ListsOthers shard [] log tt f (λ t p i. absurd (both_ways false refl i)) (λ l r g p m. others_step shard l r m p)
+
+-- whom a PREPARE lists is prepared
+each_prepared : (shard : ℕ) (log : List LogRecord) (r : LogRecord) → may_follow shard log r ≡ true → ((t p : TxId) → tx_in p (listed_in log t) ≡ true → prepared_in log p ≡ true) → (t p : TxId) → tx_in p (listed_in (log ++ r ∷ []) t) ≡ true → prepared_in (log ++ r ∷ []) p ≡ true
+each_prepared shard log r m old t p i =
+    push_left (is_prepare_of p) log r
+    (⊎_elim (λ a. old t p (ap (tx_in p) (sym (listed_keeps log (r ∷ []) t a)) ∙ i))
+    (λ a. ⊎_elim (λ b. new r m i a (⊎_elim (λ c. absurd (both_ways _ a c)) (λ c. c) (push_cases (is_prepare_of t) log r b))) (λ b. absurd (both_ways false refl (subst (λ l. tx_in p l ≡ true) (unlisted (log ++ r ∷ []) t b) i))) (cases_Bool (prepared_in (log ++ r ∷ []) t)))
+    (cases_Bool (prepared_in log t)))
+  where
+    each : (tx : TxId) (ps : List TxId) → list_all (λ q. not (tx_same q tx) && prepared_in log q && not (committed_in log q) && not (aborted_in log q)) ps ≡ true → tx_in p ps ≡ true → prepared_in log p ≡ true
+    each tx ps a j =
+        (and_parts (not (tx_same p tx)) (prepared_in log p)
+        (and_parts (not (tx_same p tx) && prepared_in log p) (not (committed_in log p)) (and_parts (not (tx_same p tx) && prepared_in log p && not (committed_in log p)) (not (aborted_in log p))
+        (list_all_at (λ q. not (tx_same q tx) && prepared_in log q && not (committed_in log q) && not (aborted_in log q)) p ps a j)).0).0).1
+
+    new : (r : LogRecord) → may_follow shard log r ≡ true → tx_in p (listed_in (log ++ r ∷ []) t) ≡ true → prepared_in log t ≡ false → is_prepare_of t r ≡ true → prepared_in log p ≡ true
+    new (Prepare tx home ps) m j none s =
+        let e = tx_true t tx s in
+        each tx ps (last _ _ (front _ _ m))
+        (ap (λ o. tx_in p (by_prepare o)) (sym (prepare_here log [] tx home ps (subst (λ z. prepared_in log z ≡ false) e none))) ∙ subst (λ z. tx_in p (listed_in (log ++ Prepare tx home ps ∷ []) z) ≡ true) e j)
+    new _ m j none s = absurd (both_ways false refl s)
+
+pub listed_prepared : (shard : ℕ) (log : List LogRecord) → Follows shard [] log → (t p : TxId) → tx_in p (listed_in log t) ≡ true → prepared_in log p ≡ true
+listed_prepared shard log f = through (λ l. (t p : TxId) → tx_in p (listed_in l t) ≡ true → prepared_in l p ≡ true) shard [] log tt f (λ t p i. absurd (both_ways false refl i)) (λ l r g p m. each_prepared shard l r m p)
+
+-- whom a committed one lists is committed
+commit_step : (shard : ℕ) (log : List LogRecord) (r : LogRecord) → may_follow shard log r ≡ true → ((t p : TxId) → committed_in log t ≡ true → tx_in p (listed_in log t) ≡ true → committed_in log p ≡ true) → (t p : TxId) → committed_in (log ++ r ∷ []) t ≡ true → tx_in p (listed_in (log ++ r ∷ []) t) ≡ true → committed_in (log ++ r ∷ []) p ≡ true
+commit_step shard log r m old t p c i = push_left (is_commit_of p) log r (at r m c i)
+  where
+    not_new : (tx : TxId) → tx_same t tx ≡ true → committed_in log tx ≡ false → committed_in log t ≡ true → ⊥
+    not_new tx s n e = both_ways _ n (subst (λ z. committed_in log z ≡ true) (tx_true t tx s) e)
+
+    was : (q : LogRecord) → is_commit_of t q ≡ false → committed_in (log ++ q ∷ []) t ≡ true → committed_in log t ≡ true
+    was q n e = push_same (is_commit_of t) log q n ∙ e
+
+    same : (q : LogRecord) → is_prepare_of t q ≡ false → tx_in p (listed_in (log ++ q ∷ []) t) ≡ true → tx_in p (listed_in log t) ≡ true
+    same q n e = ap (tx_in p) (sym (listed_same log (q ∷ []) t (ap (λ b. b || false) n))) ∙ e
+
+    at : (q : LogRecord) → may_follow shard log q ≡ true → committed_in (log ++ q ∷ []) t ≡ true → tx_in p (listed_in (log ++ q ∷ []) t) ≡ true → committed_in log p ≡ true
+    at (Commit tx parts) m c i =
+        ⊎_elim (λ o. old t p o (same (Commit tx parts) refl i))
+        (λ n. list_all_at (committed_in log) p (listed_in log tx) (last _ _ (front _ _ (front _ _ (front _ _ m)))) (subst (λ z. tx_in p (listed_in log z) ≡ true) (tx_true t tx n) (same (Commit tx parts) refl i)))
+        (push_cases (is_commit_of t) log (Commit tx parts) c)
+    at (Prepare tx home ps) m c i =
+        let d = was (Prepare tx home ps) refl c in
+        old t p d (same (Prepare tx home ps) (false_from_ne_true _ (λ s. not_new tx s (not-true _ (last _ _ (front _ _ (front _ _ (front _ _ m))))) d)) i)
+    at (Update tx k b a) m c i = old t p (was (Update tx k b a) refl c) (same (Update tx k b a) refl i)
+    at (Clr tx u k a) m c i = old t p (was (Clr tx u k a) refl c) (same (Clr tx u k a) refl i)
+    at (Abort tx) m c i = old t p (was (Abort tx) refl c) (same (Abort tx) refl i)
+    at (End tx) m c i = old t p (was (End tx) refl c) (same (End tx) refl i)
+    at (Restart run e) m c i = old t p (was (Restart run e) refl c) (same (Restart run e) refl i)
+
+pub committed_lists : (shard : ℕ) (log : List LogRecord) → Follows shard [] log → (t p : TxId) → committed_in log t ≡ true → tx_in p (listed_in log t) ≡ true → committed_in log p ≡ true
+committed_lists shard log f = through (λ l. (t p : TxId) → committed_in l t ≡ true → tx_in p (listed_in l t) ≡ true → committed_in l p ≡ true) shard [] log tt f (λ t p c i. absurd (both_ways false refl c)) (λ l r g p m. commit_step shard l r m p)
+
+-- who wrote has a write that stands, or was undone
+Stands : List LogRecord → TxId → Type 0
+Stands log t = (tx_in t (writers (standing log)) ≡ true) ⊎ (undone_in log t ≡ true)
+
+without_writers : (tx t : TxId) (ws : List StandingUpdate) → tx_same t tx ≡ false → tx_in t (writers ws) ≡ true → tx_in t (writers (without_newest tx ws)) ≡ true
+without_writers tx t [] n i = i
+without_writers tx t (w ∷ ws) n i = at (tx_same tx w.tx) refl (without_writers tx t ws n)
+  where
+    at : (b : Bool) → tx_same tx w.tx ≡ b → (tx_in t (writers ws) ≡ true → tx_in t (writers (without_newest tx ws)) ≡ true) → tx_in t (writers (cond b ws (w ∷ without_newest tx ws))) ≡ true
+    at true s k = ⊎_elim (λ e. absurd (both_ways _ n (tx_eq t tx (e ∙ sym (tx_true tx w.tx s))))) (λ j. j) (in_insert w.tx t (writers ws) i)
+    at false s k = ⊎_elim (λ e. subst (λ z. tx_in z (tx_insert w.tx (writers (without_newest tx ws))) ≡ true) (sym e) (insert_has w.tx (writers (without_newest tx ws)))) (λ j. insert_keeps w.tx t (writers (without_newest tx ws)) (k j)) (in_insert w.tx t (writers ws) i)
+
+stands_step : (log : List LogRecord) (r : LogRecord) → ((t : TxId) → wrote_in log t ≡ true → Stands log t) → (t : TxId) → wrote_in (log ++ r ∷ []) t ≡ true → Stands (log ++ r ∷ []) t
+unfolding Stands
+stands_step log r old t e = ⊎_elim (λ i. inl (subst (λ l. tx_in t (writers l) ≡ true) (sym (standing_append 0 log (r ∷ []) [])) i)) (λ u. inr u) (at r e)
+  where
+    keep : (q : LogRecord) → wrote_in log t ≡ true → (tx_in t (writers (standing log)) ≡ true → tx_in t (writers (standing_after (0 + length log) q (standing log))) ≡ true) → (tx_in t (writers (standing_after (0 + length log) q (standing log))) ≡ true) ⊎ (undone_in (log ++ q ∷ []) t ≡ true)
+    keep q w k = ⊎_elim (λ i. inl (k i)) (λ u. inr (push_left (is_clr_of t) log q u)) (old t w)
+
+    at : (q : LogRecord) → wrote_in (log ++ q ∷ []) t ≡ true → (tx_in t (writers (standing_after (0 + length log) q (standing log))) ≡ true) ⊎ (undone_in (log ++ q ∷ []) t ≡ true)
+    at (Update tx k b a) w = ⊎_elim (λ o. keep (Update tx k b a) o (λ i. insert_keeps tx t (writers (standing log)) i)) (λ s. inl (subst (λ z. tx_in z (tx_insert tx (writers (standing log))) ≡ true) (sym (tx_true t tx s)) (insert_has tx (writers (standing log))))) (push_cases (is_update_of t) log (Update tx k b a) w)
+    at (Clr tx u k a) w = ⊎_elim (λ s. inr (push_right (is_clr_of t) log (Clr tx u k a) s)) (λ n. keep (Clr tx u k a) (push_same (is_update_of t) log (Clr tx u k a) refl ∙ w) (λ i. without_writers tx t (standing log) n i)) (cases_Bool (tx_same t tx))
+    at (Prepare tx home ps) w = keep (Prepare tx home ps) (push_same (is_update_of t) log (Prepare tx home ps) refl ∙ w) (λ i. i)
+    at (Commit tx ps) w = keep (Commit tx ps) (push_same (is_update_of t) log (Commit tx ps) refl ∙ w) (λ i. i)
+    at (Abort tx) w = keep (Abort tx) (push_same (is_update_of t) log (Abort tx) refl ∙ w) (λ i. i)
+    at (End tx) w = keep (End tx) (push_same (is_update_of t) log (End tx) refl ∙ w) (λ i. i)
+    at (Restart run ep) w = keep (Restart run ep) (push_same (is_update_of t) log (Restart run ep) refl ∙ w) (λ i. i)
+
+pub wrote_stands : (shard : ℕ) (log : List LogRecord) → Follows shard [] log → (t : TxId) → wrote_in log t ≡ true → (tx_in t (writers (standing log)) ≡ true) ⊎ (undone_in log t ≡ true)
+unfolding Stands
+wrote_stands shard log f = through (λ l. (t : TxId) → wrote_in l t ≡ true → Stands l t) shard [] log tt f (λ t e. absurd (both_ways false refl e)) (λ l r g p m. stands_step l r p)
