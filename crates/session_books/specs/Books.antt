@@ -12,7 +12,8 @@ use Rattle.session_books.specs.declared.told.Told.{Told}
 use Rattle.session_books.specs.declared.books.Row.{Row}
 use Rattle.session_books.specs.Told.{told_in}
 use Rattle.session_books.specs.Parts.{parts_of, upper_of, pairs_of, all_pairs, goes_on}
-use Rattle.session_books.specs.Counts.{Counts, counts_in}
+use Rattle.session_books.specs.declared.counts.Counts.{Counts}
+use Rattle.session_books.specs.Counts.{counts_in}
 
 -- an operation as a line tells it: a scan goes up to its last part's upper bound, and has the pairs of all parts
 abbrev pub whole : Op → Answer → List Told → Op × Answer

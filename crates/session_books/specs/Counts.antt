@@ -6,7 +6,7 @@ use Rattle.clv_base.specs.declared.names.Birth.{Birth}
 use Rattle.clv_base.specs.Journals.{History}
 use Rattle.clv_base.specs.History.{acknowledged_in, has_request}
 use Rattle.session_books.specs.Told.{try_of, is_of_birth, has_birth, has_look}
-pub use Rattle.session_books.specs.declared.counts.Counts.{Counts}
+use Rattle.session_books.specs.declared.counts.Counts.{Counts}
 
 -- whether it is a try of this birth, and that transaction is acknowledged
 abbrev pub is_acknowledged_try : History → Birth → Option (TxId × Birth) → Bool
