@@ -2,3 +2,4 @@ pub mod Told
 pub mod Parts
 pub mod Counts
 pub mod Books
+pub mod Laws
