@@ -5,3 +5,4 @@ pub mod Sets
 pub mod Sinks
 pub mod Loads
 pub mod Fates
+pub mod Laws
