@@ -2,3 +2,4 @@ pub mod NoFloats
 pub mod Telling
 pub mod Gathering
 pub mod Counting
+pub mod Reporting

@@ -1,5 +1,5 @@
 -- No line has a float in it.
-use Rattle.std.proofs.Common.{◌≡◌, ℕ, Bool, true, false, cond, ◌||◌, List, [], ◌∷◌, ◌++◌, map, Option, Some, None, refl, ap, ◌∙◌}
+use Rattle.std.proofs.Common.{◌≡◌, ℕ, false, ◌||◌, List, [], ◌∷◌, map, Some, None, refl, ap, ap₂}
 use Rattle.serde_json.specs.View.{items_of}
 use Rattle.serde_json.specs.Written.{has_float, items_have_float}
 use Rattle.clv_base.specs.declared.names.TxId.{TxId}
@@ -7,8 +7,8 @@ use Rattle.clv_base.specs.declared.ops.Op.{Op}
 use Rattle.clv_base.specs.declared.ops.Op.TheVariants.{Get, Put, Del, Scan}
 use Rattle.clv_base.specs.declared.ops.Answer.{Answer}
 use Rattle.clv_base.specs.declared.ops.Answer.TheVariants.{Value, Pairs}
-use Rattle.report_text.specs.declared.told.Told.{Told}
-use Rattle.report_text.specs.Lines.{pair, pairs_of, all_pairs, answer, operation, goes_on, parts_of, operations_from, transaction}
+use Rattle.session_books.specs.Parts.{pairs_of}
+use Rattle.report_text.specs.Lines.{pair, answer, operation, operations, transaction}
 
 in_pairs : (ps : List (ℕ × ℕ)) → items_have_float (items_of (map pair ps)) ≡ false
 in_pairs [] = refl
@@ -19,27 +19,15 @@ in_answer (Value None) = refl
 in_answer (Value (Some v)) = refl
 in_answer (Pairs ps) = in_pairs ps
 
-in_operation : (op : Op) (a : Answer) (parts : List Told) → has_float (operation op a parts) ≡ false
-in_operation (Get k) a parts = ap (λ b. b || false) (in_answer a)
-in_operation (Put k v) a parts = ap (λ b. b || false) (in_answer a)
-in_operation (Del k) a parts = ap (λ b. b || false) (in_answer a)
-in_operation (Scan lo hi) a parts = ap (λ b. b || false) (in_pairs (pairs_of a ++ all_pairs parts))
+in_operation : (op : Op) (a : Answer) → has_float (operation op a) ≡ false
+in_operation (Get k) a = ap (λ b. b || false) (in_answer a)
+in_operation (Put k v) a = ap (λ b. b || false) (in_answer a)
+in_operation (Del k) a = ap (λ b. b || false) (in_answer a)
+in_operation (Scan lo hi) a = ap (λ b. b || false) (in_pairs (pairs_of a))
 
-in_operations : (before : Option ℕ) (ts : List Told) → items_have_float (items_of (operations_from before ts)) ≡ false
-in_operations before [] = refl
-in_operations before (t ∷ ts) = at (goes_on before t.nth) (in_operations (Some t.nth) ts)
-  where
-    at :
-        (b : Bool)
-        → items_have_float (items_of (operations_from (Some t.nth) ts)) ≡ false
-        → items_have_float
-        (items_of
-        (cond b (operations_from (Some t.nth) ts) (operation t.op t.answer (parts_of t.nth ts) ∷ operations_from (Some t.nth) ts)))
-        ≡ false
-    at true rest = rest
-    at false rest =
-        ap (λ b. b || items_have_float (items_of (operations_from (Some t.nth) ts))) (in_operation t.op t.answer (parts_of t.nth ts))
-        ∙ rest
+in_operations : (ops : List (Op × Answer)) → items_have_float (items_of (operations ops)) ≡ false
+in_operations [] = refl
+in_operations (p ∷ ps) = ap₂ (λ b c. b || c) (in_operation p.0 p.1) (in_operations ps)
 
-pub in_transaction : (tx : TxId) (ts : List Told) → has_float (transaction tx ts) ≡ false
-in_transaction tx ts = ap (λ b. b || false) (in_operations None ts)
+pub in_transaction : (tx : TxId) (ops : List (Op × Answer)) → has_float (transaction tx ops) ≡ false
+in_transaction tx ops = ap (λ b. b || false) (in_operations ops)

@@ -1,4 +1,3 @@
-pub mod Told
 pub mod Lines
 pub mod Counts
 pub mod Report
@@ -6,3 +5,4 @@ pub mod Sets
 pub mod Sinks
 pub mod Loads
 pub mod Fates
+pub mod Laws

@@ -2,8 +2,10 @@
 use Rattle.std.specs.Prelude.{◌≡◌, ◌≤◌, ℕ, List, take, Option, Result, Ok, Err}
 use Rattle.io_model.specs.Disk.{Rose}
 use Rattle.io_model.specs.Streams.{Grows}
+use Rattle.session_books.specs.Books.{Book}
 use Rattle.report_text.specs.declared.texts.ReportError.{ReportError}
 use Rattle.report_text.specs.declared.texts.ReportError.TheVariants.{Failed, Memory}
+use Rattle.report_text.specs.Report.{IsReportOf}
 
 -- all of the text was taken; after `Failed` some of it, the first bytes first; after `Memory` nothing
 abbrev pub TakesText : {A : Type 0} → Option (List ℕ) → Option (List ℕ) → List ℕ → Result A ReportError → Type 0
@@ -16,3 +18,8 @@ abbrev pub Causes : {A : Type 0} → ℕ → ℕ → Result A ReportError → Ty
 Causes before now (Ok a) = now ≡ before
 Causes before now (Err Failed) = Rose before now × (before ≤ now)
 Causes before now (Err Memory) = now ≡ before
+
+-- all of the books' report was taken, or some of it, the first bytes first; after `Memory` nothing
+abbrev pub TakesReport : {A : Type 0} → Option (List ℕ) → Option (List ℕ) → List Book → Result A ReportError → Type 0
+TakesReport old new books (Err Memory) = new ≡ old
+TakesReport old new books result = (text : List ℕ) × IsReportOf books text × TakesText old new text result

@@ -5,13 +5,16 @@ ghost use Rattle.serde_json.specs.Data.{string};
 ghost use Rattle.serde_json.specs.Written.{has_float};
 ghost use Rattle.clv_base.specs.declared.ops.Op.TheVariants.{Scan};
 ghost use Rattle.serde_json.specs.View.{view};
-ghost use Rattle.report_text.specs.Lines.{line as line_of, num, list as list_of, row as row_of, optional as optional_value, pair as pair_value, pairs_of as pairs_in, answer as answer_data, parts_of, upper as upper_end, upper_of as upper_end_of, all_pairs, operation as operation_value, operations_from, operations as operations_values, goes_on as continues, transaction as transaction_value};
+ghost use Rattle.session_books.specs.Parts.{pairs_of as pairs_in, parts_of, upper as upper_end, upper_of as upper_end_of, all_pairs, goes_on as continues};
+ghost use Rattle.session_books.specs.Books.{whole, whole_ops};
+ghost use Rattle.report_text.specs.Lines.{line as line_of, num, list as list_of, row as row_of, optional as optional_value, pair as pair_value, answer as answer_data, operation as operation_value, operations as operations_values, transaction as transaction_value};
 
 use crate::Memory;
-use crate::told::Told;
 use clv_base::names::TxId;
 use clv_base::ops::{Answer, Op};
 use serde_json::{Value, json};
+use session_books::books::Row;
+use session_books::told::Told;
 use std::alloc::Global;
 
 // A value as compact JSON, with a line feed, is added to a text.
@@ -173,14 +176,15 @@ fn scan_row(
     answer: &Answer,
     parts: &[Told],
 ) -> Result<Value, Memory>
-    ensures { IfOk result (λ v. view v ≡ operation_value (Scan low high) answer.now parts.now) }
+    ensures { IfOk result (λ v. view v ≡ operation_value (whole (Scan low high) answer.now parts.now).0 (whole (Scan low high) answer.now parts.now).1) }
 {
     let pairs = scanned_pairs(alloc, answer, parts)?;
     row(alloc, "scan", &[low, upper_of(high, parts)], pairs)
 }
 
-fn operation(alloc: Global, op: Op, answer: &Answer, parts: &[Told]) -> Result<Value, Memory>
-    ensures { IfOk result (λ v. view v ≡ operation_value op answer.now parts.now) }
+// An operation with its answer, and the further parts of a scan.
+pub fn operation(alloc: Global, op: Op, answer: &Answer, parts: &[Told]) -> Result<Value, Memory>
+    ensures { IfOk result (λ v. view v ≡ operation_value (whole op answer.now parts.now).0 (whole op answer.now parts.now).1) }
 {
     match op {
         Op::Get(key) => answered_row(alloc, "get", &[key], answer),
@@ -200,7 +204,7 @@ fn goes_on(before: Option<u64>, nth: u64) -> bool
 }
 
 fn operations(alloc: Global, told: &[Told]) -> Result<Vec<Value>, Memory>
-    ensures { IfOk result (λ values. map view values.items ≡ operations_values told.now) }
+    ensures { IfOk result (λ values. map view values.items ≡ operations_values (whole_ops told.now)) }
 {
     let mut values = Vec::new(alloc);
     let mut before = None;
@@ -218,8 +222,27 @@ fn operations(alloc: Global, told: &[Told]) -> Result<Vec<Value>, Memory>
 
 // The object of a transaction.
 pub fn transaction(alloc: Global, tx: TxId, told: &[Told]) -> Result<Value, Memory>
-    ensures { IfOk result (λ v. view v ≡ transaction_value tx told.now) }
+    ensures { IfOk result (λ v. view v ≡ transaction_value tx (whole_ops told.now)) }
 {
     let ops = operations(alloc, told)?;
     json!(in alloc; {"ops": ops, "serial": tx.serial, "session": tx.session})
+}
+
+// The operations of a row.
+fn row_operations(alloc: Global, ops: &[(Op, Answer)]) -> Result<Vec<Value>, Memory>
+    ensures { IfOk result (λ values. map view values.items ≡ operations_values ops.now) }
+{
+    let mut values = Vec::new(alloc);
+    for one in ops {
+        values.push(operation(alloc, one.0, &one.1, &[])?)?;
+    }
+    Ok(values)
+}
+
+// The object of a row.
+pub fn row_object(alloc: Global, row: &Row) -> Result<Value, Memory>
+    ensures { IfOk result (λ v. view v ≡ transaction_value row.now.tx row.now.ops) }
+{
+    let ops = row_operations(alloc, row.ops.as_slice())?;
+    json!(in alloc; {"ops": ops, "serial": row.tx.serial, "session": row.tx.session})
 }

@@ -5,8 +5,9 @@ ghost use Rattle.clv_base.specs.declared.names.TxId.{TxId as Tx};
 ghost use Rattle.clv_base.specs.History.{acknowledged_in};
 ghost use Rattle.history_replay.specs.Entries.{entries_of};
 ghost use Rattle.history_replay.specs.Located.{located_all};
-ghost use Rattle.report_text.specs.Told.{told_in};
-ghost use Rattle.report_text.specs.Report.{report as report_bytes, lines_in};
+ghost use Rattle.session_books.specs.Told.{told_in};
+ghost use Rattle.session_books.specs.Books.{rows_in};
+ghost use Rattle.report_text.specs.Report.{report as report_bytes, row_lines};
 ghost use Rattle.report_text.specs.Sets.{has_tx, told_at};
 ghost use Rattle.report_text.specs.Sinks.{TakesText, Causes};
 
@@ -38,7 +39,7 @@ fn lines(
 ) -> Result<Vec<u8>, Memory>
     requires acknowledged { (t : Tx) → has_tx acknowledged.now t ≡ acknowledged_in (located_all list.now) t }
     requires told { (t : Tx) → told_at table.now t ≡ told_in t (located_all list.now) }
-    ensures { IfOk result (λ text. text.items ≡ lines_in (located_all list.now) (located_all list.now)) }
+    ensures { IfOk result (λ text. text.items ≡ row_lines (rows_in (located_all list.now) (located_all list.now))) }
 {
     let mut text = Vec::new(alloc);
     for one in list {
@@ -60,7 +61,7 @@ fn transactions(
     list: &[(u32, &Entry)],
 ) -> Result<Vec<u8>, Memory>
     requires { (t : Tx) → has_tx acknowledged.now t ≡ acknowledged_in (located_all list.now) t }
-    ensures { IfOk result (λ text. text.items ≡ lines_in (located_all list.now) (located_all list.now)) }
+    ensures { IfOk result (λ text. text.items ≡ row_lines (rows_in (located_all list.now) (located_all list.now))) }
 {
     let table = all_told(alloc, list)?;
     lines(alloc, acknowledged, &table, list)

@@ -1,0 +1,5 @@
+pub mod Told
+pub mod Parts
+pub mod Counts
+pub mod Books
+pub mod Laws
