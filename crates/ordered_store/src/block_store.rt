@@ -8,7 +8,7 @@ ghost use Rattle.ordered_store.specs.Blocks.{Chained, Chained-prop, Sized, Sized
 use crate::Store;
 use crate::block::{Block, MOST};
 use crate::block_finding::{anchor_below, get};
-use crate::block_ranging::between;
+use crate::block_ranging::{add_live, between};
 use crate::block_writing::{put, take};
 use crate::counting::get_counting;
 use crate::growing::make_room;
@@ -100,6 +100,10 @@ impl Store for BlockStore {
 
     fn range(&self, alloc: Global, low: u64, high: u64) -> Result<Vec<(u64, Found)>, AllocError> {
         between(alloc, &self.blocks, low, high)
+    }
+
+    fn add_live(&self, pairs: &mut Vec<(u64, u64)>) -> Result<(), AllocError> {
+        add_live(pairs, &self.blocks)
     }
 
     ghost rising = { λ s. s.rising };
