@@ -19,10 +19,9 @@ use Rattle.clv_base.specs.LogRules.{log_of}
 use Rattle.clv_base.specs.Shards.{shard_count}
 use Rattle.clv_base.specs.Sessions.{is_of_session}
 use Rattle.clv_base.specs.State.{Shard, is_active_stage, is_closed_stage, is_gone_stage}
-use Rattle.clv_base.specs.Undo.{stage_of}
 use Rattle.clv_base.specs.Restarts.{log_left, run_after}
 use Rattle.clv_base.specs.Machines.{Runs}
-use Rattle.clv_base.specs.Journals.{History, own, journal_of, start_of, final_of, logs_left_from}
+use Rattle.clv_base.specs.Journals.{History, own, start_of, final_of, logs_left_from}
 use Rattle.clv_base.specs.History.{Member, IsQuiet, members, serial_ops, logs_left, acknowledged_in, ops_in, request_of, answered_epoch}
 use Rattle.law_base.proofs.Lists.{all_mono, elem_at}
 use Rattle.law_base.proofs.Restarts.{left_length as length_left}
@@ -30,9 +29,9 @@ use Rattle.history_cases.proofs.Merging.{Among, in_own}
 use Rattle.history_laws.proofs.Laws.{left_at}
 use Rattle.history_replay.specs.Entries.{Kept}
 use Rattle.io_model.specs.Story.{Story}
-use Rattle.journal_laws.specs.Endings.{answered_in}
+use Rattle.journal_laws.specs.Endings.{ActiveWereAnswered, answered_in}
 use Rattle.journal_laws.specs.Gathered.{MakesHistory, journal_at}
-use Rattle.journal_laws.proofs.Laws.{runs_find_active, active_were_answered}
+use Rattle.journal_laws.proofs.Laws.{runs_find_active}
 use Rattle.headline_laws.specs.Shares.{in_turn}
 use Rattle.headline_laws.proofs.Laws.{promise}
 use Rattle.machine_calls.specs.Steps.{sends_nothing}
@@ -59,7 +58,7 @@ use Rattle.cluster_runs.specs.Alone.{AreAlone}
 use Rattle.cluster_runs.specs.Completing.{SessionsHaveEnded}
 use Rattle.cluster_runs.specs.PromisedSessions.{Went}
 use Rattle.cluster_runs.specs.Sessions.{SessionsGone, AreCounted, HasWornLast}
-use Rattle.cluster_runs.specs.Stored.{live_in_turn}
+use Rattle.ordered_store.specs.InTurn.{live_in_turn}
 use Rattle.cluster_runs.proofs.Before.{from_journal}
 use Rattle.cluster_runs.proofs.Ending.{clusters_end, settled_state}
 use Rattle.cluster_runs.proofs.Going.{in_session, of_session}
@@ -123,12 +122,12 @@ not_answered epoch tx (e ∷ es) none =
     ap (λ o. elim o as (λ z. Bool) [ Some n ↦ n == epoch | None ↦ false ] || list_any (answered_in epoch tx) es) (no_answer tx e.event e.outcome (none e (inl refl)))
     ∙ not_answered epoch tx es (λ f m. none f (inr m))
 
-none_active : (n : ℕ) (found : List (List LogRecord)) (es : List Entry) (t : Shard) → Runs (start_of found n) es t → ((e : Entry) → Among e es → is_of_session e.event ≡ false) → AllByRecursion (λ p. (p.1).stage ≡ Active → ⊥) t.local.parts
-none_active n found es t runs none =
+none_active : ActiveWereAnswered → (n : ℕ) (found : List (List LogRecord)) (es : List Entry) (t : Shard) → Runs (start_of found n) es t → ((e : Entry) → Among e es → is_of_session e.event ≡ false) → AllByRecursion (λ p. (p.1).stage ≡ Active → ⊥) t.local.parts
+none_active were_answered n found es t runs none =
     all_mono (λ p. is_active_stage (p.1).stage ≡ true → tx_get p.0 t.local.parts ≡ Some p.1) (λ p. (p.1).stage ≡ Active → ⊥)
     (λ p known active.
     both_ways (list_any (answered_in t.local.epoch p.0) es) (not_answered t.local.epoch p.0 es none)
-    (active_were_answered n (run_after found) (log_of found n) es t p.0 runs
+    (were_answered n (run_after found) (log_of found n) es t p.0 runs
     (ap (λ o. elim o as (λ z. Option Stage) [ Some h ↦ Some h.stage | None ↦ None ]) (known (ap is_active_stage active)) ∙ ap (λ stage. Some stage) active)))
     t.local.parts (runs_find_active n (run_after found) (log_of found n) es t runs)
 
@@ -163,7 +162,7 @@ quiet s settled none =
 -- ---- the end of a cluster
 
 module _
-    (splits : List ℕ) (before now : ℕ → Option Story) (counts counts_now : ℕ → ℕ) (kept : Kept) (states : ℕ → Shard) (own_of : ℕ → History) (ended : ClusterEnded splits before now counts counts_now kept states own_of)
+    (were_answered : ActiveWereAnswered) (splits : List ℕ) (before now : ℕ → Option Story) (counts counts_now : ℕ → ℕ) (kept : Kept) (states : ℕ → Shard) (own_of : ℕ → History) (ended : ClusterEnded splits before now counts counts_now kept states own_of)
     (none : (w : ℕ) → session_entries (own w (entries kept)) ≡ []) (settled : (n : ℕ) → n < shard_count splits → is_settled (states n) ≡ true) where
   abbrev count : ℕ
   count = shard_count splits
@@ -185,7 +184,7 @@ module _
   is_quiet n l =
       subst IsQuiet (sym (made.same_states n l))
       (quiet (states n) (settled n l)
-      (none_active n kept.found (journal_at kept.journals n) (states n) (ended.runs n l)
+      (none_active were_answered n kept.found (journal_at kept.journals n) (states n) (ended.runs n l)
       (λ e m. never kept none (n, e) (from_journal n e (entries kept) (subst (Among e) (sym (made.same_journals n l)) m)))))
 
   stored : {X : Type 0} (records : X → Records) (xs : List X) → length xs ≡ count → ((n : ℕ) (d : X) → n < count → records (get_or xs n d) ≡ (states n).local.records) → live_in_turn (map records xs) ≡ stands kept.found
@@ -206,19 +205,19 @@ none_at : (h : History) (count : ℕ) → count ≡ 0 → ((w : ℕ) → (w ≡ 
 none_at h count empty others zero = others zero (inl refl)
 none_at h count empty others (suc w) = others (suc w) (inr (omega arith))
 
-pub stores_hold : {M S G : Type 0} → SessionsHaveEnded → (D : Type 0) (shard : M → Shard) (sh : Shards M S G) (walkers : List (Walker M S G)) (homes : List (Home M S G)) (kept : Kept) (down : Option ℕ) (counts counts_now : ℕ → ℕ) (out out_now : ℕ → Bool)
+pub stores_hold : {M S G : Type 0} → ActiveWereAnswered → SessionsHaveEnded → (D : Type 0) (shard : M → Shard) (sh : Shards M S G) (walkers : List (Walker M S G)) (homes : List (Home M S G)) (kept : Kept) (down : Option ℕ) (counts counts_now : ℕ → ℕ) (out out_now : ℕ → Bool)
     (before now : ℕ → Option Story) (most : Option ℕ) (start : Start) (script : List (List Body)) (went : ℕ → Went) (end : End) (status : Status) {X : Type 0} (records : X → Records) (xs : List X)
     → IsClosedRun D shard sh walkers homes kept down counts counts_now out out_now before now → length walkers ≡ suc (length script)
     → SessionsGone sh most script walkers went end → AreDrained sh (length script) walkers went → ((k : ℕ) (d : Walker M S G) → k < length walkers → IsAtRest sh k (get_or walkers k d)) → (IsOk end → SeeSettled sh walkers) → (start ≡ FirstAlone → AreAlone sh most script (λ k d. get_or walkers (suc k) d)) → AreCounted script walkers → HasWornLast walkers end → status ≡ status_by down end
     → length xs ≡ sh.locks.len → ((n : ℕ) (d : X) (e : Home M S G) → n < sh.locks.len → records (get_or xs n d) ≡ (shard (get_or homes n e).machine).local.records) → script ≡ [] → status ≡ Fine → live_in_turn (map records xs) ≡ stands kept.found
-stores_hold {M = M} {S = S} {G = G} ends D shard sh walkers homes kept down counts counts_now out out_now before now most start script went end status records xs ended many gone drains rest seen_so apart counted worn is long each empty fine =
+stores_hold {M = M} {S = S} {G = G} were_answered ends D shard sh walkers homes kept down counts counts_now out out_now before now most start script went end status records xs ended many gone drains rest seen_so apart counted worn is long each empty fine =
     let ran = ran_all ends D shard sh walkers homes kept down counts counts_now out out_now before now most start script went end status ended many gone drains rest seen_so apart counted worn is in
     let count = ended.begun.count in
     let ok = sh.locks.ok in
     let w = elem_at walkers 0 (omega arith) in
     let seen = seen_so (fine_end down end (sym is ∙ fine)) in
     let numbers : (k : ℕ) (d : Walker M S G) → k < length walkers → (get_or walkers k d).number ≡ k = λ k d few. (rest k d few).number_is in
-    stored sh.splits before now counts counts_now kept (end_of D shard sh homes) (walked_by walkers) (clusters_end {D = D} shard sh walkers homes kept down counts counts_now out out_now before now ended)
+    stored were_answered sh.splits before now counts counts_now kept (end_of D shard sh homes) (walked_by walkers) (clusters_end {D = D} shard sh walkers homes kept down counts counts_now out out_now before now ended)
     (none_at (entries kept) (length script) (ap length empty) ((ran.promised).sessions).others)
     (λ n low.
     settled_state {D = D} shard sh walkers homes kept down counts counts_now out out_now before now ended numbers (λ k d few. subst (λ m. HasLanded m (get_or walkers k d).passes.items) (numbers k d few) (rest k d few).landed) w (omega arith) n low

@@ -16,7 +16,6 @@ pub mod Following
 pub mod Completing
 pub mod Down
 pub mod Replays
-pub mod Stored
 pub mod Members
 pub mod PromiseLaws
 pub mod Laws

@@ -7,7 +7,7 @@ ghost use Rattle.cluster_opening.specs.Opening.{Refuses, CountsOpen};
 ghost use Rattle.cluster_runs.specs.Begun.{LeavesDisks};
 ghost use Rattle.command_line.specs.declared.status.Status.TheVariants.{Fine};
 ghost use Rattle.cluster_runs.specs.Ran.{RanAll};
-ghost use Rattle.cluster_runs.specs.Stored.{live_in_turn};
+ghost use Rattle.ordered_store.specs.InTurn.{live_in_turn};
 
 use crate::closing::close_run;
 use crate::ran::Ran;
@@ -18,6 +18,7 @@ use cluster_opening::OpenError;
 use command_line::running_status;
 use history_replay::History;
 use io_model::{House, Pace};
+use journal_laws::statements::active_were_answered;
 use lock_table::Locks;
 use log_gate::LogGate;
 use ordered_store::Store;
@@ -64,6 +65,7 @@ where
     ensures counts { IfErr result (CountsOpen (H.faults house.old) (H.faults house.new)) }
     ensures left { IfErr result (LeavesDisks (H.story house.old) (H.story house.new)) }
 {
+    active_were_answered();
     sessions_have_ended();
     let opened = match open_all::<S, L, H>(alloc, house, sessions.len(), 0) {
         Ok(opened) => opened,

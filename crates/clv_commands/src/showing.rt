@@ -4,7 +4,7 @@ ghost use Rattle.std.specs.Prelude.{◌≡◌, ◌<◌, ℕ, [], map, Some, None
 ghost use Rattle.clv_base.specs.Logs.{stands as stands_for};
 ghost use Rattle.command_line.specs.declared.commands.Command.TheVariants as commands;
 ghost use Rattle.command_line.specs.declared.status.Status.TheVariants.{Fine};
-ghost use Rattle.cluster_runs.specs.Stored.{live_in_turn};
+ghost use Rattle.ordered_store.specs.InTurn.{live_in_turn};
 ghost use Rattle.report_text.specs.Report.{pairs_text as text_of_pairs};
 ghost use Rattle.report_text.specs.Sinks.{TakesText, Causes};
 ghost use Rattle.clv_commands.specs.Kinds.{IsOfShow, IsOfShards};
@@ -26,32 +26,21 @@ use std::alloc::{AllocError, Global};
 use std::sync::Wait;
 use std::thread::Threads;
 
-// The live pairs of all stores, one after another.
-fn all_pairs<S: Store>(alloc: Global, stores: &[S]) -> Result<Vec<(u64, u64)>, AllocError>
-    ensures { IfOk result (λ pairs. pairs.items ≡ live_in_turn (map (λ m. S.records m) stores.now)) }
+// The text of the live pairs of all stores, one after another.
+fn text_of(alloc: Global, stores: &[BlockStore]) -> Result<Vec<u8>, AllocError>
+    ensures { IfOk result (λ text. text.items ≡ text_of_pairs (live_in_turn (map (λ s. ⟦<BlockStore as Store>⟧.records s) stores.now))) }
 {
-    let mut pairs = Vec::new(alloc);
-    for store in stores {
-        store.add_live(&mut pairs)?;
-    }
-    Ok(pairs)
-}
-
-// Their text.
-fn text_of<S: Store>(alloc: Global, stores: &[S]) -> Result<Vec<u8>, AllocError>
-    ensures { IfOk result (λ text. text.items ≡ text_of_pairs (live_in_turn (map (λ m. S.records m) stores.now))) }
-{
-    let pairs = all_pairs(alloc, stores)?;
+    let pairs = BlockStore::live_pairs(alloc, stores)?;
     pairs_text(alloc, &pairs)
 }
 
 // Writes it.
-fn pairs_into<S: Store, K: Sink>(
+fn pairs_into<K: Sink>(
     alloc: Global,
-    stores: &[S],
+    stores: &[BlockStore],
     sink: &mut K,
 ) -> Result<(), ReportError>
-    ensures took { TakesText (K.taken sink.old) (K.taken sink.new) (text_of_pairs (live_in_turn (map (λ m. S.records m) stores.now))) result }
+    ensures took { TakesText (K.taken sink.old) (K.taken sink.new) (text_of_pairs (live_in_turn (map (λ s. ⟦<BlockStore as Store>⟧.records s) stores.now))) result }
     ensures cause { Causes (K.faults sink.old) (K.faults sink.new) result }
 {
     let Ok(text) = text_of(alloc, stores) else {
@@ -64,14 +53,14 @@ fn pairs_into<S: Store, K: Sink>(
 }
 
 // Writes the pairs that the logs found stand for, which the stores hold, where all was fine so far, and tells how the program ends.
-fn write_pairs<S: Store, K: Sink>(
+fn write_pairs<K: Sink>(
     alloc: Global,
     history: &History,
-    stores: &[S],
+    stores: &[BlockStore],
     running: Status,
     sink: &mut K,
 ) -> Status
-    requires held { running ≡ Fine → live_in_turn (map (λ m. S.records m) stores.now) ≡ stands_for history.now.found }
+    requires held { running ≡ Fine → live_in_turn (map (λ s. ⟦<BlockStore as Store>⟧.records s) stores.now) ≡ stands_for history.now.found }
     requires running { IsOfShards running }
     ensures ends { EndsAs running result }
     ensures took { TookPairs (text_of_pairs (stands_for history.now.found)) result (K.taken sink.old) (K.taken sink.new) }

@@ -4,4 +4,3 @@ pub use Rattle.journal_laws.proofs.Ending.{runs_find_active, restarts_free, ends
 pub use Rattle.journal_laws.proofs.Noting.{notes_are_seen, notes_are_runs}
 pub use Rattle.journal_laws.proofs.Running.{runs_go_on}
 pub use Rattle.journal_laws.proofs.Made.{run_made}
-pub use Rattle.journal_laws.proofs.Answering.{active_were_answered}

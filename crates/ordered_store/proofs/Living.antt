@@ -1,5 +1,5 @@
 -- Live pairs of lists one behind the other.
-use Rattle.std.proofs.Common.{◌≡◌, refl, ap, ℕ, [], ◌∷◌, ◌++◌, Option, Some, None}
+use Rattle.std.proofs.Common.{◌≡◌, refl, ap, [], ◌∷◌, ◌++◌, Some, None}
 use Rattle.clv_base.specs.Needs.{Records, live_pairs}
 
 pub live-append : (rs ss : Records) → live_pairs (rs ++ ss) ≡ live_pairs rs ++ live_pairs ss

@@ -3,7 +3,7 @@ ghost use Rattle.std.specs.Prelude.{◌≡◌, ◌-◌, [], true, vec_len, vec_c
 ghost use Rattle.std.specs.Ordering.{nat_cmp};
 ghost use Rattle.std.specs.FinMap.{is_sorted};
 
-use crate::rows::{Row, add_live, anchor_below, between, get, put, take};
+use crate::rows::{Row, anchor_below, between, get, put, take};
 use crate::store::Store;
 use clv_base::modes::{Anchor, Found};
 use std::alloc::{AllocError, Global};
@@ -61,10 +61,6 @@ impl Store for SortedStore {
 
     fn range(&self, alloc: Global, low: u64, high: u64) -> Result<Vec<(u64, Found)>, AllocError> {
         between(alloc, &self.rows, low, high)
-    }
-
-    fn add_live(&self, pairs: &mut Vec<(u64, u64)>) -> Result<(), AllocError> {
-        add_live(pairs, &self.rows)
     }
 
     ghost rising = { λ s. s.rising };

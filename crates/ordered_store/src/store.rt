@@ -1,9 +1,9 @@
 //! What a store promises, whatever it keeps its records in.
-ghost use Rattle.std.specs.Prelude.{◌≡◌, ◌≤◌, ◌+◌, ◌++◌, ◌||◌, ◌==◌, ℕ, true, not, map, nat_lt, [], None, Some, OnOk, IfOk, IsTrue, if◌then◌else◌};
+ghost use Rattle.std.specs.Prelude.{◌≡◌, ◌≤◌, ◌+◌, ◌||◌, ◌==◌, ℕ, true, not, map, nat_lt, [], None, Some, OnOk, IfOk, IsTrue, if◌then◌else◌};
 ghost use Rattle.std.specs.List.{filter};
 ghost use Rattle.std.specs.Ordering.{nat_cmp};
 ghost use Rattle.std.specs.FinMap.{is_sorted};
-ghost use Rattle.clv_base.specs.Needs.{Records, found_at, found_by, is_there, value_at, record_set, lower_anchor, live_pairs, records_between};
+ghost use Rattle.clv_base.specs.Needs.{Records, found_at, found_by, is_there, value_at, record_set, lower_anchor, records_between};
 
 use clv_base::modes::{Anchor, Found};
 use std::alloc::{AllocError, Global};
@@ -56,10 +56,6 @@ pub trait Store: Sized {
     /// All records from a key to another, both in, by rising keys.
     fn range(&self, alloc: Global, low: u64, high: u64) -> Result<Vec<(u64, Found)>, AllocError>
         ensures { IfOk result (λ rows. rows.items ≡ map (λ r. (r.0, found_by (Some r.1))) (records_between low high (records self.now))) };
-
-    /// Puts all live pairs, by rising keys, behind those of a list.
-    fn add_live(&self, pairs: &mut Vec<(u64, u64)>) -> Result<(), AllocError>
-        ensures { OnOk result (pairs.new.items ≡ pairs.old.items ++ live_pairs (records self.now)) };
 
     /// The keys of the records rise.
     ghost rising: { (s : Self) → is_sorted nat_cmp (records s) ≡ true };

@@ -8,7 +8,7 @@ use Rattle.cluster_closing.specs.Closing.{lists}
 use Rattle.clv_base.specs.Logs.{stands}
 use Rattle.history_replay.specs.Entries.{Kept}
 use Rattle.cluster_runs.specs.Ran.{RanAll}
-use Rattle.cluster_runs.specs.Stored.{live_in_turn}
+use Rattle.ordered_store.specs.InTurn.{live_in_turn}
 use Rattle.cluster_runs.proofs.Promised.{ran_all}
 use Rattle.cluster_runs.proofs.Stored.{stores_hold}
 use Rattle.cluster_runs.proofs.whole.run_script.Goals as goal
@@ -72,6 +72,6 @@ returns-clause-maps g c = λ empty fine. (
       closed = c.close_run-closed.ensures.closed;
     } in
     subst (λ f. live_in_turn (map g.S.Store.records r.maps.items) ≡ stands f) (sym (c.new.ensures.found ∙ c.in-Ok.ensures.founds))
-    (stores_hold c.sessions_have_ended.ensures _ _ sh W.items r.ends.value.items kept r.down (faults h0) (faults h1) (out h0) (out h1) (story h0) (story h1) c.args.most c.args.start c.args.sessions.now went.0 c.run_over-end.result c.running_status.result g.S.Store.records r.maps.items ended
+    (stores_hold c.active_were_answered.ensures c.sessions_have_ended.ensures _ _ sh W.items r.ends.value.items kept r.down (faults h0) (faults h1) (out h0) (out h1) (story h0) (story h1) c.args.most c.args.start c.args.sessions.now went.0 c.run_over-end.result c.running_status.result g.S.Store.records r.maps.items ended
     (omega arith) went.1 went.2 (λ k d l. c.run_over-end.ensures.rest k d (omega arith)) (well c.run_over-end.result c.run_over-end.ensures.settled) c.run_over-end.ensures.alone c.run_over-end.ensures.counted c.run_over-end.ensures.worn c.running_status.ensures.is
     (let maps = r.maps.ok in let l = c.close_run-closed.ensures.len.1 in omega arith) c.close_run-closed.ensures.maps empty fine))

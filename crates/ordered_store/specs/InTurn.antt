@@ -1,4 +1,4 @@
--- What stores hold, one after another.
+-- What several stores hold, one after another.
 use Rattle.std.specs.Prelude.{List, [], ◌∷◌, ◌++◌}
 use Rattle.clv_base.specs.Maps.{KeyMap}
 use Rattle.clv_base.specs.Needs.{Records, live_pairs}
