@@ -1,0 +1,214 @@
+-- What is due comes to the same without the row of a request that is over.
+use Rattle.std.proofs.Common.{◌≡◌, ◌⊎◌, inl, inr, ⊎_elim, refl, sym, ap, subst, ◌∙◌, ℕ, zero, suc, ◌≤◌, ◌<◌, true, false, cond, Bool, ◌||◌, List, [], ◌∷◌, Option, Some, None, is_some, arith}
+use Rattle.std.proofs.lemmas.Bool.{both_ways, cases_Bool, or_cases, and_parts, false_from_ne_true}
+use Rattle.std.specs.Map.{keys_of}
+use Rattle.std.specs.List.Sorted.{IsStrictlySortedBy}
+use Rattle.clv_base.specs.declared.names.TxId.{TxId}
+use Rattle.clv_base.specs.declared.causes.Vote.{Vote}
+use Rattle.clv_base.specs.declared.causes.Vote.TheVariants.{Yes, Read, No}
+use Rattle.clv_base.specs.declared.state.Stage.{Stage}
+use Rattle.clv_base.specs.declared.state.Stage.TheVariants.{Active, Closed, Gone}
+use Rattle.clv_base.specs.declared.state.Held.{Held}
+use Rattle.clv_base.specs.declared.state.Voter.{Voter}
+use Rattle.clv_base.specs.declared.state.Request.{Request}
+use Rattle.clv_base.specs.declared.state.Ruling.{Ruling}
+use Rattle.clv_base.specs.declared.state.Ruling.TheVariants.{Commit as CommitVerdict, Acknowledge, Abort as AbortVerdict, End as EndVerdict}
+use Rattle.clv_base.specs.declared.parts.PartFacts.{PartFacts}
+use Rattle.clv_base.specs.Orders.{Table, tx_cmp, tx_same, tx_in, tx_insert, tx_union, tx_get, tx_set}
+use Rattle.clv_base.specs.State.{Shard, with_local, is_present}
+use Rattle.clv_base.specs.Undo.{stage_of}
+use Rattle.clv_base.specs.Facts.{state_by, facts_of, is_closed_state, has_durable_commit}
+use Rattle.clv_base.specs.Participant.{vote_by}
+use Rattle.clv_base.specs.Coordinator.{ruling_by, ruled_request}
+use Rattle.clv_base.specs.Due.{send, or_else, finish_part, commit_messages, with_commit_done, commit_due, finish_reader, with_vote, give_vote, vote_due, do_ruling, with_ruling, rule, request_due, due_of, first_due, known_txs, next_due, do_due, with_due_done, work}
+use Rattle.clv_base.specs.Events.{finish}
+use Rattle.clv_base.proofs.Settling.{each_leaves_less}
+use Rattle.clv_base.specs.OneShard.{purge}
+use Rattle.clv_base.proofs.SameNames.{or_left, or_right, tx_true, tx_flip, insert_keeps, insert_has}
+use Rattle.law_base.proofs.Sets.{Rise, union_right, union_rises}
+use Rattle.protocol_laws.specs.Candidates.{is_commit_due, is_vote_due, is_ruling_due, is_due, Cover}
+use Rattle.protocol_laws.proofs.Deciding.{due_by_facts}
+use Rattle.protocol_laws.proofs.Least.{least_is_next, others_cover, none_is_nothing, at_rest_none}
+use Rattle.protocol_laws.proofs.Going.{nothing_to_do, doing_goes_on}
+use Rattle.history_cases.proofs.Stepping.{Due, due_next}
+use Rattle.ended_laws.specs.Requests.{without, forgets, IsOver}
+use Rattle.ended_laws.proofs.Reading.{no_ruling}
+use Rattle.ended_laws.proofs.Rows.{get_own, get_without, set_without, without_rises}
+use Rattle.ended_laws.proofs.Staying.{due_leaves}
+
+-- the state that comes, without the row
+abbrev pub if_any : TxId → Option Shard → Option Shard
+if_any tx o = elim o [ Some t ↦ Some (forgets tx t) | None ↦ None ]
+
+either_any : (tx : TxId) (x y : Option Shard) → or_else (if_any tx x) (if_any tx y) ≡ if_any tx (or_else x y)
+either_any tx None y = refl
+either_any tx (Some t) y = refl
+
+-- ---- what is due for one transaction
+
+not_closed_here : (s : Shard) (tx u : TxId) → is_present (stage_of s.local tx) ≡ false → stage_of s.local u ≡ Some Closed → tx_same tx u ≡ false
+not_closed_here s tx u g e = false_from_ne_true _ (λ i. both_ways _ g (ap is_present (ap (stage_of s.local) (tx_true tx u i) ∙ e)))
+
+commit_same : (s : Shard) (tx u : TxId) (st : Option Stage) → stage_of s.local u ≡ st → is_present (stage_of s.local tx) ≡ false → commit_due (forgets tx s) u st ≡ if_any tx (commit_due s u st)
+commit_same s tx u None e g = refl
+commit_same s tx u (Some Active) e g = refl
+commit_same s tx u (Some (Gone d)) e g = refl
+commit_same s tx u (Some Closed) e g = at (has_durable_commit (facts_of s u))
+  where
+    at : (b : Bool) → cond b (Some (with_commit_done (forgets tx s) u)) None ≡ if_any tx (cond b (Some (with_commit_done s u)) None)
+    at true = ap (λ o. Some (send (commit_messages s u o (tx_get u s.voters)) (finish_part u (forgets tx s)))) (get_without tx u s.requests (not_closed_here s tx u g e))
+    at false = refl
+
+vote_same : (s : Shard) (tx u : TxId) (v : Voter) (x : Vote) → finish_reader u x (with_vote (forgets tx s) u v x) ≡ forgets tx (finish_reader u x (with_vote s u v x))
+vote_same s tx u v Yes = refl
+vote_same s tx u v Read = refl
+vote_same s tx u v (No why) = refl
+
+give_same : (s : Shard) (tx u : TxId) (v : Voter) (o : Option Vote) → give_vote (forgets tx s) u v o ≡ if_any tx (give_vote s u v o)
+give_same s tx u v None = refl
+give_same s tx u v (Some x) = ap Some (vote_same s tx u v x)
+
+votes_same : (s : Shard) (tx u : TxId) (o : Option Voter) → vote_due (forgets tx s) u o ≡ if_any tx (vote_due s u o)
+votes_same s tx u None = refl
+votes_same s tx u (Some v) = give_same s tx u v (vote_by (facts_of s u) v)
+
+do_same : (s : Shard) (tx u : TxId) (r : Ruling) → do_ruling u r (forgets tx s) ≡ forgets tx (do_ruling u r s)
+do_same s tx u (CommitVerdict parts) = refl
+do_same s tx u Acknowledge = refl
+do_same s tx u (AbortVerdict c to) = refl
+do_same s tx u EndVerdict = refl
+
+rule_same : (s : Shard) (tx u : TxId) (p : Request) (o : Option Ruling) → tx_same tx u ≡ false → rule (forgets tx s) u p o ≡ if_any tx (rule s u p o)
+rule_same s tx u p None d = refl
+rule_same s tx u p (Some r) d =
+    ap (λ rows. Some (do_ruling u r (record s { requests = rows }))) (sym (set_without tx u (ruled_request r p) s.requests d)) ∙ ap Some (do_same (with_ruling u p r s) tx u r)
+
+requests_same : (s : Shard) (tx u : TxId) (o : Option Request) → tx_same tx u ≡ false → request_due (forgets tx s) u o ≡ if_any tx (request_due s u o)
+requests_same s tx u None d = refl
+requests_same s tx u (Some p) d = rule_same s tx u p (ruling_by s.shard u p (facts_of s u)) d
+
+own_none : (s : Shard) (tx : TxId) (q : Request) → IsOver s tx q → request_due s tx (tx_get tx s.requests) ≡ None
+own_none s tx q o = ap (request_due s tx) o.kept ∙ ap (rule s tx q) (no_ruling s tx q o)
+
+request_same : (s : Shard) (tx u : TxId) (q : Request) → IsOver s tx q → request_due (forgets tx s) u (tx_get u (without tx s.requests)) ≡ if_any tx (request_due s u (tx_get u s.requests))
+request_same s tx u q o = at (tx_same tx u) refl
+  where
+    at : (b : Bool) → tx_same tx u ≡ b → request_due (forgets tx s) u (tx_get u (without tx s.requests)) ≡ if_any tx (request_due s u (tx_get u s.requests))
+    at true e =
+        subst (λ z. request_due (forgets tx s) z (tx_get z (without tx s.requests)) ≡ if_any tx (request_due s z (tx_get z s.requests))) (tx_true tx u e)
+        (ap (request_due (forgets tx s) tx) (get_own tx s.requests) ∙ sym (ap (if_any tx) (own_none s tx q o)))
+    at false e = ap (request_due (forgets tx s) u) (get_without tx u s.requests e) ∙ requests_same s tx u (tx_get u s.requests) e
+
+three : (a b c x y z : Option Shard) → a ≡ x → b ≡ y → c ≡ z → or_else a (or_else b c) ≡ or_else x (or_else y z)
+three a b c x y z e f g = cc
+
+pub due_same : (s : Shard) (tx u : TxId) (q : Request) → IsOver s tx q → due_of (forgets tx s) u ≡ if_any tx (due_of s u)
+due_same s tx u q o =
+    let c = commit_due s u (stage_of s.local u) in let v = vote_due s u (tx_get u s.voters) in let r = request_due s u (tx_get u s.requests) in
+    three _ _ _ (if_any tx c) (if_any tx v) (if_any tx r)
+    (commit_same s tx u (stage_of s.local u) refl o.is_gone) (votes_same s tx u (tx_get u s.voters)) (request_same s tx u q o)
+    ∙ ap (or_else (if_any tx c)) (either_any tx v r) ∙ either_any tx c (or_else v r)
+
+-- ---- who is next
+
+some_any : (tx : TxId) (o : Option Shard) → is_some (if_any tx o) ≡ is_some o
+some_any tx None = refl
+some_any tx (Some t) = refl
+
+same_is_due : (s : Shard) (tx u : TxId) (q : Request) → IsOver s tx q → is_due (forgets tx s) u ≡ is_due s u
+same_is_due s tx u q o = ap is_some (due_same s tx u q o) ∙ some_any tx (due_of s u)
+
+same_cover : (s : Shard) (tx : TxId) (q : Request) (ks : List TxId) → IsOver s tx q → Cover ks s → Cover ks (forgets tx s)
+same_cover s tx q ks o c u e = c u (sym (same_is_due s tx u q o) ∙ e)
+
+-- who has something due is known to the shard
+union_left : (x : TxId) (xs ys : List TxId) → tx_in x xs ≡ true → tx_in x (tx_union xs ys) ≡ true
+union_left x [] ys i = absurd (both_ways false refl i)
+union_left x (u ∷ us) ys i =
+    ⊎_elim
+    (λ h. subst (λ z. tx_in z (tx_insert u (tx_union us ys)) ≡ true) (tx_true u x h) (insert_has u (tx_union us ys)))
+    (λ h. insert_keeps u x (tx_union us ys) (union_left x us ys h))
+    (or_cases (tx_same u x) (tx_in x us) i)
+
+key_in : {V : Type 0} (x : TxId) (t : Table V) → is_some (tx_get x t) ≡ true → tx_in x (keys_of t) ≡ true
+key_in x [] e = absurd (both_ways false refl e)
+key_in x (p ∷ ps) e = at (tx_same x p.0) refl e (key_in x ps)
+  where
+    at : (b : Bool) → tx_same x p.0 ≡ b → is_some (cond b (Some p.1) (tx_get x ps)) ≡ true → (is_some (tx_get x ps) ≡ true → tx_in x (keys_of ps) ≡ true) → tx_in x (keys_of (p ∷ ps)) ≡ true
+    at true s e more = or_left _ _ (tx_flip x p.0 s)
+    at false s e more = or_right (tx_same p.0 x) _ (more e)
+
+closed_some : (o : Option Held) → is_closed_state (state_by (elim o [ Some h ↦ Some h.stage | None ↦ None ])) ≡ true → is_some o ≡ true
+closed_some None e = absurd (both_ways false refl e)
+closed_some (Some h) e = refl
+
+vote_some : (f : PartFacts) (o : Option Voter) → is_vote_due f o ≡ true → is_some o ≡ true
+vote_some f None e = absurd (both_ways false refl e)
+vote_some f (Some v) e = refl
+
+ruling_some : (n : ℕ) (x : TxId) (f : PartFacts) (o : Option Request) → is_ruling_due n x f o ≡ true → is_some o ≡ true
+ruling_some n x f None e = absurd (both_ways false refl e)
+ruling_some n x f (Some q) e = refl
+
+all_known : (s : Shard) → Cover (known_txs s) s
+all_known s x e =
+    let others = tx_union (keys_of s.voters) (keys_of s.requests) in
+    ⊎_elim
+    (λ h. union_left x (keys_of s.local.parts) others (key_in x s.local.parts (closed_some (tx_get x s.local.parts) (and_parts _ _ h).0)))
+    (λ h. union_right x (keys_of s.local.parts) others
+    (⊎_elim
+    (λ v. union_left x (keys_of s.voters) (keys_of s.requests) (key_in x s.voters (vote_some (facts_of s x) (tx_get x s.voters) v)))
+    (λ r. union_right x (keys_of s.voters) (keys_of s.requests) (key_in x s.requests (ruling_some s.shard x (facts_of s x) (tx_get x s.requests) r)))
+    (or_cases (is_vote_due (facts_of s x) (tx_get x s.voters)) (is_ruling_due s.shard x (facts_of s x) (tx_get x s.requests)) h)))
+    (or_cases (is_commit_due (facts_of s x)) (is_vote_due (facts_of s x) (tx_get x s.voters) || is_ruling_due s.shard x (facts_of s x) (tx_get x s.requests)) (sym (due_by_facts s x) ∙ e))
+
+-- the first of them for whom something is due
+record First (s t : Shard) : Type 0 where
+  who : TxId
+  rest : List TxId
+  rise : Rise (who ∷ rest)
+  cover : Cover (who ∷ rest) s
+  due : due_of s who ≡ Some t
+
+first_of : (s t : Shard) (ks : List TxId) → Rise ks → Cover ks s → first_due s ks ≡ Some t → First s t
+unfolding IsStrictlySortedBy
+first_of s t [] r c e = absurd cc
+first_of s t (k ∷ ks) r c e = at (due_of s k) refl e (first_of s t ks r.1)
+  where
+    at : (o : Option Shard) → due_of s k ≡ o → elim o [ Some u ↦ Some u | None ↦ first_due s ks ] ≡ Some t → (Cover ks s → first_due s ks ≡ Some t → First s t) → First s t
+    at (Some u) f g more = record { who = k; rest = ks; rise = r; cover = c; due = f ∙ g }
+    at None f g more = more (others_cover s k ks c f) g
+
+pub next_same : (s : Shard) (tx : TxId) (q : Request) → IsOver s tx q → next_due (forgets tx s) ≡ if_any tx (next_due s)
+next_same s tx q o = at (next_due s) refl
+  where
+    at : (x : Option Shard) → next_due s ≡ x → next_due (forgets tx s) ≡ if_any tx x
+    at None e = none_is_nothing (forgets tx s) (same_cover s tx q [] o (at_rest_none s e))
+    at (Some t) e =
+        let f = first_of s t (known_txs s) (union_rises (keys_of s.local.parts) _ (union_rises (keys_of s.voters) _ o.rises)) (all_known s) e in
+        least_is_next (forgets tx s) (forgets tx t) f.who f.rest (without_rises tx s.requests o.rises) f.rise (same_cover s tx q (f.who ∷ f.rest) o f.cover)
+        (due_same s tx f.who q o ∙ ap (if_any tx) f.due)
+
+-- ---- all of it
+
+over_next : (s t : Shard) (tx : TxId) (q : Request) → next_due s ≡ Some t → IsOver s tx q → IsOver t tx q
+over_next s t tx q e o = due_leaves tx q s t (subst (Due s) e (due_next s)) o
+
+done_at : (n : ℕ) (s : Shard) (tx : TxId) (q : Request) (x : Option Shard) → next_due s ≡ x → IsOver s tx q → ((t : Shard) → IsOver t tx q → work t ≤ n → with_due_done (forgets tx t) ≡ forgets tx (with_due_done t)) → work s ≤ suc n
+    → with_due_done (forgets tx s) ≡ forgets tx (with_due_done s)
+done_at n s tx q None e o k l = nothing_to_do (forgets tx s) (next_same s tx q o ∙ ap (if_any tx) e) ∙ sym (ap (forgets tx) (nothing_to_do s e))
+done_at n s tx q (Some t) e o k l =
+    let less = each_leaves_less s t e in
+    doing_goes_on (forgets tx s) (forgets tx t) (next_same s tx q o ∙ ap (if_any tx) e)
+    ∙ k t (over_next s t tx q e o) (omega (arith, less, l)) ∙ sym (ap (forgets tx) (doing_goes_on s t e))
+
+done_in : (n : ℕ) (s : Shard) (tx : TxId) (q : Request) → IsOver s tx q → work s ≤ n → with_due_done (forgets tx s) ≡ forgets tx (with_due_done s)
+done_in zero s tx q o l = none_at (next_due s) refl
+  where
+    none_at : (x : Option Shard) → next_due s ≡ x → with_due_done (forgets tx s) ≡ forgets tx (with_due_done s)
+    none_at None e = nothing_to_do (forgets tx s) (next_same s tx q o ∙ ap (if_any tx) e) ∙ sym (ap (forgets tx) (nothing_to_do s e))
+    none_at (Some t) e = absurd (omega (arith, l, each_leaves_less s t e))
+done_in (suc n) s tx q o l = done_at n s tx q (next_due s) refl o (λ t v m. done_in n t tx q v m) l
+
+pub finished_same : (s : Shard) (tx : TxId) (q : Request) → IsOver s tx q → finish (forgets tx s) ≡ forgets tx (finish s)
+finished_same s tx q o = ap (with_local purge) (done_in (work s) s tx q o (omega arith))

@@ -1,0 +1,5 @@
+pub mod Reading
+pub mod Rows
+pub mod Staying
+pub mod Due
+pub mod Missing
