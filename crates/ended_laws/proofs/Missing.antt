@@ -239,17 +239,17 @@ module _ (s : Shard) (tx : TxId) (q : Request) (over : IsOver s tx q) where
       same_durable t d =
           sym (ap (λ ks. tx_in t (filter (λ u. has_durable_commit (facts_of s u)) ks)) (keys_without tx s.requests) ∙ in_kept t tx (λ u. has_durable_commit (facts_of s u)) (keys_of s.requests) d)
 
-      no_word : (b : Bool) → elim b [ true ↦ missing_dones s.shard tx q q.state | false ↦ [] ] ≡ []
+      no_word : (b : Bool) → ◌≡◌ {A = List Message} (elim b as (λ z. List Message) [ true ↦ missing_dones s.shard tx q q.state | false ↦ [] ]) []
       no_word true = no_decide s tx q over
       no_word false = refl
 
       both : home_reminders s.shard s.requests (durable_requests s) ≡ home_reminders s.shard (without tx s.requests) (durable_requests (forgets tx s))
       both =
-          ap (λ l. l ++ each_request (λ t r. elim (tx_in t (durable_requests s)) [ true ↦ missing_dones s.shard t r r.state | false ↦ [] ]) s.requests)
+          ap (λ l. l ++ each_request (λ t r. elim (tx_in t (durable_requests s)) as (λ z. List Message) [ true ↦ missing_dones s.shard t r r.state | false ↦ [] ]) s.requests)
           (each_without tx q (λ t r. missing_votes s.shard t r r.state) (λ t r. missing_votes s.shard t r r.state) s.requests rows_are (no_prepare s tx q over) (λ t r d. refl))
           ∙ ap (λ l. each_request (λ t r. missing_votes s.shard t r r.state) (without tx s.requests) ++ l)
-          (each_without tx q (λ t r. elim (tx_in t (durable_requests s)) [ true ↦ missing_dones s.shard t r r.state | false ↦ [] ])
-          (λ t r. elim (tx_in t (durable_requests (forgets tx s))) [ true ↦ missing_dones s.shard t r r.state | false ↦ [] ]) s.requests rows_are (no_word (tx_in tx (durable_requests s)))
+          (each_without tx q (λ t r. elim (tx_in t (durable_requests s)) as (λ z. List Message) [ true ↦ missing_dones s.shard t r r.state | false ↦ [] ])
+          (λ t r. elim (tx_in t (durable_requests (forgets tx s))) as (λ z. List Message) [ true ↦ missing_dones s.shard t r r.state | false ↦ [] ]) s.requests rows_are (no_word (tx_in tx (durable_requests s)))
           (λ t r d. ap (λ b. elim b as (λ z. List Message) [ true ↦ missing_dones s.shard t r r.state | false ↦ [] ]) (same_durable t d)))
 
   reminding : (out ms : List Message) → s.outbox ≡ out → reminders s ≡ ms → remind_with (forgets tx s) out ms ≡ forgetful tx (remind_with s out ms)
