@@ -3,3 +3,4 @@ pub mod Rows
 pub mod Staying
 pub mod Due
 pub mod Missing
+pub mod Following

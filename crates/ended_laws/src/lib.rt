@@ -5,4 +5,6 @@
 //! `clv_base`, on the laws of single events (`protocol_laws`, `history_cases`), and on what sessions do in `history_laws`.
 #![tactic(auto)]
 
+pub mod histories;
 pub mod requests;
+pub mod sessions;
