@@ -41,7 +41,7 @@ same_walker splits before after h r x u t l i j e f s = sym (walker_of splits be
 
 -- ---- whose an entry is
 
-works_of : (t : TxId) (e : Event) → works_for t e ≡ true → (tx_of e ≡ Some t) × (works_on t.serial e ≡ true)
+pub works_of : (t : TxId) (e : Event) → works_for t e ≡ true → (tx_of e ≡ Some t) × (works_on t.serial e ≡ true)
 works_of t (Op tx birth nth seen op) h = (ap Some (sym (tx_true t tx h)), eq-eqb tx.serial t.serial (ap (λ z. z.serial) (sym (tx_true t tx h))))
 works_of t (Request tx ts) h = (ap Some (sym (tx_true t tx h)), eq-eqb tx.serial t.serial (ap (λ z. z.serial) (sym (tx_true t tx h))))
 works_of t _ h = absurd (both_ways false refl h)

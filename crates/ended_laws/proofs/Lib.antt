@@ -4,3 +4,4 @@ pub mod Staying
 pub mod Due
 pub mod Missing
 pub mod Following
+pub mod Along
