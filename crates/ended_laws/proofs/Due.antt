@@ -35,6 +35,7 @@ use Rattle.ended_laws.specs.Requests.{without, forgets, IsOver}
 use Rattle.ended_laws.proofs.Reading.{no_ruling}
 use Rattle.ended_laws.proofs.Rows.{get_own, get_without, set_without, without_rises}
 use Rattle.ended_laws.proofs.Staying.{due_leaves}
+use Rattle.ended_laws.proofs.Forgetting.{Forgets, done_same}
 
 -- the state that comes, without the row
 abbrev pub if_any : TxId → Option Shard → Option Shard
@@ -109,106 +110,10 @@ due_same s tx u q o =
     (commit_same s tx u (stage_of s.local u) refl o.is_gone) (votes_same s tx u (tx_get u s.voters)) (request_same s tx u q o)
     ∙ ap (or_else (if_any tx c)) (either_any tx v r) ∙ either_any tx c (or_else v r)
 
--- ---- who is next
-
-some_any : (tx : TxId) (o : Option Shard) → is_some (if_any tx o) ≡ is_some o
-some_any tx None = refl
-some_any tx (Some t) = refl
-
-same_is_due : (s : Shard) (tx u : TxId) (q : Request) → IsOver s tx q → is_due (forgets tx s) u ≡ is_due s u
-same_is_due s tx u q o = ap is_some (due_same s tx u q o) ∙ some_any tx (due_of s u)
-
-same_cover : (s : Shard) (tx : TxId) (q : Request) (ks : List TxId) → IsOver s tx q → Cover ks s → Cover ks (forgets tx s)
-same_cover s tx q ks o c u e = c u (sym (same_is_due s tx u q o) ∙ e)
-
--- who has something due is known to the shard
-union_left : (x : TxId) (xs ys : List TxId) → tx_in x xs ≡ true → tx_in x (tx_union xs ys) ≡ true
-union_left x [] ys i = absurd (both_ways false refl i)
-union_left x (u ∷ us) ys i =
-    ⊎_elim
-    (λ h. subst (λ z. tx_in z (tx_insert u (tx_union us ys)) ≡ true) (tx_true u x h) (insert_has u (tx_union us ys)))
-    (λ h. insert_keeps u x (tx_union us ys) (union_left x us ys h))
-    (or_cases (tx_same u x) (tx_in x us) i)
-
-key_in : {V : Type 0} (x : TxId) (t : Table V) → is_some (tx_get x t) ≡ true → tx_in x (keys_of t) ≡ true
-key_in x [] e = absurd (both_ways false refl e)
-key_in x (p ∷ ps) e = at (tx_same x p.0) refl e (key_in x ps)
-  where
-    at : (b : Bool) → tx_same x p.0 ≡ b → is_some (cond b (Some p.1) (tx_get x ps)) ≡ true → (is_some (tx_get x ps) ≡ true → tx_in x (keys_of ps) ≡ true) → tx_in x (keys_of (p ∷ ps)) ≡ true
-    at true s e more = or_left _ _ (tx_flip x p.0 s)
-    at false s e more = or_right (tx_same p.0 x) _ (more e)
-
-closed_some : (o : Option Held) → is_closed_state (state_by (elim o [ Some h ↦ Some h.stage | None ↦ None ])) ≡ true → is_some o ≡ true
-closed_some None e = absurd (both_ways false refl e)
-closed_some (Some h) e = refl
-
-vote_some : (f : PartFacts) (o : Option Voter) → is_vote_due f o ≡ true → is_some o ≡ true
-vote_some f None e = absurd (both_ways false refl e)
-vote_some f (Some v) e = refl
-
-ruling_some : (n : ℕ) (x : TxId) (f : PartFacts) (o : Option Request) → is_ruling_due n x f o ≡ true → is_some o ≡ true
-ruling_some n x f None e = absurd (both_ways false refl e)
-ruling_some n x f (Some q) e = refl
-
-all_known : (s : Shard) → Cover (known_txs s) s
-all_known s x e =
-    let others = tx_union (keys_of s.voters) (keys_of s.requests) in
-    ⊎_elim
-    (λ h. union_left x (keys_of s.local.parts) others (key_in x s.local.parts (closed_some (tx_get x s.local.parts) (and_parts _ _ h).0)))
-    (λ h. union_right x (keys_of s.local.parts) others
-    (⊎_elim
-    (λ v. union_left x (keys_of s.voters) (keys_of s.requests) (key_in x s.voters (vote_some (facts_of s x) (tx_get x s.voters) v)))
-    (λ r. union_right x (keys_of s.voters) (keys_of s.requests) (key_in x s.requests (ruling_some s.shard x (facts_of s x) (tx_get x s.requests) r)))
-    (or_cases (is_vote_due (facts_of s x) (tx_get x s.voters)) (is_ruling_due s.shard x (facts_of s x) (tx_get x s.requests)) h)))
-    (or_cases (is_commit_due (facts_of s x)) (is_vote_due (facts_of s x) (tx_get x s.voters) || is_ruling_due s.shard x (facts_of s x) (tx_get x s.requests)) (sym (due_by_facts s x) ∙ e))
-
--- the first of them for whom something is due
-record First (s t : Shard) : Type 0 where
-  who : TxId
-  rest : List TxId
-  rise : Rise (who ∷ rest)
-  cover : Cover (who ∷ rest) s
-  due : due_of s who ≡ Some t
-
-first_of : (s t : Shard) (ks : List TxId) → Rise ks → Cover ks s → first_due s ks ≡ Some t → First s t
-unfolding IsStrictlySortedBy
-first_of s t [] r c e = absurd cc
-first_of s t (k ∷ ks) r c e = at (due_of s k) refl e (first_of s t ks r.1)
-  where
-    at : (o : Option Shard) → due_of s k ≡ o → elim o [ Some u ↦ Some u | None ↦ first_due s ks ] ≡ Some t → (Cover ks s → first_due s ks ≡ Some t → First s t) → First s t
-    at (Some u) f g more = record { who = k; rest = ks; rise = r; cover = c; due = f ∙ g }
-    at None f g more = more (others_cover s k ks c f) g
-
-pub next_same : (s : Shard) (tx : TxId) (q : Request) → IsOver s tx q → next_due (forgets tx s) ≡ if_any tx (next_due s)
-next_same s tx q o = at (next_due s) refl
-  where
-    at : (x : Option Shard) → next_due s ≡ x → next_due (forgets tx s) ≡ if_any tx x
-    at None e = none_is_nothing (forgets tx s) (same_cover s tx q [] o (at_rest_none s e))
-    at (Some t) e =
-        let f = first_of s t (known_txs s) (union_rises (keys_of s.local.parts) _ (union_rises (keys_of s.voters) _ o.rises)) (all_known s) e in
-        least_is_next (forgets tx s) (forgets tx t) f.who f.rest (without_rises tx s.requests o.rises) f.rise (same_cover s tx q (f.who ∷ f.rest) o f.cover)
-        (due_same s tx f.who q o ∙ ap (if_any tx) f.due)
-
 -- ---- all of it
 
-over_next : (s t : Shard) (tx : TxId) (q : Request) → next_due s ≡ Some t → IsOver s tx q → IsOver t tx q
-over_next s t tx q e o = due_leaves tx q s t (subst (Due s) e (due_next s)) o
-
-done_at : (n : ℕ) (s : Shard) (tx : TxId) (q : Request) (x : Option Shard) → next_due s ≡ x → IsOver s tx q → ((t : Shard) → IsOver t tx q → work t ≤ n → with_due_done (forgets tx t) ≡ forgets tx (with_due_done t)) → work s ≤ suc n
-    → with_due_done (forgets tx s) ≡ forgets tx (with_due_done s)
-done_at n s tx q None e o k l = nothing_to_do (forgets tx s) (next_same s tx q o ∙ ap (if_any tx) e) ∙ sym (ap (forgets tx) (nothing_to_do s e))
-done_at n s tx q (Some t) e o k l =
-    let less = each_leaves_less s t e in
-    doing_goes_on (forgets tx s) (forgets tx t) (next_same s tx q o ∙ ap (if_any tx) e)
-    ∙ k t (over_next s t tx q e o) (omega (arith, less, l)) ∙ sym (ap (forgets tx) (doing_goes_on s t e))
-
-done_in : (n : ℕ) (s : Shard) (tx : TxId) (q : Request) → IsOver s tx q → work s ≤ n → with_due_done (forgets tx s) ≡ forgets tx (with_due_done s)
-done_in zero s tx q o l = none_at (next_due s) refl
-  where
-    none_at : (x : Option Shard) → next_due s ≡ x → with_due_done (forgets tx s) ≡ forgets tx (with_due_done s)
-    none_at None e = nothing_to_do (forgets tx s) (next_same s tx q o ∙ ap (if_any tx) e) ∙ sym (ap (forgets tx) (nothing_to_do s e))
-    none_at (Some t) e = absurd (omega (arith, l, each_leaves_less s t e))
-done_in (suc n) s tx q o l = done_at n s tx q (next_due s) refl o (λ t v m. done_in n t tx q v m) l
+fine : (tx : TxId) (q : Request) → Forgets (forgets tx) (λ s. IsOver s tx q)
+fine tx q = record { due_same = λ s u o. due_same s tx u q o; stays = due_leaves tx q; rise = λ s o. o.rises; still_rise = λ s o. without_rises tx s.requests o.rises }
 
 pub finished_same : (s : Shard) (tx : TxId) (q : Request) → IsOver s tx q → finish (forgets tx s) ≡ forgets tx (finish s)
-finished_same s tx q o = ap (with_local purge) (done_in (work s) s tx q o (omega arith))
+finished_same s tx q o = ap (with_local purge) (done_same (forgets tx) (λ z. IsOver z tx q) (fine tx q) s o)

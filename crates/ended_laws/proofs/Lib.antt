@@ -1,7 +1,9 @@
 pub mod Reading
 pub mod Rows
 pub mod Staying
+pub mod Forgetting
 pub mod Due
 pub mod Missing
 pub mod Following
 pub mod Along
+pub mod Past

@@ -137,6 +137,9 @@ leaves_reply tx u birth seen op l _ (performs f e) o g = (λ a m e. subst (Leave
     one_after e = cc
 leaves_reply tx u birth seen op l _ _ o g = (λ a m e. absurd cc, λ c m e. absurd cc)
 
+pub absent_after : (tx : TxId) (l m : Local) → Leaves tx l m → is_present (stage_of l tx) ≡ false → is_present (stage_of m tx) ≡ false
+absent_after tx l m g h = fades_absent (stage_of l tx) (stage_of m tx) g.fades h
+
 -- ---- a state that keeps the row, and leaves the rest so
 
 done_stays : (s t : Shard) (tx : TxId) (q : Request) (st : RequestState) → t.shard ≡ s.shard → Leaves tx s.local t.local → IsDone s tx q st → IsDone t tx q st

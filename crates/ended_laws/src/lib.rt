@@ -6,5 +6,6 @@
 #![tactic(auto)]
 
 pub mod histories;
+pub mod parts;
 pub mod requests;
 pub mod sessions;
