@@ -7,3 +7,4 @@ pub mod Missing
 pub mod Following
 pub mod Along
 pub mod Past
+pub mod Partless

@@ -94,7 +94,7 @@ past_local s tx l p h g = past_stays s (record s { local = l }) tx p h p.voters_
 
 -- ---- what is due
 
-none_owed : (f : PartFacts) (o : Option Voter) (v : Voter) → o ≡ Some v → owes_none o ≡ true → vote_by f v ≡ None
+pub none_owed : (f : PartFacts) (o : Option Voter) (v : Voter) → o ≡ Some v → owes_none o ≡ true → vote_by f v ≡ None
 none_owed f o v e h = ap (vote_owed f v) (subst (λ z. owes_none z ≡ true) e h)
 
 not_own_voter : (s : Shard) (tx u : TxId) (v : Voter) (x : Vote) → IsPast s tx → tx_get u s.voters ≡ Some v → vote_by (facts_of s u) v ≡ Some x → tx_same tx u ≡ false

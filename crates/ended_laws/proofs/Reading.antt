@@ -57,7 +57,7 @@ no_done s tx q from o = no_done_in s tx q from q.state o.is_done
 
 -- ---- rulings
 
-not_closed : (o : Option Stage) → is_present o ≡ false → is_closed_state (state_by o) ≡ false
+pub not_closed : (o : Option Stage) → is_present o ≡ false → is_closed_state (state_by o) ≡ false
 not_closed None e = refl
 not_closed (Some Active) e = refl
 not_closed (Some Closed) e = absurd (both_ways _ e refl)
