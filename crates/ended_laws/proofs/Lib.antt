@@ -8,3 +8,4 @@ pub mod Following
 pub mod Along
 pub mod Past
 pub mod Partless
+pub mod Meeting
