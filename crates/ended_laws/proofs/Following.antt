@@ -18,7 +18,7 @@ use Rattle.protocol_laws.specs.SessionLaws.{tx_of, works_on, ended_by}
 use Rattle.protocol_laws.proofs.InOrder.{sessions_keep_order}
 use Rattle.history_cases.proofs.Merging.{Placed, in_order, Among, is_among, among_left, among_right, not_before_itself, before_then, Before, InOrder, in_own, own_in_order, in_turn, Precedes, precedes_before, front_precedes}
 use Rattle.history_laws.specs.Outcomes.{is_abort}
-use Rattle.history_laws.proofs.Staying.{session_of, walker_of}
+use Rattle.history_laws.proofs.Staying.{session_of, walker_of, together}
 use Rattle.history_laws.proofs.Walkers.{nothing_follows, serials_follow}
 use Rattle.history_laws.proofs.Endings.{names as names_by, nothing_after_end, nothing_after_success}
 use Rattle.ended_laws.specs.Sessions.{works_for, asks_for, names, NoWorkFollowsARequest, OnlyDropsFollowTheEnd, NothingFollowsSuccess, NothingFollowsALaterOne}
@@ -93,6 +93,14 @@ asked_of t (Request tx ts) Asked h = let q = same h in (ap Some q, ap (λ z. Som
 asked_of t (Request tx ts) _ h = absurd cc
 asked_of t _ o h = absurd cc
 
+asks_on : (t : TxId) (e : Event) (o : Outcome) → request_of e o ≡ Some t → works_on t.serial e ≡ true
+asks_on t (Request tx ts) Asked h = eq-eqb tx.serial t.serial (same h)
+  where
+    same : {a b : TxId} → Some a ≡ Some b → a.serial ≡ b.serial
+    same z = cc
+asks_on t (Request tx ts) _ h = absurd cc
+asks_on t _ o h = absurd cc
+
 success_of : (t : TxId) (e : Event) (o : Outcome) → is_acknowledgement t e o ≡ true → tx_of e ≡ Some t
 success_of t (Look tx) Acknowledged h = ap Some (sym (tx_true t tx h))
 success_of t (Look tx) _ h = absurd (both_ways false refl h)
@@ -107,6 +115,20 @@ abort_of t _ _ h = absurd (both_ways false refl h)
 
 end_of : (t : TxId) (e : Event) (o : Outcome) → (is_acknowledgement t e o || is_abort t e o) ≡ true → tx_of e ≡ Some t
 end_of t e o h = ⊎_elim (λ a. success_of t e o a) (λ b. abort_of t e o b) (or_cases (is_acknowledgement t e o) (is_abort t e o) h)
+
+-- a transaction makes one request
+pub one_request : (splits : List ℕ) (before after : List (List LogRecord)) (h : History) (m k : ℕ) (r q : Entry) (t : TxId) → Legal splits before h after → Among (m, r) h → Among (k, q) h
+    → request_of r.event r.outcome ≡ Some t → request_of q.event q.outcome ≡ Some t → m ≡ k
+one_request splits before after h m k r q t l i j e f =
+    let a = asked_of t r.event r.outcome e in
+    let b = asked_of t q.event q.outcome f in
+    let p = together splits before after h (m, r) (k, q) t l i j a.0 b.0 in
+    let s = (sessions_keep_order splits (run_after before) r.walker (own r.walker h) p.session).2 in
+    ⊎_elim (λ z. ap (λ y. y.0) z)
+    (λ z. ⊎_elim
+    (λ c. absurd (both_ways _ (nothing_follows (own r.walker h) (m, r) (k, q) t.serial s c a.1) (asks_on t q.event q.outcome f)))
+    (λ c. absurd (both_ways _ (nothing_follows (own r.walker h) (k, q) (m, r) t.serial s c b.1) (asks_on t r.event r.outcome e))) z)
+    (in_turn (m, r) (k, q) (own r.walker h) p.first p.second)
 
 -- ---- the laws
 

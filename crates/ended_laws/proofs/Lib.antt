@@ -9,3 +9,5 @@ pub mod Along
 pub mod Past
 pub mod Partless
 pub mod Meeting
+pub mod Beside
+pub mod Alone

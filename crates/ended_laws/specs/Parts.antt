@@ -13,7 +13,8 @@ use Rattle.clv_base.specs.Orders.{tx_cmp, tx_same, tx_get}
 use Rattle.clv_base.specs.State.{Local, Shard, with_local, is_present}
 use Rattle.clv_base.specs.Undo.{stage_of}
 use Rattle.clv_base.specs.Events.{Reply, QuietBeforeWorn, QuietAfterWorn, Does, happen}
-use Rattle.ended_laws.specs.Requests.{without}
+use Rattle.clv_base.specs.declared.state.Request.{Request}
+use Rattle.ended_laws.specs.Requests.{without, forgets, IsOver}
 
 -- the shard that keeps nothing of the transaction's part, nor of its vote
 abbrev pub forgets_in : TxId → Local → Local
@@ -60,3 +61,16 @@ OnlyItsOwnEventsMissIt = (s : Shard) (tx : TxId) (e : Event) → IsPast s tx →
 -- and leaves the part past
 abbrev pub PastStaysPast : Type 0
 PastStaysPast = (s t : Shard) (tx : TxId) (e : Event) (o : Outcome) → IsPast s tx → MayMeet tx e → happen s e ≡ Does o t → IsPast t tx
+
+-- ---- many rows
+
+-- forgetting one transaction leaves each other one as it was, over or past; and where a request is over and no vote is owed, its part is past once
+-- the request is forgotten
+pub record GoAlone : Type 0 where
+  pub over : (s : Shard) (tx u : TxId) (q : Request) → tx_same tx u ≡ false → IsOver s u q → IsOver (forgets tx s) u q
+  pub over_still : (s : Shard) (tx u : TxId) (q : Request) → tx_same tx u ≡ false → IsOver s u q → IsOver (forgets_part tx s) u q
+  pub past : (s : Shard) (tx u : TxId) → tx_same tx u ≡ false → IsPast s u → IsPast (forgets tx s) u
+  pub past_still : (s : Shard) (tx u : TxId) → tx_same tx u ≡ false → IsPast s u → IsPast (forgets_part tx s) u
+  pub then_past :
+      (s : Shard) (tx : TxId) (q : Request) → IsOver s tx q → IsStrictlySortedBy tx_cmp (keys_of s.local.parts) → IsStrictlySortedBy tx_cmp (keys_of s.voters) → owes_none (tx_get tx s.voters) ≡ true
+      → IsPast (forgets tx s) tx
