@@ -1,5 +1,5 @@
 -- Rows are forgotten one by one.
-use Rattle.std.proofs.Common.{◌≡◌, refl, ap, ◌∙◌, ℕ, true, false, Bool, Option, Some, None}
+use Rattle.std.proofs.Common.{◌≡◌, ap, ◌∙◌, false}
 use Rattle.clv_base.specs.declared.names.TxId.{TxId}
 use Rattle.clv_base.specs.declared.state.Request.{Request}
 use Rattle.clv_base.specs.declared.state.RequestState.{RequestState}
@@ -7,8 +7,8 @@ use Rattle.clv_base.specs.declared.state.RequestState.TheVariants.{Undecided, Co
 use Rattle.clv_base.specs.Orders.{tx_same}
 use Rattle.clv_base.specs.State.{Shard, is_present}
 use Rattle.clv_base.specs.Facts.{doom_by}
-use Rattle.ended_laws.specs.Requests.{forgets, IsDone, IsOver}
-use Rattle.ended_laws.specs.Parts.{forgets_part, owes_none, IsPast, GoAlone}
+use Rattle.ended_laws.specs.Requests.{forgets, IsDone}
+use Rattle.ended_laws.specs.Parts.{forgets_part, owes_none, GoAlone}
 use Rattle.ended_laws.proofs.Rows.{get_own, get_without, without_rises}
 use Rattle.ended_laws.proofs.Partless.{same_stage}
 

@@ -1,6 +1,6 @@
 -- Rows of requests that are over, along a legal history.
-use Rattle.std.proofs.Common.{◌≡◌, ◌⊎◌, inl, inr, ⊎_elim, refl, sym, ap, subst, ◌∙◌, ℕ, ◌<◌, true, false, Bool, List, ◌∷◌, ◌++◌, Option, Some, arith}
-use Rattle.std.proofs.lemmas.Bool.{both_ways, false_from_ne_true}
+use Rattle.std.proofs.Common.{◌≡◌, ◌⊎◌, inl, inr, ⊎_elim, refl, ap, ◌∙◌, ℕ, ◌<◌, true, false, List, ◌∷◌, ◌++◌, arith}
+use Rattle.std.proofs.lemmas.Bool.{false_from_ne_true}
 use Rattle.clv_base.specs.declared.names.TxId.{TxId}
 use Rattle.clv_base.specs.declared.logs.LogRecord.{LogRecord}
 use Rattle.clv_base.specs.declared.events.Event.{Event}
@@ -12,18 +12,16 @@ use Rattle.clv_base.specs.declared.state.Request.{Request}
 use Rattle.clv_base.specs.State.{Shard}
 use Rattle.clv_base.specs.Restarts.{run_after}
 use Rattle.clv_base.specs.LogRules.{log_of}
-use Rattle.clv_base.specs.Journals.{History, reply_state, flush_state, event_state, after_entry}
+use Rattle.clv_base.specs.Journals.{History, reply_state, flush_state, event_state}
 use Rattle.clv_base.specs.History.{Legal, state_before}
 use Rattle.clv_base.specs.Events.{Reply, QuietBeforeWorn, QuietAfterWorn, Does, happen, with_durable, with_entry, put_down}
-use Rattle.clv_base.proofs.SameNames.{tx_true}
-use Rattle.protocol_laws.specs.SessionLaws.{tx_of}
-use Rattle.history_cases.proofs.Merging.{Placed, Among, among_right}
+use Rattle.history_cases.proofs.Merging.{among_right}
 use Rattle.history_laws.proofs.Staying.{walker_of}
 use Rattle.fate_laws.specs.Origins.{WasAskedAt}
 use Rattle.fate_laws.proofs.Coming.{all_comes_of_entries}
 use Rattle.ended_laws.specs.Requests.{forgets, forgetful, IsOver, is_by_log, MayCome}
 use Rattle.ended_laws.specs.Sessions.{works_for, asks_for, names}
-use Rattle.ended_laws.specs.Histories.{MayBeForgotten, RowsAreNotMissed}
+use Rattle.ended_laws.specs.Histories.{RowsAreNotMissed}
 use Rattle.ended_laws.proofs.Staying.{leaves_same, over_stays, finished_leaves, over_stays_over}
 use Rattle.ended_laws.proofs.Due.{finished_same}
 use Rattle.ended_laws.proofs.Missing.{nobody_misses_it}
@@ -119,7 +117,7 @@ rows_are_not_missed splits before pre n e post after tx q l lt o f r =
     let h = pre ++ (n, e) ∷ post in
     let c = (all_comes_of_entries splits before h after pre ((n, e) ∷ post) n l refl lt).coordinated tx q o.kept in
     let told : (is_by_log q.state ≡ true) ⊎ (asks_for tx e.event ≡ false) =
-        ⊎_elim (λ a. inl a)
-        (λ z. inr (⊎_elim (λ a. only_drops_follow_the_end splits before pre n e post after tx l.legal a) (λ b. none_asks tx e.event (nothing_follows_a_later_one splits before pre n e post after tx l.legal b)) z)) f in
+    ⊎_elim (λ a. inl a)
+    (λ z. inr (⊎_elim (λ a. only_drops_follow_the_end splits before pre n e post after tx l.legal a) (λ b. none_asks tx e.event (nothing_follows_a_later_one splits before pre n e post after tx l.legal b)) z)) f in
     let g = event_same (log_of after n) s tx q e.event e.outcome o (may_come tx q e.event (no_work splits before after pre post n e tx l.legal c) told) r in
     (ap (with_entry e.stamp e.walker e.event e.outcome) g.0, entered e.stamp e.walker e.event e.outcome (event_state (log_of after n) s e.event e.outcome) tx q g.1)

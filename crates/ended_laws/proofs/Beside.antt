@@ -1,6 +1,6 @@
 -- Rows of parts that are past, along a legal history.
-use Rattle.std.proofs.Common.{◌≡◌, ◌⊎◌, inl, inr, ⊎_elim, refl, sym, ap, subst, ◌∙◌, ℕ, ◌<◌, true, false, Bool, List, ◌∷◌, ◌++◌, Option, Some, None}
-use Rattle.std.proofs.lemmas.Bool.{both_ways, false_from_ne_true}
+use Rattle.std.proofs.Common.{◌≡◌, inl, inr, ⊎_elim, refl, sym, ap, subst, ◌∙◌, ℕ, true, false, List, ◌∷◌, ◌++◌, None}
+use Rattle.std.proofs.lemmas.Bool.{false_from_ne_true}
 use Rattle.clv_base.specs.declared.names.TxId.{TxId}
 use Rattle.clv_base.specs.declared.logs.LogRecord.{LogRecord}
 use Rattle.clv_base.specs.declared.events.Event.{Event}
@@ -8,34 +8,25 @@ use Rattle.clv_base.specs.declared.events.Event.TheVariants.{Op, Request as Requ
 use Rattle.clv_base.specs.declared.events.Outcome.{Outcome}
 use Rattle.clv_base.specs.declared.events.Outcome.TheVariants.{Durable}
 use Rattle.clv_base.specs.declared.events.Entry.{Entry}
-use Rattle.clv_base.specs.declared.state.Request.{Request}
 use Rattle.clv_base.specs.State.{Shard}
-use Rattle.clv_base.specs.Restarts.{run_after}
 use Rattle.clv_base.specs.LogRules.{log_of}
-use Rattle.clv_base.specs.Journals.{History, reply_state, flush_state, event_state, after_entry}
-use Rattle.clv_base.specs.History.{Legal, state_before}
+use Rattle.clv_base.specs.Journals.{reply_state, flush_state, event_state}
+use Rattle.clv_base.specs.History.{state_before}
 use Rattle.clv_base.specs.Events.{Reply, QuietBeforeWorn, QuietAfterWorn, Does, happen, with_durable, with_entry, put_down}
 use Rattle.clv_base.proofs.SameNames.{tx_true}
-use Rattle.protocol_laws.specs.SessionLaws.{tx_of}
 use Rattle.history_cases.proofs.Merging.{Among, is_among, among_left}
-use Rattle.history_laws.proofs.Staying.{walker_of}
-use Rattle.fate_laws.specs.Origins.{WasAskedAt}
-use Rattle.fate_laws.specs.Origins.{WasAsked}
 use Rattle.fate_laws.proofs.Coming.{prepares_come_of_requests}
-
-use Rattle.clv_base.specs.declared.messages.Message.{Message}
 use Rattle.clv_base.specs.declared.messages.Message.TheVariants.{Prepare, Vote as VoteMessage, Decide, Done, Ask}
-use Rattle.clv_base.specs.History.{IsAmong, request_of}
+use Rattle.clv_base.specs.History.{IsAmong}
 use Rattle.clv_base.specs.Orders.{tx_same, tx_get}
 use Rattle.clv_base.specs.State.{is_present}
 use Rattle.clv_base.specs.Undo.{stage_of}
 use Rattle.std.specs.Map.{keys_of}
 use Rattle.law_base.proofs.Sets.{Rise}
-use Rattle.ended_laws.specs.Parts.{forgets_part, partless, owes_none, IsPast, IsNoPrepareOf, MayMeet}
-use Rattle.ended_laws.specs.Sessions.{works_for, names}
-use Rattle.ended_laws.specs.Histories.{IsLetGo, IsAtHome, IsPrepareOf, NoPrepareComesHome, PartsAreNotMissed}
-use Rattle.ended_laws.proofs.Staying.{leaves_same}
-use Rattle.ended_laws.proofs.Past.{past_stays, finished_past, past_stays_past}
+use Rattle.ended_laws.specs.Parts.{forgets_part, partless, owes_none, IsPast, MayMeet}
+use Rattle.ended_laws.specs.Sessions.{names}
+use Rattle.ended_laws.specs.Histories.{IsPrepareOf, NoPrepareComesHome, PartsAreNotMissed}
+use Rattle.ended_laws.proofs.Past.{finished_past, past_stays_past}
 use Rattle.ended_laws.proofs.Partless.{finished_same}
 use Rattle.ended_laws.proofs.Meeting.{only_its_own_events_miss_it}
 use Rattle.ended_laws.proofs.Following.{one_request, nothing_follows_success, nothing_follows_a_later_one}
@@ -121,6 +112,6 @@ pub parts_are_not_missed : PartsAreNotMissed
 parts_are_not_missed splits before pre n e post after tx l p f r k =
     let s = state_before before pre after n in
     let w : names tx e.event ≡ false =
-        ⊎_elim (λ a. nothing_follows_success splits before pre n e post after tx l.legal a) (λ b. nothing_follows_a_later_one splits before pre n e post after tx l.legal b) f in
+    ⊎_elim (λ a. nothing_follows_success splits before pre n e post after tx l.legal a) (λ b. nothing_follows_a_later_one splits before pre n e post after tx l.legal b) f in
     let g = event_same (log_of after n) s tx e.event e.outcome p (may_meet tx e.event w k) r in
     (ap (with_entry e.stamp e.walker e.event e.outcome) g.0, alike (event_state (log_of after n) s e.event e.outcome) _ tx g.1 refl refl refl)

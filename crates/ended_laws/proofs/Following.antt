@@ -1,5 +1,5 @@
 -- What no session makes any more of a transaction, by the order of a walker's own entries.
-use Rattle.std.proofs.Common.{◌≡◌, ◌⊎◌, inl, inr, ⊎_elim, refl, sym, ap, subst, ◌∙◌, ℕ, ◌≤◌, ◌<◌, true, false, Bool, ◌||◌, ◌==◌, List, ◌∷◌, ◌++◌, Option, Some, None, eq-eqb, arith}
+use Rattle.std.proofs.Common.{◌≡◌, inl, ⊎_elim, refl, sym, ap, subst, ◌∙◌, ℕ, true, false, ◌||◌, List, ◌∷◌, ◌++◌, Some, eq-eqb, arith}
 use Rattle.std.proofs.lemmas.Bool.{both_ways, false_from_ne_true, or_cases}
 use Rattle.clv_base.specs.declared.names.TxId.{TxId}
 use Rattle.clv_base.specs.declared.logs.LogRecord.{LogRecord}
@@ -8,11 +8,10 @@ use Rattle.clv_base.specs.declared.events.Event.TheVariants.{Op, Request, Look, 
 use Rattle.clv_base.specs.declared.events.Outcome.{Outcome}
 use Rattle.clv_base.specs.declared.events.Outcome.TheVariants.{Asked, Dead, Acknowledged, Aborted, Dropped}
 use Rattle.clv_base.specs.declared.events.Entry.{Entry}
-use Rattle.clv_base.specs.Orders.{tx_same}
-use Rattle.clv_base.specs.Sessions.{no_session, is_session}
+use Rattle.clv_base.specs.Sessions.{no_session}
 use Rattle.clv_base.specs.Restarts.{run_after}
 use Rattle.clv_base.specs.Journals.{History, own}
-use Rattle.clv_base.specs.History.{Legal, IsAmong, is_acknowledgement, request_of}
+use Rattle.clv_base.specs.History.{Legal, is_acknowledgement, request_of}
 use Rattle.clv_base.proofs.SameNames.{tx_true}
 use Rattle.protocol_laws.specs.SessionLaws.{tx_of, works_on, ended_by}
 use Rattle.protocol_laws.proofs.InOrder.{sessions_keep_order}
@@ -154,7 +153,7 @@ only_drops_follow_the_end splits before pre n e post after t l (m, r, i, q) = fa
         let ir : Among (m, r) pre = is_among m r pre i in
         let ix : Among (n, e) h = among_right (n, e) pre ((n, e) ∷ post) (inl refl) in
         let k = own_turn splits before after pre post (m, r) (n, e) l ir
-            (same_walker splits before after h (m, r) (n, e) t t l (among_left (m, r) pre ((n, e) ∷ post) ir) ix (end_of t r.event r.outcome q) (names_of t e.event (asks_of t e.event w)) refl) in
+        (same_walker splits before after h (m, r) (n, e) t t l (among_left (m, r) pre ((n, e) ∷ post) ir) ix (end_of t r.event r.outcome q) (names_of t e.event (asks_of t e.event w)) refl) in
         both_ways _ (nothing_after_end splits (own e.walker h) (no_session (run_after before) e.walker) (m, r) (n, e) t (session_of splits before after h (n, e) l ix) k q) (sym (asks_by t e.event) ∙ w)
 
 pub nothing_follows_success : NothingFollowsSuccess
@@ -166,7 +165,7 @@ nothing_follows_success splits before pre n e post after t l (m, r, i, q) = fals
         let ir : Among (m, r) pre = is_among m r pre i in
         let ix : Among (n, e) h = among_right (n, e) pre ((n, e) ∷ post) (inl refl) in
         let k = own_turn splits before after pre post (m, r) (n, e) l ir
-            (same_walker splits before after h (m, r) (n, e) t t l (among_left (m, r) pre ((n, e) ∷ post) ir) ix (success_of t r.event r.outcome q) (names_of t e.event w) refl) in
+        (same_walker splits before after h (m, r) (n, e) t t l (among_left (m, r) pre ((n, e) ∷ post) ir) ix (success_of t r.event r.outcome q) (names_of t e.event w) refl) in
         both_ways _ (nothing_after_success splits (own e.walker h) (no_session (run_after before) e.walker) (m, r) (n, e) t (session_of splits before after h (n, e) l ix) k q) (sym (all_by t e.event) ∙ w)
 
 pub nothing_follows_a_later_one : NothingFollowsALaterOne

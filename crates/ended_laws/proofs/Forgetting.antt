@@ -1,36 +1,26 @@
 -- What is due comes to the same in a shard that forgets something, where what is due for each transaction does.
-use Rattle.std.proofs.Common.{◌≡◌, ◌⊎◌, inl, inr, ⊎_elim, refl, sym, ap, subst, ◌∙◌, ℕ, zero, suc, ◌≤◌, ◌<◌, true, false, cond, Bool, ◌||◌, List, [], ◌∷◌, Option, Some, None, is_some, arith}
-use Rattle.std.proofs.lemmas.Bool.{both_ways, cases_Bool, or_cases, and_parts, false_from_ne_true}
+use Rattle.std.proofs.Common.{◌≡◌, ⊎_elim, refl, sym, ap, subst, ◌∙◌, ℕ, zero, suc, ◌≤◌, true, false, cond, Bool, ◌||◌, List, [], ◌∷◌, Option, Some, None, is_some, arith}
+use Rattle.std.proofs.lemmas.Bool.{both_ways, or_cases, and_parts}
 use Rattle.std.specs.Map.{keys_of}
 use Rattle.std.specs.List.Sorted.{IsStrictlySortedBy}
 use Rattle.clv_base.specs.declared.names.TxId.{TxId}
-use Rattle.clv_base.specs.declared.causes.Vote.{Vote}
-use Rattle.clv_base.specs.declared.causes.Vote.TheVariants.{Yes, Read, No}
-use Rattle.clv_base.specs.declared.state.Stage.{Stage}
-use Rattle.clv_base.specs.declared.state.Stage.TheVariants.{Active, Closed, Gone}
 use Rattle.clv_base.specs.declared.state.Held.{Held}
 use Rattle.clv_base.specs.declared.state.Voter.{Voter}
 use Rattle.clv_base.specs.declared.state.Request.{Request}
-use Rattle.clv_base.specs.declared.state.Ruling.{Ruling}
-use Rattle.clv_base.specs.declared.state.Ruling.TheVariants.{Commit as CommitVerdict, Acknowledge, Abort as AbortVerdict, End as EndVerdict}
 use Rattle.clv_base.specs.declared.parts.PartFacts.{PartFacts}
-use Rattle.clv_base.specs.Orders.{Table, tx_cmp, tx_same, tx_in, tx_insert, tx_union, tx_get, tx_set}
-use Rattle.clv_base.specs.State.{Shard, with_local, is_present}
-use Rattle.clv_base.specs.Undo.{stage_of}
-use Rattle.clv_base.specs.Facts.{state_by, facts_of, is_closed_state, has_durable_commit}
-use Rattle.clv_base.specs.Participant.{vote_by}
-use Rattle.clv_base.specs.Coordinator.{ruling_by, ruled_request}
-use Rattle.clv_base.specs.Due.{send, or_else, finish_part, commit_messages, with_commit_done, commit_due, finish_reader, with_vote, give_vote, vote_due, do_ruling, with_ruling, rule, request_due, due_of, first_due, known_txs, next_due, do_due, with_due_done, work}
-use Rattle.clv_base.specs.Events.{finish}
+use Rattle.clv_base.specs.Orders.{Table, tx_same, tx_in, tx_insert, tx_union, tx_get}
+use Rattle.clv_base.specs.State.{Shard}
+use Rattle.clv_base.specs.Facts.{state_by, facts_of, is_closed_state}
+use Rattle.clv_base.specs.Due.{due_of, first_due, known_txs, next_due, with_due_done, work}
 use Rattle.clv_base.proofs.Settling.{each_leaves_less}
-use Rattle.clv_base.specs.OneShard.{purge}
 use Rattle.clv_base.proofs.SameNames.{or_left, or_right, tx_true, tx_flip, insert_keeps, insert_has}
 use Rattle.law_base.proofs.Sets.{Rise, union_right, union_rises}
-use Rattle.protocol_laws.specs.Candidates.{is_commit_due, is_vote_due, is_ruling_due, is_due, Cover}
+use Rattle.protocol_laws.specs.Candidates.{is_commit_due, is_vote_due, is_ruling_due, Cover}
 use Rattle.protocol_laws.proofs.Deciding.{due_by_facts}
 use Rattle.protocol_laws.proofs.Least.{least_is_next, others_cover, none_is_nothing, at_rest_none}
 use Rattle.protocol_laws.proofs.Going.{nothing_to_do, doing_goes_on}
 use Rattle.history_cases.proofs.Stepping.{Due, due_next, KeptByDue}
+
 -- who has something due is known to the shard
 union_left : (x : TxId) (xs ys : List TxId) → tx_in x xs ≡ true → tx_in x (tx_union xs ys) ≡ true
 union_left x [] ys i = absurd (both_ways false refl i)

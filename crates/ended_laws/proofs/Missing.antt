@@ -1,10 +1,10 @@
 -- Each event comes to the same without the row of a request that is over.
-use Rattle.std.proofs.Common.{◌≡◌, ◌⊎◌, inl, inr, ⊎_elim, refl, sym, ap, subst, ◌∙◌, ℕ, zero, suc, ◌+◌, true, false, cond, Bool, not, ◌||◌, ◌==◌, List, [], ◌∷◌, ◌++◌, Option, Some, None, length, eqb-true}
+use Rattle.std.proofs.Common.{◌≡◌, ◌⊎◌, inl, inr, refl, sym, ap, subst, ◌∙◌, ℕ, zero, suc, true, false, cond, Bool, not, ◌||◌, ◌==◌, List, [], ◌∷◌, ◌++◌, Option, Some, None}
 use Rattle.std.specs.Prelude.{drop}
-use Rattle.std.specs.List.{filter, list_any}
+use Rattle.std.specs.List.{filter}
 use Rattle.std.specs.Map.{keys_of}
 use Rattle.std.specs.List.Sorted.{IsStrictlySortedBy}
-use Rattle.std.proofs.lemmas.Bool.{both_ways, cases_Bool, false_from_ne_true}
+use Rattle.std.proofs.lemmas.Bool.{both_ways}
 use Rattle.clv_base.specs.declared.names.TxId.{TxId}
 use Rattle.clv_base.specs.declared.names.Birth.{Birth}
 use Rattle.clv_base.specs.declared.ops.Op.{Op}
@@ -23,18 +23,18 @@ use Rattle.clv_base.specs.declared.state.RequestState.{RequestState}
 use Rattle.clv_base.specs.declared.state.RequestState.TheVariants.{Undecided, Committed, Finished, Refused}
 use Rattle.clv_base.specs.declared.state.Taken.{Taken as DecisionTaken}
 use Rattle.clv_base.specs.declared.state.Taken.TheVariants.{Done as IsDone, Waiting as IsAwaited, Stale as IsStale}
-use Rattle.clv_base.specs.Orders.{Table, tx_cmp, tx_same, tx_in, tx_get, tx_put, tx_set}
+use Rattle.clv_base.specs.Orders.{tx_cmp, tx_same, tx_in, tx_get}
 use Rattle.clv_base.specs.Logs.{committed_in, fitting}
 use Rattle.clv_base.specs.State.{Shard, with_local}
 use Rattle.clv_base.specs.Undo.{stage_of}
 use Rattle.clv_base.specs.Facts.{facts_of, has_durable_commit}
 use Rattle.clv_base.specs.Participant.{taken_by, asks}
-use Rattle.clv_base.specs.Coordinator.{others, new_request, takes_vote, with_vote_of, takes_done, with_done_of, ask_answer, doom_cause, prepares, missing_votes, missing_dones, each_request, home_reminders}
-use Rattle.clv_base.specs.OneShard.{OpReply, OpWaits, OpCrowded, OpDies, OpAnswers, op_reply, seen_fits, close_part, drop_part}
+use Rattle.clv_base.specs.Coordinator.{others, takes_vote, with_vote_of, takes_done, with_done_of, ask_answer, doom_cause, prepares, missing_votes, missing_dones, each_request, home_reminders}
+use Rattle.clv_base.specs.OneShard.{OpReply, OpWaits, OpCrowded, OpDies, OpAnswers, op_reply, seen_fits, close_part}
 use Rattle.clv_base.specs.Due.{send}
-use Rattle.clv_base.specs.Events.{Reply, QuietBeforeWorn, QuietAfterWorn, Does, finish, op_event, is_alone, epoch_in, coordinate, request_by_stage, request_event, request_epoch, look_lost, look_state, look_known, look_event, drop_event, owe_vote, on_prepare, with_votes, on_vote, decided, on_decide, with_done, on_done, ask_messages, on_ask, on_message, to_of, with_outbox, send_event, durable_requests, waiting_voters, remind_with, reminders, taken, with_flight, out_event, put_down, happen_up, happen}
-use Rattle.clv_base.proofs.SameNames.{tx_true, tx_self}
-use Rattle.history_cases.proofs.Stepping.{Step, op_dies, op_answers, request_refused, request_doomed, request_again, request_new, request_closes, looks_well, looks_ill, drops, sends, prepare_closes, prepare_again, vote_counts, decision_comes, decision_again, done_counts, asked, reminds, flushes, FindsWell, FindsIll}
+use Rattle.clv_base.specs.Events.{QuietBeforeWorn, Does, finish, op_event, is_alone, epoch_in, coordinate, request_by_stage, request_event, request_epoch, look_lost, look_state, look_known, drop_event, owe_vote, on_prepare, with_votes, on_vote, on_decide, with_done, on_done, ask_messages, on_ask, on_message, to_of, send_event, durable_requests, waiting_voters, remind_with, reminders, taken, out_event, happen_up}
+use Rattle.clv_base.proofs.SameNames.{tx_true}
+use Rattle.history_cases.proofs.Stepping.{Step, op_dies, op_answers, request_new, request_closes, drops, sends, prepare_closes, prepare_again, vote_counts, decision_comes, decision_again, done_counts, asked, reminds, flushes}
 use Rattle.ended_laws.specs.Requests.{without, forgets, forgetful, IsOver, is_by_log, MayCome, NobodyMissesIt}
 use Rattle.ended_laws.proofs.Reading.{no_vote, no_done, same_answer, same_look, no_prepare, no_decide}
 use Rattle.ended_laws.proofs.Rows.{get_own, get_without, set_without, put_without, OwnRowsAre, own_rows, each_without, keys_without}

@@ -1,12 +1,11 @@
 -- What transactions work on, and what is due, without the rows of a part that is past.
-use Rattle.std.proofs.Common.{◌≡◌, ◌⊎◌, inl, inr, ⊎_elim, refl, sym, ap, subst, ◌∙◌, ℕ, true, false, cond, Bool, not, ◌&&◌, ◌||◌, ◌==◌, nat_lt, List, [], ◌∷◌, ◌++◌, map, length, Option, Some, None, is_none, unwrap_or}
+use Rattle.std.proofs.Common.{◌≡◌, refl, sym, ap, subst, ◌∙◌, ℕ, true, false, cond, Bool, not, ◌&&◌, nat_lt, List, [], ◌∷◌, map, length, Option, Some, None, is_none, unwrap_or}
 use Rattle.std.specs.Map.{keys_of}
-use Rattle.std.specs.List.{filter}
-use Rattle.std.proofs.lemmas.Bool.{both_ways, false_from_ne_true, cond-true, cond-false}
+use Rattle.std.proofs.lemmas.Bool.{both_ways}
 use Rattle.clv_base.specs.declared.names.TxId.{TxId}
 use Rattle.clv_base.specs.declared.names.Birth.{Birth}
 use Rattle.clv_base.specs.declared.ops.Op.{Op}
-use Rattle.clv_base.specs.declared.causes.AbortCause.TheVariants.{Asked, Died, Restarted}
+use Rattle.clv_base.specs.declared.causes.AbortCause.TheVariants.{Died, Restarted}
 use Rattle.clv_base.specs.declared.causes.Vote.{Vote}
 use Rattle.clv_base.specs.declared.causes.Vote.TheVariants.{Yes, Read, No}
 use Rattle.clv_base.specs.declared.messages.Message.TheVariants.{Vote as VoteMessage, Decide}
@@ -20,16 +19,16 @@ use Rattle.clv_base.specs.declared.state.Voter.{Voter}
 use Rattle.clv_base.specs.declared.state.Request.{Request}
 use Rattle.clv_base.specs.declared.state.Ruling.{Ruling}
 use Rattle.clv_base.specs.declared.state.Ruling.TheVariants.{Commit as CommitVerdict, Acknowledge, Abort as AbortVerdict, End as EndVerdict}
-use Rattle.clv_base.specs.Orders.{Table, tx_same, tx_in, tx_get, tx_set}
-use Rattle.clv_base.specs.Logs.{wrote_in, committed_in, commit_lsn, prepare_lsn}
-use Rattle.clv_base.specs.Locks.{decide, violated}
+use Rattle.clv_base.specs.Orders.{Table, tx_same, tx_in, tx_get}
+use Rattle.clv_base.specs.Logs.{wrote_in, commit_lsn, prepare_lsn}
+use Rattle.clv_base.specs.Locks.{decide}
 use Rattle.clv_base.specs.State.{Local, Shard, with_local, is_present}
-use Rattle.clv_base.specs.Undo.{stage_of, doomed_by, doomed_here, release_parts, undo, gone_part, gone_in, take_away, roll_back}
-use Rattle.clv_base.specs.Facts.{state_by, doom_by, is_restored_by, undecided_of, due_lsn_of, facts_in, facts_of, has_durable_commit, is_waiting, is_closed_state}
-use Rattle.clv_base.specs.Participant.{vote_by, voted, taken_by}
-use Rattle.clv_base.specs.Coordinator.{ruling_by, ruled_request, doom_cause}
+use Rattle.clv_base.specs.Undo.{stage_of, doomed_by, doomed_here, release_parts, undo, gone_part, take_away, roll_back}
+use Rattle.clv_base.specs.Facts.{state_by, doom_by, is_restored_by, undecided_of, due_lsn_of, facts_of, has_durable_commit, is_waiting, is_closed_state}
+use Rattle.clv_base.specs.Participant.{vote_by, voted}
+use Rattle.clv_base.specs.Coordinator.{ruling_by}
 use Rattle.clv_base.specs.Needs.{needs_of, writes_of, value_at, key_of, answer_of}
-use Rattle.clv_base.specs.OneShard.{OpReply, OpWaits, OpCrowded, OpDies, OpAnswers, written, locked, performed, active_part, new_part, undecided_after, rolled_back_if, without_part, op_granted, op_decided, op_active, op_by_stage, op_seen, op_reply, seen_fits, closed_part, closed_in, close_part, dropped_part, marked_in, mark_dropped, drop_part, purge}
+use Rattle.clv_base.specs.OneShard.{OpReply, OpWaits, OpCrowded, OpDies, OpAnswers, written, locked, performed, active_part, new_part, undecided_after, rolled_back_if, without_part, op_granted, op_decided, op_by_stage, op_seen, op_reply, seen_fits, closed_part, close_part, dropped_part, mark_dropped, drop_part, purge}
 use Rattle.clv_base.specs.Due.{send, or_else, finish_part, commit_messages, with_commit_done, commit_due, finish_reader, with_vote, give_vote, vote_due, do_ruling, with_ruling, rule, request_due, due_of}
 use Rattle.clv_base.specs.Events.{finish}
 use Rattle.clv_base.proofs.SameNames.{tx_true}
@@ -37,7 +36,7 @@ use Rattle.law_base.proofs.Sets.{Rise, filter_alike}
 use Rattle.ended_laws.specs.Requests.{without}
 use Rattle.ended_laws.specs.Parts.{forgets_in, forgets_part, owes_none, IsPast}
 use Rattle.ended_laws.proofs.Reading.{not_closed}
-use Rattle.ended_laws.proofs.Rows.{get_own, get_without, set_without, put_without, without_rises}
+use Rattle.ended_laws.proofs.Rows.{get_own, get_without, set_without, put_without}
 use Rattle.ended_laws.proofs.Forgetting.{Forgets, if_any, done_same}
 use Rattle.ended_laws.proofs.Past.{none_owed, due_past}
 

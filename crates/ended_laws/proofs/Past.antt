@@ -1,7 +1,7 @@
 -- A part that is past stays so, by all that is due and by each event that is not its own.
-use Rattle.std.proofs.Common.{◌≡◌, ◌⊎◌, inl, inr, ⊎_elim, refl, sym, ap, subst, ◌∙◌, ℕ, true, false, cond, Bool, ◌==◌, List, [], ◌∷◌, ◌++◌, Option, Some, None}
+use Rattle.std.proofs.Common.{◌≡◌, inl, refl, sym, ap, subst, ◌∙◌, ℕ, true, false, Bool, [], ◌∷◌, Option, Some, None}
 use Rattle.std.specs.Map.{keys_of}
-use Rattle.std.proofs.lemmas.Bool.{both_ways, cases_Bool, cond-false, false_from_ne_true}
+use Rattle.std.proofs.lemmas.Bool.{both_ways, cond-false, false_from_ne_true}
 use Rattle.clv_base.specs.declared.names.TxId.{TxId}
 use Rattle.clv_base.specs.declared.names.Birth.{Birth}
 use Rattle.clv_base.specs.declared.ops.Op.{Op}
@@ -10,34 +10,33 @@ use Rattle.clv_base.specs.declared.causes.Vote.TheVariants.{Yes, Read, No}
 use Rattle.clv_base.specs.declared.events.Event.{Event}
 use Rattle.clv_base.specs.declared.events.Outcome.{Outcome}
 use Rattle.clv_base.specs.declared.parts.PartFacts.{PartFacts}
-use Rattle.clv_base.specs.declared.state.Stage.{Stage}
-use Rattle.clv_base.specs.declared.state.Stage.TheVariants.{Active, Closed, Gone}
+use Rattle.clv_base.specs.declared.state.Stage.TheVariants.{Active}
 use Rattle.clv_base.specs.declared.state.Held.{Held}
 use Rattle.clv_base.specs.declared.state.Voter.{Voter}
 use Rattle.clv_base.specs.declared.state.Request.{Request}
 use Rattle.clv_base.specs.declared.state.Ruling.{Ruling}
 use Rattle.clv_base.specs.declared.state.Ruling.TheVariants.{Commit as CommitVerdict, Acknowledge, Abort as AbortVerdict, End as EndVerdict}
-use Rattle.clv_base.specs.Orders.{Table, tx_same, tx_in, tx_get, tx_put, tx_set}
-use Rattle.clv_base.specs.State.{Local, Shard, with_local, is_present}
+use Rattle.clv_base.specs.Orders.{Table, tx_same, tx_get, tx_put}
+use Rattle.clv_base.specs.State.{Local, Shard, is_present}
 use Rattle.clv_base.specs.Undo.{stage_of, roll_back}
 use Rattle.clv_base.specs.Facts.{facts_of}
-use Rattle.clv_base.specs.Participant.{vote_by, vote_owed, voted, asked_voter}
+use Rattle.clv_base.specs.Participant.{vote_by, vote_owed, voted}
 use Rattle.clv_base.specs.Coordinator.{ruled_request}
 use Rattle.clv_base.specs.Needs.{writes_of, value_at, key_of}
-use Rattle.clv_base.specs.OneShard.{OpReply, OpAnswers, OpDies, locked, performed, active_part, new_part, rolled_back_if, without_part, close_part, drop_part, purge}
+use Rattle.clv_base.specs.OneShard.{OpReply, OpAnswers, OpDies, locked, performed, active_part, new_part, rolled_back_if, without_part, drop_part, purge}
 use Rattle.clv_base.specs.Due.{finish_reader, with_vote, do_ruling, with_ruling, with_due_done}
-use Rattle.clv_base.specs.Events.{Does, finish, happen}
+use Rattle.clv_base.specs.Events.{finish}
 use Rattle.clv_base.proofs.SameNames.{tx_true}
 use Rattle.law_base.proofs.Sets.{Rise}
 use Rattle.law_base.proofs.Stages.{written_parts}
 use Rattle.law_base.proofs.Tables.{get_put}
 use Rattle.protocol_laws.proofs.Dependents.{keys_stay}
 use Rattle.protocol_laws.proofs.Touching.{set_other}
-use Rattle.history_cases.proofs.Stepping.{Due, nothing, commits, votes, rules, KeptByDue, settled, Step, op_dies, op_answers, request_refused, request_doomed, request_again, request_new, request_closes, looks_well, looks_ill, drops, sends, prepare_closes, prepare_again, vote_counts, decision_comes, decision_again, done_counts, asked, reminds, flushes, Happens, finishes, stops, happened}
+use Rattle.history_cases.proofs.Stepping.{commits, votes, rules, KeptByDue, settled, Step, op_dies, op_answers, request_new, request_closes, drops, prepare_closes, prepare_again, vote_counts, decision_comes, done_counts, Happens, finishes, stops, happened}
 use Rattle.history_laws.proofs.Replying.{OpIs, dies, rolls, performs, reply_is}
 use Rattle.ended_laws.specs.Parts.{owes_none, IsPast, MayMeet, PastStaysPast}
 use Rattle.ended_laws.proofs.Rows.{put_rises, set_rises}
-use Rattle.ended_laws.proofs.Staying.{Leaves, leaves_same, leaves_append, leaves_finished, leaves_rolled, leaves_dropped, leaves_closed, leaves_performed, leaves_reply, absent_after}
+use Rattle.ended_laws.proofs.Staying.{Leaves, leaves_same, leaves_append, leaves_finished, leaves_rolled, leaves_dropped, leaves_closed, leaves_reply, absent_after}
 
 -- ---- parts rise
 

@@ -1,26 +1,22 @@
 -- What events read of a request that is over: the same as where there is none.
-use Rattle.std.proofs.Common.{◌≡◌, ◌⊎◌, inl, inr, ⊎_elim, refl, sym, ap, subst, ◌∙◌, ℕ, suc, true, false, cond, Bool, not, ◌&&◌, ◌||◌, ◌==◌, List, [], ◌∷◌, map, Option, Some, None, is_some, is_none, eqb-true}
-use Rattle.std.specs.List.{filter, list_all, list_any}
+use Rattle.std.proofs.Common.{◌≡◌, ◌⊎◌, inl, inr, ⊎_elim, refl, sym, ap, ◌∙◌, ℕ, suc, true, false, cond, Bool, not, ◌&&◌, ◌||◌, ◌==◌, List, [], ◌∷◌, map, Option, Some, None, is_some, is_none, eqb-true}
+use Rattle.std.specs.List.{filter, list_all}
 use Rattle.std.proofs.lemmas.Bool.{both_ways, and_parts, or_cases}
 use Rattle.clv_base.specs.declared.names.TxId.{TxId}
-use Rattle.clv_base.specs.declared.causes.AbortCause.{AbortCause}
-use Rattle.clv_base.specs.declared.causes.Vote.{Vote}
 use Rattle.clv_base.specs.declared.logs.LogRecord.{LogRecord}
 use Rattle.clv_base.specs.declared.messages.Message.TheVariants.{Decide}
 use Rattle.clv_base.specs.declared.events.Outcome.TheVariants.{NotYet}
 use Rattle.clv_base.specs.Orders.{nat_in}
-use Rattle.clv_base.specs.Logs.{is_commit_of, committed_in, commit_lsn, place_from, is_below}
+use Rattle.clv_base.specs.Logs.{is_commit_of, committed_in, place_from}
 use Rattle.clv_base.specs.declared.state.Stage.{Stage}
 use Rattle.clv_base.specs.declared.state.Stage.TheVariants.{Active, Closed, Gone}
 use Rattle.clv_base.specs.declared.state.Request.{Request}
 use Rattle.clv_base.specs.declared.state.RequestState.{RequestState}
 use Rattle.clv_base.specs.declared.state.RequestState.TheVariants.{Undecided, Committed, Finished, Refused}
-use Rattle.clv_base.specs.declared.state.Ruling.{Ruling}
 use Rattle.clv_base.specs.State.{Shard, is_present}
 use Rattle.clv_base.specs.Undo.{stage_of}
 use Rattle.clv_base.specs.Facts.{facts_of, state_by, doom_by, is_closed_state, has_durable_commit}
-use Rattle.clv_base.specs.declared.parts.PartFacts.{PartFacts}
-use Rattle.clv_base.specs.Coordinator.{others, vote_from, counts_vote, takes_vote, counts_done, takes_done, first_no, cause_by, refused_ruling, undecided_ruling, end_ruling, ruling_in, ruling_by, is_good, stands_open, ask_answer, prepare_for, missing_votes, missing_dones}
+use Rattle.clv_base.specs.Coordinator.{others, vote_from, counts_vote, takes_vote, counts_done, takes_done, first_no, cause_by, refused_ruling, undecided_ruling, ruling_in, ruling_by, is_good, stands_open, ask_answer, prepare_for, missing_votes, missing_dones}
 use Rattle.clv_base.specs.Events.{QuietBeforeWorn, look_lost, look_state, look_known, request_epoch}
 use Rattle.ended_laws.specs.Requests.{IsDone, IsOver, is_by_log}
 

@@ -1,19 +1,19 @@
 -- Tables without one transaction's row.
-use Rattle.std.proofs.Common.{◌≡◌, ⊎_elim, refl, sym, ap, subst, ◌∙◌, ℕ, true, false, cond, Bool, not, ◌||◌, List, [], ◌∷◌, ◌++◌, map, Option, Some, None, append_assoc}
+use Rattle.std.proofs.Common.{◌≡◌, refl, sym, ap, subst, ◌∙◌, true, false, cond, Bool, not, List, [], ◌∷◌, ◌++◌, Some, None}
 use Rattle.std.specs.List.{filter, AllByRecursion}
 use Rattle.std.specs.List.Sorted.{IsStrictlySortedBy}
 use Rattle.std.specs.Map.{keys_of}
 use Rattle.std.specs.declared.cmp.Ordering.{Ordering}
 use Rattle.std.specs.declared.cmp.Ordering.TheVariants.{Less, Equal, Greater}
-use Rattle.std.specs.Ordering.{match_ordering, is_eq}
+use Rattle.std.specs.Ordering.{match_ordering}
 use Rattle.std.proofs.lemmas.Bool.{both_ways, cond-true, cond-false, false_from_ne_true}
 use Rattle.clv_base.specs.declared.names.TxId.{TxId}
 use Rattle.clv_base.specs.declared.messages.Message.{Message}
 use Rattle.clv_base.specs.declared.state.Request.{Request}
-use Rattle.clv_base.specs.Orders.{Table, tx_cmp, tx_same, tx_in, tx_insert, tx_get, tx_put, tx_set}
+use Rattle.clv_base.specs.Orders.{Table, tx_cmp, tx_same, tx_insert, tx_get, tx_put, tx_set}
 use Rattle.clv_base.specs.Coordinator.{each_request}
-use Rattle.clv_base.proofs.SameNames.{tx_true, tx_self, tx_eq, tx_flip, cmp_equal}
-use Rattle.law_base.proofs.Sets.{Rise, filter_rises, insert_rises, tx_total, above_more, AllAbove}
+use Rattle.clv_base.proofs.SameNames.{tx_true, tx_eq, tx_flip, cmp_equal}
+use Rattle.law_base.proofs.Sets.{Rise, filter_rises, insert_rises, above_more, AllAbove}
 use Rattle.law_base.proofs.Names.{not_less}
 use Rattle.protocol_laws.proofs.Keys.{set_keys}
 use Rattle.ended_laws.specs.Requests.{without}

@@ -1,5 +1,5 @@
 -- A request that is over stays over, by all that is due and by each event that may still come.
-use Rattle.std.proofs.Common.{◌≡◌, ◌⊎◌, inl, inr, ⊎_elim, refl, sym, ap, subst, ◌∙◌, ℕ, true, false, cond, Bool, not, ◌||◌, ◌==◌, List, [], ◌∷◌, ◌++◌, Option, Some, None}
+use Rattle.std.proofs.Common.{◌≡◌, ◌⊎◌, inl, inr, ⊎_elim, refl, sym, ap, subst, ◌∙◌, ℕ, true, false, Bool, List, [], ◌∷◌, ◌++◌, Option, Some, None}
 use Rattle.std.proofs.lemmas.Bool.{both_ways, cases_Bool, cond-false, false_from_ne_true}
 use Rattle.std.proofs.lemmas.List.Folds.{list_any-append}
 use Rattle.std.specs.Map.{keys_of}
@@ -12,29 +12,29 @@ use Rattle.clv_base.specs.declared.logs.LogRecord.{LogRecord}
 use Rattle.clv_base.specs.declared.events.Event.{Event}
 use Rattle.clv_base.specs.declared.events.Outcome.{Outcome}
 use Rattle.clv_base.specs.declared.state.Stage.{Stage}
-use Rattle.clv_base.specs.declared.state.Stage.TheVariants.{Active, Closed, Gone}
+use Rattle.clv_base.specs.declared.state.Stage.TheVariants.{Active, Gone}
 use Rattle.clv_base.specs.declared.state.Voter.{Voter}
 use Rattle.clv_base.specs.declared.state.Request.{Request}
 use Rattle.clv_base.specs.declared.state.RequestState.{RequestState}
 use Rattle.clv_base.specs.declared.state.RequestState.TheVariants.{Undecided, Committed, Finished, Refused}
 use Rattle.clv_base.specs.declared.state.Ruling.{Ruling}
 use Rattle.clv_base.specs.declared.state.Ruling.TheVariants.{Commit as CommitVerdict, Acknowledge, Abort as AbortVerdict, End as EndVerdict}
-use Rattle.clv_base.specs.Orders.{tx_same, tx_in, tx_get, tx_put, tx_set}
+use Rattle.clv_base.specs.Orders.{tx_same, tx_in, tx_get, tx_put}
 use Rattle.clv_base.specs.Logs.{is_commit_of, committed_in, wrote_in, standing}
-use Rattle.clv_base.specs.State.{Local, Shard, with_local, is_present}
-use Rattle.clv_base.specs.Undo.{stage_of, doomed_by, doomed_here, aborts_of, clrs_of, release_parts, undo, roll_back}
+use Rattle.clv_base.specs.State.{Local, Shard, is_present}
+use Rattle.clv_base.specs.Undo.{stage_of, doomed_by, doomed_here, aborts_of, clrs_of, release_parts, roll_back}
 use Rattle.clv_base.specs.Facts.{facts_of, doom_by, undecided_of}
 use Rattle.clv_base.specs.Coordinator.{others, takes_vote, takes_done, ruling_by, ruled_request}
-use Rattle.clv_base.specs.OneShard.{OpReply, OpAnswers, OpDies, written, locked, performed, new_part, rolled_back_if, without_part, closing, close_part, mark_dropped, drop_part, purge}
+use Rattle.clv_base.specs.OneShard.{OpReply, OpAnswers, OpDies, written, locked, performed, rolled_back_if, without_part, closing, close_part, drop_part, purge}
 use Rattle.clv_base.specs.Needs.{writes_of, value_at, key_of}
 use Rattle.clv_base.specs.Due.{finish_reader, with_vote, do_ruling, with_ruling, with_due_done}
-use Rattle.clv_base.specs.Events.{Does, finish, coordinate, happen}
-use Rattle.clv_base.proofs.SameNames.{or_left, tx_true, tx_eq, tx_self, tx_flip}
+use Rattle.clv_base.specs.Events.{finish}
+use Rattle.clv_base.proofs.SameNames.{or_left, tx_true}
 use Rattle.law_base.proofs.Sets.{Rise, in_filter}
 use Rattle.law_base.proofs.Stages.{gone_by, stage_own, stage_other, stage_marked, closed_other, other_part}
 use Rattle.law_base.proofs.Tables.{stage_by, get_put}
 use Rattle.protocol_laws.proofs.Touching.{set_other}
-use Rattle.history_cases.proofs.Stepping.{Due, nothing, commits, votes, rules, KeptByDue, settled, Step, op_dies, op_answers, request_refused, request_doomed, request_again, request_new, request_closes, looks_well, looks_ill, drops, sends, prepare_closes, prepare_again, vote_counts, decision_comes, decision_again, done_counts, asked, reminds, flushes, Happens, finishes, stops, happened}
+use Rattle.history_cases.proofs.Stepping.{commits, votes, rules, KeptByDue, settled, Step, op_dies, op_answers, request_new, request_closes, drops, prepare_closes, vote_counts, decision_comes, done_counts, Happens, finishes, stops, happened}
 use Rattle.history_laws.proofs.Replying.{OpIs, dies, rolls, performs, reply_is}
 use Rattle.ended_laws.specs.Requests.{IsDone, IsOver, MayCome, OverStaysOver}
 use Rattle.ended_laws.proofs.Reading.{no_vote, no_done, no_ruling}

@@ -1,5 +1,5 @@
 -- A part that is gone, and the shard without its row and without its vote.
-use Rattle.std.specs.Prelude.{◌≡◌, ⊤, ℕ, Bool, true, false, ◌==◌, Option, Some, None}
+use Rattle.std.specs.Prelude.{◌≡◌, ⊤, Bool, true, false, ◌==◌, Option, Some, None}
 use Rattle.std.specs.List.Sorted.{IsStrictlySortedBy}
 use Rattle.std.specs.Map.{keys_of}
 use Rattle.clv_base.specs.declared.names.TxId.{TxId}
