@@ -11,3 +11,4 @@ pub mod Partless
 pub mod Meeting
 pub mod Beside
 pub mod Alone
+pub mod Worked

@@ -2,3 +2,4 @@ pub mod Requests
 pub mod Parts
 pub mod Sessions
 pub mod Histories
+pub mod Examples
