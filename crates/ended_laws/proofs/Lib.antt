@@ -12,3 +12,4 @@ pub mod Meeting
 pub mod Beside
 pub mod Alone
 pub mod Worked
+pub mod Losing

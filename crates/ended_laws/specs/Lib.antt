@@ -3,3 +3,4 @@ pub mod Parts
 pub mod Sessions
 pub mod Histories
 pub mod Examples
+pub mod Epochs

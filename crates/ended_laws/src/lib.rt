@@ -5,6 +5,7 @@
 //! `clv_base`, on the laws of single events (`protocol_laws`, `history_cases`), and on what sessions do in `history_laws`.
 #![tactic(auto)]
 
+pub mod epochs;
 pub mod examples;
 pub mod histories;
 pub mod parts;
