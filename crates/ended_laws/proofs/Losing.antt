@@ -1,6 +1,5 @@
 -- Epochs of requests that a restart lost.
-use Rattle.std.proofs.Common.{◌≡◌, ◌⊎◌, inl, inr, ⊎_elim, refl, sym, ap, subst, ◌∙◌, ℕ, true, false, cond, Bool, ◌==◌, List, [], ◌∷◌, ◌++◌, Option, Some, None, eqb-true, eq-eqb}
-use Rattle.std.proofs.lemmas.Bool.{both_ways}
+use Rattle.std.proofs.Common.{◌≡◌, refl, sym, ap, ◌∙◌, ℕ, true, false, cond, Bool, ◌==◌, List, [], ◌∷◌, ◌++◌, Option, Some, None}
 use Rattle.clv_base.specs.declared.names.TxId.{TxId}
 use Rattle.clv_base.specs.declared.names.Birth.{Birth}
 use Rattle.clv_base.specs.declared.ops.Op.{Op}
@@ -9,7 +8,6 @@ use Rattle.clv_base.specs.declared.causes.Vote.TheVariants.{Yes, Read, No}
 use Rattle.clv_base.specs.declared.causes.AbortCause.TheVariants.{Restarted as RestartedCause}
 use Rattle.clv_base.specs.declared.events.Entry.{Entry}
 use Rattle.clv_base.specs.declared.events.Event.{Event}
-use Rattle.clv_base.specs.declared.events.Event.TheVariants.{Request as RequestEvent}
 use Rattle.clv_base.specs.declared.events.Outcome.{Outcome}
 use Rattle.clv_base.specs.declared.events.Outcome.TheVariants.{Aborted, NotYet}
 use Rattle.clv_base.specs.declared.state.Voter.{Voter}
@@ -20,12 +18,12 @@ use Rattle.clv_base.specs.Orders.{tx_same}
 use Rattle.clv_base.specs.State.{Local, Shard, is_present}
 use Rattle.clv_base.specs.Undo.{stage_of}
 use Rattle.clv_base.specs.Needs.{writes_of, value_at, key_of}
-use Rattle.clv_base.specs.OneShard.{OpReply, OpAnswers, OpDies, seen_fits, written, locked, performed, rolled_back_if, without_part, drop_part}
-use Rattle.clv_base.specs.Due.{finish_reader, with_vote, do_ruling, with_ruling, with_due_done}
-use Rattle.clv_base.specs.Events.{QuietBeforeWorn, Does, finish, happen, look_lost, is_asked_outcome, epoch_in, entry_request, request_epoch, with_entry}
-use Rattle.history_cases.proofs.Stepping.{Due, nothing, commits, votes, rules, KeptByDue, settled, Step, op_dies, op_answers, request_refused, request_doomed, request_again, request_new, request_closes, looks_well, looks_ill, drops, sends, prepare_closes, prepare_again, vote_counts, decision_comes, decision_again, done_counts, asked, reminds, flushes, Happens, finishes, stops, happened}
+use Rattle.clv_base.specs.OneShard.{OpReply, OpAnswers, OpDies, seen_fits, written, locked, rolled_back_if, drop_part}
+use Rattle.clv_base.specs.Due.{finish_reader, with_vote, do_ruling, with_ruling}
+use Rattle.clv_base.specs.Events.{QuietBeforeWorn, Does, finish, look_lost, is_asked_outcome, epoch_in, entry_request, request_epoch}
+use Rattle.history_cases.proofs.Stepping.{commits, votes, rules, KeptByDue, settled, Step, op_dies, op_answers, request_again, request_new, request_closes, drops, decision_comes, Happens, finishes, stops, happened}
 use Rattle.history_laws.proofs.Replying.{OpIs, dies, rolls, performs, reply_is}
-use Rattle.ended_laws.specs.Epochs.{lost_by, lost_epoch, LooksReadLostEpochs, OnlyRestartsLoseEpochs}
+use Rattle.ended_laws.specs.Epochs.{lost_by, LooksReadLostEpochs, OnlyRestartsLoseEpochs}
 
 pub looks_read_lost_epochs : LooksReadLostEpochs
 looks_read_lost_epochs s tx = at (request_epoch s.shard tx s.journal)

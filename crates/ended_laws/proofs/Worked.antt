@@ -1,5 +1,5 @@
 -- The worked examples, by computation.
-use Rattle.std.proofs.Common.{◌≡◌, refl}
+use Rattle.std.proofs.Common.{refl}
 use Rattle.std.specs.List.Sorted.{IsStrictlySortedBy}
 use Rattle.ended_laws.specs.Examples.{OneShardIsOver, AnEndedCommitIsOver, ALookTells, ALatePrepareTells}
 
