@@ -20,7 +20,7 @@ use Rattle.history_laws.specs.Outcomes.{is_abort}
 use Rattle.history_laws.proofs.Staying.{session_of, walker_of, together}
 use Rattle.history_laws.proofs.Walkers.{nothing_follows, serials_follow}
 use Rattle.history_laws.proofs.Endings.{names as names_by, nothing_after_end, nothing_after_success}
-use Rattle.ended_laws.specs.Sessions.{works_for, asks_for, names, NoWorkFollowsARequest, OnlyDropsFollowTheEnd, NothingFollowsSuccess, NothingFollowsALaterOne}
+use Rattle.ended_laws.specs.Sessions.{dies, works_for, asks_for, names, TheDeadAskNothing, NoWorkFollowsARequest, OnlyDropsFollowTheEnd, NothingFollowsSuccess, NothingFollowsALaterOne}
 
 -- an earlier entry of the same walker stands before it among the walker's own
 pub own_turn : (splits : List ℕ) (before after : List (List LogRecord)) (pre post : History) (r x : Placed) → Legal splits before (pre ++ x ∷ post) after → Among r pre → (r.1).walker ≡ (x.1).walker
@@ -179,3 +179,30 @@ nothing_follows_a_later_one splits before pre n e post after t l (m, r, u, i, f,
         let k = own_turn splits before after pre post (m, r) (n, e) l ir (same_walker splits before after h (m, r) (n, e) u t l (among_left (m, r) pre ((n, e) ∷ post) ir) ix f (names_of t e.event w) s) in
         let c = serials_follow (run_after before) e.walker 0 (own e.walker h) (m, r) (n, e) u t (sessions_keep_order splits (run_after before) e.walker (own e.walker h) (session_of splits before after h (n, e) l ix)).0 k f (names_of t e.event w) in
         omega (arith, c, g)
+
+-- ---- who died
+
+dead_of : (t : TxId) (e : Event) (o : Outcome) → dies t e o ≡ true → (tx_of e ≡ Some t) × (ended_by e o ≡ Some t.serial) × (works_on t.serial e ≡ true)
+dead_of t (Op tx birth nth seen op) (Dead cause) h =
+    let q = sym (tx_true t tx h) in (ap Some q, ap (λ z. Some z.serial) q, eq-eqb tx.serial t.serial (ap (λ z. z.serial) q))
+dead_of t (Request tx ts) (Dead cause) h =
+    let q = sym (tx_true t tx h) in (ap Some q, ap (λ z. Some z.serial) q, eq-eqb tx.serial t.serial (ap (λ z. z.serial) q))
+dead_of t _ _ h = absurd (both_ways false refl h)
+
+-- one entry doesn't do both
+not_both : (t : TxId) (e : Event) (o : Outcome) → dies t e o ≡ true → request_of e o ≡ Some t → ⊥
+not_both t (Op tx birth nth seen op) (Dead cause) h q = absurd cc
+not_both t (Request tx ts) (Dead cause) h q = absurd cc
+not_both t _ _ h q = absurd (both_ways false refl h)
+
+pub the_dead_ask_nothing : TheDeadAskNothing
+the_dead_ask_nothing splits before h after t l (m, r, i, d) (k, q, j, f) =
+    let a = dead_of t r.event r.outcome d in
+    let b = asked_of t q.event q.outcome f in
+    let p = together splits before after h (m, r) (k, q) t l (is_among m r h i) (is_among k q h j) a.0 b.0 in
+    let s = (sessions_keep_order splits (run_after before) r.walker (own r.walker h) p.session).2 in
+    ⊎_elim (λ z. not_both t r.event r.outcome d (ap (λ y. request_of (y.1).event (y.1).outcome) z ∙ f))
+    (λ z. ⊎_elim
+    (λ c. absurd (both_ways _ (nothing_follows (own r.walker h) (m, r) (k, q) t.serial s c a.1) (asks_on t q.event q.outcome f)))
+    (λ c. absurd (both_ways _ (nothing_follows (own r.walker h) (k, q) (m, r) t.serial s c b.1) a.2)) z)
+    (in_turn (m, r) (k, q) (own r.walker h) p.first p.second)

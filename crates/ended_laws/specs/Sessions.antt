@@ -4,6 +4,8 @@ use Rattle.clv_base.specs.declared.names.TxId.{TxId}
 use Rattle.clv_base.specs.declared.logs.LogRecord.{LogRecord}
 use Rattle.clv_base.specs.declared.events.Event.{Event}
 use Rattle.clv_base.specs.declared.events.Event.TheVariants.{Op, Request, Look, Drop}
+use Rattle.clv_base.specs.declared.events.Outcome.{Outcome}
+use Rattle.clv_base.specs.declared.events.Outcome.TheVariants.{Dead}
 use Rattle.clv_base.specs.declared.events.Entry.{Entry}
 use Rattle.clv_base.specs.Orders.{tx_same}
 use Rattle.clv_base.specs.Journals.{History}
@@ -64,3 +66,16 @@ NothingFollowsSuccess = Behind WasAcknowledged names
 -- nor behind a later one of its session
 abbrev pub NothingFollowsALaterOne : Type 0
 NothingFollowsALaterOne = Behind WasFollowed names
+
+-- an operation or a request of it died
+abbrev pub dies : TxId → Event → Outcome → Bool
+dies t (Op tx birth nth seen op) (Dead cause) = tx_same t tx
+dies t (Request tx touched) (Dead cause) = tx_same t tx
+dies t _ _ = false
+
+abbrev pub WasDead : History → TxId → Type 0
+WasDead h t = (m : ℕ) × (r : Entry) × IsAmong m r h × (dies t r.event r.outcome ≡ true)
+
+-- no request of one that died is ever taken, before or behind
+abbrev pub TheDeadAskNothing : Type 0
+TheDeadAskNothing = (splits : List ℕ) (before : List (List LogRecord)) (h : History) (after : List (List LogRecord)) (t : TxId) → Legal splits before h after → WasDead h t → WasRequested h t → ⊥

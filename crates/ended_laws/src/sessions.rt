@@ -1,6 +1,6 @@
 // What no session makes any more of a transaction.
 
-ghost use Rattle.ended_laws.specs.Sessions.{NoWorkFollowsARequest, OnlyDropsFollowTheEnd, NothingFollowsSuccess, NothingFollowsALaterOne};
+ghost use Rattle.ended_laws.specs.Sessions.{NoWorkFollowsARequest, OnlyDropsFollowTheEnd, NothingFollowsSuccess, NothingFollowsALaterOne, TheDeadAskNothing};
 
 /// Behind its request there is no operation and no further request of a transaction.
 pub fn no_work_follows_a_request()
@@ -20,4 +20,9 @@ pub fn nothing_follows_success()
 /// Nor behind any entry of a later one of its session.
 pub fn nothing_follows_a_later_one()
     ensures { NothingFollowsALaterOne }
+{}
+
+/// No request is ever taken of a transaction of which an operation or a request died.
+pub fn the_dead_ask_nothing()
+    ensures { TheDeadAskNothing }
 {}
