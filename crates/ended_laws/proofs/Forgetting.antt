@@ -1,0 +1,129 @@
+-- What is due comes to the same in a shard that forgets something, where what is due for each transaction does.
+use Rattle.std.proofs.Common.{◌≡◌, ⊎_elim, refl, sym, ap, subst, ◌∙◌, ℕ, zero, suc, ◌≤◌, true, false, cond, Bool, ◌||◌, List, [], ◌∷◌, Option, Some, None, is_some, arith}
+use Rattle.std.proofs.lemmas.Bool.{both_ways, or_cases, and_parts}
+use Rattle.std.specs.Map.{keys_of}
+use Rattle.std.specs.List.Sorted.{IsStrictlySortedBy}
+use Rattle.clv_base.specs.declared.names.TxId.{TxId}
+use Rattle.clv_base.specs.declared.state.Held.{Held}
+use Rattle.clv_base.specs.declared.state.Voter.{Voter}
+use Rattle.clv_base.specs.declared.state.Request.{Request}
+use Rattle.clv_base.specs.declared.parts.PartFacts.{PartFacts}
+use Rattle.clv_base.specs.Orders.{Table, tx_same, tx_in, tx_insert, tx_union, tx_get}
+use Rattle.clv_base.specs.State.{Shard}
+use Rattle.clv_base.specs.Facts.{state_by, facts_of, is_closed_state}
+use Rattle.clv_base.specs.Due.{due_of, first_due, known_txs, next_due, with_due_done, work}
+use Rattle.clv_base.proofs.Settling.{each_leaves_less}
+use Rattle.clv_base.proofs.SameNames.{or_left, or_right, tx_true, tx_flip, insert_keeps, insert_has}
+use Rattle.law_base.proofs.Sets.{Rise, union_right, union_rises}
+use Rattle.protocol_laws.specs.Candidates.{is_commit_due, is_vote_due, is_ruling_due, Cover}
+use Rattle.protocol_laws.proofs.Due.DueByFacts.{due_by_facts}
+use Rattle.protocol_laws.proofs.Due.LeastIsNext.{least_is_next, others_cover, none_is_nothing, at_rest_none}
+use Rattle.protocol_laws.proofs.Due.DoingGoesOn.{nothing_to_do, doing_goes_on}
+use Rattle.history_cases.proofs.Stepping.{Due, due_next, KeptByDue}
+
+-- who has something due is known to the shard
+union_left : (x : TxId) (xs ys : List TxId) → tx_in x xs ≡ true → tx_in x (tx_union xs ys) ≡ true
+union_left x [] ys i = absurd (both_ways false refl i)
+union_left x (u ∷ us) ys i =
+    ⊎_elim
+    (λ h. subst (λ z. tx_in z (tx_insert u (tx_union us ys)) ≡ true) (tx_true u x h) (insert_has u (tx_union us ys)))
+    (λ h. insert_keeps u x (tx_union us ys) (union_left x us ys h))
+    (or_cases (tx_same u x) (tx_in x us) i)
+
+key_in : {V : Type 0} (x : TxId) (t : Table V) → is_some (tx_get x t) ≡ true → tx_in x (keys_of t) ≡ true
+key_in x [] e = absurd (both_ways false refl e)
+key_in x (p ∷ ps) e = at (tx_same x p.0) refl e (key_in x ps)
+  where
+    at : (b : Bool) → tx_same x p.0 ≡ b → is_some (cond b (Some p.1) (tx_get x ps)) ≡ true → (is_some (tx_get x ps) ≡ true → tx_in x (keys_of ps) ≡ true) → tx_in x (keys_of (p ∷ ps)) ≡ true
+    at true s e more = or_left _ _ (tx_flip x p.0 s)
+    at false s e more = or_right (tx_same p.0 x) _ (more e)
+
+closed_some : (o : Option Held) → is_closed_state (state_by (elim o [ Some h ↦ Some h.stage | None ↦ None ])) ≡ true → is_some o ≡ true
+closed_some None e = absurd (both_ways false refl e)
+closed_some (Some h) e = refl
+
+vote_some : (f : PartFacts) (o : Option Voter) → is_vote_due f o ≡ true → is_some o ≡ true
+vote_some f None e = absurd (both_ways false refl e)
+vote_some f (Some v) e = refl
+
+ruling_some : (n : ℕ) (x : TxId) (f : PartFacts) (o : Option Request) → is_ruling_due n x f o ≡ true → is_some o ≡ true
+ruling_some n x f None e = absurd (both_ways false refl e)
+ruling_some n x f (Some q) e = refl
+
+all_known : (s : Shard) → Cover (known_txs s) s
+all_known s x e =
+    let others = tx_union (keys_of s.voters) (keys_of s.requests) in
+    ⊎_elim
+    (λ h. union_left x (keys_of s.local.parts) others (key_in x s.local.parts (closed_some (tx_get x s.local.parts) (and_parts _ _ h).0)))
+    (λ h. union_right x (keys_of s.local.parts) others
+    (⊎_elim
+    (λ v. union_left x (keys_of s.voters) (keys_of s.requests) (key_in x s.voters (vote_some (facts_of s x) (tx_get x s.voters) v)))
+    (λ r. union_right x (keys_of s.voters) (keys_of s.requests) (key_in x s.requests (ruling_some s.shard x (facts_of s x) (tx_get x s.requests) r)))
+    (or_cases (is_vote_due (facts_of s x) (tx_get x s.voters)) (is_ruling_due s.shard x (facts_of s x) (tx_get x s.requests)) h)))
+    (or_cases (is_commit_due (facts_of s x)) (is_vote_due (facts_of s x) (tx_get x s.voters) || is_ruling_due s.shard x (facts_of s x) (tx_get x s.requests)) (sym (due_by_facts s x) ∙ e))
+
+-- the first of them for whom something is due
+record First (s t : Shard) : Type 0 where
+  who : TxId
+  rest : List TxId
+  rise : Rise (who ∷ rest)
+  cover : Cover (who ∷ rest) s
+  due : due_of s who ≡ Some t
+
+first_of : (s t : Shard) (ks : List TxId) → Rise ks → Cover ks s → first_due s ks ≡ Some t → First s t
+unfolding IsStrictlySortedBy
+first_of s t [] r c e = absurd cc
+first_of s t (k ∷ ks) r c e = at (due_of s k) refl e (first_of s t ks r.1)
+  where
+    at : (o : Option Shard) → due_of s k ≡ o → elim o [ Some u ↦ Some u | None ↦ first_due s ks ] ≡ Some t → (Cover ks s → first_due s ks ≡ Some t → First s t) → First s t
+    at (Some u) f g more = record { who = k; rest = ks; rise = r; cover = c; due = f ∙ g }
+    at None f g more = more (others_cover s k ks c f) g
+
+-- ---- a shard that forgets
+
+module _ (forget : Shard → Shard) (Fine : Shard → Type 0) where
+  abbrev pub if_any : Option Shard → Option Shard
+  if_any o = elim o [ Some t ↦ Some (forget t) | None ↦ None ]
+
+  -- each transaction has the same due, what is done keeps it fine, and requests rise with and without
+  pub record Forgets : Type 0 where
+    pub due_same : (s : Shard) (u : TxId) → Fine s → due_of (forget s) u ≡ if_any (due_of s u)
+    pub stays : KeptByDue Fine
+    pub rise : (s : Shard) → Fine s → Rise (keys_of s.requests)
+    pub still_rise : (s : Shard) → Fine s → Rise (keys_of (forget s).requests)
+
+  module _ (f : Forgets) where
+    some_any : (o : Option Shard) → is_some (if_any o) ≡ is_some o
+    some_any None = refl
+    some_any (Some t) = refl
+
+    same_cover : (s : Shard) (ks : List TxId) → Fine s → Cover ks s → Cover ks (forget s)
+    same_cover s ks o c u e = c u (sym (ap is_some (f.due_same s u o) ∙ some_any (due_of s u)) ∙ e)
+
+    next_same : (s : Shard) → Fine s → next_due (forget s) ≡ if_any (next_due s)
+    next_same s o = at (next_due s) refl
+      where
+        at : (x : Option Shard) → next_due s ≡ x → next_due (forget s) ≡ if_any x
+        at None e = none_is_nothing (forget s) (same_cover s [] o (at_rest_none s e))
+        at (Some t) e =
+            let g = first_of s t (known_txs s) (union_rises (keys_of s.local.parts) _ (union_rises (keys_of s.voters) _ (f.rise s o))) (all_known s) e in
+            least_is_next (forget s) (forget t) g.who g.rest (f.still_rise s o) g.rise (same_cover s (g.who ∷ g.rest) o g.cover) (f.due_same s g.who o ∙ ap if_any g.due)
+
+    done_at : (n : ℕ) (s : Shard) (x : Option Shard) → next_due s ≡ x → Fine s → work s ≤ suc n → ((t : Shard) → Fine t → work t ≤ n → with_due_done (forget t) ≡ forget (with_due_done t))
+        → with_due_done (forget s) ≡ forget (with_due_done s)
+    done_at n s None e o l k = nothing_to_do (forget s) (next_same s o ∙ ap if_any e) ∙ sym (ap forget (nothing_to_do s e))
+    done_at n s (Some t) e o l k =
+        let less = each_leaves_less s t e in
+        doing_goes_on (forget s) (forget t) (next_same s o ∙ ap if_any e)
+        ∙ k t (f.stays s t (subst (Due s) e (due_next s)) o) (omega (arith, less, l)) ∙ sym (ap forget (doing_goes_on s t e))
+
+    none_left : (s : Shard) (x : Option Shard) → next_due s ≡ x → Fine s → work s ≤ 0 → with_due_done (forget s) ≡ forget (with_due_done s)
+    none_left s None e o l = nothing_to_do (forget s) (next_same s o ∙ ap if_any e) ∙ sym (ap forget (nothing_to_do s e))
+    none_left s (Some t) e o l = absurd (omega (arith, l, each_leaves_less s t e))
+
+    done_in : (n : ℕ) (s : Shard) → Fine s → work s ≤ n → with_due_done (forget s) ≡ forget (with_due_done s)
+    done_in zero s o l = none_left s (next_due s) refl o l
+    done_in (suc n) s o l = done_at n s (next_due s) refl o l (done_in n)
+
+    pub done_same : (s : Shard) → Fine s → with_due_done (forget s) ≡ forget (with_due_done s)
+    done_same s o = done_in (work s) s o (omega arith)

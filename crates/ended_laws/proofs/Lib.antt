@@ -1,0 +1,15 @@
+pub mod Reading
+pub mod Rows
+pub mod Staying
+pub mod Forgetting
+pub mod Due
+pub mod Missing
+pub mod Following
+pub mod Along
+pub mod Past
+pub mod Partless
+pub mod Meeting
+pub mod Beside
+pub mod Alone
+pub mod Worked
+pub mod Losing

@@ -1,0 +1,6 @@
+pub mod Requests
+pub mod Parts
+pub mod Sessions
+pub mod Histories
+pub mod Examples
+pub mod Epochs

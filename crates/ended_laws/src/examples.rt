@@ -1,0 +1,23 @@
+// Worked examples.
+
+ghost use Rattle.ended_laws.specs.Examples.{OneShardIsOver, AnEndedCommitIsOver, ALookTells, ALatePrepareTells};
+
+/// A transaction of one shard is over once its COMMIT is durable.
+pub fn one_shard_is_over()
+    ensures { OneShardIsOver }
+{}
+
+/// A commit is over once its END is written.
+pub fn an_ended_commit_is_over()
+    ensures { AnEndedCommitIsOver }
+{}
+
+/// A refused request is over, and its first look is still answered by its row.
+pub fn a_look_tells()
+    ensures { ALookTells }
+{}
+
+/// A part that voted that it only read is past, and a late Prepare of it is still answered by its row.
+pub fn a_late_prepare_tells()
+    ensures { ALatePrepareTells }
+{}

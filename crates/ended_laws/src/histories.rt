@@ -1,0 +1,25 @@
+// Rows of requests that are over, and of parts that are past, along a legal history.
+
+ghost use Rattle.ended_laws.specs.Histories.{RowsAreNotMissed, NoPrepareComesHome, PartsAreNotMissed, RestartsReadNone};
+
+/// Where a request is over, and the log answers a look at it or its session knows its end, each next entry of a legal history but a restart leads to
+/// the same without its row; and the request stays over.
+pub fn rows_are_not_missed()
+    ensures { RowsAreNotMissed }
+{}
+
+/// To a shard on which the request of a transaction was taken comes no Prepare of it, nor to any where none was taken.
+pub fn no_prepare_comes_home()
+    ensures { NoPrepareComesHome }
+{}
+
+/// Where a part is past and its session knows its success or began a later transaction, each next entry but a restart and a late Prepare of it leads
+/// to the same without its rows; and the part stays past.
+pub fn parts_are_not_missed()
+    ensures { PartsAreNotMissed }
+{}
+
+/// A restart reads no request, no part and no vote.
+pub fn restarts_read_none()
+    ensures { RestartsReadNone }
+{}
