@@ -1,12 +1,13 @@
--- What is found by the part, its COMMIT and the request alone.
+-- Nothing is found by the part, its COMMIT and the request alone.
 use Rattle.std.proofs.Common.{◌≡◌, Bool, true, false, cond, ◌&&◌, Option, Some, None, refl, ap, ◌∙◌}
-use Rattle.std.proofs.lemmas.Bool.{both_ways}
 use Rattle.clv_base.specs.declared.names.TxId.{TxId}
 use Rattle.clv_base.specs.declared.state.Request.{Request}
 use Rattle.clv_base.specs.declared.state.Ruling.{Ruling}
+use Rattle.clv_base.specs.declared.state.Stage.{Stage}
+use Rattle.clv_base.specs.declared.state.Stage.TheVariants.{Active, Closed, Gone}
 use Rattle.clv_base.specs.declared.state.Voter.{Voter}
 use Rattle.clv_base.specs.Orders.{tx_get}
-use Rattle.clv_base.specs.State.{Shard, Stage, Active, Closed, Gone}
+use Rattle.clv_base.specs.State.{Shard}
 use Rattle.clv_base.specs.Undo.{stage_of}
 use Rattle.clv_base.specs.Facts.{facts_of, has_durable_commit, is_closed_state, state_by}
 use Rattle.clv_base.specs.Coordinator.{ruling_by}
@@ -14,16 +15,6 @@ use Rattle.clv_base.specs.Due.{commit_due, or_else, request_due, rule, vote_due,
 use Rattle.two_phase_commit.specs.Coordinated.{ruling_of}
 use Rattle.two_phase_commit.specs.Voting.{home_by}
 use Rattle.due_step.specs.Found.{is_commit_due, Finds}
-use Rattle.due_step.specs.declared.finding.Due.TheVariants.{Commit}
-
-landed : (s : Shard) (tx : TxId) (o : Option Stage) → (is_closed_state (state_by o) && has_durable_commit (facts_of s tx)) ≡ true → commit_due s tx o ≡ Some (with_commit_done s tx)
-landed s tx None e = absurd (both_ways false refl e)
-landed s tx (Some Active) e = absurd (both_ways false refl e)
-landed s tx (Some Closed) e = ap (λ b. cond b (Some (with_commit_done s tx)) None) e
-landed s tx (Some (Gone d)) e = absurd (both_ways false refl e)
-
-pub finds_commit : (s : Shard) (tx : TxId) → is_commit_due (facts_of s tx) ≡ true → Finds s tx (Some Commit) s.voters s.requests
-finds_commit s tx e = (ap (λ o. or_else o (or_else (vote_due s tx (tx_get tx s.voters)) (request_due s tx (tx_get tx s.requests)))) (landed s tx (stage_of s.local tx) e), refl, refl)
 
 not_landed : (s : Shard) (tx : TxId) (o : Option Stage) → (is_closed_state (state_by o) && has_durable_commit (facts_of s tx)) ≡ false → commit_due s tx o ≡ None
 not_landed s tx None e = refl

@@ -3,8 +3,9 @@ use Rattle.std.proofs.Common.{◌≡◌, Bool, true, false, cond, ◌&&◌, ◌|
 use Rattle.clv_base.specs.declared.names.TxId.{TxId}
 use Rattle.clv_base.specs.declared.parts.PartFacts.{PartFacts}
 use Rattle.clv_base.specs.declared.state.Held.{Held}
+use Rattle.clv_base.specs.declared.state.Stage.{Stage}
 use Rattle.clv_base.specs.Orders.{Table, tx_get, tx_in, tx_same}
-use Rattle.clv_base.specs.State.{Shard, Stage, Gone}
+use Rattle.clv_base.specs.State.{Shard, with_local}
 use Rattle.clv_base.specs.Undo.{gone_in, gone_part}
 use Rattle.clv_base.specs.Facts.{doom_by, facts_of, has_durable_commit, is_closed_state, is_waiting, state_by}
 use Rattle.clv_base.specs.Due.{due_of}
@@ -13,7 +14,6 @@ use Rattle.due_step.specs.declared.finding.Due.{Due}
 use Rattle.due_step.specs.declared.finding.Due.TheVariants.{Commit}
 use Rattle.due_step.specs.Found.{carried}
 use Rattle.clv_base.specs.OneShard.{purge}
-use Rattle.clv_base.specs.State.{with_local}
 use Rattle.two_phase_commit.specs.Coordinated.{ruling_of}
 use Rattle.two_phase_commit.specs.Voting.{home_by}
 use Rattle.shard_core.specs.Finished.{IsFinished}
