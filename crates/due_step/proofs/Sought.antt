@@ -1,5 +1,5 @@
 -- Nothing is found by the part, its COMMIT and the request alone.
-use Rattle.std.proofs.Common.{◌≡◌, Bool, true, false, cond, ◌&&◌, Option, Some, None, refl, ap, ◌∙◌}
+use Rattle.std.proofs.Common.{◌≡◌, false, cond, ◌&&◌, Option, Some, None, refl, ap, ◌∙◌}
 use Rattle.clv_base.specs.declared.names.TxId.{TxId}
 use Rattle.clv_base.specs.declared.state.Request.{Request}
 use Rattle.clv_base.specs.declared.state.Ruling.{Ruling}
@@ -10,7 +10,6 @@ use Rattle.clv_base.specs.Orders.{tx_get}
 use Rattle.clv_base.specs.State.{Shard}
 use Rattle.clv_base.specs.Undo.{stage_of}
 use Rattle.clv_base.specs.Facts.{facts_of, has_durable_commit, is_closed_state, state_by}
-use Rattle.clv_base.specs.Coordinator.{ruling_by}
 use Rattle.clv_base.specs.Due.{commit_due, or_else, request_due, rule, vote_due, with_commit_done}
 use Rattle.two_phase_commit.specs.Coordinated.{ruling_of}
 use Rattle.two_phase_commit.specs.Voting.{home_by}

@@ -1,5 +1,5 @@
 //! What is due, one thing after another.
-ghost use Rattle.std.specs.Prelude.{◌≡◌, false, None, Some, IsTrue, is_some};
+ghost use Rattle.std.specs.Prelude.{◌≡◌, true, false, None, Some, IsTrue, is_some};
 ghost use Rattle.clv_base.specs.declared.parts.PartFacts.{PartFacts as Facts};
 ghost use Rattle.clv_base.specs.Orders.{tx_get};
 ghost use Rattle.clv_base.specs.Due.{due_of};

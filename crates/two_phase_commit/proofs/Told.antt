@@ -1,15 +1,10 @@
 -- What a hash map tells of requests, through what is put and changed.
-use Rattle.std.proofs.Common.{◌≡◌, ℕ, Bool, true, false, cond, not, ◌&&◌, [], ◌∷◌, Option, Some, None, is_none, is_some, refl, sym, ap, subst, ◌∙◌}
-use Rattle.std.proofs.lemmas.Bool.{both_ways, and_parts}
+use Rattle.std.proofs.Common.{◌≡◌, ℕ, Bool, true, false, cond, not, ◌&&◌, Option, Some, None, is_some, refl, sym, ap, subst, ◌∙◌}
 use Rattle.clv_base.specs.declared.names.TxId.{TxId}
-use Rattle.clv_base.specs.declared.causes.AbortCause.{AbortCause}
 use Rattle.clv_base.specs.declared.causes.Vote.{Vote}
-use Rattle.clv_base.specs.declared.parts.PartFacts.{PartFacts}
 use Rattle.clv_base.specs.declared.state.Request.{Request}
-use Rattle.clv_base.specs.declared.state.RequestState.{RequestState}
 use Rattle.clv_base.specs.Orders.{Table, nat_in, tx_get, tx_put, tx_same, tx_set}
-use Rattle.clv_base.specs.Facts.{is_waiting}
-use Rattle.clv_base.specs.Coordinator.{counts_done, counts_vote, is_agreed, refused_ruling, ruling_by, ruling_in, cause_by, first_no, takes_done, takes_vote, undecided_ruling, vote_from, with_done_of, with_vote_of}
+use Rattle.clv_base.specs.Coordinator.{counts_done, counts_vote, takes_done, takes_vote, vote_from, with_done_of, with_vote_of}
 use Rattle.clv_base.proofs.SameNames.{tx_true}
 use Rattle.law_base.proofs.Sets.{same_flip as tx_symmetric}
 use Rattle.law_base.proofs.Tables.{get_put}
@@ -18,11 +13,8 @@ use Rattle.two_phase_commit.specs.declared.brief.Brief.{Brief}
 use Rattle.two_phase_commit.specs.declared.brief.Brief.TheVariants.{Alone, Other}
 use Rattle.two_phase_commit.specs.declared.form.Stage.{Stage}
 use Rattle.two_phase_commit.specs.declared.form.Stage.TheVariants.{Undecided, Committed, Finished, Asked}
-use Rattle.two_phase_commit.specs.Asked.{AreAsked, IsAlone, IsTold, Tells, rests}
-use Rattle.two_phase_commit.specs.Coordinated.{parts_of, told_by, state_by, requests_by, ruling_of}
+use Rattle.two_phase_commit.specs.Asked.{AreAsked, IsAlone, IsTold, Tells}
 use Rattle.two_phase_commit.specs.Kept.{state_at}
-
--- ---- what is told after it
 
 -- what another shard says changes no request of one shard
 vote_refused : (shard from : ℕ) (stage : Stage) (q : Request) → IsAlone shard stage q → takes_vote shard from q ≡ false

@@ -93,7 +93,9 @@ impl Kept {
     {
         match &self.form {
             Form::Alone {
-                shard: own, stage, ..
+                shard: own,
+                stage,
+                ..
             } if *own == shard => Brief::Alone(*stage),
             Form::Alone { .. } | Form::Lost { .. } | Form::Shared(_) => Brief::Other,
         }

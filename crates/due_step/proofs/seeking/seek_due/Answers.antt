@@ -27,4 +27,4 @@ returns-then-rests-clause-found g c = λ s shard voters requests f.
     let doomed = c.is_doomed.ensures ∙ ap (λ o. is_some (doom_by o)) stage in
     let ruling = c.if-rests.ensures refl (facts_of s tx) (ap is_waiting f ∙ sym waits) (ap (λ (x : PartFacts). is_some x.doom) f ∙ sym doomed) in
     let found = finds_nothing s tx (ap is_commit_due f ∙ sym landed) (ap (λ vs. home_by (tx_get tx vs)) voters ∙ sym c.home_of.ensures ∙ nobody c.home_of.result c.if-is_none.ensures)
-        (ap (λ n. ruling_of n tx (facts_of s tx) (tx_get tx s.requests)) shard ∙ ap (λ rs. ruling_of c.args.coordinator.now.shard tx (facts_of s tx) (tx_get tx rs)) requests ∙ ruling) in (found.0, sym voters, sym requests)
+    (ap (λ n. ruling_of n tx (facts_of s tx) (tx_get tx s.requests)) shard ∙ ap (λ rs. ruling_of c.args.coordinator.now.shard tx (facts_of s tx) (tx_get tx rs)) requests ∙ ruling) in (found.0, sym voters, sym requests)
