@@ -6,3 +6,5 @@ pub use Rattle.due_step.proofs.Touched.{carried_covers}
 pub use Rattle.due_step.proofs.Noted.{own_doomed, ruled_doomed, noted_covers}
 pub use Rattle.due_step.proofs.Known.{known_have_room, keys_length}
 pub use Rattle.due_step.proofs.Concerned.{landed_covers, pair_of}
+pub use Rattle.due_step.proofs.Sought.{finds_nothing}
+pub use Rattle.due_step.proofs.Turning.{ready_rest}

@@ -7,3 +7,4 @@ pub mod Noted
 pub mod Known
 pub mod Turning
 pub mod Laws
+pub mod Sought

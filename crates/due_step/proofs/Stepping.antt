@@ -82,8 +82,11 @@ told_same s tx (DueRuling EndVerdict) = refl
 
 -- ---- facts
 
-pub facts_seen : (l m : Local) (d e : ℕ) (tx : TxId) (p : Option ℕ) (f : PartFacts) → m ≡ l → e ≡ d → p ≡ prepare_lsn l.log tx → f ≡ record (facts_in l d tx) { prepare = p } → facts_in m e tx ≡ f
-facts_seen l m d e tx p f a b c h = ap (λ (x : Local). facts_in x e tx) a ∙ ap (λ n. facts_in l n tx) b ∙ ap (λ q. record (facts_in l d tx) { prepare = q }) (sym c) ∙ sym h
+pub facts_alike : (l m : Local) (d e : ℕ) (tx : TxId) → m ≡ l → e ≡ d → facts_in m e tx ≡ facts_in l d tx
+facts_alike l m d e tx a b = ap (λ (x : Local). facts_in x e tx) a ∙ ap (λ n. facts_in l n tx) b
+
+pub facts_told : (l : Local) (d : ℕ) (tx : TxId) (p : Option ℕ) (f : PartFacts) → p ≡ prepare_lsn l.log tx → f ≡ record (facts_in l d tx) { prepare = p } → facts_in l d tx ≡ f
+facts_told l d tx p f c h = ap (λ q. record (facts_in l d tx) { prepare = q }) (sym c) ∙ sym h
 
 -- ---- the parts after it
 

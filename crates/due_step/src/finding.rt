@@ -22,7 +22,8 @@ pub enum Due {
     Ruling(Ruling),
 }
 
-fn is_below(lsn: Option<u64>, front: u64) -> bool
+/// Whether the place is there and below the front.
+pub(crate) fn is_below(lsn: Option<u64>, front: u64) -> bool
     ensures { result ≡ below lsn front }
 {
     match lsn {

@@ -8,7 +8,8 @@ ghost use Rattle.clv_base.specs.Undo.{doomed_by};
 ghost use Rattle.tx_table.specs.Held.{HasRoomBy};
 ghost use Rattle.due_step.specs.Steps.{IsSeen, ArePrepares, Steps, Notes};
 
-use crate::{Due, Outbox, carry, find_due, note_touched, tell};
+use crate::seeking::seek_due;
+use crate::{Due, Outbox, carry, note_touched, tell};
 use clv_base::names::TxId;
 use lock_table::Locks;
 use ordered_store::Store;
@@ -41,8 +42,7 @@ pub fn do_one<S: Store + Drop, L: Locks + Drop>(
     ensures pairs_room { transactions.old.pairs_room ≤ transactions.new.pairs_room + 1 }
     ensures messages_room { outbox.old.room ≤ outbox.new.room + 15 }
 {
-    let facts = transactions.facts(tx, prepares.get(tx));
-    let due = match find_due(tx, &facts, participant, coordinator) {
+    let due = match seek_due(tx, transactions, prepares, participant, coordinator) {
         Some(due) => due,
         None => return None,
     };

@@ -1,6 +1,7 @@
 pub mod Seeing
 pub mod Logged
 pub mod Turned
+pub mod Finishing
 pub mod Changing
 pub mod Parts
 pub mod Taking

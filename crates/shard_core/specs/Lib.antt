@@ -5,3 +5,4 @@ pub mod Operating
 pub mod Requesting
 pub mod Hearing
 pub mod Placed
+pub mod Finished

@@ -59,8 +59,7 @@ impl<S: Store + Drop, L: Locks + Drop> ShardCore<S, L> {
     pub fn has_durable_commit(&self, tx: TxId) -> bool
         ensures { result ≡ is_durably_committed (facts_of self.now.shard tx) }
     {
-        let facts = self.facts(tx);
-        is_below(facts.commit, facts.durable)
+        is_below(self.transactions.commit_of(tx), self.transactions.durable())
     }
 
     /// Whether a COMMIT of the transaction is in the log, durable or not.

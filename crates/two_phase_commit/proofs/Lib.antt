@@ -11,5 +11,6 @@ pub mod Few
 pub mod Unended
 pub mod Over
 pub mod Silent
+pub mod Told
 pub mod Spelling
 pub mod Laws

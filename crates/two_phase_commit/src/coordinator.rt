@@ -1,21 +1,25 @@
 //! The coordinator.
-ghost use Rattle.std.specs.Prelude.{◌≡◌, ◌<◌, ◌++◌, [], true, map, IfOk, IfSome, OnOk, OnErr};
+ghost use Rattle.std.specs.Prelude.{◌≡◌, ◌<◌, ◌++◌, [], true, map, None, IfOk, IfSome, IsTrue, OnOk, OnErr, is_some};
 ghost use Rattle.std.specs.List.{AllByRecursion};
 ghost use Rattle.std.specs.List.Sorted.{IsStrictlySortedBy};
 ghost use Rattle.std.specs.Map.{keys_of};
 ghost use Rattle.std.specs.Ordering.{nat_cmp};
 ghost use Rattle.clv_base.specs.declared.state.RequestState.TheVariants.{Undecided};
+ghost use Rattle.clv_base.specs.declared.parts.PartFacts.{PartFacts as Facts};
 ghost use Rattle.clv_base.specs.FileRules.{tx_has_spelling};
+ghost use Rattle.clv_base.specs.Facts.{is_waiting};
 ghost use Rattle.clv_base.specs.Orders.{nat_in, tx_cmp, tx_get, tx_put};
 ghost use Rattle.clv_base.specs.Coordinator.{new_request, restored_requests, home_reminders, ask_answer};
 ghost use Rattle.two_phase_commit.specs.Coordinated.{AreNamed, IsSpelledRuling, ruling_of, requests_by, counts_by, requests_with, done_by, requests_done, told_by, state_by};
 ghost use Rattle.two_phase_commit.specs.Reminding.{each_at, of_one, votes_of, dones_of};
 ghost use Rattle.two_phase_commit.specs.Waiting.{waiting_in};
 
+use crate::alone::state_of;
+use crate::brief::{Brief, rests};
 use crate::kept::Kept;
 use crate::memory::Memory;
 use crate::reminding::contains;
-use crate::ruling::answer;
+use crate::ruling::{answer, is_waiting as waits_here};
 use crate::waiting_homes::put_request;
 use clv_base::causes::Vote;
 use clv_base::lists::Touched;
@@ -37,8 +41,8 @@ pub struct Coordinator {
     requests: BTreeMap<TxId, Kept>,
     /// Those that wait for a vote or an acknowledgement.
     waiting: TxIndex,
-    /// All that have a request here. Who isn't among them has none: a look into a hash map tells that whatever requests are over.
-    asked: TxTable<()>,
+    /// All that have a request here, with what a request of one shard is asked for most: a look into a hash map tells that whatever requests are over.
+    asked: TxTable<Brief>,
 }
 
 impl Model for Coordinator {
@@ -52,7 +56,7 @@ impl Model for Coordinator {
 
     ghost view = { λ c. record { shard = c.shard; requests = c.requests.entries } };
 
-    ghost invariant = { λ c. AreFit c.shard c.requests.entries × IsIndex (waits c.shard) c.requests.entries c.waiting × AreAsked c.asked.rows c.requests.entries × AreNamed c.requests.entries };
+    ghost invariant = { λ c. AreFit c.shard c.requests.entries × IsIndex (waits c.shard) c.requests.entries c.waiting × AreAsked c.shard c.asked.rows c.requests.entries × AreNamed c.requests.entries };
 }
 
 impl Coordinator {
@@ -117,12 +121,13 @@ impl Coordinator {
     pub fn state_of(&self, tx: TxId) -> Option<RequestState>
         ensures { result ≡ state_by (tx_get tx self.now.requests) }
     {
-        if self.asked.get(tx).is_none() {
-            return None;
-        }
-        match self.requests.get(&tx) {
-            Some(request) => Some(request.state()),
+        match self.asked.get(tx) {
             None => None,
+            Some(Brief::Alone(stage)) => Some(state_of(stage)),
+            Some(Brief::Other) => match self.requests.get(&tx) {
+                Some(request) => Some(request.state()),
+                None => None,
+            },
         }
     }
 
@@ -130,9 +135,13 @@ impl Coordinator {
     pub fn told(&self, tx: TxId) -> Option<ShardList>
         ensures { result ≡ told_by (tx_get tx self.now.requests) }
     {
-        match self.requests.get(&tx) {
-            Some(request) => Some(request.told()),
+        match self.asked.get(tx) {
             None => None,
+            Some(Brief::Alone(_)) => Some(ShardList::new()),
+            Some(Brief::Other) => match self.requests.get(&tx) {
+                Some(request) => Some(request.told()),
+                None => None,
+            },
         }
     }
 
@@ -274,13 +283,24 @@ impl Coordinator {
         taken
     }
 
+    /// Whether nothing is due of the transaction at its home, as is plain without its request: `waits` is whether its part here is closed and
+    /// undecided, `doomed` whether an abort took that away.
+    pub fn rests(&self, tx: TxId, waits: bool, doomed: bool) -> bool
+        ensures { IsTrue result → (f : Facts) → is_waiting f ≡ waits → is_some f.doom ≡ doomed → ruling_of self.now.shard tx f (tx_get tx self.now.requests) ≡ None }
+    {
+        match self.asked.get(tx) {
+            None => true,
+            Some(brief) => rests(brief, waits, doomed),
+        }
+    }
+
     /// What is due of a transaction at its home; each ruling is given once and kept. Takes no memory.
     pub fn decision_due(&mut self, tx: TxId, facts: &PartFacts) -> Option<Ruling>
         ensures ruling { result ≡ ruling_of self.old.shard tx facts.entry.now (tx_get tx self.old.requests) }
         ensures requests { self.new ≡ record self.old { requests = requests_by tx (tx_get tx self.old.requests) result self.old.requests } }
         ensures spelled { IfSome result (IsSpelledRuling tx) }
     {
-        if self.asked.get(tx).is_none() {
+        if self.rests(tx, waits_here(facts), facts.doom.is_some()) {
             return None;
         }
         let shard = self.shard;
@@ -289,6 +309,8 @@ impl Coordinator {
         };
         let ruling = request.rule(shard, tx, facts);
         let stays = request.waits(shard);
+        let brief = request.brief(shard);
+        self.asked.replace(tx, brief);
         self.waiting.keep_if(tx, stays);
         ruling
     }

@@ -6,6 +6,7 @@ ghost use Rattle.clv_base.specs.Coordinator.{new_request};
 ghost use Rattle.two_phase_commit.specs.Kept.{request_of, IsPlaced};
 
 use crate::alone::{alone, rule_alone, state_of};
+use crate::brief::Brief;
 use crate::form::{Form, Stage};
 use crate::joint::{asked, counts_done, counts_vote, restored, rule, take_done, take_vote};
 use crate::memory::Memory;
@@ -57,6 +58,7 @@ impl Kept {
     ghost use Rattle.clv_base.specs.declared.state.RequestState.TheVariants.{Undecided};
     ghost use Rattle.clv_base.specs.Coordinator.{new_request, restored_request, ruling_by, takes_vote, with_vote_of, takes_done, with_done_of, missing_dones, missing_votes};
     ghost use Rattle.two_phase_commit.specs.Coordinated.{IsFit, open_state, parts_of, ruled};
+    ghost use Rattle.two_phase_commit.specs.Asked.{Tells};
     ghost use Rattle.two_phase_commit.specs.Waiting.{waits as request_waits};
 
     /// A request that nobody has voted on, of these shards with their epochs.
@@ -82,6 +84,20 @@ impl Kept {
                 form: Form::Shared(joint),
             }),
             Err(_) => Err(Memory),
+        }
+    }
+
+    /// What is told of it without a search for it.
+    pub(crate) fn brief(&self, shard: u32) -> Brief
+        ensures { Tells shard result self.now }
+    {
+        match &self.form {
+            Form::Alone {
+                shard: own,
+                stage,
+                ..
+            } if *own == shard => Brief::Alone(*stage),
+            Form::Alone { .. } | Form::Lost { .. } | Form::Shared(_) => Brief::Other,
         }
     }
 

@@ -8,6 +8,7 @@
 
 mod alone;
 mod ballot;
+mod brief;
 mod coordinator;
 pub mod coordinator_laws;
 mod deciding;

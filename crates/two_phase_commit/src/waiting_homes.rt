@@ -1,4 +1,4 @@
-// Which requests wait, and the table of requests with its index of those and the names of all that have one.
+// Which requests wait, and the table of requests with its index of those and what a hash map tells of all.
 ghost use Rattle.std.specs.Prelude.{◌≡◌, ◌==◌, not, OnOk, OnErr};
 ghost use Rattle.std.specs.List.{list_any};
 ghost use Rattle.std.specs.List.Sorted.{IsStrictlySortedBy};
@@ -9,6 +9,7 @@ ghost use Rattle.two_phase_commit.specs.Kept.{joint_request};
 ghost use Rattle.two_phase_commit.specs.Waiting.{waits as request_waits};
 ghost use Rattle.tx_table.specs.Index.{IsIndex};
 
+use crate::brief::Brief;
 use crate::joint::Joint;
 use crate::kept::Kept;
 use crate::memory::Memory;
@@ -36,24 +37,25 @@ pub(crate) fn waits(shard: u32, request: &Joint) -> bool
     }
 }
 
-/// Puts a request into the table, the transaction among those with one, and it into the index if it waits. Where there is no memory all stays.
+/// Puts a request into the table, what is told of it beside it, and it into the index if it waits. Where there is no memory all stays.
 pub(crate) fn put_request(
     requests: &mut BTreeMap<TxId, Kept>,
     waiting: &mut TxIndex,
-    asked: &mut TxTable<()>,
+    asked: &mut TxTable<Brief>,
     shard: u32,
     tx: TxId,
     request: Kept,
 ) -> Result<(), Memory>
     requires index { IsIndex (request_waits shard) requests.old.entries waiting.old }
-    requires asked { AreAsked asked.old.rows requests.old.entries }
+    requires asked { AreAsked shard asked.old.rows requests.old.entries }
     ensures ok { OnOk result (requests.new.entries ≡ tx_put tx request requests.old.entries) }
     ensures err { OnErr result (requests.new.entries ≡ requests.old.entries) }
     ensures index { IsIndex (request_waits shard) requests.new.entries waiting.new }
-    ensures asked { AreAsked asked.new.rows requests.new.entries }
+    ensures asked { AreAsked shard asked.new.rows requests.new.entries }
     ensures keys { IsStrictlySortedBy tx_cmp (keys_of requests.new.entries) }
 {
     let waits = request.waits(shard);
+    let brief = request.brief(shard);
     let _all = requests.len();
     match asked.reserve(1) {
         Ok(()) => {}
@@ -63,9 +65,9 @@ pub(crate) fn put_request(
         Ok(()) => {}
         Err(_) => return Err(Memory),
     }
-    asked.set(tx, ());
     match requests.insert(tx, request) {
         Ok(_) => {
+            asked.set(tx, brief);
             waiting.keep_if(tx, waits);
             Ok(())
         }

@@ -6,7 +6,7 @@ ghost use Rattle.std.specs.List.Sorted.{IsStrictlySortedBy};
 ghost use Rattle.clv_base.specs.Facts.{facts_in};
 ghost use Rattle.clv_base.specs.Facts.{state_by, doom_by, is_restored_by};
 ghost use Rattle.txn_core.specs.State.{stage_by};
-ghost use Rattle.clv_base.specs.Logs.{committed_in};
+ghost use Rattle.clv_base.specs.Logs.{commit_lsn, committed_in};
 ghost use Rattle.clv_base.specs.Orders.{tx_cmp, tx_get, tx_same, birth_cmp};
 ghost use Rattle.tx_table.specs.Parts.{parts_here};
 ghost use Rattle.clv_base.specs.State.{is_closed_stage, is_active_stage};
@@ -122,6 +122,13 @@ impl<S: Store + Drop, L: Locks + Drop> ShardTx<S, L> {
             Ok(txs) => Ok(txs),
             Err(_) => Err(Memory),
         }
+    }
+
+    /// The LSN of the transaction's COMMIT, where one is in the log.
+    pub fn commit_of(&self, tx: TxId) -> Option<u64>
+        ensures { result ≡ commit_lsn (self.now.local).log tx }
+    {
+        self.deps.settled_at(tx)
     }
 
     /// Whether a COMMIT of the transaction is in the log, durable or not.

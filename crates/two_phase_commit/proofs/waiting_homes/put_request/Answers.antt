@@ -1,8 +1,9 @@
 use Rattle.std.proofs.Common.{◌≡◌, cond, ◌&&◌, ◌||◌, sym, ap, subst, ◌∙◌}
 use Rattle.clv_base.specs.declared.state.Request.{Request}
-use Rattle.clv_base.specs.Orders.{Table, tx_same, tx_in, tx_put}
+use Rattle.clv_base.specs.Orders.{Table, tx_get, tx_same, tx_in, tx_put}
 use Rattle.tx_table.specs.Index.{IsIndex}
 use Rattle.tx_table.proofs.Laws.{index_renewed}
+use Rattle.two_phase_commit.specs.Asked.{IsTold}
 use Rattle.two_phase_commit.specs.Waiting.{waits}
 use Rattle.two_phase_commit.proofs.waiting_homes.put_request.Goals as goal
 
@@ -10,13 +11,13 @@ pub returns-in-Err-clause-index : goal.returns-in-Err-clause-index
 returns-in-Err-clause-index c = c.requires.index
 
 pub returns-in-Err-clause-asked : goal.returns-in-Err-clause-asked
-returns-in-Err-clause-asked c = λ t none. c.requires.asked t (sym (c.reserve.ensures.rows t) ∙ none)
+returns-in-Err-clause-asked c = λ t. subst (λ o. IsTold c.args.shard o (tx_get t c.args.requests.now.entries)) (sym (c.reserve.ensures.rows t)) (c.requires.asked t)
 
 pub returns-in-Err-insert_if-clause-index : goal.returns-in-Err-insert_if-clause-index
 returns-in-Err-insert_if-clause-index c = λ t. ap (tx_in t) c.in-Err-insert_if.ensures.err ∙ c.requires.index t
 
 pub returns-in-Err-insert_if-clause-asked : goal.returns-in-Err-insert_if-clause-asked
-returns-in-Err-insert_if-clause-asked c = λ t none. c.requires.asked t (sym (c.reserve.ensures.rows t) ∙ none)
+returns-in-Err-insert_if-clause-asked c = λ t. subst (λ o. IsTold c.args.shard o (tx_get t c.args.requests.now.entries)) (sym (c.reserve.ensures.rows t)) (c.requires.asked t)
 
 pub returns-in-Ok-insert-clause-index : goal.returns-in-Ok-insert-clause-index
 returns-in-Ok-insert-clause-index c =

@@ -3,7 +3,6 @@ use Rattle.std.proofs.Common.{◌≡◌, true, false, Option, Some, sym, ap, sub
 use Rattle.clv_base.specs.declared.state.Request.{Request}
 use Rattle.clv_base.specs.FileRules.{tx_has_spelling}
 use Rattle.clv_base.specs.Orders.{Table, tx_get, tx_set}
-use Rattle.law_base.proofs.Changed.{set_none}
 use Rattle.law_base.proofs.Rows.{rows_get, rows_set}
 use Rattle.two_phase_commit.specs.Coordinated.{Coordination, IsFit, AreFit, AreNamed, IsSpelledRuling, requests_by, ruled, ruling_of}
 use Rattle.two_phase_commit.specs.Asked.{AreAsked}
@@ -11,6 +10,7 @@ use Rattle.two_phase_commit.specs.Waiting.{waits}
 use Rattle.two_phase_commit.proofs.Over.{ruled_waits, after_change}
 use Rattle.two_phase_commit.proofs.Requests.{set_ruled, state_of}
 use Rattle.two_phase_commit.proofs.Spelling.{ruling_spelled}
+use Rattle.two_phase_commit.proofs.Told.{told_set}
 use Rattle.std.specs.Option.{IfSome}
 use Rattle.clv_base.specs.declared.state.Ruling.{Ruling}
 use Rattle.clv_base.specs.Coordinator.{ruling_by}
@@ -27,8 +27,8 @@ invariant_of-self-2 c =
     let down : waits shard q ≡ false → waits shard now ≡ false = λ e. ap (waits shard) made ∙ ruled_waits shard c.args.tx q c.args.facts.now e in
     let index = after_change shard c.args.tx now q old c.self.inside.waiting c.keep_if.new.self c.waits-stays.result (sym c.in-Some.ensures.value) down c.self.invariant.1 c.waits-stays.ensures c.keep_if.ensures.members in
     let name = rows_get (λ p. tx_has_spelling p.0 ≡ true) c.args.tx q old c.self.invariant.3 (sym c.in-Some.ensures.value) in
-    subst (λ (rs : Table Request). AreFit shard rs × IsIndex (waits shard) rs c.keep_if.new.self × AreAsked c.self.inside.asked.rows rs × AreNamed rs) (sym (c.get_mut.follows.holds now).0)
-    (rows_set (λ p. IsFit shard p.1) c.args.tx now old c.rule-ruling.ensures.fit c.self.invariant.0, index, λ u e. set_none c.args.tx u now old (c.self.invariant.2 u e), rows_set (λ p. tx_has_spelling p.0 ≡ true) c.args.tx now old name c.self.invariant.3)
+    subst (λ (rs : Table Request). AreFit shard rs × IsIndex (waits shard) rs c.keep_if.new.self × AreAsked shard c.replace.new.self.rows rs × AreNamed rs) (sym (c.get_mut.follows.holds now).0)
+    (rows_set (λ p. IsFit shard p.1) c.args.tx now old c.rule-ruling.ensures.fit c.self.invariant.0, index, told_set shard c.args.tx c.brief-brief.result now q c.self.inside.asked.rows c.replace.new.self.rows old (sym c.in-Some.ensures.value) c.self.invariant.2 c.brief-brief.ensures c.replace.ensures.rows, rows_set (λ p. tx_has_spelling p.0 ≡ true) c.args.tx now old name c.self.invariant.3)
 
 pub returns-clause-requests : goal.returns-clause-requests
 returns-clause-requests c =

@@ -10,5 +10,5 @@ abbrev pub invariant-loop-commit : goal.invariant-loop-commit
 invariant-loop-commit l = record {
   all : l.requests.entries ++ restored_requests (drop l.commit-index l.unended) ≡ restored_requests l.unended;
   index : IsIndex (waits l.shard) l.requests.entries l.waiting;
-  asked : AreAsked l.asked.rows l.requests.entries;
+  asked : AreAsked l.shard l.asked.rows l.requests.entries;
 }
