@@ -123,6 +123,37 @@ touches_all touched after es here all by n h = at (either (is_touched es n) (is_
     at (inl t) = by.stay n (all n t)
     at (inr t) = by.new n t
 
+-- ---- what each operation of narrow lines passes
+
+module _ (test : Op → Bool) (narrow_pass : (op : Op) → is_narrow_op op ≡ true → test op ≡ true) (get_passes : (k : ℕ) → test (Get k) ≡ true) (put_passes : (k v : ℕ) → test (Put k v) ≡ true) where
+  all_pass : (xs ys : List Op) → list_all test xs ≡ true → list_all test ys ≡ true → list_all test (xs ++ ys) ≡ true
+  all_pass [] ys h k = k
+  all_pass (x ∷ xs) ys h k = let p = and_parts (test x) (list_all test xs) h in ap (λ b. b && list_all test (xs ++ ys)) p.0 ∙ all_pass xs ys p.1 k
+
+  one_passes : (op : Op) (ops : List Op) → test op ≡ true → list_all test ops ≡ true → list_all test (op ∷ ops) ≡ true
+  one_passes op ops h k = ap (λ b. b && list_all test ops) h ∙ k
+
+  puts_pass : (from to amount : ℕ) (source target : Option ℕ) → list_all test (puts from to amount source target) ≡ true
+  puts_pass from to amount (Some a) (Some b) = at _
+    where
+      at : (c : Bool) → list_all test (cond c (Put from (a - amount) ∷ Put to (b + amount) ∷ []) []) ≡ true
+      at true = one_passes (Put from (a - amount)) (Put to (b + amount) ∷ []) (put_passes from (a - amount)) (one_passes (Put to (b + amount)) [] (put_passes to (b + amount)) refl)
+      at false = refl
+  puts_pass from to amount None b = refl
+  puts_pass from to amount (Some a) None = refl
+
+  action_passes : (action : Action) (answers : List Answer) → is_narrow action ≡ true → list_all test (action_ops action answers) ≡ true
+  action_passes (Do op) answers h = one_passes op [] (narrow_pass op h) refl
+  action_passes (Move from to amount) answers h =
+      let more = puts from to amount (first_value answers) (first_value (drop 1 answers)) in
+      one_passes (Get from) (Get to ∷ more) (get_passes from) (one_passes (Get to) more (get_passes to) (puts_pass from to amount (first_value answers) (first_value (drop 1 answers))))
+
+  pub lines_pass : (lines : List Action) (answers : List Answer) → list_all is_narrow lines ≡ true → list_all test (all_ops lines answers) ≡ true
+  lines_pass [] answers h = refl
+  lines_pass (action ∷ lines) answers h =
+      let p = and_parts (is_narrow action) (list_all is_narrow lines) h in
+      all_pass (action_ops action answers) (all_ops lines (drop (length (action_ops action answers)) answers)) (action_passes action answers p.0) (lines_pass lines (drop (length (action_ops action answers)) answers) p.1)
+
 -- ---- ranges
 
 range_narrow : (op : Op) → is_narrow_op op ≡ true → has_range op ≡ true
@@ -131,36 +162,13 @@ range_narrow (Put k v) h = refl
 range_narrow (Del k) h = refl
 range_narrow (Scan lo hi) h = (and_parts (nat_le lo hi) _ h).0
 
-all_have : (xs ys : List Op) → list_all has_range xs ≡ true → list_all has_range ys ≡ true → list_all has_range (xs ++ ys) ≡ true
-all_have [] ys h k = k
-all_have (x ∷ xs) ys h k = let p = and_parts (has_range x) (list_all has_range xs) h in ap (λ b. b && list_all has_range (xs ++ ys)) p.0 ∙ all_have xs ys p.1 k
-
-puts_have : (from to amount : ℕ) (source target : Option ℕ) → list_all has_range (puts from to amount source target) ≡ true
-puts_have from to amount (Some a) (Some b) = at _
-  where
-    at : (c : Bool) → list_all has_range (cond c (Put from (a - amount) ∷ Put to (b + amount) ∷ []) []) ≡ true
-    at true = refl
-    at false = refl
-puts_have from to amount None b = refl
-puts_have from to amount (Some a) None = refl
-
-action_have : (action : Action) (answers : List Answer) → is_narrow action ≡ true → list_all has_range (action_ops action answers) ≡ true
-action_have (Do op) answers h = ap (λ b. b && true) (range_narrow op h)
-action_have (Move from to amount) answers h = puts_have from to amount (first_value answers) (first_value (drop 1 answers))
-
-lines_have : (lines : List Action) (answers : List Answer) → list_all is_narrow lines ≡ true → list_all has_range (all_ops lines answers) ≡ true
-lines_have [] answers h = refl
-lines_have (action ∷ lines) answers h =
-    let p = and_parts (is_narrow action) (list_all is_narrow lines) h in
-    all_have (action_ops action answers) (all_ops lines (drop (length (action_ops action answers)) answers)) (action_have action answers p.0) (lines_have lines (drop (length (action_ops action answers)) answers) p.1)
-
 get_have : (ops : List Op) (n : ℕ) (op : Op) → list_all has_range ops ≡ true → slice_get ops n ≡ Some op → has_range op ≡ true
 get_have [] n op h k = absurd cc
 get_have (o ∷ ops) zero op h k = let same : o ≡ op = cc in ap has_range (sym same) ∙ (and_parts (has_range o) (list_all has_range ops) h).0
 get_have (o ∷ ops) (suc n) op h k = get_have ops n op (and_parts (has_range o) (list_all has_range ops) h).1 k
 
 pub next_has_range : (lines : List Action) (answers : List Answer) (op : Op) → list_all is_narrow lines ≡ true → next_op lines answers ≡ Some op → has_range op ≡ true
-next_has_range lines answers op h k = get_have (all_ops lines answers) (length answers) op (lines_have lines answers h) k
+next_has_range lines answers op h k = get_have (all_ops lines answers) (length answers) op (lines_pass has_range range_narrow (λ k. refl) (λ k v. refl) lines answers h) k
 
 -- ---- a try on its way
 

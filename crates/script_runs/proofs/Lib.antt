@@ -7,6 +7,11 @@ mod Retried
 pub mod TriesListed
 pub mod TriesSessions
 mod TriesTell
+mod Quiet
+mod BooksApart
+mod Wholes
+mod TryBooks
+mod TransactionBooks
 mod Alone
 mod Begun
 pub mod Laws

@@ -9,6 +9,7 @@ pub mod Tries
 pub mod Sessions
 pub mod TriesLaws
 pub mod TriesTell
+pub mod Books
 pub mod Examples
 pub mod Begun
 pub mod Alone

@@ -6,9 +6,11 @@
 #![tactic(auto)]
 
 mod behind;
+pub mod book_laws;
 mod calls;
 mod ends;
 pub mod examples;
+pub mod fates;
 pub mod promises;
 mod retrying;
 mod running;
