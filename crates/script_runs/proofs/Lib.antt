@@ -12,6 +12,8 @@ mod BooksApart
 mod Wholes
 mod TryBooks
 mod TransactionBooks
+mod Open
+mod Kept
 mod Alone
 mod Begun
 pub mod Laws

@@ -57,7 +57,7 @@ abbrev pub AreOpsOf : TxId → Birth → History → Type 0
 AreOpsOf tx birth es = AllByRecursion (IsOpOf tx birth) es
 
 module _ (tx : TxId) (birth : Birth) where
-  parts_are : (nth : ℕ) (parts : List (ℕ × Op)) (answers : List Answer) (es : History) → ArePartsAnswered tx birth nth parts answers es → AreOpsOf tx birth es
+  pub parts_are : (nth : ℕ) (parts : List (ℕ × Op)) (answers : List Answer) (es : History) → ArePartsAnswered tx birth nth parts answers es → AreOpsOf tx birth es
   parts_are nth _ _ _ no_part = tt
   parts_are nth _ _ _ (part p answer epoch e parts answers es is more) = (record { nth = nth; seen = is.seen; op = p.1; event = is.event }, parts_are nth parts answers es more)
 
@@ -66,21 +66,21 @@ module _ (tx : TxId) (birth : Birth) where
   operations_are splits _ _ _ _ (operation nth op answer ops answers here behind es is o more) =
       subst (AreOpsOf tx birth) (sym is) (all_append (IsOpOf tx birth) here behind (parts_are nth (parts_of splits op) o.answers here o.parts) (operations_are splits (suc nth) ops answers behind more))
 
-  way_is : (splits : List ℕ) (body : Body) (answers : List Answer) (es : History) → IsUnderWay splits body tx birth answers es → AreOpsOf tx birth es
+  pub way_is : (splits : List ℕ) (body : Body) (answers : List Answer) (es : History) → IsUnderWay splits body tx birth answers es → AreOpsOf tx birth es
   way_is splits body answers _ (operation_begun op es next b) = parts_are (suc (length answers)) b.done b.answers es b.answered
   way_is splits body answers _ (request_next all) = tt
 
-  death_is : (splits : List ℕ) (nth : ℕ) (op : Op) (cause : AbortCause) (n : ℕ) (es : History) → IsDeath splits tx birth nth op cause n es → AreOpsOf tx birth es
+  pub death_is : (splits : List ℕ) (nth : ℕ) (op : Op) (cause : AbortCause) (n : ℕ) (es : History) → IsDeath splits tx birth nth op cause n es → AreOpsOf tx birth es
   death_is splits nth op cause n es d =
       subst (AreOpsOf tx birth) (sym d.entries)
       (all_append (IsOpOf tx birth) d.before (d.last ∷ []) (parts_are nth d.done d.answers d.before d.answered) (record { nth = nth; seen = (d.died).seen; op = (d.next).1; event = (d.died).event }, tt))
 
   -- its entries: of operations, of a request and of a look, and drops
   module _ (P : ℕ × Entry → Type 0) (of_op : (e : ℕ × Entry) → IsOpOf tx birth e → P e) (of_drop : (e : ℕ × Entry) → (e.1).event ≡ Drop tx → P e) where
-    ops_all : (es : History) → AreOpsOf tx birth es → AllByRecursion P es
+    pub ops_all : (es : History) → AreOpsOf tx birth es → AllByRecursion P es
     ops_all es o = all_mono (IsOpOf tx birth) P of_op es o
 
-    drops_all : (before : History) (except : Option ℕ) (es : History) → AreDrops tx before except es → AllByRecursion P es
+    pub drops_all : (before : History) (except : Option ℕ) (es : History) → AreDrops tx before except es → AllByRecursion P es
     drops_all before except [] d = tt
     drops_all before except (e ∷ es) d = (of_drop e (d.0).event, drops_all before except es d.1)
 
@@ -129,17 +129,17 @@ born_as birth es k = all_mono (λ e. IsBornSo birth (e.1).event) (λ e. (p : TxI
 
 -- ---- rows
 
-op_asks_none : (tx : TxId) (birth : Birth) (e : ℕ × Entry) → IsOpOf tx birth e → request_of (e.1).event (e.1).outcome ≡ None
+pub op_asks_none : (tx : TxId) (birth : Birth) (e : ℕ × Entry) → IsOpOf tx birth e → request_of (e.1).event (e.1).outcome ≡ None
 op_asks_none tx birth e o = ap (λ ev. request_of ev (e.1).outcome) o.event
 
 ops_rows : (tx : TxId) (birth : Birth) (h es : History) → AreOpsOf tx birth es → rows_in h es ≡ []
 ops_rows tx birth h [] o = refl
 ops_rows tx birth h (e ∷ es) o = ap (λ r. row_at h e r ++ rows_in h es) (op_asks_none tx birth e o.0) ∙ ops_rows tx birth h es o.1
 
-asks : (tx : TxId) (home : ℕ) (e : ℕ × Entry) → IsRequest tx home Asked e → request_of (e.1).event (e.1).outcome ≡ Some tx
+pub asks : (tx : TxId) (home : ℕ) (e : ℕ × Entry) → IsRequest tx home Asked e → request_of (e.1).event (e.1).outcome ≡ Some tx
 asks tx home e a = ap (λ ev. request_of ev (e.1).outcome) a.event ∙ ap (request_of (Request tx a.touched)) a.outcome
 
-look_asks_none : (tx : TxId) (home : ℕ) (o : Outcome) (e : ℕ × Entry) → IsLook tx home o e → request_of (e.1).event (e.1).outcome ≡ None
+pub look_asks_none : (tx : TxId) (home : ℕ) (o : Outcome) (e : ℕ × Entry) → IsLook tx home o e → request_of (e.1).event (e.1).outcome ≡ None
 look_asks_none tx home o e l = ap (λ ev. request_of ev (e.1).outcome) l.event
 
 told_so : (tx : TxId) (home : ℕ) (e : ℕ × Entry) → IsLook tx home Acknowledged e → is_acknowledgement tx (e.1).event (e.1).outcome ≡ true
@@ -158,7 +158,7 @@ none_told tx home asked told a l =
 abbrev row_is : TxId → ℕ × Entry → List (Op × Answer) → Row
 row_is tx asked ops = record { tx = tx; point = place_of asked; ops = ops }
 
-acknowledged_rows : (splits : List ℕ) (body : Body) (birth : Birth) (t : Try) (d : DidItsLines splits body birth t) → whole_ops (told_in t.tx d.before) ≡ answered (all_ops body.actions t.answers) t.answers
+pub acknowledged_rows : (splits : List ℕ) (body : Body) (birth : Birth) (t : Try) (d : DidItsLines splits body birth t) → whole_ops (told_in t.tx d.before) ≡ answered (all_ops body.actions t.answers) t.answers
     → rows t.entries ≡ record { tx = t.tx; point = place_of d.asked; ops = answered (all_ops body.actions t.answers) t.answers } ∷ []
 acknowledged_rows splits body birth t d told =
     let tail = d.asked ∷ d.told ∷ [] in
