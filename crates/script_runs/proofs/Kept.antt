@@ -92,7 +92,7 @@ module _ (missed : Misses) (body : Body) (tx : TxId) (birth : Birth) (u w v : Se
     quiet : (behind : History) → AllByRecursion IsNoOp behind → has_op (d.entries ++ behind) ≡ some
     quiet behind n = no_op_behind d.entries behind n ∙ ops_touched tx birth d.entries d.touched some before_ops d.only d.all touching
 
-    did : (home : ℕ) (asked told : ℕ × Entry) → IsDone body Commit d.answers → IsRequest tx home AskedOut asked → IsLook tx home AcknowledgedOut told
+    abbrev did : (home : ℕ) (asked told : ℕ × Entry) → IsDone body Commit d.answers → IsRequest tx home AskedOut asked → IsLook tx home AcknowledgedOut told
         → DidItsLines u.splits body birth (try_with body tx birth Acknowledged u w d (asked ∷ told ∷ []))
     did home asked told all a l =
         record {
@@ -248,43 +248,26 @@ kept_part missed body tx birth end fate old new some u w x v d op next t g touch
 pub adds_none : (b : Book) → AddsRows [] b b
 adds_none b = record { rows_are = sym (append-nil b.rows); counts_are = refl }
 
-pub adds_from : (old mid new : Book) (more : List Row) (room : ℕ) → mid ≡ record old { room = room } → AddsRows more mid new → AddsRows more old new
-adds_from old mid new more room same a = record { rows_are = a.rows_are ∙ ap (λ b. b.rows ++ more) same; counts_are = a.counts_are ∙ ap (λ b. b.counts) same }
+-- ---- ends
 
--- there was no room for the row
-pub no_room : (missed : Misses) (tx : TxId) (birth : Birth) (nth : ℕ) (touched : ℕ → Bool) (ops : List (Op × Answer)) (old new : Book) (u : Seen) → u.standing ≡ Active tx birth nth touched → new ≡ old
-    → CommitKept missed tx birth nth touched ops (Stopped Memory) false old new u u
-no_room missed tx birth nth touched ops old new u active same =
-    record { now = u; told = inl (grows_none u, (nth, active)); given = refl; asked_is = sym (ap is_asked active); adds = subst (λ b. AddsRows [] old b) (sym same) (adds_none old) }
+pub end_committed : (missed : Misses) (tx : TxId) (birth : Birth) (nth : ℕ) (touched : ℕ → Bool) (ops : List (Op × Answer)) (ending : Ending) (end : TryEnd) (fate : Option Fate) (some asked : Bool) (old new : Book) (u v : Seen) → ending ≡ Commit
+    → u.standing ≡ Active tx birth nth touched → TouchedBy u.standing some → fate ≡ fate_told some end asked → CommitKept missed tx birth nth touched ops end asked old new u v → EndMade missed tx birth nth touched ops ending end fate old new u v
+end_committed missed tx birth nth touched ops ending end fate some asked old new u v is active t f k =
+    record {
+      some = some;
+      touching = subst (λ st. TouchedBy st some) active t;
+      asked = asked;
+      fate_is = f;
+      ended = subst (λ x. EndKept missed tx birth nth touched ops x end asked old new u v) (sym is) k;
+    }
 
--- ---- stages
-
-pub touched_active : (st : Standing) (some : Bool) → IsStage st (stage.Active some) → TouchedBy st some
-touched_active (Idle again) some h = absurd cc
-touched_active (Active tx birth nth touched) some (b, is, t) = let same : some ≡ b = cc in subst (IsTouching touched) (sym same) t
-touched_active seen.Asked some h = absurd cc
-
-pub touched_idle : (st : Standing) → IsStage st stage.Idle → TouchedBy st true
-touched_idle (Idle again) h = refl
-touched_idle (Active tx birth nth touched) (b, is, t) = absurd cc
-touched_idle seen.Asked h = refl
-
-pub touched_asked : (st : Standing) → IsStage st stage.Asked → TouchedBy st true
-touched_asked (Idle again) h = refl
-touched_asked (Active tx birth nth touched) (b, is, t) = absurd cc
-touched_asked seen.Asked h = refl
-
-pub asked_stage : (st : Standing) → IsStage st stage.Asked → true ≡ is_asked st
-asked_stage (Idle again) h = absurd cc
-asked_stage (Active tx birth nth touched) (b, is, t) = absurd cc
-asked_stage seen.Asked h = refl
-
-pub idle_stage : (st : Standing) → IsStage st stage.Idle → false ≡ is_asked st
-idle_stage (Idle again) h = refl
-idle_stage (Active tx birth nth touched) h = refl
-idle_stage seen.Asked h = absurd cc
-
-pub active_stage : (st : Standing) (some : Bool) → IsStage st (stage.Active some) → false ≡ is_asked st
-active_stage (Idle again) some h = refl
-active_stage (Active tx birth nth touched) some h = refl
-active_stage seen.Asked some h = absurd cc
+pub end_aborted : (missed : Misses) (tx : TxId) (birth : Birth) (nth : ℕ) (touched : ℕ → Bool) (ops : List (Op × Answer)) (ending : Ending) (end : TryEnd) (fate : Option Fate) (some : Bool) (book : Book) (u v : Seen) → ending ≡ Abort
+    → u.standing ≡ Active tx birth nth touched → TouchedBy u.standing some → fate ≡ fate_told some end false → LineAborts missed tx birth touched end u v → EndMade missed tx birth nth touched ops ending end fate book book u v
+end_aborted missed tx birth nth touched ops ending end fate some book u v is active t f k =
+    record {
+      some = some;
+      touching = subst (λ st. TouchedBy st some) active t;
+      asked = false;
+      fate_is = f;
+      ended = subst (λ x. EndKept missed tx birth nth touched ops x end false book book u v) (sym is) (k, refl, adds_none book);
+    }

@@ -14,6 +14,7 @@ mod TryBooks
 mod TransactionBooks
 mod Open
 mod Kept
+mod KeptTries
 mod Alone
 mod Begun
 pub mod Laws

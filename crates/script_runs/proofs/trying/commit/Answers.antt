@@ -1,5 +1,4 @@
 use Rattle.script_runs.proofs.Ending.{active_where_down}
-use Rattle.script_runs.proofs.Kept.{no_room, adds_from}
 use Rattle.script_runs.proofs.trying.commit.Goals as goal
 
 pub give_up-requires-clause-active : goal.give_up-requires-clause-active
