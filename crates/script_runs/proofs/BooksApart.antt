@@ -1,27 +1,24 @@
 -- Rows and counts of two histories that have no transaction and no birth in common.
-use Rattle.std.proofs.Common.{◌≡◌, refl, sym, ap, ◌∙◌, ℕ, suc, ◌+◌, ◌<◌, ◌≤◌, Bool, true, false, cond, ◌||◌, ◌&&◌, List, [], ◌∷◌, ◌++◌, append_assoc, Option, Some, None, arith}
-use Rattle.std.specs.List.{AllByRecursion, list_any}
-use Rattle.std.proofs.lemmas.Bool.{false_from_ne_true}
-use Rattle.std.proofs.lemmas.List.Folds.{list_any-append}
+use Rattle.std.proofs.Common.{◌≡◌, refl, sym, ap, ◌∙◌, ℕ, suc, ◌+◌, Bool, true, false, cond, ◌||◌, ◌&&◌, [], ◌∷◌, ◌++◌, append_assoc, Option, Some, None, arith}
+use Rattle.std.specs.List.{AllByRecursion}
 use Rattle.std.specs.Ordering.{nat_cmp}
 use Rattle.clv_base.specs.declared.names.TxId.{TxId}
 use Rattle.clv_base.specs.declared.names.Birth.{Birth}
 use Rattle.clv_base.specs.declared.events.Event.{Event}
-use Rattle.clv_base.specs.declared.events.Event.TheVariants.{Op, Request, Look, Drop}
+use Rattle.clv_base.specs.declared.events.Event.TheVariants.{Op, Request}
 use Rattle.clv_base.specs.declared.events.Outcome.{Outcome}
 use Rattle.clv_base.specs.declared.events.Outcome.TheVariants.{Asked}
 use Rattle.clv_base.specs.declared.events.Entry.{Entry}
 use Rattle.clv_base.specs.Journals.{History}
 use Rattle.clv_base.specs.History.{acknowledged_in, request_of}
 use Rattle.clv_base.proofs.SameNames.{then_eq, nat_cmp_true}
-use Rattle.law_base.proofs.Bools.{or_false, none_or}
+use Rattle.law_base.proofs.Bools.{none_or}
 use Rattle.law_base.proofs.Lists.{all_mono}
-use Rattle.session_books.specs.declared.books.Row.{Row}
-use Rattle.session_books.specs.Told.{told_in, try_of, same_birth, is_of_birth, has_birth}
+use Rattle.session_books.specs.Told.{try_of, same_birth, is_of_birth, has_birth}
 use Rattle.session_books.specs.declared.counts.Counts.{Counts}
 use Rattle.session_books.specs.Counts.{nothing_counted, counted, count_try, counts_in, is_open, is_acknowledged_try, has_acknowledged_try}
 use Rattle.session_books.specs.Books.{row_of, row_at, rows_in, rows, whole_ops}
-use Rattle.script_runs.proofs.Quiet.{name_of, AreQuiet, AreNamed, TellAlike, first_alike, second_alike, any_none, any_first, any_second, any_same}
+use Rattle.script_runs.proofs.Quiet.{name_of, AreQuiet, AreNamed, TellAlike, first_alike, second_alike, any_first, any_second, any_same}
 
 -- ---- rows
 

@@ -1,26 +1,23 @@
 -- The end of a try.
-use Rattle.std.proofs.Common.{◌≡◌, refl, sym, ap, subst, ◌∙◌, ◌⊎◌, inl, inr, ℕ, suc, Bool, true, List, [], ◌∷◌, ◌++◌, length, append-nil, append_assoc, Option, Some, None, Result, Ok, Err, arith}
+use Rattle.std.proofs.Common.{◌≡◌, refl, sym, ap, subst, ◌∙◌, ◌⊎◌, inl, inr, ℕ, Bool, true, List, [], ◌∷◌, ◌++◌, length, append-nil, Option, None, Result, Ok, Err, arith}
 use Rattle.clv_base.specs.declared.names.TxId.{TxId}
 use Rattle.clv_base.specs.declared.names.Birth.{Birth}
-use Rattle.clv_base.specs.declared.ops.Op.{Op}
 use Rattle.clv_base.specs.declared.ops.Answer.{Answer}
 use Rattle.clv_base.specs.Journals.{History}
 use Rattle.script_lang.specs.declared.actions.Ending.{Ending}
-use Rattle.script_lang.specs.declared.actions.Ending.TheVariants.{Commit, Abort}
 use Rattle.script_lang.specs.Bodies.{Body}
 use Rattle.script_lang.specs.Following.{next_op}
 use Rattle.script_runs.specs.declared.ends.StopCause.{StopCause}
 use Rattle.script_runs.specs.declared.ends.StopCause.TheVariants.{Down, Unsettled, Worn, Memory}
 use Rattle.script_runs.specs.declared.ends.TryEnd.{TryEnd}
 use Rattle.script_runs.specs.declared.ends.TryEnd.TheVariants.{Acknowledged, Empty, Asked, Aborted, Stopped}
-use Rattle.script_runs.specs.Operations.{ArePartsAnswered, IsBegun, IsDeath, parts_of}
-use Rattle.script_runs.specs.Tries.{Try, IsDone, EndsBy, AreDrops, is_touched, operation_begun, request_next, acknowledged, nothing, by_line, in_operation, at_request, at_look, down, unsettled, wanting_before, wanting_behind, unanswered, worn_at_line}
+use Rattle.script_runs.specs.Tries.{Try, IsDone, EndsBy, AreDrops, is_touched}
 use Rattle.script_runs.specs.Dropped.{HasDropped, LetsGo}
 use Rattle.script_runs.specs.Seen.{Active, Seen, Misses, Grows, IsWornOut}
-use Rattle.script_runs.specs.Told.{AreDropsOf, DropsEach, OperateTold, CommitTold, AbortTold, GivenUp, IsActiveWhereDown, LineAborts, EndTold}
+use Rattle.script_runs.specs.Told.{AreDropsOf, DropsEach, CommitTold, AbortTold, GivenUp, IsActiveWhereDown}
 use Rattle.script_runs.specs.Lines.{HasDone}
 use Rattle.script_runs.specs.Tried.{LeftBy, Tried}
-use Rattle.script_runs.proofs.Doing.{grows_on, touches_on, touches_all}
+use Rattle.script_runs.proofs.Doing.{grows_on}
 
 -- ---- a shard that was down
 

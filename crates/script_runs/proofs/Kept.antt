@@ -1,5 +1,5 @@
 -- A try as it is kept in a session's book.
-use Rattle.std.proofs.Common.{◌≡◌, refl, sym, ap, subst, ◌∙◌, ◌⊎◌, inl, inr, ℕ, suc, Bool, true, List, [], ◌∷◌, ◌++◌, length, append-nil, append_assoc, Option, Some, None, Result, Ok, Err, arith}
+use Rattle.std.proofs.Common.{◌≡◌, refl, sym, ap, subst, ◌∙◌, inl, inr, ℕ, suc, Bool, true, List, [], ◌∷◌, ◌++◌, length, append-nil, append_assoc, Option, Some, None, Err}
 use Rattle.clv_base.specs.declared.names.TxId.{TxId}
 use Rattle.clv_base.specs.declared.names.Birth.{Birth}
 use Rattle.clv_base.specs.declared.ops.Op.{Op}
@@ -8,20 +8,19 @@ use Rattle.clv_base.specs.Journals.{History}
 use Rattle.script_lang.specs.declared.actions.Ending.{Ending}
 use Rattle.script_lang.specs.declared.actions.Ending.TheVariants.{Commit, Abort}
 use Rattle.script_lang.specs.Bodies.{Body}
-use Rattle.script_lang.specs.Following.{next_op}
-use Rattle.script_runs.specs.declared.ends.StopCause.{StopCause}
+use Rattle.script_lang.specs.Following.{next_op, all_ops}
 use Rattle.script_runs.specs.declared.ends.StopCause.TheVariants.{Down, Unsettled, Worn, Memory}
 use Rattle.script_runs.specs.declared.ends.TryEnd.{TryEnd}
 use Rattle.script_runs.specs.declared.ends.TryEnd.TheVariants.{Acknowledged, Empty, Asked, Aborted, Stopped}
-use Rattle.script_runs.specs.Operations.{ArePartsAnswered, IsBegun, IsDeath, parts_of}
-use Rattle.script_runs.specs.Tries.{Try, IsDone, EndsBy, AreDrops, is_touched, operation_begun, request_next, acknowledged, nothing, by_line, in_operation, at_request, at_look, down, unsettled, wanting_before, wanting_behind, unanswered, worn_at_line}
-use Rattle.script_runs.specs.Dropped.{HasDropped, LetsGo}
-use Rattle.script_runs.specs.Seen.{Active, Seen, Misses, Grows, IsWornOut}
-use Rattle.script_runs.specs.Told.{AreDropsOf, DropsEach, OperateTold, CommitTold, AbortTold, GivenUp, IsActiveWhereDown, LineAborts, EndTold}
+use Rattle.script_runs.specs.Operations.{ArePartsAnswered, IsBegun, IsDeath, parts_of, AreOperations}
+use Rattle.script_runs.specs.Tries.{IsDone, EndsBy, is_touched, operation_begun, request_next, acknowledged, nothing, by_line, in_operation, at_request, at_look, down, unsettled, wanting_before, wanting_behind, unanswered, worn_at_line, ops_so_far, IsRequest, IsLook}
+use Rattle.script_runs.specs.Dropped.{LetsGo}
+use Rattle.script_runs.specs.Seen.{Active, Seen, Misses, Grows, IsTouching}
+use Rattle.script_runs.specs.Told.{OperateTold, CommitTold, GivenUp, LineAborts, TouchesJust, StaysActive, place_of}
 use Rattle.script_runs.specs.Lines.{HasDone}
-use Rattle.script_runs.specs.Tried.{LeftBy, Tried}
-use Rattle.script_runs.proofs.Doing.{grows_on, touches_on, touches_all}
-use Rattle.std.specs.List.{list_all, list_any}
+use Rattle.script_runs.specs.Tried.{LeftBy}
+use Rattle.script_runs.proofs.Doing.{grows_on, touches_on, touches_all, lines_pass, past_ops}
+use Rattle.std.specs.List.{list_all, AllByRecursion}
 use Rattle.std.proofs.lemmas.Bool.{both_ways}
 use Rattle.std.proofs.lemmas.List.Folds.{list_any-append}
 use Rattle.std.specs.Prelude.{false, is_some}
@@ -31,30 +30,18 @@ use Rattle.clv_base.specs.Shards.{are_splits}
 use Rattle.clv_base.proofs.SameNames.{or_left, or_right}
 use Rattle.law_base.proofs.Lists.{all_append}
 use Rattle.script_lang.specs.Laws.{is_narrow}
-use Rattle.script_lang.specs.Following.{all_ops}
 use Rattle.session_books.specs.declared.books.Row.{Row}
 use Rattle.session_books.specs.Told.{try_of}
 use Rattle.session_books.specs.Books.{Book, rows}
 use Rattle.script_runs.specs.declared.fates.Fate.{Fate}
-use Rattle.script_runs.specs.Tries.{ops_so_far}
 use Rattle.script_runs.specs.TriesLaws.{DidItsLines}
-use Rattle.script_runs.specs.declared.calls.Stage.TheVariants as stage
-use Rattle.script_runs.specs.Seen.{Standing, Idle, IsTouching, IsStage}
-use Rattle.script_runs.specs.Told.{TouchesJust, StaysActive}
-use Rattle.script_runs.specs.Tries.{IsRequest, IsLook}
 use Rattle.clv_base.specs.declared.causes.AbortCause.{AbortCause}
 use Rattle.clv_base.specs.declared.events.Outcome.TheVariants.{Dead, Asked as AskedOut, Acknowledged as AcknowledgedOut, Aborted as AbortedOut}
-use Rattle.std.specs.List.{AllByRecursion}
-use Rattle.script_runs.proofs.Doing.{grows_none}
-use Rattle.script_runs.specs.Seen as seen
-use Rattle.script_runs.specs.Told.{place_of}
 use Rattle.script_runs.specs.Books.{answered, has_op, is_acknowledged}
 use Rattle.script_runs.specs.Keeping.{TouchedBy, is_asked, fate_told, row_told, AddsRows, CommitKept, EndKept, EndMade, TriedKept}
-use Rattle.script_runs.specs.Operations.{AreOperations}
 use Rattle.script_runs.proofs.Ending.{tried, try_with, drops_as, let_go, let_go_or, no_answers, more_touched, done_as}
-use Rattle.script_runs.proofs.Doing.{lines_pass, past_ops}
 use Rattle.script_runs.proofs.Wholes.{told_whole, has_bounds, bounds_narrow}
-use Rattle.script_runs.proofs.TryBooks.{IsOpOf, AreOpsOf, operations_are, parts_are, way_is, death_is, acknowledged_rows, others_have_none}
+use Rattle.script_runs.proofs.TryBooks.{IsOpOf, AreOpsOf, operations_are, parts_are, way_is, acknowledged_rows, others_have_none}
 use Rattle.script_runs.proofs.Open.{first_op, ops_touched, IsNoOp, request_no_op, look_no_op, drops_no_op, no_op_behind, stands, open_by}
 
 module _ (missed : Misses) (body : Body) (tx : TxId) (birth : Birth) (u w v : Seen) (d : HasDone tx birth body.actions u w) (fate : Option Fate) (old new : Book) (some : Bool) where

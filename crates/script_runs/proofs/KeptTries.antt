@@ -1,18 +1,15 @@
 -- A transaction's tries, and a session, as they are kept in a book.
-use Rattle.std.proofs.Common.{◌≡◌, refl, sym, ap, subst, ◌∙◌, ℕ, suc, ◌+◌, ◌<◌, ◌≤◌, Bool, true, List, [], ◌∷◌, ◌++◌, append_assoc, append-nil, Option, Some, None, Result, Ok, Err, arith}
-use Rattle.std.specs.List.{AllByRecursion}
+use Rattle.std.proofs.Common.{◌≡◌, refl, sym, ap, subst, ◌∙◌, ℕ, suc, ◌<◌, ◌≤◌, List, [], ◌∷◌, ◌++◌, append_assoc, append-nil, Option, Some, None, Result, Err, arith}
 use Rattle.clv_base.specs.declared.names.TxId.{TxId}
 use Rattle.clv_base.specs.declared.names.Birth.{Birth}
 use Rattle.clv_base.specs.declared.events.Event.{Event}
 use Rattle.clv_base.specs.declared.events.Event.TheVariants.{Op, Request, Look}
-use Rattle.clv_base.specs.declared.events.Entry.{Entry}
 use Rattle.clv_base.specs.Shards.{are_splits}
 use Rattle.clv_base.specs.Journals.{History}
 use Rattle.law_base.proofs.Lists.{all_append, all_mono}
 use Rattle.script_lang.specs.Bodies.{Body}
 use Rattle.session_books.specs.declared.counts.Counts.{Counts}
 use Rattle.session_books.specs.Counts.{counts_in}
-use Rattle.session_books.specs.declared.books.Row.{Row}
 use Rattle.session_books.specs.Books.{Book, IsBook, rows}
 use Rattle.script_runs.specs.declared.ends.StopCause.{StopCause}
 use Rattle.script_runs.specs.declared.ends.StopCause.TheVariants.{Down, Unsettled, Worn, Memory}
@@ -22,7 +19,7 @@ use Rattle.script_runs.specs.Tries.{Try}
 use Rattle.script_runs.specs.Sessions.{entries_of}
 use Rattle.script_runs.specs.Seen.{Seen, Misses, Grows, raised}
 use Rattle.script_runs.specs.Told.{Begins, BeginTold}
-use Rattle.script_runs.specs.Ran.{stop_in, InTriesTold, Ran}
+use Rattle.script_runs.specs.Ran.{stop_in}
 use Rattle.script_runs.specs.Books.{rows_by, fate_of, else_fate, fate_in, count_as, total, IsUpTo, AreUpTo, IsKept}
 use Rattle.script_runs.specs.Keeping.{AddsRows, TriesKept}
 use Rattle.script_runs.proofs.Tries.{Trying, ran}

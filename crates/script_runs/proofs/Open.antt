@@ -1,15 +1,14 @@
 -- Whether a try made an operation, and whether its request stands without an answer, by how it ended.
-use Rattle.std.proofs.Common.{◌≡◌, refl, sym, ap, subst, ◌∙◌, ◌⊎◌, inl, inr, ℕ, suc, Bool, true, false, ◌||◌, ◌&&◌, ◌==◌, List, [], ◌∷◌, ◌++◌, length, Option, Some, None, eq-eqb}
+use Rattle.std.proofs.Common.{◌≡◌, refl, ap, ◌∙◌, ℕ, suc, Bool, true, false, ◌||◌, ◌&&◌, ◌==◌, List, [], ◌∷◌, ◌++◌, length, Option, Some, None, eq-eqb}
 use Rattle.std.specs.Prelude.{not, is_some}
-use Rattle.std.specs.List.{AllByRecursion, list_any}
+use Rattle.std.specs.List.{AllByRecursion}
 use Rattle.std.proofs.lemmas.Bool.{both_ways}
 use Rattle.std.proofs.lemmas.List.Folds.{list_any-append}
 use Rattle.clv_base.specs.declared.names.TxId.{TxId}
 use Rattle.clv_base.specs.declared.names.Birth.{Birth}
 use Rattle.clv_base.specs.declared.causes.AbortCause.{AbortCause}
-use Rattle.clv_base.specs.declared.ops.Op.{Op}
 use Rattle.clv_base.specs.declared.ops.Answer.{Answer}
-use Rattle.clv_base.specs.declared.events.Event.TheVariants.{Op as OpEvent, Request, Look, Drop}
+use Rattle.clv_base.specs.declared.events.Event.TheVariants.{Request}
 use Rattle.clv_base.specs.declared.events.Outcome.{Outcome}
 use Rattle.clv_base.specs.declared.events.Outcome.TheVariants.{Dead, Asked, Acknowledged, Aborted}
 use Rattle.clv_base.specs.declared.events.Entry.{Entry}
@@ -28,7 +27,7 @@ use Rattle.script_runs.specs.Tries.{IsRequest, IsLook, AreDrops, EndsBy, acknowl
 use Rattle.script_runs.specs.Seen.{IsTouching}
 use Rattle.script_runs.specs.Books.{has_op}
 use Rattle.script_runs.proofs.Quiet.{any_none, any_first}
-use Rattle.script_runs.proofs.TryBooks.{IsOpOf, AreOpsOf, parts_are, way_is, death_is, ops_all, drops_all, op_asks_none, look_asks_none, asks}
+use Rattle.script_runs.proofs.TryBooks.{IsOpOf, AreOpsOf, parts_are, way_is, death_is, op_asks_none, asks}
 
 -- ---- operations
 

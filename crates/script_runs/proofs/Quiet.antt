@@ -1,12 +1,11 @@
 -- What a history tells of a transaction, where some of its entries tell nothing of it.
-use Rattle.std.proofs.Common.{◌≡◌, refl, sym, ap, ◌∙◌, ℕ, ◌<◌, ◌≤◌, Bool, true, false, cond, ◌||◌, ◌&&◌, List, [], ◌∷◌, ◌++◌, Option, Some, None, arith}
+use Rattle.std.proofs.Common.{◌≡◌, refl, sym, ap, ◌∙◌, ℕ, ◌<◌, ◌≤◌, Bool, false, cond, ◌||◌, ◌&&◌, List, [], ◌∷◌, ◌++◌, Option, Some, None, arith}
 use Rattle.std.specs.Prelude.{not}
 use Rattle.std.specs.List.{AllByRecursion, list_any}
 use Rattle.std.proofs.lemmas.List.Folds.{list_any-append}
 use Rattle.clv_base.specs.declared.names.TxId.{TxId}
-use Rattle.clv_base.specs.declared.names.Birth.{Birth}
 use Rattle.clv_base.specs.declared.events.Event.{Event}
-use Rattle.clv_base.specs.declared.events.Event.TheVariants.{Op, Request, Look, Drop}
+use Rattle.clv_base.specs.declared.events.Event.TheVariants.{Op, Request, Look}
 use Rattle.clv_base.specs.declared.events.Outcome.{Outcome}
 use Rattle.clv_base.specs.declared.events.Outcome.TheVariants.{Answered, Asked, Acknowledged}
 use Rattle.clv_base.specs.declared.events.Entry.{Entry}
@@ -17,7 +16,7 @@ use Rattle.clv_base.proofs.SameNames.{tx_ne}
 use Rattle.law_base.proofs.Bools.{or_false}
 use Rattle.law_base.proofs.Lists.{all_mono}
 use Rattle.session_books.specs.declared.told.Told.{Told}
-use Rattle.session_books.specs.Told.{told_by, with_told, told_in, looked_by, is_tx, has_look, try_of}
+use Rattle.session_books.specs.Told.{told_by, with_told, told_in, looked_by, is_tx, has_look}
 use Rattle.session_books.specs.Counts.{is_open}
 
 -- the transaction whose operation, request or look it is

@@ -1,14 +1,13 @@
 -- What a transaction's tries add to a book.
 use Rattle.std.proofs.Common.{◌≡◌, refl, sym, ap, subst, ◌∙◌, ℕ, suc, ◌+◌, ◌<◌, ◌≤◌, Bool, true, false, cond, ◌||◌, ◌&&◌, List, [], ◌∷◌, ◌++◌, append-nil, Option, Some, None, arith}
 use Rattle.std.specs.Prelude.{is_some}
-use Rattle.std.specs.List.{AllByRecursion, list_any}
+use Rattle.std.specs.List.{AllByRecursion}
 use Rattle.std.proofs.lemmas.Bool.{both_ways, false_from_ne_true}
 use Rattle.std.proofs.lemmas.List.Folds.{list_any-append}
 use Rattle.clv_base.specs.declared.names.TxId.{TxId}
 use Rattle.clv_base.specs.declared.names.Birth.{Birth}
 use Rattle.clv_base.specs.declared.events.Event.{Event}
-use Rattle.clv_base.specs.declared.events.Event.TheVariants.{Op, Request, Look, Drop}
-use Rattle.clv_base.specs.declared.events.Entry.{Entry}
+use Rattle.clv_base.specs.declared.events.Event.TheVariants.{Op, Request, Look}
 use Rattle.clv_base.specs.Journals.{History}
 use Rattle.clv_base.specs.History.{acknowledged_in}
 use Rattle.clv_base.proofs.SameNames.{or_right}
@@ -28,8 +27,8 @@ use Rattle.script_runs.specs.Tries.{Try, IsTry}
 use Rattle.script_runs.specs.Sessions.{InTries, last, none_left, stopped_between, further, is_to_retry, entries_of}
 use Rattle.script_runs.specs.Ran.{Rise, serials}
 use Rattle.script_runs.specs.Books.{rows_by, has_op, is_acknowledged, fate_by, fate_of, else_fate, fate_in, count_as, IsUpTo, AreUpTo, TransactionsAddToBooks}
-use Rattle.script_runs.proofs.Quiet.{name_of, AreQuiet, AreNamed, TellAlike, first_alike, second_alike, any_first, any_second, quiet_past, quiet_before}
-use Rattle.script_runs.proofs.BooksApart.{AreApart, AreBornApart, AreBorn, the_counts, AreTried, CountAlike, plus, rows_apart, counts_apart, counts_append, counts_alike, tries_alike, other_tries, both_tried, named_as, named_try, birth_none, same_stamp}
+use Rattle.script_runs.proofs.Quiet.{name_of, AreQuiet, AreNamed, TellAlike, first_alike, second_alike, any_second, quiet_past, quiet_before}
+use Rattle.script_runs.proofs.BooksApart.{AreApart, AreBornApart, AreBorn, the_counts, CountAlike, plus, rows_apart, counts_apart, counts_alike, tries_alike, both_tried, named_as, birth_none, same_stamp}
 use Rattle.script_runs.proofs.TryBooks.{try_named, try_births, try_fate, not_acknowledged, birth_or_none}
 
 -- ---- names of tries
@@ -294,5 +293,5 @@ transactions_add_to_books splits run walker most tr cause es serial next clock i
       rows_apart es new apart ∙ ap (λ l. rows es ++ l) (tries_rows splits tr.body tr.birth serial next tr.tries is.each rise),
       counts_apart es new apart (born_apart clock es new low_births high_births) ∙ ap (plus (counts_in es es)) so.counts ∙ add_fate (fate_in tr.tries) (counts_in es es),
       all_up_to next (tr.birth).stamp new (named_as (IsWithin serial next) (λ u. u.serial ≤ next) new (λ u h. h.1) named)
-      (born_so (λ x. x ≡ tr.birth) (λ x. x.stamp ≤ (tr.birth).stamp) new (λ x h. subst (λ (y : Birth). y.stamp ≤ (tr.birth).stamp) (sym h) (omega arith)) births),
+          (born_so (λ x. x ≡ tr.birth) (λ x. x.stamp ≤ (tr.birth).stamp) new (λ x h. subst (λ (y : Birth). y.stamp ≤ (tr.birth).stamp) (sym h) (omega arith)) births),
     )

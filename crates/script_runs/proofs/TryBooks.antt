@@ -1,7 +1,7 @@
 -- What a try adds to a book: its row, and as what it is counted.
-use Rattle.std.proofs.Common.{◌≡◌, refl, sym, ap, subst, ◌∙◌, ◌⊎◌, inl, inr, ℕ, suc, ◌+◌, ◌<◌, ◌≤◌, Bool, true, false, cond, ◌||◌, ◌&&◌, List, [], ◌∷◌, ◌++◌, length, append_assoc, append-nil, Option, Some, None, arith}
-use Rattle.std.specs.Prelude.{not, is_some}
-use Rattle.std.specs.List.{AllByRecursion, list_any, list_all}
+use Rattle.std.proofs.Common.{◌≡◌, refl, sym, ap, subst, ◌∙◌, ℕ, suc, Bool, true, false, cond, ◌||◌, ◌&&◌, List, [], ◌∷◌, ◌++◌, length, append-nil, Option, Some, None}
+use Rattle.std.specs.Prelude.{is_some}
+use Rattle.std.specs.List.{AllByRecursion}
 use Rattle.std.proofs.lemmas.Bool.{both_ways, false_from_ne_true}
 use Rattle.std.proofs.lemmas.List.Folds.{list_any-append}
 use Rattle.clv_base.specs.declared.names.TxId.{TxId}
@@ -12,35 +12,32 @@ use Rattle.clv_base.specs.declared.ops.Answer.{Answer}
 use Rattle.clv_base.specs.declared.events.Event.{Event}
 use Rattle.clv_base.specs.declared.events.Event.TheVariants.{Op as OpEvent, Request, Look, Drop}
 use Rattle.clv_base.specs.declared.events.Outcome.{Outcome}
-use Rattle.clv_base.specs.declared.events.Outcome.TheVariants.{Answered, Dead, Asked, Acknowledged, Aborted, Dropped}
+use Rattle.clv_base.specs.declared.events.Outcome.TheVariants.{Dead, Asked, Acknowledged, Aborted}
 use Rattle.clv_base.specs.declared.events.Entry.{Entry}
-use Rattle.clv_base.specs.Orders.{tx_same}
 use Rattle.clv_base.specs.Journals.{History}
-use Rattle.clv_base.specs.History.{acknowledged_in, is_acknowledgement, has_request, request_of}
+use Rattle.clv_base.specs.History.{acknowledged_in, is_acknowledgement, request_of}
 use Rattle.clv_base.proofs.SameNames.{tx_self, or_left, or_right}
-use Rattle.law_base.proofs.Bools.{same_truth, by_bool}
+use Rattle.law_base.proofs.Bools.{same_truth}
 use Rattle.law_base.proofs.Lists.{all_append, all_mono}
 use Rattle.law_base.proofs.Names.{birth_self}
 use Rattle.script_lang.specs.Bodies.{Body}
 use Rattle.script_lang.specs.Following.{all_ops}
-use Rattle.session_books.specs.Told.{told_in, with_told, told_by, try_of, looked_by, is_tx, has_look, same_birth, is_of_birth, has_birth}
+use Rattle.session_books.specs.Told.{told_in, with_told, told_by, try_of, same_birth, is_of_birth, has_birth}
 use Rattle.session_books.specs.declared.counts.Counts.{Counts}
 use Rattle.session_books.specs.Counts.{nothing_counted, counted, count_try, counts_in, is_open, is_acknowledged_try, has_acknowledged_try}
 use Rattle.session_books.specs.declared.books.Row.{Row}
 use Rattle.session_books.specs.Books.{row_of, row_at, rows_in, rows, whole_ops}
 use Rattle.script_runs.specs.declared.ends.TryEnd.{TryEnd}
 use Rattle.script_runs.specs.declared.ends.TryEnd.TheVariants as end
-use Rattle.script_runs.specs.declared.fates.Fate.{Fate}
 use Rattle.script_runs.specs.Operations.{parts_of, ArePartsAnswered, no_part, part, AreOperations, no_operation, operation, IsDeath}
 use Rattle.script_runs.specs.Tries.{Try, IsTry, IsRequest, IsLook, AreDrops, IsUnderWay, operation_begun, request_next, EndsBy, acknowledged, nothing, by_line, in_operation, at_request, at_look, down, unsettled, wanting_before, wanting_behind, unanswered, worn_at_line, ops_so_far}
-use Rattle.script_runs.specs.Sessions.{is_to_retry}
 use Rattle.script_runs.specs.TriesLaws.{DidItsLines, IsBornSo}
 use Rattle.script_runs.specs.Told.{place_of}
 use Rattle.script_runs.specs.Books.{answered, AcknowledgedHaveRows, OthersHaveNone, has_op, is_acknowledged, fate_by, fate_of, count_as}
 use Rattle.script_runs.proofs.TriesListed.{acknowledged_did_their_lines, try_born}
 use Rattle.script_runs.proofs.TriesTell.{acknowledged_end_so}
 use Rattle.script_runs.proofs.Doing.{lines_pass}
-use Rattle.script_runs.proofs.Quiet.{name_of, AreNamed, any_none, any_second}
+use Rattle.script_runs.proofs.Quiet.{name_of, AreNamed}
 use Rattle.script_runs.proofs.BooksApart.{rows_append, rows_none, AreTried, AreBorn, named_try}
 use Rattle.script_runs.proofs.Wholes.{told_append, told_whole, has_bounds, bounds_narrow}
 

@@ -1,20 +1,18 @@
 -- The operations of a try's lines, as its entries tell them whole.
-use Rattle.std.proofs.Common.{◌≡◌, ◌≢◌, refl, sym, ap, subst, ◌∙◌, ◌⊎◌, inl, inr, ℕ, zero, suc, pred, ◌+◌, ◌-◌, ◌<◌, ◌≤◌, ◌^◌, Bool, true, false, cond, max, min, nat_le, nat_lt, ◌&&◌, ◌==◌, List, [], ◌∷◌, ◌++◌, append_assoc, append-nil, length, Option, Some, None, arith, eq-eqb}
+use Rattle.std.proofs.Common.{◌≡◌, refl, sym, ap, subst, ◌∙◌, ◌⊎◌, inl, inr, ℕ, zero, suc, pred, ◌+◌, ◌<◌, ◌≤◌, ◌^◌, Bool, true, false, cond, max, min, nat_le, nat_lt, ◌&&◌, List, [], ◌∷◌, ◌++◌, length, Option, Some, None, arith, eq-eqb}
 use Rattle.std.specs.List.{AllByRecursion, list_all}
-use Rattle.std.proofs.lemmas.Bool.{both_ways, and_parts, cases_lt, leb-true, leb-false, ltb-true, ltb-false, lt-ltb, le-ltb, le-leb, lt-leb, ne_eqb}
+use Rattle.std.proofs.lemmas.Bool.{and_parts, cases_lt, leb-true, leb-false, ltb-true, ltb-false, ne_eqb}
 use Rattle.clv_base.specs.declared.names.TxId.{TxId}
 use Rattle.clv_base.specs.declared.names.Birth.{Birth}
 use Rattle.clv_base.specs.declared.ops.Op.{Op}
 use Rattle.clv_base.specs.declared.ops.Op.TheVariants.{Get, Put, Del, Scan}
 use Rattle.clv_base.specs.declared.ops.Answer.{Answer}
 use Rattle.clv_base.specs.declared.ops.Answer.TheVariants.{Value, Pairs}
-use Rattle.clv_base.specs.declared.events.Event.{Event}
 use Rattle.clv_base.specs.declared.events.Event.TheVariants.{Op as OpEvent}
-use Rattle.clv_base.specs.declared.events.Outcome.{Outcome}
 use Rattle.clv_base.specs.declared.events.Outcome.TheVariants.{Answered}
 use Rattle.clv_base.specs.declared.events.Entry.{Entry}
 use Rattle.clv_base.specs.Orders.{tx_same}
-use Rattle.clv_base.specs.Shards.{shard_of, shard_count, first_key, span, span_between, are_splits}
+use Rattle.clv_base.specs.Shards.{shard_of, shard_count, first_key, are_splits}
 use Rattle.clv_base.specs.Journals.{History}
 use Rattle.clv_base.proofs.SameNames.{tx_self}
 use Rattle.clv_base.proofs.Spans.{Rises, rises, start, span_is, first_key_past}

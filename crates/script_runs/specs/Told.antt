@@ -12,8 +12,6 @@ use Rattle.clv_base.specs.declared.events.Event.TheVariants.{Drop}
 use Rattle.clv_base.specs.declared.events.Outcome.TheVariants.{Dead, Asked as AskedOut, Acknowledged as AcknowledgedOut, Aborted as AbortedOut, Dropped}
 use Rattle.clv_base.specs.declared.events.Entry.{Entry}
 use Rattle.clv_base.specs.Journals.{History}
-use Rattle.script_lang.specs.declared.actions.Ending.{Ending}
-use Rattle.script_lang.specs.declared.actions.Ending.TheVariants.{Commit, Abort}
 use Rattle.script_runs.specs.declared.ends.StopCause.{StopCause}
 use Rattle.script_runs.specs.declared.ends.StopCause.TheVariants.{Down, Unsettled, Worn, Memory}
 use Rattle.script_runs.specs.declared.ends.TryEnd.{TryEnd}
@@ -198,8 +196,3 @@ LineAborts missed tx birth touched (Stopped Memory) u v = ⊥
 LineAborts missed tx birth touched Acknowledged u v = ⊥
 LineAborts missed tx birth touched Empty u v = ⊥
 LineAborts missed tx birth touched (Aborted cause) u v = ⊥
-
--- the end that its lines ask for
-abbrev pub EndTold : Misses → TxId → Birth → ℕ → (ℕ → Bool) → Ending → TryEnd → Seen → Seen → Type 0
-EndTold missed tx birth nth touched Commit end u v = (w : Seen) × CommitTold tx birth nth touched end u w × GivenUp missed end w v
-EndTold missed tx birth nth touched Abort end u v = LineAborts missed tx birth touched end u v

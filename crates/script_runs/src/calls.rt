@@ -10,7 +10,7 @@ ghost use Rattle.script_runs.specs.Told.{has_range, BeginTold, RetryTold, Operat
 ghost use Rattle.script_runs.specs.Tried.{OnStop, OnRefusal};
 
 use crate::{StopCause, TryEnd};
-use clv_base::names::{Point, TxId as Name};
+use clv_base::names::{Point, TxId};
 use clv_base::ops::{Answer, Op};
 use std::alloc::Global;
 
@@ -53,7 +53,7 @@ pub trait SessionCalls {
         ensures { result ≡ (seen self.now).asked };
 
     /// The name of the active transaction.
-    fn name(&self) -> Name
+    fn name(&self) -> TxId
         requires active { (tx : TxId) × (birth : BirthIs) × (nth : ℕ) × (touched : ℕ → Bool) × ((seen self.now).standing ≡ Active tx birth nth touched) }
         ensures { (tx : TxId) (birth : BirthIs) (nth : ℕ) (touched : ℕ → Bool) → (seen self.now).standing ≡ Active tx birth nth touched → result ≡ tx };
 

@@ -118,7 +118,10 @@ fn run_tries<R: Wait, C: SessionCalls>(
                     };
                 }
             },
-            Next::Done => return Tries { ended: Ok(()), fate },
+            Next::Done => return Tries {
+                ended: Ok(()),
+                fate,
+            },
             Next::Stop(cause) => {
                 return Tries {
                     ended: Err(cause),

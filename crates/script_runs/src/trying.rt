@@ -1,7 +1,7 @@
 // One try of a transaction.
 ghost use Rattle.std.specs.Prelude.{◌≡◌, ◌<◌, ℕ, Bool, true};
 ghost use Rattle.std.specs.List.{list_all};
-ghost use Rattle.clv_base.specs.declared.names.TxId.{TxId as Name};
+ghost use Rattle.clv_base.specs.declared.names.TxId.{TxId};
 ghost use Rattle.clv_base.specs.declared.names.Birth.{Birth as BirthIs};
 ghost use Rattle.script_lang.specs.Laws.{is_narrow};
 ghost use Rattle.clv_base.specs.Shards.{are_splits};
@@ -28,12 +28,12 @@ fn do_lines<R: Wait, C: SessionCalls>(
     lines: &[Action],
 ) -> Result<Operations, TryEnd>
     requires session { C.holds session.old }
-    requires begun { (tx : Name) × (birth : BirthIs) × ((C.seen session.old).standing ≡ Active tx birth 0 untouched) }
+    requires begun { (tx : TxId) × (birth : BirthIs) × ((C.seen session.old).standing ≡ Active tx birth 0 untouched) }
     requires narrow { list_all is_narrow lines.now ≡ true }
     ensures session { C.holds session.new }
     ensures base { C.base session.new ≡ C.base session.old }
     ensures misses { Keeps (C.missed session.old) (C.missed session.new) }
-    ensures told { (tx : Name) (birth : BirthIs) → (C.seen session.old).standing ≡ Active tx birth 0 untouched → LinesTold tx birth lines.now result (C.seen session.old) (C.seen session.new) }
+    ensures told { (tx : TxId) (birth : BirthIs) → (C.seen session.old).standing ≡ Active tx birth 0 untouched → LinesTold tx birth lines.now result (C.seen session.old) (C.seen session.new) }
     ensures grounds { OnRefusal (C.grounds session.new) result }
 {
     let mut following = Following::new(lines);
@@ -111,13 +111,7 @@ fn is_asked<C: SessionCalls>(session: &C) -> bool
 }
 
 // The row of a transaction that ended so, if it is acknowledged.
-fn keep_row<C: SessionCalls>(
-    session: &C,
-    tx: TxId,
-    end: TryEnd,
-    done: Operations,
-    book: &mut Book,
-)
+fn keep_row<C: SessionCalls>(session: &C, tx: TxId, end: TryEnd, done: Operations, book: &mut Book)
     requires room { 0 < book.old.room }
     ensures { AddsRows (row_told end tx (C.seen session.now).asked done) book.old book.new }
 {
@@ -149,11 +143,11 @@ fn commit<C: SessionCalls>(
     book: &mut Book,
 ) -> Committed
     requires session { C.holds session.old }
-    requires active { (tx : Name) × (birth : BirthIs) × (nth : ℕ) × (touched : ℕ → Bool) × ((C.seen session.old).standing ≡ Active tx birth nth touched) }
+    requires active { (tx : TxId) × (birth : BirthIs) × (nth : ℕ) × (touched : ℕ → Bool) × ((C.seen session.old).standing ≡ Active tx birth nth touched) }
     ensures session { C.holds session.new }
     ensures base { C.base session.new ≡ C.base session.old }
     ensures misses { Keeps (C.missed session.old) (C.missed session.new) }
-    ensures kept { (tx : Name) (birth : BirthIs) (nth : ℕ) (touched : ℕ → Bool) → (C.seen session.old).standing ≡ Active tx birth nth touched → CommitKept (C.missed session.new) tx birth nth touched done result.end result.asked book.old book.new (C.seen session.old) (C.seen session.new) }
+    ensures kept { (tx : TxId) (birth : BirthIs) (nth : ℕ) (touched : ℕ → Bool) → (C.seen session.old).standing ≡ Active tx birth nth touched → CommitKept (C.missed session.new) tx birth nth touched done result.end result.asked book.old book.new (C.seen session.old) (C.seen session.new) }
     ensures grounds { OnStop (C.grounds session.new) result.end }
 {
     if book.reserve(1).is_err() {
@@ -172,11 +166,11 @@ fn commit<C: SessionCalls>(
 
 fn abort<C: SessionCalls>(alloc: Global, session: &mut C) -> TryEnd
     requires session { C.holds session.old }
-    requires active { (tx : Name) × (birth : BirthIs) × (nth : ℕ) × (touched : ℕ → Bool) × ((C.seen session.old).standing ≡ Active tx birth nth touched) }
+    requires active { (tx : TxId) × (birth : BirthIs) × (nth : ℕ) × (touched : ℕ → Bool) × ((C.seen session.old).standing ≡ Active tx birth nth touched) }
     ensures session { C.holds session.new }
     ensures base { C.base session.new ≡ C.base session.old }
     ensures misses { Keeps (C.missed session.old) (C.missed session.new) }
-    ensures told { (tx : Name) (birth : BirthIs) (nth : ℕ) (touched : ℕ → Bool) → (C.seen session.old).standing ≡ Active tx birth nth touched → LineAborts (C.missed session.new) tx birth touched result (C.seen session.old) (C.seen session.new) }
+    ensures told { (tx : TxId) (birth : BirthIs) (nth : ℕ) (touched : ℕ → Bool) → (C.seen session.old).standing ≡ Active tx birth nth touched → LineAborts (C.missed session.new) tx birth touched result (C.seen session.old) (C.seen session.new) }
     ensures grounds { OnStop (C.grounds session.new) result }
 {
     match session.abort(alloc) {
@@ -201,11 +195,11 @@ fn end_as<C: SessionCalls>(
     book: &mut Book,
 ) -> Made
     requires session { C.holds session.old }
-    requires active { (tx : Name) × (birth : BirthIs) × (nth : ℕ) × (touched : ℕ → Bool) × ((C.seen session.old).standing ≡ Active tx birth nth touched) }
+    requires active { (tx : TxId) × (birth : BirthIs) × (nth : ℕ) × (touched : ℕ → Bool) × ((C.seen session.old).standing ≡ Active tx birth nth touched) }
     ensures session { C.holds session.new }
     ensures base { C.base session.new ≡ C.base session.old }
     ensures misses { Keeps (C.missed session.old) (C.missed session.new) }
-    ensures kept { (tx : Name) (birth : BirthIs) (nth : ℕ) (touched : ℕ → Bool) → (C.seen session.old).standing ≡ Active tx birth nth touched → EndMade (C.missed session.new) tx birth nth touched done ending result.end result.fate book.old book.new (C.seen session.old) (C.seen session.new) }
+    ensures kept { (tx : TxId) (birth : BirthIs) (nth : ℕ) (touched : ℕ → Bool) → (C.seen session.old).standing ≡ Active tx birth nth touched → EndMade (C.missed session.new) tx birth nth touched done ending result.end result.fate book.old book.new (C.seen session.old) (C.seen session.new) }
     ensures grounds { OnStop (C.grounds session.new) result.end }
 {
     let touched = has_touched(session);
@@ -233,13 +227,13 @@ pub(crate) fn run_try<R: Wait, C: SessionCalls>(
     book: &mut Book,
 ) -> Made
     requires session { C.holds session.old }
-    requires begun { (tx : Name) × (birth : BirthIs) × ((C.seen session.old).standing ≡ Active tx birth 0 untouched) }
+    requires begun { (tx : TxId) × (birth : BirthIs) × ((C.seen session.old).standing ≡ Active tx birth 0 untouched) }
     requires narrow { list_all is_narrow transaction.now.actions ≡ true }
     requires splits { are_splits (C.seen session.old).splits ≡ true }
     ensures session { C.holds session.new }
     ensures base { C.base session.new ≡ C.base session.old }
     ensures misses { Keeps (C.missed session.old) (C.missed session.new) }
-    ensures kept { (tx : Name) (birth : BirthIs) → (C.seen session.old).standing ≡ Active tx birth 0 untouched → TriedKept (C.missed session.new) transaction.now tx birth result.end result.fate book.old book.new (C.seen session.old) (C.seen session.new) }
+    ensures kept { (tx : TxId) (birth : BirthIs) → (C.seen session.old).standing ≡ Active tx birth 0 untouched → TriedKept (C.missed session.new) transaction.now tx birth result.end result.fate book.old book.new (C.seen session.old) (C.seen session.new) }
     ensures grounds { OnStop (C.grounds session.new) result.end }
 {
     match do_lines(rt, alloc, session, transaction.actions()) {

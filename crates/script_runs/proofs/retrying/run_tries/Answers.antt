@@ -44,16 +44,17 @@ loop-preserved g c = record {
   misses = λ tx n es h. c.in-Ok.ensures.misses tx n es (c.run_try-made.ensures.misses tx n es (c.loop.invariant.misses tx n es h));
   trying = λ tx birth active serial run session.
       let h = c.loop.invariant.trying tx birth active serial run session in
-    let d = h.so in
+      let d = h.so in
       let k = c.run_try-made.ensures.kept d.tx birth d.active in
-    let t = k.tried in
-      record { so = tries_go_on (g.C.SessionCalls.missed c.retry.new.self) c.args.transaction.now tx birth c.args.most c.loop.tried c.next_number-tried.result c.run_try-made.result.end c.next_after.result (g.C.SessionCalls.seen c.args.session.now) (g.C.SessionCalls.seen c.loop.session)
-      (g.C.SessionCalls.seen c.run_try-made.new.session) (g.C.SessionCalls.seen c.retry.new.self)
-      (trying_later (g.C.SessionCalls.missed c.loop.session) (g.C.SessionCalls.missed c.retry.new.self) c.args.transaction.now tx birth c.args.most c.loop.tried (g.C.SessionCalls.seen c.args.session.now) (g.C.SessionCalls.seen c.loop.session) (λ tx n es h. c.in-Ok.ensures.misses tx n es (c.run_try-made.ensures.misses tx n es h)) d)
-      (tried_later (g.C.SessionCalls.missed c.run_try-made.new.session) (g.C.SessionCalls.missed c.retry.new.self) c.args.transaction.now d.tx birth c.run_try-made.result.end (g.C.SessionCalls.seen c.loop.session) (g.C.SessionCalls.seen c.run_try-made.new.session) c.in-Ok.ensures.misses t)
-      c.in-Again.is c.next_after.ensures c.in-Ok.ensures.told c.next_number-tried.ensures;
-      fate_is = fate_on d.tries (try_of (g.C.SessionCalls.missed c.run_try-made.new.session) c.args.transaction.now d.tx birth c.run_try-made.result.end (g.C.SessionCalls.seen c.loop.session) (g.C.SessionCalls.seen c.run_try-made.new.session) t) c.later_fate-fate.result c.run_try-made.result.fate c.loop.fate c.later_fate-fate.ensures k.fate_is h.fate_is;
-      adds = adds_on d.tries (try_of (g.C.SessionCalls.missed c.run_try-made.new.session) c.args.transaction.now d.tx birth c.run_try-made.result.end (g.C.SessionCalls.seen c.loop.session) (g.C.SessionCalls.seen c.run_try-made.new.session) t) c.args.book.now c.loop.book c.run_try-made.new.book h.adds k.adds;
+      let t = k.tried in
+      record {
+        so = tries_go_on (g.C.SessionCalls.missed c.retry.new.self) c.args.transaction.now tx birth c.args.most c.loop.tried c.next_number-tried.result c.run_try-made.result.end c.next_after.result (g.C.SessionCalls.seen c.args.session.now) (g.C.SessionCalls.seen c.loop.session)
+            (g.C.SessionCalls.seen c.run_try-made.new.session) (g.C.SessionCalls.seen c.retry.new.self)
+            (trying_later (g.C.SessionCalls.missed c.loop.session) (g.C.SessionCalls.missed c.retry.new.self) c.args.transaction.now tx birth c.args.most c.loop.tried (g.C.SessionCalls.seen c.args.session.now) (g.C.SessionCalls.seen c.loop.session) (λ tx n es h. c.in-Ok.ensures.misses tx n es (c.run_try-made.ensures.misses tx n es h)) d)
+            (tried_later (g.C.SessionCalls.missed c.run_try-made.new.session) (g.C.SessionCalls.missed c.retry.new.self) c.args.transaction.now d.tx birth c.run_try-made.result.end (g.C.SessionCalls.seen c.loop.session) (g.C.SessionCalls.seen c.run_try-made.new.session) c.in-Ok.ensures.misses t)
+            c.in-Again.is c.next_after.ensures c.in-Ok.ensures.told c.next_number-tried.ensures;
+        fate_is = fate_on d.tries (try_of (g.C.SessionCalls.missed c.run_try-made.new.session) c.args.transaction.now d.tx birth c.run_try-made.result.end (g.C.SessionCalls.seen c.loop.session) (g.C.SessionCalls.seen c.run_try-made.new.session) t) c.later_fate-fate.result c.run_try-made.result.fate c.loop.fate c.later_fate-fate.ensures k.fate_is h.fate_is;
+        adds = adds_on d.tries (try_of (g.C.SessionCalls.missed c.run_try-made.new.session) c.args.transaction.now d.tx birth c.run_try-made.result.end (g.C.SessionCalls.seen c.loop.session) (g.C.SessionCalls.seen c.run_try-made.new.session) t) c.args.book.now c.loop.book c.run_try-made.new.book h.adds k.adds;
       };
 }
 
@@ -63,11 +64,12 @@ returns-in-Err-clause-kept g c tx birth active serial run session =
     let d = h.so in
     let k = c.run_try-made.ensures.kept d.tx birth d.active in
     let t = k.tried in
-    record { told = tries_stopped_between (g.C.SessionCalls.missed c.retry.new.self) c.args.transaction.now tx birth c.args.most c.loop.tried c.run_try-made.result.end c.next_after.result c.in-Err.cause (g.C.SessionCalls.seen c.args.session.now) (g.C.SessionCalls.seen c.loop.session)
-    (g.C.SessionCalls.seen c.run_try-made.new.session) (g.C.SessionCalls.seen c.retry.new.self)
-    (trying_later (g.C.SessionCalls.missed c.loop.session) (g.C.SessionCalls.missed c.retry.new.self) c.args.transaction.now tx birth c.args.most c.loop.tried (g.C.SessionCalls.seen c.args.session.now) (g.C.SessionCalls.seen c.loop.session) (λ tx n es h. c.in-Err.ensures.misses tx n es (c.run_try-made.ensures.misses tx n es h)) d)
-    (tried_later (g.C.SessionCalls.missed c.run_try-made.new.session) (g.C.SessionCalls.missed c.retry.new.self) c.args.transaction.now d.tx birth c.run_try-made.result.end (g.C.SessionCalls.seen c.loop.session) (g.C.SessionCalls.seen c.run_try-made.new.session) c.in-Err.ensures.misses t)
-    c.in-Again.is c.next_after.ensures c.in-Err.ensures.told;
+    record {
+      told = tries_stopped_between (g.C.SessionCalls.missed c.retry.new.self) c.args.transaction.now tx birth c.args.most c.loop.tried c.run_try-made.result.end c.next_after.result c.in-Err.cause (g.C.SessionCalls.seen c.args.session.now) (g.C.SessionCalls.seen c.loop.session)
+          (g.C.SessionCalls.seen c.run_try-made.new.session) (g.C.SessionCalls.seen c.retry.new.self)
+          (trying_later (g.C.SessionCalls.missed c.loop.session) (g.C.SessionCalls.missed c.retry.new.self) c.args.transaction.now tx birth c.args.most c.loop.tried (g.C.SessionCalls.seen c.args.session.now) (g.C.SessionCalls.seen c.loop.session) (λ tx n es h. c.in-Err.ensures.misses tx n es (c.run_try-made.ensures.misses tx n es h)) d)
+          (tried_later (g.C.SessionCalls.missed c.run_try-made.new.session) (g.C.SessionCalls.missed c.retry.new.self) c.args.transaction.now d.tx birth c.run_try-made.result.end (g.C.SessionCalls.seen c.loop.session) (g.C.SessionCalls.seen c.run_try-made.new.session) c.in-Err.ensures.misses t)
+          c.in-Again.is c.next_after.ensures c.in-Err.ensures.told;
       fate_is = fate_on d.tries (try_of (g.C.SessionCalls.missed c.run_try-made.new.session) c.args.transaction.now d.tx birth c.run_try-made.result.end (g.C.SessionCalls.seen c.loop.session) (g.C.SessionCalls.seen c.run_try-made.new.session) t) c.later_fate-fate.result c.run_try-made.result.fate c.loop.fate c.later_fate-fate.ensures k.fate_is h.fate_is;
       adds = adds_on d.tries (try_of (g.C.SessionCalls.missed c.run_try-made.new.session) c.args.transaction.now d.tx birth c.run_try-made.result.end (g.C.SessionCalls.seen c.loop.session) (g.C.SessionCalls.seen c.run_try-made.new.session) t) c.args.book.now c.loop.book c.run_try-made.new.book h.adds k.adds;
     }
@@ -78,10 +80,11 @@ returns-in-Done-clause-kept g c tx birth active serial run session =
     let d = h.so in
     let k = c.run_try-made.ensures.kept d.tx birth d.active in
     let t = k.tried in
-    record { told = tries_done (g.C.SessionCalls.missed c.run_try-made.new.session) c.args.transaction.now tx birth c.args.most c.loop.tried c.run_try-made.result.end c.next_after.result (g.C.SessionCalls.seen c.args.session.now) (g.C.SessionCalls.seen c.loop.session)
-    (g.C.SessionCalls.seen c.run_try-made.new.session)
-    (trying_later (g.C.SessionCalls.missed c.loop.session) (g.C.SessionCalls.missed c.run_try-made.new.session) c.args.transaction.now tx birth c.args.most c.loop.tried (g.C.SessionCalls.seen c.args.session.now) (g.C.SessionCalls.seen c.loop.session) c.run_try-made.ensures.misses d) t
-    c.in-Done.is c.next_after.ensures;
+    record {
+      told = tries_done (g.C.SessionCalls.missed c.run_try-made.new.session) c.args.transaction.now tx birth c.args.most c.loop.tried c.run_try-made.result.end c.next_after.result (g.C.SessionCalls.seen c.args.session.now) (g.C.SessionCalls.seen c.loop.session)
+          (g.C.SessionCalls.seen c.run_try-made.new.session)
+          (trying_later (g.C.SessionCalls.missed c.loop.session) (g.C.SessionCalls.missed c.run_try-made.new.session) c.args.transaction.now tx birth c.args.most c.loop.tried (g.C.SessionCalls.seen c.args.session.now) (g.C.SessionCalls.seen c.loop.session) c.run_try-made.ensures.misses d) t
+          c.in-Done.is c.next_after.ensures;
       fate_is = fate_on d.tries (try_of (g.C.SessionCalls.missed c.run_try-made.new.session) c.args.transaction.now d.tx birth c.run_try-made.result.end (g.C.SessionCalls.seen c.loop.session) (g.C.SessionCalls.seen c.run_try-made.new.session) t) c.later_fate-fate.result c.run_try-made.result.fate c.loop.fate c.later_fate-fate.ensures k.fate_is h.fate_is;
       adds = adds_on d.tries (try_of (g.C.SessionCalls.missed c.run_try-made.new.session) c.args.transaction.now d.tx birth c.run_try-made.result.end (g.C.SessionCalls.seen c.loop.session) (g.C.SessionCalls.seen c.run_try-made.new.session) t) c.args.book.now c.loop.book c.run_try-made.new.book h.adds k.adds;
     }
@@ -99,10 +102,11 @@ returns-in-Stop-clause-kept g c tx birth active serial run session =
     let d = h.so in
     let k = c.run_try-made.ensures.kept d.tx birth d.active in
     let t = k.tried in
-    record { told = tries_stopped (g.C.SessionCalls.missed c.run_try-made.new.session) c.args.transaction.now tx birth c.args.most c.loop.tried c.run_try-made.result.end c.next_after.result c.in-Stop.cause (g.C.SessionCalls.seen c.args.session.now) (g.C.SessionCalls.seen c.loop.session)
-    (g.C.SessionCalls.seen c.run_try-made.new.session)
-    (trying_later (g.C.SessionCalls.missed c.loop.session) (g.C.SessionCalls.missed c.run_try-made.new.session) c.args.transaction.now tx birth c.args.most c.loop.tried (g.C.SessionCalls.seen c.args.session.now) (g.C.SessionCalls.seen c.loop.session) c.run_try-made.ensures.misses d) t
-    c.in-Stop.is c.next_after.ensures;
+    record {
+      told = tries_stopped (g.C.SessionCalls.missed c.run_try-made.new.session) c.args.transaction.now tx birth c.args.most c.loop.tried c.run_try-made.result.end c.next_after.result c.in-Stop.cause (g.C.SessionCalls.seen c.args.session.now) (g.C.SessionCalls.seen c.loop.session)
+          (g.C.SessionCalls.seen c.run_try-made.new.session)
+          (trying_later (g.C.SessionCalls.missed c.loop.session) (g.C.SessionCalls.missed c.run_try-made.new.session) c.args.transaction.now tx birth c.args.most c.loop.tried (g.C.SessionCalls.seen c.args.session.now) (g.C.SessionCalls.seen c.loop.session) c.run_try-made.ensures.misses d) t
+          c.in-Stop.is c.next_after.ensures;
       fate_is = fate_on d.tries (try_of (g.C.SessionCalls.missed c.run_try-made.new.session) c.args.transaction.now d.tx birth c.run_try-made.result.end (g.C.SessionCalls.seen c.loop.session) (g.C.SessionCalls.seen c.run_try-made.new.session) t) c.later_fate-fate.result c.run_try-made.result.fate c.loop.fate c.later_fate-fate.ensures k.fate_is h.fate_is;
       adds = adds_on d.tries (try_of (g.C.SessionCalls.missed c.run_try-made.new.session) c.args.transaction.now d.tx birth c.run_try-made.result.end (g.C.SessionCalls.seen c.loop.session) (g.C.SessionCalls.seen c.run_try-made.new.session) t) c.args.book.now c.loop.book c.run_try-made.new.book h.adds k.adds;
     }
