@@ -53,9 +53,6 @@ adds_on ts t old mid new a b =
 pub fate_on : (ts : List Try) (t : Try) (now last before : Option Fate) → now ≡ else_fate last before → last ≡ fate_of t.tx t.end t.entries → before ≡ fate_in ts → now ≡ fate_in (ts ++ t ∷ [])
 fate_on ts t now last before is l b = is ∙ ap (λ f. else_fate f before) l ∙ ap (else_fate (fate_of t.tx t.end t.entries)) b ∙ sym (fate_more ts t)
 
-pub adds_nothing : (b : Book) → AddsRows [] b b
-adds_nothing b = record { rows_are = sym (append-nil b.rows); counts_are = refl }
-
 -- the tries up to now, with the book
 pub record TryingKept (missed : Misses) (body : Body) (first : TxId) (birth : Birth) (most : Option ℕ) (tried : ℕ) (fate : Option Fate) (old now : Book) (u v : Seen) : Type 0 where
   pub so : Trying missed body first birth most tried u v

@@ -12,7 +12,6 @@ use Rattle.clv_base.specs.declared.events.Event.TheVariants.{Request}
 use Rattle.clv_base.specs.declared.events.Outcome.{Outcome}
 use Rattle.clv_base.specs.declared.events.Outcome.TheVariants.{Dead, Asked, Acknowledged, Aborted}
 use Rattle.clv_base.specs.declared.events.Entry.{Entry}
-use Rattle.clv_base.specs.Orders.{tx_same}
 use Rattle.clv_base.specs.Journals.{History}
 use Rattle.clv_base.specs.History.{has_request, request_of}
 use Rattle.clv_base.proofs.SameNames.{tx_self, or_left, or_right}
@@ -26,7 +25,7 @@ use Rattle.script_runs.specs.Operations.{parts_of}
 use Rattle.script_runs.specs.Tries.{IsRequest, IsLook, AreDrops, EndsBy, acknowledged, nothing, by_line, in_operation, at_request, at_look, down, unsettled, wanting_before, wanting_behind, unanswered, worn_at_line, is_touched}
 use Rattle.script_runs.specs.Seen.{IsTouching}
 use Rattle.script_runs.specs.Books.{has_op}
-use Rattle.script_runs.proofs.Quiet.{any_none, any_first}
+use Rattle.script_runs.proofs.Quiet.{is_same, any_none, any_first}
 use Rattle.script_runs.proofs.TryBooks.{IsOpOf, AreOpsOf, parts_are, way_is, death_is, op_asks_none, asks}
 
 -- ---- operations
@@ -69,9 +68,6 @@ no_op_behind es fs n = any_first (λ e. is_some (try_of (e.1).event)) es fs (any
 
 abbrev NoAsk : ℕ × Entry → Type 0
 NoAsk e = request_of (e.1).event (e.1).outcome ≡ None
-
-abbrev is_same : TxId → Option TxId → Bool
-is_same t o = elim o as (λ z. Bool) [ Some u ↦ tx_same t u | None ↦ false ]
 
 none_open : (tx : TxId) (es : History) → AllByRecursion NoAsk es → is_open es tx ≡ false
 none_open tx es n =

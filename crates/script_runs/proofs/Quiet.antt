@@ -67,7 +67,7 @@ acknowledged_quiet t (Look tx) Acknowledged q = (apart t tx q).1
 acknowledged_quiet t (Look tx) _ q = refl
 acknowledged_quiet t _ o q = refl
 
-abbrev is_same : TxId → Option TxId → Bool
+abbrev pub is_same : TxId → Option TxId → Bool
 is_same t o = elim o as (λ z. Bool) [ Some u ↦ tx_same t u | None ↦ false ]
 
 request_quiet : (t : TxId) (ev : Event) (o : Outcome) → (name_of ev ≡ Some t → ⊥) → is_same t (request_of ev o) ≡ false

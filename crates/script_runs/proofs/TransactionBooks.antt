@@ -29,7 +29,7 @@ use Rattle.script_runs.specs.Ran.{Rise, serials}
 use Rattle.script_runs.specs.Books.{rows_by, has_op, is_acknowledged, fate_by, fate_of, else_fate, fate_in, count_as, IsUpTo, AreUpTo, TransactionsAddToBooks}
 use Rattle.script_runs.proofs.Quiet.{name_of, AreQuiet, AreNamed, TellAlike, first_alike, second_alike, any_second, quiet_past, quiet_before}
 use Rattle.script_runs.proofs.BooksApart.{AreApart, AreBornApart, AreBorn, the_counts, CountAlike, plus, rows_apart, counts_apart, counts_alike, tries_alike, both_tried, named_as, birth_none, same_stamp}
-use Rattle.script_runs.proofs.TryBooks.{try_named, try_births, try_fate, not_acknowledged, birth_or_none}
+use Rattle.script_runs.proofs.TryBooks.{same_name, try_named, try_births, try_fate, not_acknowledged, birth_or_none}
 
 -- ---- names of tries
 
@@ -222,12 +222,9 @@ module _ (splits : List ℕ) (body : Body) (birth : Birth) where
 -- ---- behind earlier entries
 
 up_named : (serial clock : ℕ) (ev : Event) (u : TxId) → IsUpTo serial clock ev → name_of ev ≡ Some u → u.serial ≤ serial
-up_named serial clock (Op tx birth nth seen op) u h k = subst (λ x. x.serial ≤ serial) (named tx u k) h.0
-  where
-    named : (a b : TxId) → ◌≡◌ {A = Option TxId} (Some a) (Some b) → a ≡ b
-    named a b k = ap (λ o. elim o as (λ z. TxId) [ Some x ↦ x | None ↦ a ]) k
-up_named serial clock (Request tx touched) u h k = subst (λ x. x.serial ≤ serial) (ap (λ o. elim o as (λ z. TxId) [ Some x ↦ x | None ↦ tx ]) k) h
-up_named serial clock (Look tx) u h k = subst (λ x. x.serial ≤ serial) (ap (λ o. elim o as (λ z. TxId) [ Some x ↦ x | None ↦ tx ]) k) h
+up_named serial clock (Op tx birth nth seen op) u h k = subst (λ x. x.serial ≤ serial) (sym (same_name tx u k)) h.0
+up_named serial clock (Request tx touched) u h k = subst (λ x. x.serial ≤ serial) (sym (same_name tx u k)) h
+up_named serial clock (Look tx) u h k = subst (λ x. x.serial ≤ serial) (sym (same_name tx u k)) h
 up_named serial clock _ u h k = absurd cc
 
 up_born : (serial clock : ℕ) (ev : Event) (p : TxId × Birth) → IsUpTo serial clock ev → try_of ev ≡ Some p → (p.1).stamp ≤ clock

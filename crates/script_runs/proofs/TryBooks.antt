@@ -108,7 +108,7 @@ module _ (tx : TxId) (birth : Birth) where
 name_by : (tx : TxId) (e : ℕ × Entry) (event : Event) → (e.1).event ≡ event → ((t : TxId) → name_of event ≡ Some t → t ≡ tx) → (t : TxId) → name_of (e.1).event ≡ Some t → t ≡ tx
 name_by tx e event is f t h = f t (sym (ap name_of is) ∙ h)
 
-same_name : (tx t : TxId) → ◌≡◌ {A = Option TxId} (Some tx) (Some t) → t ≡ tx
+pub same_name : (tx t : TxId) → ◌≡◌ {A = Option TxId} (Some tx) (Some t) → t ≡ tx
 same_name tx t h = ap (λ o. elim o as (λ z. TxId) [ Some u ↦ u | None ↦ tx ]) (sym h)
 
 pub try_named : (splits : List ℕ) (body : Body) (birth : Birth) (t : Try) → IsTry splits body birth t → AreNamed (λ u. u ≡ t.tx) t.entries

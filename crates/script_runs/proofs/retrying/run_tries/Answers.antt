@@ -2,7 +2,8 @@ use Rattle.std.proofs.Common.{◌∙◌, refl, ap, subst}
 use Rattle.script_runs.proofs.Tries.{no_try, tries_done, tries_stopped, tries_stopped_between, tries_go_on, trying_later, tried_later, can_retry, idle_when_done, try_of}
 use Rattle.clv_base.specs.Shards.{are_splits}
 use Rattle.script_runs.specs.Ran.{NextIs}
-use Rattle.script_runs.proofs.KeptTries.{adds_on, fate_on, adds_nothing}
+use Rattle.script_runs.proofs.Kept.{adds_none}
+use Rattle.script_runs.proofs.KeptTries.{adds_on, fate_on}
 use Rattle.script_runs.proofs.retrying.run_tries.Goals as goal
 
 pub loop-init : goal.loop-init
@@ -13,7 +14,7 @@ loop-init g c = record {
   trying = λ tx birth active serial run session. record {
     so = no_try (g.C.SessionCalls.missed c.args.session.now) c.args.transaction.now tx birth c.args.most (g.C.SessionCalls.seen c.args.session.now) active serial run session;
     fate_is = refl;
-    adds = adds_nothing c.args.book.now;
+    adds = adds_none c.args.book.now;
   };
 }
 
