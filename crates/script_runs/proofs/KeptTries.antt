@@ -20,7 +20,7 @@ use Rattle.script_runs.specs.Sessions.{entries_of}
 use Rattle.script_runs.specs.Seen.{Seen, Misses, Grows, raised}
 use Rattle.script_runs.specs.Told.{Begins, BeginTold}
 use Rattle.script_runs.specs.Ran.{stop_in}
-use Rattle.script_runs.specs.Books.{rows_by, fate_of, else_fate, fate_in, count_as, total, IsUpTo, AreUpTo, IsKept}
+use Rattle.script_runs.specs.Books.{rows_by, fate_of, else_fate, fate_in, count_as, total, IsUpTo, AreUpTo, IsKept, NewBooksAreKept}
 use Rattle.script_runs.specs.Keeping.{AddsRows, TriesKept}
 use Rattle.script_runs.proofs.Tries.{Trying, ran}
 use Rattle.script_runs.proofs.TransactionBooks.{transactions_add_to_books}
@@ -75,6 +75,15 @@ one_more None c = omega arith
 one_more (Some Acknowledged) c = omega arith
 one_more (Some UnsettledFate) c = omega arith
 one_more (Some Aborted) c = omega arith
+
+pub new_books_are_kept : NewBooksAreKept
+new_books_are_kept u book splits none rows_are counts_are =
+    record {
+      splits_are = splits;
+      is_book = subst (λ es. IsBook es book) (sym none) (record { rows = rows_are; counts = counts_are });
+      up_to = subst (AreUpTo u.serial u.clock) (sym none) tt;
+      few = subst (λ c. total c ≤ u.clock) (sym counts_are) (omega arith);
+    }
 
 -- with no entry more, later
 pub kept_later : (u v : Seen) (book : Book) → Grows [] u v → IsKept u book → IsKept v book

@@ -15,7 +15,7 @@ use Rattle.script_lang.specs.Following.{all_ops}
 use Rattle.session_books.specs.declared.books.Row.{Row}
 use Rattle.session_books.specs.Told.{try_of}
 use Rattle.session_books.specs.declared.counts.Counts.{Counts}
-use Rattle.session_books.specs.Counts.{counts_in, is_open}
+use Rattle.session_books.specs.Counts.{nothing_counted, counts_in, is_open}
 use Rattle.session_books.specs.Books.{Book, IsBook, rows}
 use Rattle.script_runs.specs.declared.ends.StopCause.{StopCause}
 use Rattle.script_runs.specs.declared.ends.TryEnd.{TryEnd}
@@ -122,3 +122,7 @@ pub record IsKept (u : Seen) (book : Book) : Type 0 where
   pub is_book : IsBook u.entries book
   pub up_to : AreUpTo u.serial u.clock u.entries
   pub few : total book.counts ≤ u.clock
+
+-- a new book is that of a session that made nothing
+abbrev pub NewBooksAreKept : Type 0
+NewBooksAreKept = (u : Seen) (book : Book) → are_splits u.splits ≡ true → u.entries ≡ [] → book.rows ≡ [] → book.counts ≡ nothing_counted → IsKept u book

@@ -1,5 +1,5 @@
 // What tries add to a session's book.
-ghost use Rattle.script_runs.specs.Books.{AcknowledgedHaveRows, OthersHaveNone, TransactionsAddToBooks};
+ghost use Rattle.script_runs.specs.Books.{AcknowledgedHaveRows, OthersHaveNone, TransactionsAddToBooks, NewBooksAreKept};
 
 /// An acknowledged try has one row: its name, the place of its request, and its lines' operations with their answers.
 pub fn acknowledged_have_rows()
@@ -14,4 +14,9 @@ pub fn others_have_none()
 /// A transaction adds the rows of its tries to those of the entries before, and is counted once, if its tries made an operation: as the last that made one.
 pub fn transactions_add_to_books()
     ensures { TransactionsAddToBooks }
+{}
+
+/// A new book is that of a session that made nothing.
+pub fn new_books_are_kept()
+    ensures { NewBooksAreKept }
 {}
