@@ -1,5 +1,5 @@
 -- What a session made whose clock was raised, and behind its first transaction.
-use Rattle.std.proofs.Common.{◌≡◌, refl, sym, ap, subst, ◌∙◌, ℕ, ◌<◌, ◌≤◌, max, min, List, [], ◌∷◌, ◌++◌, take, length, append_assoc, append-nil, Option, arith}
+use Rattle.std.proofs.Common.{◌≡◌, refl, ap, subst, ◌∙◌, ℕ, ◌<◌, ◌≤◌, max, min, List, [], ◌∷◌, ◌++◌, take, length, append_assoc, Option, arith}
 use Rattle.std.specs.List.{AllByRecursion}
 use Rattle.clv_base.specs.Journals.{History}
 use Rattle.script_lang.specs.Bodies.{Body}

@@ -8,7 +8,6 @@ use Rattle.clv_base.specs.Journals.{History}
 use Rattle.script_lang.specs.Bodies.{Body}
 use Rattle.script_runs.specs.declared.ends.StopCause.{StopCause}
 use Rattle.script_runs.specs.declared.ends.TryEnd.{TryEnd}
-use Rattle.script_runs.specs.declared.ends.TryEnd.TheVariants as end
 use Rattle.script_runs.specs.Tries.{Try, IsTry, EndsBy, acknowledged, nothing, by_line, in_operation, at_request, at_look, down, unsettled, wanting_before, wanting_behind, unanswered, worn_at_line}
 use Rattle.script_runs.specs.Sessions.{InTries, last, none_left, stopped_between, further, Transaction, AreTransactions, all_done, not_begun, stopped, done, is_to_retry, tries_of, entries_of}
 use Rattle.script_runs.proofs.Tries.{entries_more}

@@ -10,3 +10,4 @@ pub use Rattle.script_runs.proofs.Doing.{grows_none, grows_on, grows_over}
 pub use Rattle.script_runs.proofs.Doing.{stamped_on}
 pub use Rattle.script_runs.proofs.Counting.{session_tries_are_few}
 pub use Rattle.script_runs.proofs.Alone.{all_past}
+pub use Rattle.script_runs.proofs.KeptTries.{new_books_are_kept}

@@ -1,10 +1,8 @@
 -- What a try's entries are, by how it ended.
-use Rattle.std.proofs.Common.{◌≡◌, refl, sym, ap, subst, get_or, ◌∙◌, ◌⊎◌, inl, inr, ℕ, suc, ◌<◌, ◌≤◌, Bool, true, false, cond, ◌||◌, List, [], ◌∷◌, ◌++◌, take, length, map, append_assoc, append-nil, Option, Some, None}
-use Rattle.std.specs.List.{AllByRecursion, list_any, slice_get}
+use Rattle.std.proofs.Common.{◌≡◌, refl, sym, ap, subst, ◌∙◌, ℕ, suc, Bool, true, false, cond, ◌||◌, List, [], ◌∷◌, ◌++◌, length, map, append_assoc, append-nil, Option, Some, None}
+use Rattle.std.specs.List.{AllByRecursion, list_any}
 use Rattle.std.proofs.lemmas.Bool.{both_ways}
-use Rattle.std.proofs.lemmas.List.{take_all}
 use Rattle.std.proofs.lemmas.List.Folds.{list_any-append}
-use Rattle.std.proofs.lemmas.Option.{slice_get_cases}
 use Rattle.clv_base.specs.declared.names.TxId.{TxId}
 use Rattle.clv_base.specs.declared.names.Birth.{Birth}
 use Rattle.clv_base.specs.declared.causes.AbortCause.{AbortCause}
@@ -29,15 +27,9 @@ use Rattle.script_runs.specs.Operations.{parts_of, IsPart, ArePartsAnswered, no_
 use Rattle.script_runs.specs.Tries.{Try, IsTry, IsDone, IsRequest, IsLook, AreDrops, IsUnderWay, operation_begun, request_next, EndsBy, acknowledged, nothing, by_line, in_operation, at_request, at_look, down, unsettled, wanting_before, wanting_behind, unanswered, worn_at_line, is_want, ops_so_far}
 use Rattle.script_runs.specs.TriesLaws.{AcknowledgedDidTheirLines, all_parts, EntriesTellTheirLines, EntriesTellOfNoOther, is_drop, MayDrop, DropsHaveReasons, IsBornSo}
 use Rattle.law_base.proofs.Lists.{all_append}
+use Rattle.script_runs.proofs.Doing.{past_ops}
 
 -- ---- an acknowledged try
-
-whole : (ops : List Op) (n : ℕ) → slice_get ops n ≡ None → take n ops ≡ ops
-whole ops n e = at ((slice_get_cases ops n).1)
-  where
-    at : ((x : Op) × (n < length ops) × (slice_get ops n ≡ Some x) × (get_or ops n x ≡ x)) ⊎ ((length ops ≤ n) × (slice_get ops n ≡ None)) → take n ops ≡ ops
-    at (inl (x, within, is, read)) = absurd (let h = sym is ∙ e in cc)
-    at (inr past) = take_all n ops past.0
 
 -- what stands behind its operations
 record Settled (body : Body) (tx : TxId) (answers : List Answer) (behind : History) : Type 0 where
@@ -74,7 +66,7 @@ acknowledged_did_their_lines splits body birth t is e =
       asked = s.asked;
       told = s.told;
       entries_are = is.entries_are ∙ ap (λ b. is.before ++ b) s.behind_is;
-      operations = subst (λ ops. AreOperations splits t.tx birth 1 ops t.answers is.before) (whole (all_ops body.actions t.answers) (length t.answers) s.all.all) is.operations;
+      operations = subst (λ ops. AreOperations splits t.tx birth 1 ops t.answers is.before) (past_ops (all_ops body.actions t.answers) (length t.answers) s.all.all) is.operations;
       asked_is = s.asked_is;
       told_is = s.told_is;
     }
