@@ -8,9 +8,9 @@ use Rattle.clv_base.specs.declared.events.Entry.{Entry}
 use Rattle.clv_base.specs.Journals.{History}
 use Rattle.history_replay.specs.Located.{located, located_all}
 use Rattle.report_text.specs.declared.sets.BirthSet.{BirthSet}
-use Rattle.report_text.specs.Told.{try_of, is_of_birth, has_birth}
+use Rattle.session_books.specs.Told.{try_of, is_of_birth, has_birth}
 use Rattle.report_text.specs.Sets.{has_birth_in}
-use Rattle.report_text.specs.Counts.{Counts, counted, has_acknowledged_try, is_open, count_try, counts_in}
+use Rattle.session_books.specs.Counts.{Counts, counted, has_acknowledged_try, is_open, count_try, counts_in}
 use Rattle.report_text.specs.declared.counts.Fates.{Fates}
 use Rattle.report_text.specs.Fates.{FatesOf, counted_at}
 

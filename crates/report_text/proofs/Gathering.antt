@@ -11,9 +11,9 @@ use Rattle.clv_base.specs.Journals.{History}
 use Rattle.clv_base.specs.History.{acknowledged_in}
 use Rattle.history_replay.specs.Located.{located, located_all}
 use Rattle.report_text.specs.declared.sets.TxSet.{TxSet}
-use Rattle.report_text.specs.Told.{is_birth, same_birth}
+use Rattle.session_books.specs.Told.{is_birth, same_birth}
 use Rattle.report_text.specs.Sets.{has_tx, birth_among}
-use Rattle.report_text.specs.Counts.{is_acknowledged_try}
+use Rattle.session_books.specs.Counts.{is_acknowledged_try}
 
 or_false : (b : Bool) → (b || false) ≡ b
 or_false true = refl

@@ -7,8 +7,9 @@ use Rattle.clv_base.specs.declared.ops.Op.{Op}
 use Rattle.clv_base.specs.declared.ops.Op.TheVariants.{Get, Put, Del, Scan}
 use Rattle.clv_base.specs.declared.ops.Answer.{Answer}
 use Rattle.clv_base.specs.declared.ops.Answer.TheVariants.{Value, Pairs}
-use Rattle.report_text.specs.declared.told.Told.{Told}
-use Rattle.report_text.specs.Lines.{pair, pairs_of, all_pairs, answer, operation, goes_on, parts_of, operations_from, transaction}
+use Rattle.session_books.specs.declared.told.Told.{Told}
+use Rattle.session_books.specs.Parts.{pairs_of, all_pairs, goes_on, parts_of}
+use Rattle.report_text.specs.Lines.{pair, answer, operation, operations_from, transaction}
 
 in_pairs : (ps : List (ℕ × ℕ)) → items_have_float (items_of (map pair ps)) ≡ false
 in_pairs [] = refl

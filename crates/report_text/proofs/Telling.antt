@@ -9,8 +9,8 @@ use Rattle.clv_base.specs.Journals.{History}
 use Rattle.clv_base.proofs.SameNames.{tx_true}
 use Rattle.history_replay.specs.Located.{located, located_all}
 use Rattle.std.specs.Borrow.{Bor}
-use Rattle.report_text.specs.declared.told.Told.{Told}
-use Rattle.report_text.specs.Told.{told_by, with_told, told_in}
+use Rattle.session_books.specs.declared.told.Told.{Told}
+use Rattle.session_books.specs.Told.{told_by, with_told, told_in}
 
 with_behind : (t : TxId) (p : Option (TxId × Told)) (ts us : List Told) → with_told t p (ts ++ us) ≡ with_told t p ts ++ us
 with_behind t None ts us = refl

@@ -6,9 +6,9 @@ use Rattle.clv_base.specs.Journals.{History}
 use Rattle.clv_base.specs.History.{has_request}
 use Rattle.report_text.specs.declared.counts.Fates.{Fates}
 use Rattle.report_text.specs.declared.sets.BirthSet.{BirthSet}
-use Rattle.report_text.specs.Told.{has_look}
+use Rattle.session_books.specs.Told.{has_look}
 use Rattle.report_text.specs.Sets.{has_tx, has_birth_in}
-use Rattle.report_text.specs.Counts.{Counts, counted, has_acknowledged_try}
+use Rattle.session_books.specs.Counts.{Counts, counted, has_acknowledged_try}
 
 -- the fates in a history
 pub record FatesOf (h : History) (fates : Fates) : Type 0 where

@@ -1,4 +1,3 @@
-pub mod Told
 pub mod Lines
 pub mod Counts
 pub mod Report

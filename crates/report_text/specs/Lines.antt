@@ -1,5 +1,5 @@
 -- The line of a transaction.
-use Rattle.std.specs.Prelude.{ℕ, Bool, false, cond, ◌==◌, List, [], ◌∷◌, ◌++◌, map, codes, Option, Some, None}
+use Rattle.std.specs.Prelude.{ℕ, cond, List, [], ◌∷◌, ◌++◌, map, codes, Option, Some, None}
 use Rattle.serde_json.specs.Data.{Data, null, number, unsigned, string, array, object, member, no_members}
 use Rattle.serde_json.specs.View.{items_of}
 use Rattle.serde_json.specs.Written.{compact_text}
@@ -8,7 +8,8 @@ use Rattle.clv_base.specs.declared.ops.Op.{Op}
 use Rattle.clv_base.specs.declared.ops.Op.TheVariants.{Get, Put, Del, Scan}
 use Rattle.clv_base.specs.declared.ops.Answer.{Answer}
 use Rattle.clv_base.specs.declared.ops.Answer.TheVariants.{Value, Pairs}
-use Rattle.report_text.specs.declared.told.Told.{Told}
+use Rattle.session_books.specs.declared.told.Told.{Told}
+use Rattle.session_books.specs.Parts.{pairs_of, parts_of, upper_of, all_pairs, goes_on}
 
 -- a value as compact JSON, with a line feed
 abbrev pub line : Data → List ℕ
@@ -32,32 +33,10 @@ optional (Some v) = num v
 abbrev pub pair : ℕ × ℕ → Data
 pair p = list (num p.0 ∷ num p.1 ∷ [])
 
--- the pairs of an answer
-abbrev pub pairs_of : Answer → List (ℕ × ℕ)
-pairs_of (Value v) = []
-pairs_of (Pairs ps) = ps
-
+-- what was answered
 abbrev pub answer : Answer → Data
 answer (Value v) = optional v
 answer (Pairs ps) = list (map pair ps)
-
--- the part scans of one operation: those of its number that follow it
-abbrev pub parts_of : ℕ → List Told → List Told
-parts_of n [] = []
-parts_of n (t ∷ ts) = cond (n == t.nth) (t ∷ parts_of n ts) []
-
--- they go up to the last one's upper bound, and have the pairs of all
-abbrev pub upper : ℕ → Op → ℕ
-upper hi (Scan low high) = high
-upper hi _ = hi
-
-abbrev pub upper_of : ℕ → List Told → ℕ
-upper_of hi [] = hi
-upper_of hi (t ∷ ts) = upper_of (upper hi t.op) ts
-
-abbrev pub all_pairs : List Told → List (ℕ × ℕ)
-all_pairs [] = []
-all_pairs (t ∷ ts) = pairs_of t.answer ++ all_pairs ts
 
 -- an operation with its answer, and the further parts of a scan
 abbrev pub operation : Op → Answer → List Told → Data
@@ -65,11 +44,6 @@ operation (Get k) a parts = list (string (codes "get") ∷ num k ∷ answer a �
 operation (Put k v) a parts = list (string (codes "put") ∷ num k ∷ num v ∷ answer a ∷ [])
 operation (Del k) a parts = list (string (codes "del") ∷ num k ∷ answer a ∷ [])
 operation (Scan lo hi) a parts = list (string (codes "scan") ∷ num lo ∷ num (upper_of hi parts) ∷ list (map pair (pairs_of a ++ all_pairs parts)) ∷ [])
-
--- whether it has the number of the one before, if there is one
-abbrev pub goes_on : Option ℕ → ℕ → Bool
-goes_on None n = false
-goes_on (Some m) n = m == n
 
 -- each operation once, with its parts
 abbrev pub operations_from : Option ℕ → List Told → List Data

@@ -4,9 +4,10 @@ use Rattle.clv_base.specs.declared.names.TxId.{TxId}
 use Rattle.clv_base.specs.Maps.{KeyMap}
 use Rattle.clv_base.specs.Journals.{History}
 use Rattle.clv_base.specs.History.{acknowledged_in, request_of}
-use Rattle.report_text.specs.Told.{told_in}
+use Rattle.session_books.specs.Told.{told_in}
 use Rattle.report_text.specs.Lines.{line, pair, transaction}
-use Rattle.report_text.specs.Counts.{counts_in, summary}
+use Rattle.session_books.specs.Counts.{counts_in}
+use Rattle.report_text.specs.Counts.{summary}
 
 -- the line of a transaction at its request, if it is acknowledged
 abbrev pub line_at : History → Option TxId → List ℕ

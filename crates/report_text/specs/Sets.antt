@@ -7,9 +7,9 @@ use Rattle.clv_base.specs.declared.names.Birth.{Birth}
 use Rattle.clv_base.specs.Orders.{tx_same, tx_cmp}
 use Rattle.report_text.specs.declared.sets.TxSet.{TxSet}
 use Rattle.report_text.specs.declared.sets.BirthSet.{BirthSet}
-use Rattle.report_text.specs.declared.told.Told.{Told}
+use Rattle.session_books.specs.declared.told.Told.{Told}
 use Rattle.report_text.specs.declared.told.ToldTable.{ToldTable}
-use Rattle.report_text.specs.Told.{same_birth}
+use Rattle.session_books.specs.Told.{same_birth}
 
 abbrev pub has_tx : TxSet → TxId → Bool
 has_tx s t = list_any (tx_same t) s.members.keys

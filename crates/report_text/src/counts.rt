@@ -6,8 +6,9 @@ ghost use Rattle.clv_base.specs.declared.names.TxId.{TxId as Tx};
 ghost use Rattle.clv_base.specs.History.{acknowledged_in};
 ghost use Rattle.history_replay.specs.Located.{located_all};
 ghost use Rattle.serde_json.specs.View.{view};
-ghost use Rattle.report_text.specs.Told.{is_birth, is_of_birth, try_of as which_try};
-ghost use Rattle.report_text.specs.Counts.{counted as counted_one, counts_in, has_acknowledged_try, summary as summary_value};
+ghost use Rattle.session_books.specs.Told.{is_birth, is_of_birth, try_of as which_try};
+ghost use Rattle.session_books.specs.Counts.{counted as counted_one, counts_in, has_acknowledged_try};
+ghost use Rattle.report_text.specs.Counts.{summary as summary_value};
 ghost use Rattle.report_text.specs.Sets.{has_tx, has_birth_in, birth_among};
 
 use crate::Memory;
@@ -16,15 +17,8 @@ use crate::told::{looked, requested, try_of};
 use clv_base::events::Entry;
 use clv_base::names::{Birth, TxId};
 use serde_json::{Value, json};
+use session_books::counts::Counts;
 use std::alloc::Global;
-
-// How many transactions were acknowledged, are unsettled, and were aborted.
-#[derive(Clone, Copy)]
-pub struct Counts {
-    pub acknowledged: u64,
-    pub unsettled: u64,
-    pub aborted: u64,
-}
 
 // The birth of a try, if its transaction was acknowledged.
 fn acknowledged_birth(acknowledged: &TxSet, entry: &Entry) -> Option<Birth>

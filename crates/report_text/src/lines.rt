@@ -5,13 +5,14 @@ ghost use Rattle.serde_json.specs.Data.{string};
 ghost use Rattle.serde_json.specs.Written.{has_float};
 ghost use Rattle.clv_base.specs.declared.ops.Op.TheVariants.{Scan};
 ghost use Rattle.serde_json.specs.View.{view};
-ghost use Rattle.report_text.specs.Lines.{line as line_of, num, list as list_of, row as row_of, optional as optional_value, pair as pair_value, pairs_of as pairs_in, answer as answer_data, parts_of, upper as upper_end, upper_of as upper_end_of, all_pairs, operation as operation_value, operations_from, operations as operations_values, goes_on as continues, transaction as transaction_value};
+ghost use Rattle.session_books.specs.Parts.{pairs_of as pairs_in, parts_of, upper as upper_end, upper_of as upper_end_of, all_pairs, goes_on as continues};
+ghost use Rattle.report_text.specs.Lines.{line as line_of, num, list as list_of, row as row_of, optional as optional_value, pair as pair_value, answer as answer_data, operation as operation_value, operations_from, operations as operations_values, transaction as transaction_value};
 
 use crate::Memory;
-use crate::told::Told;
 use clv_base::names::TxId;
 use clv_base::ops::{Answer, Op};
 use serde_json::{Value, json};
+use session_books::told::Told;
 use std::alloc::Global;
 
 // A value as compact JSON, with a line feed, is added to a text.

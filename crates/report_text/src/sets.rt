@@ -21,7 +21,7 @@ impl TxSet {
     ghost use Rattle.std.specs.Prelude.{◌≡◌, ◌||◌, true, false, OnOk, if◌then◌else◌};
     ghost use Rattle.clv_base.specs.declared.names.TxId.{TxId as Tx};
     ghost use Rattle.clv_base.specs.Orders.{tx_same};
-    ghost use Rattle.report_text.specs.Told.{is_tx};
+    ghost use Rattle.session_books.specs.Told.{is_tx};
     ghost use Rattle.report_text.specs.Sets.{has_tx};
 
     pub fn new(alloc: Global) -> Self
@@ -59,7 +59,7 @@ impl TxSet {
 impl BirthSet {
     ghost use Rattle.std.specs.Prelude.{◌≡◌, ◌||◌, true, false, OnOk, if◌then◌else◌};
     ghost use Rattle.clv_base.specs.declared.names.Birth.{Birth as Age};
-    ghost use Rattle.report_text.specs.Told.{same_birth, is_birth};
+    ghost use Rattle.session_books.specs.Told.{same_birth, is_birth};
     ghost use Rattle.report_text.specs.Sets.{has_birth_in};
 
     pub fn new(alloc: Global) -> Self

@@ -5,7 +5,7 @@ ghost use Rattle.clv_base.specs.declared.names.TxId.{TxId as Tx};
 ghost use Rattle.clv_base.specs.History.{acknowledged_in};
 ghost use Rattle.history_replay.specs.Entries.{entries_of};
 ghost use Rattle.history_replay.specs.Located.{located_all};
-ghost use Rattle.report_text.specs.Told.{told_in};
+ghost use Rattle.session_books.specs.Told.{told_in};
 ghost use Rattle.report_text.specs.Report.{report as report_bytes, lines_in};
 ghost use Rattle.report_text.specs.Sets.{has_tx, told_at};
 ghost use Rattle.report_text.specs.Sinks.{TakesText, Causes};

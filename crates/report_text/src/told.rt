@@ -4,7 +4,7 @@ ghost use Rattle.std.specs.Prelude.{◌≡◌, IfOk, map};
 ghost use Rattle.clv_base.specs.declared.names.TxId.{TxId as Tx};
 ghost use Rattle.clv_base.specs.History.{acknowledged_in, request_of, has_request};
 ghost use Rattle.history_replay.specs.Located.{located_all};
-ghost use Rattle.report_text.specs.Told.{told_by, told_in, acknowledged_by as who_is_acknowledged, looked_by as who_is_looked_for, has_look, try_of as which_try};
+ghost use Rattle.session_books.specs.Told.{told_by, told_in, acknowledged_by as who_is_acknowledged, looked_by as who_is_looked_for, has_look, try_of as which_try};
 ghost use Rattle.report_text.specs.Sets.{has_tx, told_at};
 
 use crate::Memory;
@@ -12,17 +12,10 @@ use crate::sets::TxSet;
 use clv_base::events::{Entry, Event, Outcome};
 use clv_base::lists::Pairs;
 use clv_base::names::{Birth, TxId};
-use clv_base::ops::{Answer, Op};
+use clv_base::ops::Answer;
+use session_books::told::Told;
 use std::alloc::Global;
 use std::collections::BTreeMap;
-
-// An answered operation, with its number.
-#[derive(Drop)]
-pub struct Told {
-    pub nth: u64,
-    pub op: Op,
-    pub answer: Answer,
-}
 
 // The answered operations of each transaction, in order.
 #[derive(Drop)]

@@ -100,7 +100,7 @@ done_as body ending answers all is = record { all = all; ending_is = is }
 
 committed : (missed : Misses) (body : Body) (tx : TxId) (birth : Birth) (end : TryEnd) (u w x v : Seen) (d : HasDone tx birth body.actions u w) → IsDone body Commit d.answers → CommitTold tx birth (length d.answers) d.touched end w x → GivenUp missed end x v
     → Tried missed body tx birth end u v
-committed missed body tx birth Acknowledged u w x v d all (home, asked, told, a, l, grows, idle) g =
+committed missed body tx birth Acknowledged u w x v d all (home, asked, told, a, l, grows, idle, place) g =
     tried missed body tx birth Acknowledged u w v d (asked ∷ told ∷ []) (acknowledged home asked told all a l) (subst (Grows (asked ∷ told ∷ []) w) (sym g) grows) (ap (λ s. s.standing) g ∙ idle) tt
 committed missed body tx birth Empty u w x v d all (zero_nth, grows, idle) g =
     tried missed body tx birth Empty u w v d [] (nothing all (no_answers d.answers zero_nth)) (subst (Grows [] w) (sym g) grows) (ap (λ s. s.standing) g ∙ idle) tt
@@ -116,13 +116,13 @@ committed missed body tx birth (Stopped (Down n)) u w x v d all (grows, (nth, ac
     tried missed body tx birth (Stopped (Down n)) u w v d h.0 (down n [] h.0 (request_next all) (drops_as tx d.touched (d.entries ++ []) None h.0 (more_touched d.touched d.entries d.only) h.1)) (grows_on [] h.0 w x v grows h.2) tt
     (let_go_or missed d.touched (try_with body tx birth (Stopped (Down n)) u w d h.0) u.entries (d.entries ++ []) h.0 x.entries v (ap (λ es. es ++ h.0) (sym (append-nil d.entries)))
     (drops_as tx d.touched (d.entries ++ []) None h.0 (more_touched d.touched d.entries d.only) h.1) (λ k t. d.all k (ap (λ l. is_touched l k) (sym (append-nil d.entries)) ∙ t)) (grows_on d.entries [] u w x d.grows grows).entries_are h.3)
-committed missed body tx birth (Stopped (Unsettled n)) u w x v d all (home, asked, a, grows) g =
+committed missed body tx birth (Stopped (Unsettled n)) u w x v d all ((home, asked, a, grows), is) g =
     tried missed body tx birth (Stopped (Unsettled n)) u w v d (asked ∷ []) (unsettled n home asked all a) (subst (Grows (asked ∷ []) w) (sym g) grows) tt tt
-committed missed body tx birth (Stopped (Worn at)) u w x v d all (inl grows) g = tried missed body tx birth (Stopped (Worn at)) u w v d [] (wanting_before (Worn at) [] refl (request_next all)) (subst (Grows [] w) (sym g) grows) tt tt
-committed missed body tx birth (Stopped (Worn at)) u w x v d all (inr (home, asked, a, grows)) g =
+committed missed body tx birth (Stopped (Worn at)) u w x v d all (inl (grows, active)) g = tried missed body tx birth (Stopped (Worn at)) u w v d [] (wanting_before (Worn at) [] refl (request_next all)) (subst (Grows [] w) (sym g) grows) tt tt
+committed missed body tx birth (Stopped (Worn at)) u w x v d all (inr ((home, asked, a, grows), is)) g =
     tried missed body tx birth (Stopped (Worn at)) u w v d (asked ∷ []) (wanting_behind (Worn at) home asked refl all a) (subst (Grows (asked ∷ []) w) (sym g) grows) tt tt
-committed missed body tx birth (Stopped Memory) u w x v d all (inl grows) g = tried missed body tx birth (Stopped Memory) u w v d [] (wanting_before Memory [] refl (request_next all)) (subst (Grows [] w) (sym g) grows) tt tt
-committed missed body tx birth (Stopped Memory) u w x v d all (inr (home, asked, a, grows)) g =
+committed missed body tx birth (Stopped Memory) u w x v d all (inl (grows, active)) g = tried missed body tx birth (Stopped Memory) u w v d [] (wanting_before Memory [] refl (request_next all)) (subst (Grows [] w) (sym g) grows) tt tt
+committed missed body tx birth (Stopped Memory) u w x v d all (inr ((home, asked, a, grows), is)) g =
     tried missed body tx birth (Stopped Memory) u w v d (asked ∷ []) (wanting_behind Memory home asked refl all a) (subst (Grows (asked ∷ []) w) (sym g) grows) tt tt
 
 line_aborted : (missed : Misses) (body : Body) (tx : TxId) (birth : Birth) (end : TryEnd) (u w v : Seen) (d : HasDone tx birth body.actions u w) → IsDone body Abort d.answers → LineAborts missed tx birth d.touched end w v → Tried missed body tx birth end u v
@@ -164,13 +164,13 @@ tried_part missed body tx birth (Stopped (Down n)) u w x v d op next (here, afte
     (grows_on here h.0 w x v grows h.2) tt
     (let_go_or missed after (try_with body tx birth (Stopped (Down n)) u w d (here ++ h.0)) u.entries (d.entries ++ here) h.0 x.entries v (sym (append_assoc d.entries here h.0))
     (drops_as tx after (d.entries ++ here) None h.0 (touches_on d.touched after d.entries here d.only by.only) h.1) (touches_all d.touched after d.entries here d.all by) (grows_on d.entries here u w x d.grows grows).entries_are h.3)
-tried_part missed body tx birth (Stopped (Worn at)) u w x v d op next (here, begun, grows) g =
+tried_part missed body tx birth (Stopped (Worn at)) u w x v d op next (here, after, begun, by, grows, active) g =
     tried missed body tx birth (Stopped (Worn at)) u w v d here
     (wanting_before (Worn at) here refl (operation_begun op here next (subst (λ s. IsBegun s tx birth (suc (length d.answers)) op here) (d.grows).splits_are begun))) (subst (Grows here w) (sym g) grows) tt tt
-tried_part missed body tx birth (Stopped Memory) u w x v d op next (here, inl begun, grows) g =
+tried_part missed body tx birth (Stopped Memory) u w x v d op next (here, after, inl begun, by, grows, active) g =
     tried missed body tx birth (Stopped Memory) u w v d here
     (wanting_before Memory here refl (operation_begun op here next (subst (λ s. IsBegun s tx birth (suc (length d.answers)) op here) (d.grows).splits_are begun))) (subst (Grows here w) (sym g) grows) tt tt
-tried_part missed body tx birth (Stopped Memory) u w x v d op next (here, inr (parts, are), grows) g =
+tried_part missed body tx birth (Stopped Memory) u w x v d op next (here, after, inr (parts, are), by, grows, active) g =
     tried missed body tx birth (Stopped Memory) u w v d here
     (unanswered op parts here next (subst (λ s. ArePartsAnswered tx birth (suc (length d.answers)) (parts_of s op) parts here) (d.grows).splits_are are)) (subst (Grows here w) (sym g) grows) tt tt
 tried_part missed body tx birth (Stopped (Unsettled n)) u w x v d op next t g = absurd t

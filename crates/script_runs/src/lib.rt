@@ -17,7 +17,7 @@ pub mod statements;
 mod threads;
 mod trying;
 
-pub use calls::SessionCalls;
+pub use calls::{SessionCalls, Stage};
 pub use ends::{StopCause, TryEnd};
 pub use running::run_session;
 pub use seats::Seat;

@@ -1,8 +1,8 @@
 use Rattle.std.proofs.Common.{◌≡◌, ◌+◌, ◌++◌, ◌∷◌, [], take, ap, ◌∙◌, arith}
 use Rattle.std.proofs.lemmas.Grind.{common_steps}
 use Rattle.history_replay.specs.Located.{located_all}
-use Rattle.report_text.specs.Told.{is_birth, try_of}
-use Rattle.report_text.specs.Counts.{is_acknowledged_try}
+use Rattle.session_books.specs.Told.{is_birth, try_of}
+use Rattle.session_books.specs.Counts.{is_acknowledged_try}
 use Rattle.report_text.proofs.Gathering.{gathered, tried}
 use Rattle.report_text.proofs.counts.acknowledged_births.Goals as goal
 

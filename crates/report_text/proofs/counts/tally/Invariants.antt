@@ -1,9 +1,9 @@
 use Rattle.std.proofs.Common.{◌≡◌, ◌≤◌, drop, length}
 use Rattle.clv_base.specs.declared.names.Birth.{Birth}
 use Rattle.history_replay.specs.Located.{located_all}
-use Rattle.report_text.specs.Told.{has_birth}
+use Rattle.session_books.specs.Told.{has_birth}
 use Rattle.report_text.specs.Sets.{has_birth_in}
-use Rattle.report_text.specs.Counts.{counts_in}
+use Rattle.session_books.specs.Counts.{counts_in}
 use Rattle.report_text.proofs.counts.tally.Given as goal
 
 abbrev pub invariant-loop-place : goal.invariant-loop-place

@@ -1,6 +1,7 @@
 use Rattle.std.proofs.Common.{◌≡◌, ◌++◌, map, drop}
 use Rattle.serde_json.specs.View.{view}
-use Rattle.report_text.specs.Lines.{pair, all_pairs}
+use Rattle.session_books.specs.Parts.{all_pairs}
+use Rattle.report_text.specs.Lines.{pair}
 use Rattle.report_text.proofs.lines.add_all_pairs.Given as goal
 
 abbrev pub invariant-loop-part : goal.invariant-loop-part

@@ -1,5 +1,5 @@
 use Rattle.std.proofs.Common.{◌≡◌, ◌++◌, take, drop}
-use Rattle.report_text.specs.Lines.{parts_of}
+use Rattle.session_books.specs.Parts.{parts_of}
 use Rattle.report_text.proofs.lines.count_parts.Given as goal
 
 abbrev pub invariant-loop-place : goal.invariant-loop-place

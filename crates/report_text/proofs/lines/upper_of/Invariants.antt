@@ -1,5 +1,5 @@
 use Rattle.std.proofs.Common.{◌≡◌, drop}
-use Rattle.report_text.specs.Lines.{upper_of}
+use Rattle.session_books.specs.Parts.{upper_of}
 use Rattle.report_text.proofs.lines.upper_of.Given as goal
 
 abbrev pub invariant-loop-part : goal.invariant-loop-part

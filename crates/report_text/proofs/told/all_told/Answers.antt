@@ -1,7 +1,7 @@
 use Rattle.std.proofs.Common.{◌≡◌, Some, None, ◌∷◌, ◌++◌, ◌+◌, [], take, ap, sym, ◌∙◌, arith, rules, append-nil}
 use Rattle.std.proofs.lemmas.Grind.{common_steps}
 use Rattle.history_replay.specs.Located.{located_all}
-use Rattle.report_text.specs.Told.{told_by, with_told, told_in}
+use Rattle.session_books.specs.Told.{told_by, with_told, told_in}
 use Rattle.report_text.specs.Sets.{told_at}
 use Rattle.report_text.proofs.Telling.{told_more, grown}
 use Rattle.report_text.proofs.told.all_told.Goals as goal

@@ -1,7 +1,7 @@
 use Rattle.std.proofs.Common.{◌≡◌, take}
 use Rattle.clv_base.specs.declared.names.TxId.{TxId}
 use Rattle.history_replay.specs.Located.{located_all}
-use Rattle.report_text.specs.Told.{told_in}
+use Rattle.session_books.specs.Told.{told_in}
 use Rattle.report_text.specs.Sets.{told_at}
 use Rattle.report_text.proofs.told.all_told.Given as goal
 

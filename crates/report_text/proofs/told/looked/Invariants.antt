@@ -1,7 +1,7 @@
 use Rattle.std.proofs.Common.{◌≡◌, take}
 use Rattle.clv_base.specs.declared.names.TxId.{TxId}
 use Rattle.history_replay.specs.Located.{located_all}
-use Rattle.report_text.specs.Told.{has_look}
+use Rattle.session_books.specs.Told.{has_look}
 use Rattle.report_text.specs.Sets.{has_tx}
 use Rattle.report_text.proofs.told.looked.Given as goal
 

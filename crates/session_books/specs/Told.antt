@@ -10,7 +10,7 @@ use Rattle.clv_base.specs.declared.events.Outcome.{Outcome}
 use Rattle.clv_base.specs.declared.events.Outcome.TheVariants.{Answered, Acknowledged}
 use Rattle.clv_base.specs.Orders.{tx_same, birth_cmp}
 use Rattle.clv_base.specs.Journals.{History}
-use Rattle.report_text.specs.declared.told.Told.{Told}
+use Rattle.session_books.specs.declared.told.Told.{Told}
 
 -- the answered operation that an entry tells, with its transaction
 abbrev pub told_by : Event → Outcome → Option (TxId × Told)

@@ -1,0 +1,4 @@
+pub mod Told
+pub mod Parts
+pub mod Counts
+pub mod Books
