@@ -4,8 +4,8 @@ ghost use Rattle.session_api.specs.Standing.{Holds, seen_in};
 ghost use Rattle.session_api.specs.Grounds.{Grounds, HasMissed};
 
 use crate::ends::{aborted, begun, committed, last_asked, pairs_told, retried, value_told};
-use crate::progress::stage_of;
 use crate::script_session::ScriptSession;
+use crate::stages::stage_of;
 use cluster_turns::Shards;
 use clv_base::names::Point;
 use clv_base::ops::{Answer, Op};

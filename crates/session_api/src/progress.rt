@@ -1,8 +1,6 @@
 // How a session's last transaction stands.
 ghost use Rattle.std.specs.Prelude.{◌≡◌};
-ghost use Rattle.script_runs.specs.Seen.{IsStage};
 ghost use Rattle.session_api.specs.Progresses.{after_op, after_commit, active_tx};
-ghost use Rattle.session_api.specs.Standing.{active_as, standing_of};
 
 use cluster_turns::{Place, Stage};
 use clv_base::names::TxId;
@@ -56,27 +54,5 @@ pub(crate) fn after_request(place: Place, stamp: u64) -> Progress
         Stage::Told => Progress::Idle,
         Stage::Ended => Progress::Ended(place),
         Stage::Refused => Progress::Ended(place),
-    }
-}
-
-// An active transaction, which has a birth.
-fn active_stage(place: &Place) -> script_runs::Stage
-    ensures { IsStage (active_as place.now place.now.birth) result }
-{
-    let _birth = place.birth();
-    let touched = place.home().is_some();
-    script_runs::Stage::Active { touched }
-}
-
-/// How far the last transaction is, without its names.
-pub(crate) fn stage_of(progress: &Progress) -> script_runs::Stage
-    ensures { IsStage (standing_of progress.now) result }
-{
-    match progress {
-        Progress::Idle => script_runs::Stage::Idle,
-        Progress::Active(place) => active_stage(place),
-        Progress::Worn(place) => active_stage(place),
-        Progress::Asked { .. } => script_runs::Stage::Asked,
-        Progress::Ended(_) => script_runs::Stage::Idle,
     }
 }
