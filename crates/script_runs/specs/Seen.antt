@@ -30,7 +30,7 @@ IsStage (Active tx birth nth touched) st = (some : Bool) × (st ≡ stage.Active
 IsStage Asked st = st ≡ stage.Asked
 
 -- a session: the splits, its run and its walker's number, the entries that it made, a clock that none of its births is past, the greatest stamp of the entries
--- that it has seen, whoever made them, the serial of its last transaction, how that stands, and the place of its last request that was told to be acknowledged
+-- that it has seen, whoever made them, the serial of its last transaction, how that stands, and the place of its last request
 pub record Seen : Type 0 where
   pub splits : List ℕ
   pub run : ℕ

@@ -4,12 +4,13 @@ ghost use Rattle.clv_base.specs.declared.names.TxId.{TxId};
 ghost use Rattle.clv_base.specs.declared.names.Birth.{Birth as BirthIs};
 ghost use Rattle.clv_base.specs.Journals.{History};
 ghost use Rattle.script_runs.specs.declared.ends.StopCause.{StopCause as CauseIs};
+ghost use Rattle.script_runs.specs.declared.ends.StopCause.TheVariants.{Memory};
 ghost use Rattle.script_runs.specs.Seen.{Standing, Idle, Active, Seen as SeenIs, Keeps, IsStage, raised};
 ghost use Rattle.script_runs.specs.Told.{has_range, BeginTold, RetryTold, OperateTold, CommitTold, AbortTold};
 ghost use Rattle.script_runs.specs.Tried.{OnStop, OnRefusal};
 
 use crate::{StopCause, TryEnd};
-use clv_base::names::Point;
+use clv_base::names::{Point, TxId as Name};
 use clv_base::ops::{Answer, Op};
 use std::alloc::Global;
 
@@ -47,9 +48,14 @@ pub trait SessionCalls {
     fn stage(&self) -> Stage
         ensures { IsStage (seen self.now).standing result };
 
-    /// The place of the last request that was told to be acknowledged.
+    /// The place of its last request.
     fn last_request(&self) -> Point
         ensures { result ≡ (seen self.now).asked };
+
+    /// The name of the active transaction.
+    fn name(&self) -> Name
+        requires active { (tx : TxId) × (birth : BirthIs) × (nth : ℕ) × (touched : ℕ → Bool) × ((seen self.now).standing ≡ Active tx birth nth touched) }
+        ensures { (tx : TxId) (birth : BirthIs) (nth : ℕ) (touched : ℕ → Bool) → (seen self.now).standing ≡ Active tx birth nth touched → result ≡ tx };
 
     /// Raises the session's clock to this one, if it is lower, while no transaction is active. Nothing else changes.
     fn raise(&mut self, clock: u64)
@@ -112,4 +118,7 @@ pub trait SessionCalls {
         ensures misses { Keeps (missed self.old) (missed self.new) }
         ensures grounds { IfErr result (grounds self.new) }
         ensures keeps { (cause : CauseIs) → grounds self.old cause → grounds self.new cause };
+
+    /// Memory may be wanting at any time.
+    ghost wanting: { (s : Self) → grounds s Memory };
 }
