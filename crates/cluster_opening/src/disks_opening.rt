@@ -2,7 +2,6 @@
 
 ghost use Rattle.std.specs.Prelude.{◌≡◌, ◌<◌, ◌≤◌, ℕ, false, [], map, length, vec_capacity, IfOk, IfErr, OnErr};
 ghost use Rattle.clv_base.specs.Shards.{shard_count};
-ghost use Rattle.clv_base.specs.Logs.{stands as stands_for};
 ghost use Rattle.io_model.specs.Disk.{Tells};
 ghost use Rattle.log_analysis.specs.Facts.{KnowAll};
 ghost use Rattle.log_gate.specs.Opening.{IsUnchanged};
@@ -16,7 +15,6 @@ use crate::finding::open_one;
 use crate::judging::judge_all;
 use clv_base::logs::LogRecord;
 use clv_base::splits::Splits;
-use history_replay::KeyMap;
 use io_model::{Disk, House};
 use log_analysis::LogFacts;
 use log_gate::{Header, LogGate};
@@ -38,8 +36,6 @@ pub struct Found<D: Disk> {
     pub facts: Vec<LogFacts>,
     /// The run that goes on from all logs.
     pub run: u32,
-    /// The map that the logs stand for.
-    pub pairs: KeyMap,
 }
 
 // Opens disk by disk, and puts the gates, the logs and what these say into what has room for them. After an `Err` the disks of the gates are still out.
@@ -88,7 +84,7 @@ fn open_and_judge<H: House>(
     gates: &mut Vec<LogGate<H::Disk>>,
     logs: &mut Vec<Vec<LogRecord>>,
     facts: &mut Vec<LogFacts>,
-) -> Result<(Splits, u32, KeyMap), OpenError>
+) -> Result<(Splits, u32), OpenError>
     requires inside { (n : ℕ) → n < 16 → H.is_out house.old n ≡ false }
     requires empty { (gates.old.items ≡ []) × (logs.old.items ≡ []) }
     requires no_facts { facts.old.items ≡ [] }
@@ -96,7 +92,6 @@ fn open_and_judge<H: House>(
     requires room_of_facts { 16 ≤ vec_capacity facts.old }
     ensures known { IfOk result (λ r. KnowAll facts.new.items (map (λ l. l.items) logs.new.items)) }
     ensures found { IfOk result (λ r. IsFound r.0 (map (λ l. l.items) logs.new.items) r.1 gates.new.items (H.story house.old)) }
-    ensures pairs { IfOk result (λ r. r.2 ≡ stands_for (map (λ l. l.items) logs.new.items)) }
     ensures out { IfOk result (λ r. WentOut (shard_count r.0) (H.faults house.old) (H.faults house.new) (H.is_out house.old) (H.is_out house.new) (H.story house.old) (H.story house.new)) }
     ensures stopped { IfErr result (IsStopped gates.new.items (H.faults house.old) (H.faults house.new) (H.is_out house.new) (H.story house.old) (H.story house.new)) }
 {
@@ -105,9 +100,9 @@ fn open_and_judge<H: House>(
         Err(error) => return Err(error),
     };
     match judge_all(alloc, logs, facts) {
-        Ok((run, pairs)) => {
+        Ok(run) => {
             let Header { shard: _, splits } = header;
-            Ok((splits, run, pairs))
+            Ok((splits, run))
         }
         Err(error) => Err(error),
     }
@@ -123,7 +118,6 @@ pub fn open_disks<H: House>(alloc: Global, house: &mut H) -> Result<Found<H::Dis
     // The gate of each shard is open over its disk, whose log is the one found; the logs may be opened together.
     ensures found { IfOk result (λ f. IsFound f.splits (map (λ l. l.items) f.logs.items) f.run f.gates.items (H.story house.old)) }
     ensures known { IfOk result (λ f. KnowAll f.facts.items (map (λ l. l.items) f.logs.items)) }
-    ensures pairs { IfOk result (λ f. f.pairs ≡ stands_for (map (λ l. l.items) f.logs.items)) }
     ensures out { IfOk result (λ f. WentOut (shard_count f.splits) (H.faults house.old) (H.faults house.new) (H.is_out house.old) (H.is_out house.new) (H.story house.old) (H.story house.new)) }
 
     // Where the disks are refused.
@@ -142,13 +136,12 @@ pub fn open_disks<H: House>(alloc: Global, house: &mut H) -> Result<Found<H::Dis
         return Err(OpenError::Memory);
     };
     match open_and_judge(alloc, house, &mut gates, &mut logs, &mut facts) {
-        Ok((splits, run, pairs)) => Ok(Found {
+        Ok((splits, run)) => Ok(Found {
             splits,
             gates,
             logs,
             facts,
             run,
-            pairs,
         }),
         Err(error) => {
             give_back_all(house, gates);

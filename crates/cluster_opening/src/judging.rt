@@ -2,14 +2,12 @@
 
 ghost use Rattle.std.specs.Prelude.{◌≡◌, ◌<◌, ◌^◌, None, map, IfOk, IfErr, MatchOption};
 ghost use Rattle.clv_base.specs.LogRules.{apart as first_apart};
-ghost use Rattle.clv_base.specs.Logs.{stands as stands_for};
 ghost use Rattle.clv_base.specs.Restarts.{greatest_run, run_after};
 ghost use Rattle.log_analysis.specs.Facts.{KnowAll};
 ghost use Rattle.cluster_opening.specs.Judging.{FaultsOfAll};
 
 use crate::error::OpenError;
 use clv_base::logs::LogRecord;
-use history_replay::{KeyMap, stands};
 use log_analysis::LogFacts;
 use log_rules::apart_by;
 use std::alloc::Global;
@@ -41,26 +39,22 @@ fn next_run(logs: &[Vec<LogRecord>]) -> Option<u32>
     most.checked_add(1)
 }
 
-// The next run and what the logs stand for, where they agree, by what each says of each transaction; or why there is none.
+// The next run, where the logs agree, by what each says of each transaction; or why there is none.
 pub(crate) fn judge_all(
     alloc: Global,
     logs: &[Vec<LogRecord>],
     facts: &[LogFacts],
-) -> Result<(u32, KeyMap), OpenError>
+) -> Result<u32, OpenError>
     requires { KnowAll facts.now (map (λ l. l.items) logs.now) }
-    ensures run { IfOk result (λ r. (r.0 ≡ run_after (map (λ l. l.items) logs.now)) × (r.0 < 2 ^ 32)) }
-    ensures agree { IfOk result (λ r. first_apart (map (λ l. l.items) logs.now) ≡ None) }
-    ensures pairs { IfOk result (λ r. r.1 ≡ stands_for (map (λ l. l.items) logs.now)) }
+    ensures run { IfOk result (λ run. (run ≡ run_after (map (λ l. l.items) logs.now)) × (run < 2 ^ 32)) }
+    ensures agree { IfOk result (λ run. first_apart (map (λ l. l.items) logs.now) ≡ None) }
     ensures fault { IfErr result (FaultsOfAll (map (λ l. l.items) logs.now)) }
 {
     if let Some(tx) = apart_by(alloc, logs, facts)? {
         return Err(OpenError::Apart { tx });
     }
     match next_run(logs) {
-        Some(run) => {
-            let pairs = stands(alloc, logs)?;
-            Ok((run, pairs))
-        }
+        Some(run) => Ok(run),
         None => Err(OpenError::Worn { at: RUNS_END }),
     }
 }

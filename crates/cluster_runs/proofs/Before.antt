@@ -15,7 +15,7 @@ use Rattle.cluster_runs.proofs.Ending.{DrainedBy}
 use Rattle.cluster_runs.proofs.Going.{in_session}
 
 -- what stands in a journal stands in its history
-from_journal : (n : ℕ) (e : Entry) (h : History) → Among e (journal_of n h) → Among (n, e) h
+pub from_journal : (n : ℕ) (e : Entry) (h : History) → Among e (journal_of n h) → Among (n, e) h
 from_journal n e [] m = absurd m
 from_journal n e ((k, f) ∷ fs) m = at (k == n) refl m (from_journal n e fs)
   where

@@ -357,9 +357,9 @@ module _
   -- ---- a shard that each walker has seen settled, after all that it has seen
 
   -- one of them has seen all notes
-  pub settled_at_end : ((k : ℕ) (d : Walker M S G) → k < length walkers → (get_or walkers k d).number ≡ k) → ((k : ℕ) (d : Walker M S G) → k < length walkers → HasLanded k (get_or walkers k d).passes.items) → Walker M S G → 0 < length walkers
-      → (n : ℕ) → n < count → ((k : ℕ) (d : Walker M S G) → k < length walkers → SettledAt n (get_or walkers k d).passes.items) → IsSettledAtEnd n kept
-  settled_at_end numbers landed d some n l sees =
+  pub settled_state : ((k : ℕ) (d : Walker M S G) → k < length walkers → (get_or walkers k d).number ≡ k) → ((k : ℕ) (d : Walker M S G) → k < length walkers → HasLanded k (get_or walkers k d).passes.items) → Walker M S G → 0 < length walkers
+      → (n : ℕ) → n < count → ((k : ℕ) (d : Walker M S G) → k < length walkers → SettledAt n (get_or walkers k d).passes.items) → is_settled (states n) ≡ true
+  settled_state numbers landed d some n l sees =
       let h = get_or homes n (home n l) in
       let s = made h in
       let notes = notes_of s.journal h.marks.items in
@@ -375,11 +375,15 @@ module _
       let same : h.origin ≡ at.origin = same_origin (sym (closed.origin_is k d one.1) ∙ (ap origin_of (at.had None) ∙ at.has_origin)) in
       let whole : notes ≡ seen at.p = one.2 ∙ ap seen_of (at.had None) in
       let is : states n ≡ at.s = state_is n (home n l) l ∙ (r.closed.noted n (home n l) (low n l)).is ∙ ap (state_of h.origin) whole ∙ ap (λ o. state_of o (seen at.p)) same ∙ sym at.s_is.is in
-      record {
-        state = states n;
-        runs = subst (λ es. Runs (start_of kept.found n) es (states n)) (sym (history.same_journals n l)) (runs_at n l);
-        settled = ap is_settled is ∙ at.settled;
-      }
+      ap is_settled is ∙ at.settled
+
+  pub settled_at_end : ((k : ℕ) (d : Walker M S G) → k < length walkers → (get_or walkers k d).number ≡ k) → ((k : ℕ) (d : Walker M S G) → k < length walkers → HasLanded k (get_or walkers k d).passes.items) → Walker M S G → 0 < length walkers
+      → (n : ℕ) → n < count → ((k : ℕ) (d : Walker M S G) → k < length walkers → SettledAt n (get_or walkers k d).passes.items) → IsSettledAtEnd n kept
+  settled_at_end numbers landed d some n l sees = record {
+    state = states n;
+    runs = subst (λ es. Runs (start_of kept.found n) es (states n)) (sym (history.same_journals n l)) (runs_at n l);
+    settled = settled_state numbers landed d some n l sees;
+  }
 
 pub clusters_end : {M S G D : Type 0} → ClustersEnd M S G D
 clusters_end shard sh walkers homes kept down counts counts_now out out_now before now r = ended shard sh walkers homes kept down counts counts_now out out_now before now r

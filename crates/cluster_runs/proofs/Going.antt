@@ -79,7 +79,7 @@ in_session x (e ∷ es) s m =
 none_some : {A : Type 0} (t : TxId) → None ≡ Some t → A
 none_some t h = absurd cc
 
-of_session : (e : Event) (o : Outcome) (t : TxId) → request_of e o ≡ Some t → is_of_session e ≡ true
+pub of_session : (e : Event) (o : Outcome) (t : TxId) → request_of e o ≡ Some t → is_of_session e ≡ true
 of_session (OpEvent u birth nth seen op) o t h = refl
 of_session (Request u ts) o t h = refl
 of_session (Look u) o t h = refl

@@ -27,5 +27,6 @@ mod Going
 mod Before
 mod Alone
 mod Replaying
+mod Stored
 mod Scripted
 pub mod Laws

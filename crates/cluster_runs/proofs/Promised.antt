@@ -81,7 +81,7 @@ module _ {M S G : Type 0} (shards : ℕ) (failed : ℕ → Bool) (w : Walker M S
   stop_told (Begun (Some stop.Memory)) h = tt
 
 -- a run is fine only by an end that is
-fine_end : (down : Option ℕ) (end : End) → status_by down end ≡ Fine → IsOk end
+pub fine_end : (down : Option ℕ) (end : End) → status_by down end ≡ Fine → IsOk end
 fine_end (Some n) end h = absurd cc
 fine_end None (Ok u) h = tt
 fine_end None (Err (stop.Worn at)) h = absurd cc

@@ -18,7 +18,7 @@ use Rattle.history_replay.specs.Replayed.{operations_at, acknowledged_ops}
 use Rattle.cluster_runs.specs.Histories.{entries}
 use Rattle.cluster_runs.specs.PromisedSessions.{Went}
 use Rattle.cluster_runs.specs.Promises.{RunPromised}
-use Rattle.cluster_runs.specs.Replays.{HaveGone, RunsReplay}
+use Rattle.cluster_runs.specs.Replays.{HaveGone, MembersAreAcknowledged, RunsReplay}
 use Rattle.history_replay.specs.Entries.{Kept}
 use Rattle.io_model.specs.Story.{Story}
 use Rattle.script_lang.specs.Bodies.{Body}
@@ -64,7 +64,10 @@ known_all splits before now counts counts_now most script went kept may p gone c
     (λ b. absurd (both_ways (committed_in (log_of logs e.0) t) (aborted_are_committed_nowhere splits kept.found h left choice e.0 t (record { opens = may; legal = legal }) (in_a_shard splits kept.found left h e legal m) b) committed))
     (requests_are_told splits before now counts counts_now most script went kept p gone e.0 e.1 t (among_is e.0 e.1 h m) some)
 
+pub members_are_acknowledged : MembersAreAcknowledged
+members_are_acknowledged splits before now counts counts_now most script went kept choice may p gone =
+    members_are (logs_left splits kept.found (entries kept) (p.keeps).left choice) (entries kept) (entries kept) (known_all splits before now counts counts_now most script went kept may p gone choice)
+
 pub runs_replay : RunsReplay
 runs_replay splits before now counts counts_now most script went kept may p gone choice =
-    sym ((p.keeps).promised choice).map
-    ∙ ap (replay_map (stands kept.found)) (members_are (logs_left splits kept.found (entries kept) (p.keeps).left choice) (entries kept) (entries kept) (known_all splits before now counts counts_now most script went kept may p gone choice))
+    sym ((p.keeps).promised choice).map ∙ ap (replay_map (stands kept.found)) (members_are_acknowledged splits before now counts counts_now most script went kept choice may p gone)

@@ -1,8 +1,7 @@
 // A cluster begins.
-ghost use Rattle.std.specs.Prelude.{◌≡◌, ◌<◌, ◌≤◌, ◌+◌, ℕ, Bool, false, List, Option, map, vec_len, vec_capacity, slice_index_or, IfOk, IfErr, OnErr};
+ghost use Rattle.std.specs.Prelude.{◌≡◌, ◌<◌, ◌≤◌, ◌+◌, ℕ, Bool, false, Option, map, vec_len, vec_capacity, slice_index_or, IfOk, IfErr, OnErr};
 ghost use Rattle.std.specs.List.{All};
 ghost use Rattle.clv_base.specs.Shards.{shard_count};
-ghost use Rattle.clv_base.specs.Logs.{stands};
 ghost use Rattle.cluster_turns.specs.Walkers.{founds_of};
 ghost use Rattle.io_model.specs.Story.{Story};
 ghost use Rattle.log_analysis.specs.Facts.{KnowAll};
@@ -18,7 +17,6 @@ use cluster_closing::Room;
 use cluster_opening::{Found, OpenError, give_back_locks, make_walkers, open_disks};
 use cluster_turns::{Home, Shards, Walker};
 use clv_base::logs::LogRecord;
-use history_replay::KeyMap;
 use io_model::House;
 use lock_table::Locks;
 use log_gate::LogGate;
@@ -30,7 +28,7 @@ use std::alloc::Global;
 use std::snapshot::Snapshot;
 use turn_lock::{Pass, TurnLock};
 
-/// A cluster that has begun: its shards, its walkers, all memory that its end takes, and what the logs stand for.
+/// A cluster that has begun: its shards, its walkers, and all memory that its end takes.
 pub struct Opened<M: Machine> {
     pub shards: Shards<M>,
     /// Walker k stands at k.
@@ -38,8 +36,6 @@ pub struct Opened<M: Machine> {
     pub room: Room<M>,
     /// The log of each shard as it was found, for contracts alone.
     pub found: Snapshot<Vec<Vec<LogRecord>>>,
-    /// The map that these stand for.
-    pub pairs: KeyMap,
 }
 
 /// A cluster without its room.
@@ -102,7 +98,6 @@ fn begin<H: House, M: OverDisks<H::Disk>>(
 struct Began<M: Machine> {
     begun: Begun<M>,
     found: Snapshot<Vec<Vec<LogRecord>>>,
-    pairs: KeyMap,
 }
 
 // Opens the disks, takes all shards into their locks, and makes so many walkers. An `Err` gives every disk back.
@@ -120,7 +115,6 @@ fn open_and_begin<S: Store + Drop, L: Locks + Drop, H: House>(
     requires room { (16 ≤ vec_capacity locks) × (16 ≤ vec_capacity passes) }
     ensures locked { IfOk result (λ b. AreLocked walkers (H.story house.old) b.begun.shards) }
     ensures founds { IfOk result (λ b. map (λ l. l.items) b.found.value.items ≡ founds_of b.begun.shards) }
-    ensures pairs { IfOk result (λ b. b.pairs ≡ stands (founds_of b.begun.shards)) }
     ensures walkers { IfOk result (λ b. (vec_len b.begun.walkers ≡ walkers) × ((k : ℕ) (d : _) → k < walkers → IsNewWalker b.begun.shards k first (slice_index_or b.begun.walkers.items k d))) }
     ensures passes { IfOk result (λ b. (vec_len b.begun.passes ≡ vec_len b.begun.shards.locks) × All (λ r. (vec_len r ≡ 0) × (walkers ≤ vec_capacity r)) b.begun.passes.items) }
     ensures out { IfOk result (λ b. WentOut (shard_count b.begun.shards.splits) (H.faults house.old) (H.faults house.new) (H.is_out house.old) (H.is_out house.new) (H.story house.old) (H.story house.new)) }
@@ -139,7 +133,6 @@ fn open_and_begin<S: Store + Drop, L: Locks + Drop, H: House>(
         logs,
         facts,
         run,
-        pairs,
     } = opened;
     let found = Snapshot::of(&logs);
     let logs = Logs {
@@ -152,11 +145,7 @@ fn open_and_begin<S: Store + Drop, L: Locks + Drop, H: House>(
     match begin::<H, ShardMachine<S, L, LogGate<H::Disk>>>(
         alloc, house, logs, walkers, first, locks, passes,
     ) {
-        Ok(begun) => Ok(Began {
-            begun,
-            found,
-            pairs,
-        }),
+        Ok(begun) => Ok(Began { begun, found }),
         Err(error) => Err(error),
     }
 }
@@ -180,7 +169,6 @@ pub fn open_all<S: Store + Drop, L: Locks + Drop, H: House>(
     ensures shards { IfOk result (λ o. AreLocked (walkers + 1) (H.story house.old) o.shards) }
     ensures walkers { IfOk result (λ o. (vec_len o.walkers ≡ walkers + 1) × ((k : ℕ) (d : _) → k < walkers + 1 → IsNewWalker o.shards k first (slice_index_or o.walkers.items k d))) }
     ensures founds { IfOk result (λ o. map (λ l. l.items) o.found.value.items ≡ founds_of o.shards) }
-    ensures pairs { IfOk result (λ o. o.pairs ≡ stands (founds_of o.shards)) }
     ensures room { IfOk result (λ o. HasRoom (vec_len o.shards.locks) (walkers + 1) o.room) }
 
     // The disks of the shards are out, and else the house is as it was.
@@ -203,11 +191,7 @@ pub fn open_all<S: Store + Drop, L: Locks + Drop, H: House>(
     } = room;
     match open_and_begin::<S, L, H>(alloc, house, walkers + 1, first, locks, passes) {
         Ok(began) => {
-            let Began {
-                begun,
-                found,
-                pairs,
-            } = began;
+            let Began { begun, found } = began;
             let Begun {
                 shards,
                 walkers,
@@ -224,7 +208,6 @@ pub fn open_all<S: Store + Drop, L: Locks + Drop, H: House>(
                 walkers,
                 room,
                 found,
-                pairs,
             })
         }
         Err(error) => {

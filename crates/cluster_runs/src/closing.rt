@@ -13,6 +13,7 @@ use cluster_closing::{Closed, Room, close};
 use cluster_turns::{Shards, Walker};
 use io_model::House;
 use machine_calls::OverDisks;
+use ordered_store::Store;
 use std::alloc::Global;
 
 // Closes the cluster of walkers that have no gate and never took a disk.
@@ -30,6 +31,7 @@ pub(crate) fn close_run<H: House, M: OverDisks<H::Disk>>(
     requires room { HasRoom (vec_len shards.locks) (vec_len walkers) room }
     requires out { (n : ℕ) → n < vec_len shards.locks → H.is_out house.old n ≡ true }
     ensures closed { IsClosed H.Disk (λ m. M.shard m) shards walkers.items result.ends.value.items (record { journals = lists result.journals.items; found = founds_of shards }) result.down (H.faults house.old) (H.faults house.new) (H.is_out house.old) (H.is_out house.new) (H.story house.old) (H.story house.new) }
+    ensures maps { (n : ℕ) (d : _) (e : _) → n < vec_len shards.locks → M.Store.records (slice_index_or result.maps.items n d) ≡ (M.shard (slice_index_or result.ends.value.items n e).machine).local.records }
     ensures len { (vec_len result.journals ≡ vec_len shards.locks) × (vec_len result.maps ≡ vec_len shards.locks) }
 {
     close(house, shards, walkers, Vec::new(alloc), room)

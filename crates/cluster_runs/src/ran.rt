@@ -1,15 +1,13 @@
 // What a run leaves.
 
 use command_line::Status;
-use history_replay::{History, KeyMap};
+use history_replay::History;
 
 /// A run that opened its shards, and closed them.
 #[derive(Drop)]
 pub struct Ran<S> {
     /// What all shards did, from the logs that were found.
     pub history: History,
-    /// What the logs that were found stand for.
-    pub pairs: KeyMap,
     /// The store of each shard, as it was last.
     pub maps: Vec<S>,
     pub status: Status,

@@ -1,6 +1,6 @@
 // Laws of runs that went through.
 
-ghost use Rattle.cluster_runs.specs.Replays.{RequestsAreTold, RunsReplay};
+ghost use Rattle.cluster_runs.specs.Replays.{MembersAreAcknowledged, RequestsAreTold, RunsReplay};
 
 /// Each transaction of a session that went through was told of its acknowledgement or of its abort, once it had made its request.
 pub fn requests_are_told()
@@ -10,4 +10,9 @@ pub fn requests_are_told()
 /// What the logs left stand for is the map after the acknowledged transactions.
 pub fn runs_replay()
     ensures { RunsReplay }
+{}
+
+/// The members are the acknowledged transactions.
+pub fn members_are_acknowledged()
+    ensures { MembersAreAcknowledged }
 {}

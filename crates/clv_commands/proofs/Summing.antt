@@ -10,10 +10,15 @@ use Rattle.clv_base.specs.Journals.{History}
 use Rattle.clv_base.specs.History.{Member, serial_ops, serial_answers, acknowledged_in, ops_in}
 use Rattle.clv_base.proofs.SameNames.{tx_true}
 use Rattle.law_base.proofs.Lists.{all_mono}
-use Rattle.history_replay.specs.Replayed.{replayed}
+use Rattle.io_model.specs.Story.{Story}
+use Rattle.history_replay.specs.Entries.{Kept}
+use Rattle.cluster_runs.specs.Ran.{RanAll}
+use Rattle.command_line.specs.declared.status.Status.TheVariants.{Fine}
+use Rattle.script_runs.specs.declared.threads.Start.TheVariants.{FirstAlone}
+use Rattle.history_replay.specs.Replayed.{replayed, replayed_from}
 use Rattle.cluster_runs.specs.Histories.{entries, members_by}
 use Rattle.cluster_runs.specs.Members.{IsOfScript, MembersAreOfScript}
-use Rattle.cluster_runs.specs.Replays.{RunsReplay}
+use Rattle.cluster_runs.specs.Replays.{MembersAreAcknowledged, RunsReplay}
 use Rattle.cluster_runs.specs.Completing.{HasEnded, acknowledged, empty, by_line, given_up, IsAcknowledged, TransactionEnded, SessionEnded}
 use Rattle.script_lang.specs.declared.actions.Ending.TheVariants.{Commit}
 use Rattle.script_lang.specs.declared.actions.Action.{Action}
@@ -24,8 +29,8 @@ use Rattle.script_lang.specs.Loads.{fill, transfer, session, load}
 use Rattle.script_runs.specs.Sessions.{Transaction}
 use Rattle.script_runs.specs.Tries.{Try}
 use Rattle.script_runs.specs.TriesLaws.{all_parts}
-use Rattle.workload_laws.specs.Sums.{accounts_sum, Follows, Fills, Transfers, WorkloadsKeepTheirSum}
-use Rattle.clv_commands.specs.Sums.{LoadsKeepTheirSum}
+use Rattle.workload_laws.specs.Sums.{accounts_sum, FillingsForget, Follows, Fills, Transfers, WorkloadsKeepTheirSum}
+use Rattle.clv_commands.specs.Sums.{LoadsKeepTheirSum, LoadsSumFromNothing}
 use Rattle.clv_commands.proofs.Lines.{IsLine, fills, transfers_by, in_load, lines_of_keys, AreWhole, parts_whole, parts_alone, fill_alike}
 
 -- ---- a member
@@ -96,24 +101,59 @@ first_session : (seed sessions accounts count : ℕ) → 1 ≤ sessions → slic
 first_session seed zero accounts count some = absurd (omega arith)
 first_session seed (suc n) accounts count some = refl
 
+-- the members by what a crash leaves: one fills the accounts, and each behind it does so or is a transfer
+record HasFilling (accounts : ℕ) (ms : List Member) : Type 0 where
+  front : List Member
+  filling : Member
+  behind : List Member
+  at : ms ≡ front ++ filling ∷ behind
+  kinds : AllByRecursion (λ x. Fills accounts x ⊎ Transfers accounts x) behind
+  fills : Fills accounts filling
+
+all_kept : ℕ → Bool
+all_kept n = true
+
+module _
+    (are : MembersAreOfScript) (seed sessions accounts count : ℕ) (before now : ℕ → Option Story) (counts counts_now : ℕ → ℕ) (kept : Kept) (some : 1 ≤ sessions) (two : 2 ≤ accounts)
+    (r : RanAll before now counts counts_now None FirstAlone (load seed sessions accounts count) kept Fine) where
+  abbrev ms : List Member
+  ms = members_by r.splits kept ((r.promised).keeps).left all_kept
+
+  has_filling : HasFilling accounts ms
+  has_filling =
+      let script = load seed sessions accounts count in
+      let h = entries kept in
+      let all = are r.splits before now counts counts_now None script r.went kept all_kept r.opens r.promised r.told.1 in
+      let s = r.ended tt 0 (session seed accounts count 1) (first_session seed sessions accounts count some) in
+      let f = first_filled r.splits h accounts _ s.transactions (omega arith) s.bodies_are s.each in
+      let m = find_member f.tx (IsOfScript r.splits script h) ms all ((((r.promised).keeps).promised all_kept).acknowledged f.tx f.told) in
+      let kinds = all_mono (IsOfScript r.splits script h) (λ x. Fills accounts x ⊎ Transfers accounts x) (of_workload r.splits seed sessions accounts count h) ms all in
+      record {
+        front = m.front;
+        filling = m.m;
+        behind = m.behind;
+        at = m.at;
+        kinds = all_behind (λ x. Fills accounts x ⊎ Transfers accounts x) m.front m.m m.behind (subst (AllByRecursion (λ x. Fills accounts x ⊎ Transfers accounts x)) m.at kinds);
+        fills = filling_is r.splits h script accounts f m.m m.same m.is;
+      }
+
+  -- what the members were told is what they find
+  told : (f : HasFilling accounts ms) → replay_answers (stands kept.found) (serial_ops (f.front ++ f.filling ∷ f.behind)) ≡ serial_answers (f.front ++ f.filling ∷ f.behind)
+  told f = subst (λ l. replay_answers (stands kept.found) (serial_ops l) ≡ serial_answers l) f.at (((r.promised).keeps).promised all_kept).answers
+
 pub loads_keep : MembersAreOfScript → RunsReplay → WorkloadsKeepTheirSum → LoadsKeepTheirSum
 loads_keep are replay keep seed sessions accounts count before now counts counts_now kept some two r =
-    let script = load seed sessions accounts count in
-    let choice : ℕ → Bool = λ n. true in
-    let p = r.promised in
-    let h = entries kept in
-    let gone = r.told.1 in
-    let ms = members_by r.splits kept (p.keeps).left choice in
-    let all = are r.splits before now counts counts_now None script r.went kept choice r.opens p gone in
-    let promised = (p.keeps).promised choice in
-    let s = r.ended tt 0 (session seed accounts count 1) (first_session seed sessions accounts count some) in
-    let f = first_filled r.splits h accounts _ s.transactions (omega arith) s.bodies_are s.each in
-    let m = find_member f.tx (IsOfScript r.splits script h) ms all (promised.acknowledged f.tx f.told) in
-    let kinds = all_mono (IsOfScript r.splits script h) (λ x. Fills accounts x ⊎ Transfers accounts x) (of_workload r.splits seed sessions accounts count h) ms all in
-    let sum = keep accounts kept.found m.front m.behind m.m two
-    (subst (λ l. replay_answers (stands kept.found) (serial_ops l) ≡ serial_answers l) m.at promised.answers)
-    (all_behind (λ x. Fills accounts x ⊎ Transfers accounts x) m.front m.m m.behind (subst (AllByRecursion (λ x. Fills accounts x ⊎ Transfers accounts x)) m.at kinds))
-    (filling_is r.splits h script accounts f m.m m.same m.is) in
-    let map_is : replayed kept ≡ replay_map (stands kept.found) (serial_ops (m.front ++ m.m ∷ m.behind)) =
-    sym (replay r.splits before now counts counts_now None script r.went kept r.opens p gone choice) ∙ sym promised.map ∙ ap (λ l. replay_map (stands kept.found) (serial_ops l)) m.at in
+    let f = has_filling are seed sessions accounts count before now counts counts_now kept some two r in
+    let promised = ((r.promised).keeps).promised all_kept in
+    let sum = keep accounts kept.found f.front f.behind f.filling two (told are seed sessions accounts count before now counts counts_now kept some two r f) f.kinds f.fills in
+    let map_is : replayed kept ≡ replay_map (stands kept.found) (serial_ops (f.front ++ f.filling ∷ f.behind)) =
+    sym (replay r.splits before now counts counts_now None (load seed sessions accounts count) r.went kept r.opens r.promised r.told.1 all_kept) ∙ sym promised.map ∙ ap (λ l. replay_map (stands kept.found) (serial_ops l)) f.at in
+    ap (accounts_sum accounts) map_is ∙ sum
+
+pub loads_sum : MembersAreOfScript → MembersAreAcknowledged → FillingsForget → LoadsSumFromNothing
+loads_sum are acknowledged forget seed sessions accounts count before now counts counts_now kept some two r =
+    let f = has_filling are seed sessions accounts count before now counts counts_now kept some two r in
+    let sum = forget accounts kept.found f.front f.behind f.filling two (told are seed sessions accounts count before now counts counts_now kept some two r f) f.kinds f.fills in
+    let map_is : replayed_from [] kept ≡ replay_map [] (serial_ops (f.front ++ f.filling ∷ f.behind)) =
+    ap (replay_map []) (sym (acknowledged r.splits before now counts counts_now None (load seed sessions accounts count) r.went kept all_kept r.opens r.promised r.told.1)) ∙ ap (λ l. replay_map [] (serial_ops l)) f.at in
     ap (accounts_sum accounts) map_is ∙ sum

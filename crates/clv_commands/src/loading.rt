@@ -1,9 +1,8 @@
 // The command `load`.
 
-ghost use Rattle.std.specs.Prelude.{◌≡◌, ◌<◌, ◌≤◌, ◌+◌, ◌*◌, ◌^◌, ℕ, Some, None, false, true, length, IfSome, IfOk, IfErr};
+ghost use Rattle.std.specs.Prelude.{◌≡◌, ◌<◌, ◌≤◌, ◌+◌, ◌*◌, ◌^◌, ℕ, [], Some, None, false, true, length, IfSome, IfOk, IfErr};
 ghost use Rattle.std.specs.List.{list_all};
-ghost use Rattle.history_replay.specs.Replayed.{replayed as after_all};
-ghost use Rattle.clv_base.specs.Logs.{stands};
+ghost use Rattle.history_replay.specs.Replayed.{replayed_from};
 ghost use Rattle.command_line.specs.declared.commands.Command.TheVariants as commands;
 ghost use Rattle.command_line.specs.declared.status.Status.TheVariants.{Fine};
 ghost use Rattle.report_text.specs.Loads.{values_sum};
@@ -18,7 +17,7 @@ ghost use Rattle.clv_commands.specs.Causes.{BreaksLogs, CountsSink, CountsDisks}
 ghost use Rattle.clv_commands.specs.Runs.{EndsAs, HasLoaded, Opened};
 
 use crate::ended::Ended;
-use crate::sums::loads_keep_their_sum;
+use crate::sums::{loads_keep_their_sum, loads_sum_from_nothing};
 use cluster_opening::OpenError;
 use cluster_runs::replay::runs_replay;
 use cluster_runs::{Ran, Start, run_script};
@@ -75,34 +74,27 @@ fn total(pairs: &[(u64, u64)]) -> u64
     sum
 }
 
-// What the accounts hold after the acknowledged transactions, in all.
-fn accounts_sum(
-    alloc: Global,
-    history: &History,
-    found: KeyMap,
-    accounts: u64,
-) -> Result<u64, Memory>
-    requires found { found ≡ stands history.now.found }
+// What the accounts hold in all after the acknowledged transactions, from the map of nothing: the filling is one of them, and sets all accounts.
+fn accounts_sum(alloc: Global, history: &History, accounts: u64) -> Result<u64, Memory>
     requires few { length history.now.journals < 2 ^ 32 }
     requires some { 1 ≤ accounts }
-    requires room { sum_of accounts (after_all history.now) < 2 ^ 64 }
-    ensures { IfOk result (λ sum. sum ≡ sum_of accounts (after_all history.now)) }
+    requires room { sum_of accounts (replayed_from [] history.now) < 2 ^ 64 }
+    ensures { IfOk result (λ sum. sum ≡ sum_of accounts (replayed_from [] history.now)) }
 {
-    let pairs = replayed(alloc, history, found)?.between(alloc, 0, accounts - 1)?;
+    let pairs = replayed(alloc, history, KeyMap::new(alloc))?.between(alloc, 0, accounts - 1)?;
     Ok(total(&pairs))
 }
 
 // The line of a workload whose transactions were all acknowledged, as bytes.
-fn text_of(alloc: Global, history: &History, found: KeyMap, work: Work) -> Result<Vec<u8>, Memory>
-    requires found { found ≡ stands history.now.found }
+fn text_of(alloc: Global, history: &History, work: Work) -> Result<Vec<u8>, Memory>
     requires few { length history.now.journals < 2 ^ 32 }
     requires sessions { work.sessions ≤ 64 }
     requires accounts { (2 ≤ work.accounts) × (work.accounts ≤ 10000) }
     requires transfers { work.transfers ≤ 1000 }
-    requires sum { sum_of work.accounts (after_all history.now) ≡ 1000 * work.accounts }
+    requires sum { sum_of work.accounts (replayed_from [] history.now) ≡ 1000 * work.accounts }
     ensures { IfOk result (λ text. text.items ≡ line_of work.sessions work.accounts work.transfers) }
 {
-    let sum = accounts_sum(alloc, history, found, work.accounts)?;
+    let sum = accounts_sum(alloc, history, work.accounts)?;
     let acknowledged = 1 + work.sessions * work.transfers;
     load_text(alloc, work.accounts, acknowledged, sum)
 }
@@ -111,20 +103,18 @@ fn text_of(alloc: Global, history: &History, found: KeyMap, work: Work) -> Resul
 fn line_into<K: Sink>(
     alloc: Global,
     history: &History,
-    found: KeyMap,
     work: Work,
     sink: &mut K,
 ) -> Result<(), ReportError>
-    requires found { found ≡ stands history.now.found }
     requires few { length history.now.journals < 2 ^ 32 }
     requires sessions { work.sessions ≤ 64 }
     requires accounts { (2 ≤ work.accounts) × (work.accounts ≤ 10000) }
     requires transfers { work.transfers ≤ 1000 }
-    requires sum { sum_of work.accounts (after_all history.now) ≡ 1000 * work.accounts }
+    requires sum { sum_of work.accounts (replayed_from [] history.now) ≡ 1000 * work.accounts }
     ensures took { TakesText (K.taken sink.old) (K.taken sink.new) (line_of work.sessions work.accounts work.transfers) result }
     ensures cause { Causes (K.faults sink.old) (K.faults sink.new) result }
 {
-    let Ok(text) = text_of(alloc, history, found, work) else {
+    let Ok(text) = text_of(alloc, history, work) else {
         return Err(ReportError::Memory);
     };
     match write_all(sink, &text) {
@@ -137,24 +127,22 @@ fn line_into<K: Sink>(
 fn write_line<K: Sink>(
     alloc: Global,
     history: &History,
-    found: KeyMap,
     work: Work,
     running: Status,
     sink: &mut K,
 ) -> Status
-    requires found { found ≡ stands history.now.found }
     requires few { length history.now.journals < 2 ^ 32 }
     requires sessions { work.sessions ≤ 64 }
     requires accounts { (2 ≤ work.accounts) × (work.accounts ≤ 10000) }
     requires transfers { work.transfers ≤ 1000 }
-    requires sum { running ≡ Fine → sum_of work.accounts (after_all history.now) ≡ 1000 * work.accounts }
+    requires sum { running ≡ Fine → sum_of work.accounts (replayed_from [] history.now) ≡ 1000 * work.accounts }
     requires running { IsOfShards running }
     ensures ends { EndsAs running result }
     ensures took { TookPairs (line_of work.sessions work.accounts work.transfers) result (K.taken sink.old) (K.taken sink.new) }
     ensures cause { CountsSink (Some history.now) (K.faults sink.old) (K.faults sink.new) result }
 {
     match running {
-        Status::Fine => after_text(running, line_into(alloc, history, found, work, sink)),
+        Status::Fine => after_text(running, line_into(alloc, history, work, sink)),
         other => other,
     }
 }
@@ -187,6 +175,7 @@ where
 {
     runs_replay();
     loads_keep_their_sum();
+    loads_sum_from_nothing();
     let Ok(script) = script_of(alloc, work) else {
         return Ended {
             status: Status::Memory,
@@ -206,12 +195,11 @@ where
         Ok(ran) => {
             let Ran {
                 history,
-                pairs,
                 maps: _,
                 status,
             } = ran;
             Ended {
-                status: write_line(alloc, &history, pairs, work, status, sink),
+                status: write_line(alloc, &history, work, status, sink),
                 history: Some(history),
             }
         }

@@ -1,8 +1,10 @@
 // The command `show`.
 
-ghost use Rattle.std.specs.Prelude.{◌≡◌, ◌<◌, ℕ, [], Some, None, false, IfSome, IfOk};
+ghost use Rattle.std.specs.Prelude.{◌≡◌, ◌<◌, ℕ, [], map, Some, None, false, IfSome, IfOk};
 ghost use Rattle.clv_base.specs.Logs.{stands as stands_for};
 ghost use Rattle.command_line.specs.declared.commands.Command.TheVariants as commands;
+ghost use Rattle.command_line.specs.declared.status.Status.TheVariants.{Fine};
+ghost use Rattle.ordered_store.specs.InTurn.{live_in_turn};
 ghost use Rattle.report_text.specs.Report.{pairs_text as text_of_pairs};
 ghost use Rattle.report_text.specs.Sinks.{TakesText, Causes};
 ghost use Rattle.clv_commands.specs.Kinds.{IsOfShow, IsOfShards};
@@ -15,21 +17,33 @@ use crate::ended::Ended;
 use cluster_opening::OpenError;
 use cluster_runs::{Ran, Start, run_script};
 use command_line::{Status, after_text};
-use history_replay::{History, KeyMap};
+use history_replay::History;
 use io_model::{House, Pace, Sink, write_all};
 use lock_index::HashedLocks;
-use ordered_store::BlockStore;
+use ordered_store::{BlockStore, Store};
 use report_text::{ReportError, pairs_text};
-use std::alloc::Global;
+use std::alloc::{AllocError, Global};
 use std::sync::Wait;
 use std::thread::Threads;
 
-// Writes the pairs.
-fn pairs_into<K: Sink>(alloc: Global, pairs: &KeyMap, sink: &mut K) -> Result<(), ReportError>
-    ensures took { TakesText (K.taken sink.old) (K.taken sink.new) (text_of_pairs pairs.now) result }
+// The text of the live pairs of all stores, one after another.
+fn text_of(alloc: Global, stores: &[BlockStore]) -> Result<Vec<u8>, AllocError>
+    ensures { IfOk result (λ text. text.items ≡ text_of_pairs (live_in_turn (map (λ s. ⟦<BlockStore as Store>⟧.records s) stores.now))) }
+{
+    let pairs = BlockStore::live_pairs(alloc, stores)?;
+    pairs_text(alloc, &pairs)
+}
+
+// Writes it.
+fn pairs_into<K: Sink>(
+    alloc: Global,
+    stores: &[BlockStore],
+    sink: &mut K,
+) -> Result<(), ReportError>
+    ensures took { TakesText (K.taken sink.old) (K.taken sink.new) (text_of_pairs (live_in_turn (map (λ s. ⟦<BlockStore as Store>⟧.records s) stores.now))) result }
     ensures cause { Causes (K.faults sink.old) (K.faults sink.new) result }
 {
-    let Ok(text) = pairs_text(alloc, pairs) else {
+    let Ok(text) = text_of(alloc, stores) else {
         return Err(ReportError::Memory);
     };
     match write_all(sink, &text) {
@@ -38,27 +52,27 @@ fn pairs_into<K: Sink>(alloc: Global, pairs: &KeyMap, sink: &mut K) -> Result<()
     }
 }
 
-// Writes the pairs that the logs found stand for, where all was fine so far, and tells how the program ends.
+// Writes the pairs that the logs found stand for, which the stores hold, where all was fine so far, and tells how the program ends.
 fn write_pairs<K: Sink>(
     alloc: Global,
     history: &History,
-    pairs: &KeyMap,
+    stores: &[BlockStore],
     running: Status,
     sink: &mut K,
 ) -> Status
-    requires found { pairs.now ≡ stands_for history.now.found }
+    requires held { running ≡ Fine → live_in_turn (map (λ s. ⟦<BlockStore as Store>⟧.records s) stores.now) ≡ stands_for history.now.found }
     requires running { IsOfShards running }
     ensures ends { EndsAs running result }
     ensures took { TookPairs (text_of_pairs (stands_for history.now.found)) result (K.taken sink.old) (K.taken sink.new) }
     ensures cause { CountsSink (Some history.now) (K.faults sink.old) (K.faults sink.new) result }
 {
     match running {
-        Status::Fine => after_text(running, pairs_into(alloc, pairs, sink)),
+        Status::Fine => after_text(running, pairs_into(alloc, stores, sink)),
         other => other,
     }
 }
 
-/// Shows all pairs.
+/// Shows all pairs: those of the stores, behind an opening and a drain.
 pub fn show<R: Threads + Wait + Sync, K: Sink, H: House, P: Pace + Sync>(
     rt: &R,
     alloc: Global,
@@ -90,7 +104,7 @@ where
     );
     match ran {
         Ok(ran) => Ended {
-            status: write_pairs(alloc, &ran.history, &ran.pairs, ran.status, sink),
+            status: write_pairs(alloc, &ran.history, &ran.maps, ran.status, sink),
             history: Some(ran.history),
         },
         Err(error) => Ended {

@@ -2,7 +2,7 @@
 //!
 //! `KeyMap` is a list of pairs with rising keys, as the definitions see it, in a map of std. `replay` gives each transaction the answers that it
 //! has when all run one after another, and the last map; `stands` gives the map of the committed transactions' updates; `replayed` runs the
-//! acknowledged ones of a history in the order of their requests, from the map that the logs found stand for. It stands on `clv_base`.
+//! acknowledged ones of a history in the order of their requests. It stands on `clv_base`.
 #![tactic(auto)]
 
 mod all_entries;

@@ -2,11 +2,10 @@
 
 ghost use Rattle.std.specs.Prelude.{◌≡◌, ◌<◌, ◌^◌, length, IfOk, OnOk};
 ghost use Rattle.clv_base.specs.declared.names.TxId.{TxId as Tx};
-ghost use Rattle.clv_base.specs.Logs.{stands};
 ghost use Rattle.clv_base.specs.Maps.{ops_after, replay_map};
 ghost use Rattle.clv_base.specs.History.{acknowledged_in};
 ghost use Rattle.history_replay.specs.Located.{located_all};
-ghost use Rattle.history_replay.specs.Replayed.{operations_in, acknowledged_ops, replayed as after_all};
+ghost use Rattle.history_replay.specs.Replayed.{operations_in, acknowledged_ops, replayed_from};
 ghost use Rattle.history_replay.specs.Tables.{has_tx, ops_at};
 
 use crate::tables::{OpTable, TxSet};
@@ -48,17 +47,16 @@ fn run_acknowledged(
     Ok(())
 }
 
-/// The map after the acknowledged transactions of a history, one after another in the order of their requests by stamp, then shard, from the map that the
-/// logs found stand for, which is given. Takes time linear in the history times a logarithm, and times the shards at most.
-pub fn replayed(alloc: Global, history: &History, found: KeyMap) -> Result<KeyMap, Memory>
+/// The map after the acknowledged transactions of a history, one after another in the order of their requests by stamp, then shard, from a map. Takes time
+/// linear in the history times a logarithm, and times the shards at most.
+pub fn replayed(alloc: Global, history: &History, from: KeyMap) -> Result<KeyMap, Memory>
     requires shards { length history.now.journals < 2 ^ 32 }
-    requires found { found ≡ stands history.now.found }
-    ensures { IfOk result (λ pairs. pairs ≡ after_all history.now) }
+    ensures { IfOk result (λ pairs. pairs ≡ replayed_from from history.now) }
 {
     let list = entries(alloc, history)?;
     let set = acknowledged(alloc, &list)?;
     let table = all_operations(alloc, &list)?;
-    let mut pairs = found;
+    let mut pairs = from;
     run_acknowledged(alloc, &mut pairs, &set, &table, &list)?;
     Ok(pairs)
 }

@@ -6,6 +6,7 @@ pub mod Placed
 pub mod Chains
 pub mod Splicing
 pub mod Between
+pub mod Living
 pub mod Halving
 pub mod Counted
 pub mod Laws

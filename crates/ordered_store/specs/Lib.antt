@@ -1,3 +1,4 @@
 pub mod Places
 pub mod Records
 pub mod Blocks
+pub mod InTurn

@@ -1,6 +1,6 @@
-//! The records between two keys.
-ghost use Rattle.std.specs.Prelude.{◌≡◌, map, Some, IfOk};
-ghost use Rattle.clv_base.specs.Needs.{found_by, records_between};
+//! The records between two keys, and all live pairs.
+ghost use Rattle.std.specs.Prelude.{◌≡◌, ◌++◌, map, Some, IfOk, OnOk};
+ghost use Rattle.clv_base.specs.Needs.{found_by, live_pairs, records_between};
 ghost use Rattle.ordered_store.specs.Blocks.{Chained, flat};
 
 use crate::block::Block;
@@ -29,4 +29,14 @@ pub(crate) fn between(
         found.extend_from_slice(&part)?;
     }
     Ok(found)
+}
+
+/// The live pairs go behind those of a list.
+pub(crate) fn add_live(pairs: &mut Vec<(u64, u64)>, blocks: &[Block]) -> Result<(), AllocError>
+    ensures { OnOk result (pairs.new.items ≡ pairs.old.items ++ live_pairs (flat blocks.now)) }
+{
+    for block in blocks {
+        rows::add_live(pairs, &block.rows)?;
+    }
+    Ok(())
 }

@@ -3,12 +3,13 @@ ghost use Rattle.std.specs.Prelude.{◌≡◌, ◌≤◌, ◌+◌, [], ℕ, ◌*
 ghost use Rattle.std.specs.Ordering.{nat_cmp};
 ghost use Rattle.std.specs.FinMap.{is_sorted};
 ghost use Rattle.clv_base.specs.Needs.{found_at};
+ghost use Rattle.ordered_store.specs.InTurn.{live_in_turn};
 ghost use Rattle.ordered_store.specs.Blocks.{Chained, Chained-prop, Sized, Sized-prop, Empties, Empties-prop, flat, room_of};
 
 use crate::Store;
 use crate::block::{Block, MOST};
 use crate::block_finding::{anchor_below, get};
-use crate::block_ranging::between;
+use crate::block_ranging::{add_live, between};
 use crate::block_writing::{put, take};
 use crate::counting::get_counting;
 use crate::growing::make_room;
@@ -49,6 +50,17 @@ impl BlockStore {
 }
 
 impl BlockStore {
+    /// The live pairs of these stores, store by store, each one's by rising keys. Takes time linear in the records.
+    pub fn live_pairs(alloc: Global, stores: &[BlockStore]) -> Result<Vec<(u64, u64)>, AllocError>
+        ensures { IfOk result (λ pairs. pairs.items ≡ live_in_turn (map (λ s. ⟦<BlockStore as Store>⟧.records s) stores.now)) }
+    {
+        let mut pairs = Vec::new(alloc);
+        for store in stores {
+            add_live(&mut pairs, &store.blocks)?;
+        }
+        Ok(pairs)
+    }
+
     /// The least key of each block.
     pub fn fences(&self, alloc: Global) -> Result<Vec<u64>, AllocError>
         ensures { IfOk result (λ fences. fences.items ≡ map (λ b. b.fence) self.now.blocks.items) }

@@ -5,10 +5,10 @@ ghost use Rattle.report_text.specs.Report.{pairs_text as text_of_pairs};
 
 use crate::Memory;
 use crate::lines::{add_line, pair};
-use history_replay::KeyMap;
 use std::alloc::Global;
 
-fn text_of(alloc: Global, pairs: &[(u64, u64)]) -> Result<Vec<u8>, Memory>
+/// A line `[K,V]` for each pair of a map, which come by rising keys, as bytes. Takes time linear in the map.
+pub fn pairs_text(alloc: Global, pairs: &[(u64, u64)]) -> Result<Vec<u8>, Memory>
     ensures { IfOk result (λ text. text.items ≡ text_of_pairs pairs.now) }
 {
     let mut text = Vec::new(alloc);
@@ -17,12 +17,4 @@ fn text_of(alloc: Global, pairs: &[(u64, u64)]) -> Result<Vec<u8>, Memory>
         add_line(alloc, &mut text, value)?;
     }
     Ok(text)
-}
-
-/// A line `[K,V]` for each pair of a map, by rising keys, as bytes. Takes time linear in the map.
-pub fn pairs_text(alloc: Global, pairs: &KeyMap) -> Result<Vec<u8>, Memory>
-    ensures { IfOk result (λ text. text.items ≡ text_of_pairs pairs.now) }
-{
-    let all = pairs.pairs(alloc)?;
-    text_of(alloc, &all)
 }

@@ -133,7 +133,6 @@ pub fn open_call_close<S: Store + Drop, L: Locks + Drop, R: Wait, H: House, P: P
         mut walkers,
         room,
         found,
-        pairs: _,
     } = opened;
     let (answers, quiet) = call_and_look(rt, alloc, &shards, pace, &mut walkers, calls, answers);
     let left = close_all::<H, ShardMachine<S, L, LogGate<H::Disk>>>(

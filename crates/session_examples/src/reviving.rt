@@ -116,7 +116,6 @@ pub fn open_revive_close<S: Store + Drop, L: Locks + Drop, R: Wait, H: House, P:
         mut walkers,
         room,
         found,
-        pairs: _,
     } = opened;
     let revived = revive_between(
         rt,

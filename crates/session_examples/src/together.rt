@@ -275,7 +275,6 @@ where
         mut walkers,
         room,
         found,
-        pairs: _,
     } = opened;
     let moved = transfer_and_drain(
         rt,

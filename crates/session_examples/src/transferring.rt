@@ -81,7 +81,6 @@ pub fn open_transfer_close<S: Store + Drop, L: Locks + Drop, R: Wait, H: House, 
         mut walkers,
         room,
         found,
-        pairs: _,
     } = opened;
     let transferred = transfer_once(
         rt,

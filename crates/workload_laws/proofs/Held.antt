@@ -30,6 +30,14 @@ same_held k (suc n) m m' same =
     let rest = same_held (suc k) n m m' (λ q l. same q (omega arith)) in
     omega arith
 
+-- of these keys alone
+pub alike_held : (k n : ℕ) (m m' : KeyMap) → ((q : ℕ) → q < k + n → map_get q m ≡ map_get q m') → held k n m ≡ held k n m'
+alike_held k zero m m' same = refl
+alike_held k (suc n) m m' same =
+    let here = ap worth (same k (omega arith)) in
+    let rest = alike_held (suc k) n m m' (λ q l. same q (omega arith)) in
+    omega arith
+
 -- one key gets another value
 set_here : (k n key v : ℕ) (m : KeyMap) → key ≡ k → held k (suc n) (map_set key (Some v) m) + worth (map_get key m) ≡ held k (suc n) m + v
 set_here k n key v m e =

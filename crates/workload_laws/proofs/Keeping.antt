@@ -24,7 +24,7 @@ ops_rise : (ops : List Op) (m : KeyMap) → IsRising m → IsRising (ops_after o
 ops_rise [] m h = h
 ops_rise (o ∷ os) m h = ops_rise os _ (rising_after o m h)
 
-replay_rises : (ts : List (List Op)) (m : KeyMap) → IsRising m → IsRising (replay_map m ts)
+pub replay_rises : (ts : List (List Op)) (m : KeyMap) → IsRising m → IsRising (replay_map m ts)
 replay_rises [] m h = h
 replay_rises (t ∷ ts) m h = replay_rises ts (ops_after t m) (ops_rise t m h)
 
@@ -34,10 +34,10 @@ logs_rise keep (log ∷ logs) m h = logs_rise keep logs _ (fold_rises keep log m
 
 -- ---- transactions
 
-abbrev did : Member → List Op
+abbrev pub did : Member → List Op
 did m = map (λ p. p.0) m.ops
 
-abbrev told : Member → List Answer
+abbrev pub told : Member → List Answer
 told m = map (λ p. p.1) m.ops
 
 module _ (keeps : TransfersKeepToAccounts) (accounts : ℕ) (two : 2 ≤ accounts) where
@@ -62,7 +62,7 @@ module _ (keeps : TransfersKeepToAccounts) (accounts : ℕ) (two : 2 ≤ account
       at (inl fills) here = after_filling t m fills
       at (inr transfers) here = after_transfer t m transfers here balanced
 
-  gets_balanced : (front behind : List Member) (f : Member) (m : KeyMap) → replay_answers m (serial_ops (front ++ f ∷ behind)) ≡ serial_answers (front ++ f ∷ behind) → AllByRecursion (λ t. Fills accounts t ⊎ Transfers accounts t) behind → Fills accounts f
+  pub gets_balanced : (front behind : List Member) (f : Member) (m : KeyMap) → replay_answers m (serial_ops (front ++ f ∷ behind)) ≡ serial_answers (front ++ f ∷ behind) → AllByRecursion (λ t. Fills accounts t ⊎ Transfers accounts t) behind → Fills accounts f
       → IsBalanced accounts (replay_map m (serial_ops (front ++ f ∷ behind)))
   gets_balanced [] behind f m answers all fills =
       let rest : replay_answers (ops_after (did f) m) (serial_ops behind) ≡ serial_answers behind = cc in

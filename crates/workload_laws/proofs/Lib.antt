@@ -1,3 +1,4 @@
 mod Held
 mod Moving
 mod Keeping
+mod Forgetting

@@ -26,7 +26,7 @@ leaves_below k zero answers m q l = refl
 leaves_below k (suc n) answers m q l =
     leaves_below (suc k) n (drop 1 answers) (map_set k (Some 1000) m) q (omega arith) ∙ get_other q k (Some 1000) m (ne_eqb q k (λ e. omega arith))
 
-fills : (k n : ℕ) (answers : List Answer) (m : KeyMap) (q : ℕ) → k ≤ q → q < k + n → map_get q (ops_after (all_ops (fill k n) answers) m) ≡ Some 1000
+pub fills : (k n : ℕ) (answers : List Answer) (m : KeyMap) (q : ℕ) → k ≤ q → q < k + n → map_get q (ops_after (all_ops (fill k n) answers) m) ≡ Some 1000
 fills k zero answers m q low high = absurd (omega arith)
 fills k (suc n) answers m q low high =
     dite (ℕ_discrete q k)
