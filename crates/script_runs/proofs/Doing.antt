@@ -1,8 +1,11 @@
 -- The operations of a try, one after another.
-use Rattle.std.proofs.Common.{◌≡◌, refl, sym, ap, subst, ◌∙◌, ◌⊎◌, inl, inr, ℕ, zero, suc, ◌+◌, ◌-◌, ◌<◌, ◌≤◌, Bool, true, false, ◌||◌, ◌&&◌, ◌==◌, nat_le, cond, List, [], ◌∷◌, ◌++◌, take, drop, length, slice_get, append_assoc, append-nil, length-append, Option, Some, None, arith}
+use Rattle.std.proofs.Common.{◌≡◌, refl, sym, ap, subst, get_or, ◌∙◌, ◌⊎◌, inl, inr, ℕ, zero, suc, ◌+◌, ◌-◌, ◌<◌, ◌≤◌, Bool, true, false, ◌||◌, ◌&&◌, ◌==◌, nat_le, cond, List, [], ◌∷◌, ◌++◌, take, drop, length, slice_get, append_assoc, append-nil, length-append, Option, Some, None, Result, Ok, Err, arith}
 use Rattle.std.specs.List.{list_all}
+use Rattle.std.specs.Prelude.{is_ok}
+use Rattle.std.specs.Result.{is_err}
 use Rattle.std.proofs.lemmas.Bool.{both_ways, and_parts}
-use Rattle.std.proofs.lemmas.List.{take_at}
+use Rattle.std.proofs.lemmas.List.{take_at, take_all}
+use Rattle.std.proofs.lemmas.Option.{slice_get_cases}
 use Rattle.std.proofs.lemmas.List.Folds.{list_any-append}
 use Rattle.clv_base.specs.declared.names.TxId.{TxId}
 use Rattle.clv_base.specs.declared.names.Birth.{Birth}
@@ -22,8 +25,11 @@ use Rattle.script_lang.specs.declared.following.Stage.TheVariants.{AtLine, Secon
 use Rattle.script_runs.specs.Operations.{IsOperation, AreOperations, no_operation, operation}
 use Rattle.script_runs.specs.Tries.{is_touched, ops_so_far}
 use Rattle.script_runs.specs.Seen.{Active, Seen, AreStamped, GrowsFrom, GrowsIn, Grows, untouched}
-use Rattle.script_runs.specs.Told.{has_range, TouchesBy, TouchesJust}
-use Rattle.script_runs.specs.Lines.{HasDone}
+use Rattle.script_runs.specs.declared.ends.StopCause.TheVariants.{Memory}
+use Rattle.script_runs.specs.declared.ends.TryEnd.TheVariants.{Stopped}
+use Rattle.script_runs.specs.Told.{has_range, TouchesBy, TouchesJust, OperateTold}
+use Rattle.script_runs.specs.Lines.{HasDone, LinesTold}
+use Rattle.script_runs.specs.Books.{answered}
 
 -- ---- growing
 
@@ -123,6 +129,37 @@ touches_all touched after es here all by n h = at (either (is_touched es n) (is_
     at (inl t) = by.stay n (all n t)
     at (inr t) = by.new n t
 
+-- ---- what each operation of narrow lines passes
+
+module _ (test : Op → Bool) (narrow_pass : (op : Op) → is_narrow_op op ≡ true → test op ≡ true) (get_passes : (k : ℕ) → test (Get k) ≡ true) (put_passes : (k v : ℕ) → test (Put k v) ≡ true) where
+  all_pass : (xs ys : List Op) → list_all test xs ≡ true → list_all test ys ≡ true → list_all test (xs ++ ys) ≡ true
+  all_pass [] ys h k = k
+  all_pass (x ∷ xs) ys h k = let p = and_parts (test x) (list_all test xs) h in ap (λ b. b && list_all test (xs ++ ys)) p.0 ∙ all_pass xs ys p.1 k
+
+  one_passes : (op : Op) (ops : List Op) → test op ≡ true → list_all test ops ≡ true → list_all test (op ∷ ops) ≡ true
+  one_passes op ops h k = ap (λ b. b && list_all test ops) h ∙ k
+
+  puts_pass : (from to amount : ℕ) (source target : Option ℕ) → list_all test (puts from to amount source target) ≡ true
+  puts_pass from to amount (Some a) (Some b) = at _
+    where
+      at : (c : Bool) → list_all test (cond c (Put from (a - amount) ∷ Put to (b + amount) ∷ []) []) ≡ true
+      at true = one_passes (Put from (a - amount)) (Put to (b + amount) ∷ []) (put_passes from (a - amount)) (one_passes (Put to (b + amount)) [] (put_passes to (b + amount)) refl)
+      at false = refl
+  puts_pass from to amount None b = refl
+  puts_pass from to amount (Some a) None = refl
+
+  action_passes : (action : Action) (answers : List Answer) → is_narrow action ≡ true → list_all test (action_ops action answers) ≡ true
+  action_passes (Do op) answers h = one_passes op [] (narrow_pass op h) refl
+  action_passes (Move from to amount) answers h =
+      let more = puts from to amount (first_value answers) (first_value (drop 1 answers)) in
+      one_passes (Get from) (Get to ∷ more) (get_passes from) (one_passes (Get to) more (get_passes to) (puts_pass from to amount (first_value answers) (first_value (drop 1 answers))))
+
+  pub lines_pass : (lines : List Action) (answers : List Answer) → list_all is_narrow lines ≡ true → list_all test (all_ops lines answers) ≡ true
+  lines_pass [] answers h = refl
+  lines_pass (action ∷ lines) answers h =
+      let p = and_parts (is_narrow action) (list_all is_narrow lines) h in
+      all_pass (action_ops action answers) (all_ops lines (drop (length (action_ops action answers)) answers)) (action_passes action answers p.0) (lines_pass lines (drop (length (action_ops action answers)) answers) p.1)
+
 -- ---- ranges
 
 range_narrow : (op : Op) → is_narrow_op op ≡ true → has_range op ≡ true
@@ -131,56 +168,61 @@ range_narrow (Put k v) h = refl
 range_narrow (Del k) h = refl
 range_narrow (Scan lo hi) h = (and_parts (nat_le lo hi) _ h).0
 
-all_have : (xs ys : List Op) → list_all has_range xs ≡ true → list_all has_range ys ≡ true → list_all has_range (xs ++ ys) ≡ true
-all_have [] ys h k = k
-all_have (x ∷ xs) ys h k = let p = and_parts (has_range x) (list_all has_range xs) h in ap (λ b. b && list_all has_range (xs ++ ys)) p.0 ∙ all_have xs ys p.1 k
-
-puts_have : (from to amount : ℕ) (source target : Option ℕ) → list_all has_range (puts from to amount source target) ≡ true
-puts_have from to amount (Some a) (Some b) = at _
-  where
-    at : (c : Bool) → list_all has_range (cond c (Put from (a - amount) ∷ Put to (b + amount) ∷ []) []) ≡ true
-    at true = refl
-    at false = refl
-puts_have from to amount None b = refl
-puts_have from to amount (Some a) None = refl
-
-action_have : (action : Action) (answers : List Answer) → is_narrow action ≡ true → list_all has_range (action_ops action answers) ≡ true
-action_have (Do op) answers h = ap (λ b. b && true) (range_narrow op h)
-action_have (Move from to amount) answers h = puts_have from to amount (first_value answers) (first_value (drop 1 answers))
-
-lines_have : (lines : List Action) (answers : List Answer) → list_all is_narrow lines ≡ true → list_all has_range (all_ops lines answers) ≡ true
-lines_have [] answers h = refl
-lines_have (action ∷ lines) answers h =
-    let p = and_parts (is_narrow action) (list_all is_narrow lines) h in
-    all_have (action_ops action answers) (all_ops lines (drop (length (action_ops action answers)) answers)) (action_have action answers p.0) (lines_have lines (drop (length (action_ops action answers)) answers) p.1)
-
 get_have : (ops : List Op) (n : ℕ) (op : Op) → list_all has_range ops ≡ true → slice_get ops n ≡ Some op → has_range op ≡ true
 get_have [] n op h k = absurd cc
 get_have (o ∷ ops) zero op h k = let same : o ≡ op = cc in ap has_range (sym same) ∙ (and_parts (has_range o) (list_all has_range ops) h).0
 get_have (o ∷ ops) (suc n) op h k = get_have ops n op (and_parts (has_range o) (list_all has_range ops) h).1 k
 
 pub next_has_range : (lines : List Action) (answers : List Answer) (op : Op) → list_all is_narrow lines ≡ true → next_op lines answers ≡ Some op → has_range op ≡ true
-next_has_range lines answers op h k = get_have (all_ops lines answers) (length answers) op (lines_have lines answers h) k
+next_has_range lines answers op h k = get_have (all_ops lines answers) (length answers) op (lines_pass has_range range_narrow (λ k. refl) (λ k v. refl) lines answers h) k
 
 -- ---- a try on its way
 
--- what was done of it, and where it stands among its lines
-pub record Doing (tx : TxId) (birth : Birth) (lines : List Action) (u v : Seen) (f : Following) : Type 0 where
+-- what was done of it, and where it stands among its lines; the operations with their answers
+pub record Doing (tx : TxId) (birth : Birth) (lines : List Action) (u v : Seen) (f : Following) (ops : List (Op × Answer)) : Type 0 where
   pub done : HasDone tx birth lines u v
   pub place : StandsAt lines done.answers f
+  pub ops_are : ops ≡ answered (ops_so_far lines done.answers) done.answers
 
-pub nothing_done : (tx : TxId) (birth : Birth) (lines : List Action) (u : Seen) (f : Following) → u.standing ≡ Active tx birth 0 untouched → StandsAt lines [] f → Doing tx birth lines u u f
+none_answered : (ops : List Op) → answered ops [] ≡ []
+none_answered [] = refl
+none_answered (op ∷ ops) = refl
+
+one_answered : (ops : List Op) (answers : List Answer) (op : Op) (answer : Answer) → length ops ≡ length answers → answered (ops ++ op ∷ []) (answers ++ answer ∷ []) ≡ answered ops answers ++ (op, answer) ∷ []
+one_answered [] [] op answer h = refl
+one_answered [] (a ∷ answers) op answer h = absurd (let no : ⊥ = omega arith in no)
+one_answered (o ∷ ops) [] op answer h = absurd (let no : ⊥ = omega arith in no)
+one_answered (o ∷ ops) (a ∷ answers) op answer h = ap (λ l. (o, a) ∷ l) (one_answered ops answers op answer (omega arith))
+
+as_many : (splits : List ℕ) (tx : TxId) (birth : Birth) (nth : ℕ) (ops : List Op) (answers : List Answer) (es : History) → AreOperations splits tx birth nth ops answers es → length ops ≡ length answers
+as_many splits tx birth _ _ _ _ (no_operation nth) = refl
+as_many splits tx birth _ _ _ _ (operation nth op answer ops answers here behind es e is more) = ap suc (as_many splits tx birth (suc nth) ops answers behind more)
+
+pub past_ops : (ops : List Op) (n : ℕ) → slice_get ops n ≡ None → take n ops ≡ ops
+past_ops ops n e = at ((slice_get_cases ops n).1)
+  where
+    at : ((x : Op) × (n < length ops) × (slice_get ops n ≡ Some x) × (get_or ops n x ≡ x)) ⊎ ((length ops ≤ n) × (slice_get ops n ≡ None)) → take n ops ≡ ops
+    at (inl (x, within, is, read)) = absurd (let h = sym is ∙ e in cc)
+    at (inr past) = take_all n ops past.0
+
+-- where each line was done these are all operations
+pub all_answered : (lines : List Action) (answers : List Answer) (ops : List (Op × Answer)) → next_op lines answers ≡ None → ops ≡ answered (ops_so_far lines answers) answers → ops ≡ answered (all_ops lines answers) answers
+all_answered lines answers ops none is = is ∙ ap (λ l. answered l answers) (past_ops (all_ops lines answers) (length answers) none)
+
+pub nothing_done : (tx : TxId) (birth : Birth) (lines : List Action) (u : Seen) (f : Following) → u.standing ≡ Active tx birth 0 untouched → StandsAt lines [] f → Doing tx birth lines u u f []
 nothing_done tx birth lines u f is place =
     record {
       done =
           record { answers = []; entries = []; touched = untouched; operations = no_operation 1; grows = grows_none u; standing_is = is; only = λ n h. absurd (both_ways false refl h); all = λ n h. absurd (both_ways false refl h) };
       place = place;
+      ops_are = sym (none_answered (ops_so_far lines []));
     }
 
-pub one_done : (tx : TxId) (birth : Birth) (lines : List Action) (u v w : Seen) (f g : Following) (op : Op) (answer : Answer) (d : Doing tx birth lines u v f) → next_op lines d.done.answers ≡ Some op
+pub one_done : (tx : TxId) (birth : Birth) (lines : List Action) (u v w : Seen) (f g : Following) (ops : List (Op × Answer)) (op : Op) (answer : Answer) (d : Doing tx birth lines u v f ops) → next_op lines d.done.answers ≡ Some op
     → (here : History) (after : ℕ → Bool) → IsOperation v.splits tx birth (suc (length d.done.answers)) op answer here → TouchesJust d.done.touched here after → Grows here v w
-    → w.standing ≡ Active tx birth (suc (length d.done.answers)) after → StandsAt lines (d.done.answers ++ answer ∷ []) g → Doing tx birth lines u w g
-one_done tx birth lines u v w f g op answer d next here after is by grows standing place =
+    → w.standing ≡ Active tx birth (suc (length d.done.answers)) after → StandsAt lines (d.done.answers ++ answer ∷ []) g
+    → Doing tx birth lines u w g (ops ++ (op, answer) ∷ [])
+one_done tx birth lines u v w f g ops op answer d next here after is by grows standing place =
     let a = d.done.answers in
     let op_is = subst (λ s. IsOperation s tx birth (suc (length a)) op answer here) d.done.grows.splits_are is in
     let more = one_more u.splits tx birth 1 (suc (length a)) (ops_so_far lines a) a d.done.entries op answer here d.done.operations (omega arith) op_is in
@@ -198,4 +240,17 @@ one_done tx birth lines u v w f g op answer d next here after is by grows standi
             all = touches_all d.done.touched after d.done.entries here d.done.all by;
           };
       place = place;
+      ops_are =
+          ap (λ l. l ++ (op, answer) ∷ []) d.ops_are ∙ sym (one_answered (ops_so_far lines a) a op answer (as_many u.splits tx birth 1 (ops_so_far lines a) a d.done.entries d.done.operations))
+          ∙ ap (λ l. answered l (a ++ answer ∷ [])) (sym (ops_go_on lines a answer op f d.place next));
     }
+
+-- memory was wanting for the answer
+pub unanswered_told : (tx : TxId) (birth : Birth) (lines : List Action) (u v w : Seen) (op : Op) (answer : Answer) (done : HasDone tx birth lines u v) → next_op lines done.answers ≡ Some op → OperateTold tx birth (length done.answers) done.touched op (Ok answer) v w
+    → LinesTold tx birth lines (Err (Stopped Memory)) u w
+unanswered_told tx birth lines u v w op answer done next (here, after, is, by, grows, standing) = (v, done, op, next, (here, after, inr (is.answers, is.parts), by, grows, (suc (length done.answers), standing)))
+
+-- a push that didn't fail
+pub pushed : {X E : Type 0} (r : Result (Unit {0}) E) (new grown old : List X) → new ≡ cond (is_ok r) grown old → is_err r ≡ false → grown ≡ new
+pushed (Ok a) new grown old is h = sym is
+pushed (Err e) new grown old is h = absurd (both_ways true h refl)

@@ -52,13 +52,13 @@ active_where_down tx birth nth touched (Aborted cause) u v t = tt
 
 -- ---- the tries that they make
 
-drops_as : (tx : TxId) (touched : ℕ → Bool) (es : History) (left_out : Option ℕ) (drops : History) → ((n : ℕ) → touched n ≡ true → is_touched es n ≡ true) → AreDropsOf tx touched left_out drops → AreDrops tx es left_out drops
+pub drops_as : (tx : TxId) (touched : ℕ → Bool) (es : History) (left_out : Option ℕ) (drops : History) → ((n : ℕ) → touched n ≡ true → is_touched es n ≡ true) → AreDropsOf tx touched left_out drops → AreDrops tx es left_out drops
 drops_as tx touched es left_out [] only d = tt
 drops_as tx touched es left_out (e ∷ drops) only d =
     (record { event = (d.0).event; outcome = (d.0).outcome; touched = only e.0 (d.0).on_touched; other = (d.0).other }, drops_as tx touched es left_out drops only d.1)
 
 -- each shard that its other entries touched was touched by it
-let_go : (missed : Misses) (touched : ℕ → Bool) (t : Try) (earlier before drops now : History) → t.entries ≡ before ++ drops → AreDrops t.tx before None drops → ((n : ℕ) → is_touched before n ≡ true → touched n ≡ true)
+pub let_go : (missed : Misses) (touched : ℕ → Bool) (t : Try) (earlier before drops now : History) → t.entries ≡ before ++ drops → AreDrops t.tx before None drops → ((n : ℕ) → is_touched before n ≡ true → touched n ≡ true)
     → now ≡ earlier ++ before → DropsEach touched drops (λ n. missed t.tx n now) → HasDropped missed t
 let_go missed touched t earlier before drops now entries only all is each = record { before = before; drops = drops; entries_are = entries; only = only; each = λ n h. at n (each n (all n h)) }
   where
@@ -67,16 +67,16 @@ let_go missed touched t earlier before drops now entries only all is each = reco
     at n (inr k) = inr (earlier, subst (missed t.tx n) is k)
 
 -- unless stamps were wanting
-let_go_or : (missed : Misses) (touched : ℕ → Bool) (t : Try) (earlier before drops now : History) (v : Seen) → t.entries ≡ before ++ drops → AreDrops t.tx before None drops
+pub let_go_or : (missed : Misses) (touched : ℕ → Bool) (t : Try) (earlier before drops now : History) (v : Seen) → t.entries ≡ before ++ drops → AreDrops t.tx before None drops
     → ((n : ℕ) → is_touched before n ≡ true → touched n ≡ true) → now ≡ earlier ++ before → DropsEach touched drops (λ n. missed t.tx n now) ⊎ IsWornOut v → HasDropped missed t ⊎ IsWornOut v
 let_go_or missed touched t earlier before drops now v entries only all is (inl each) = inl (let_go missed touched t earlier before drops now entries only all is each)
 let_go_or missed touched t earlier before drops now v entries only all is (inr worn) = inr worn
 
 -- with what stands behind its operations the transaction's entries are a try
-abbrev try_with : (body : Body) (tx : TxId) (birth : Birth) (end : TryEnd) (u w : Seen) (d : HasDone tx birth body.actions u w) (behind : History) → Try
+abbrev pub try_with : (body : Body) (tx : TxId) (birth : Birth) (end : TryEnd) (u w : Seen) (d : HasDone tx birth body.actions u w) (behind : History) → Try
 try_with body tx birth end u w d behind = record { tx = tx; answers = d.answers; end = end; entries = d.entries ++ behind }
 
-tried : (missed : Misses) (body : Body) (tx : TxId) (birth : Birth) (end : TryEnd) (u w v : Seen) (d : HasDone tx birth body.actions u w) (behind : History) → EndsBy u.splits body tx birth d.answers d.entries end behind → Grows behind w v
+abbrev pub tried : (missed : Misses) (body : Body) (tx : TxId) (birth : Birth) (end : TryEnd) (u w v : Seen) (d : HasDone tx birth body.actions u w) (behind : History) → EndsBy u.splits body tx birth d.answers d.entries end behind → Grows behind w v
     → LeftBy birth end v.standing → LetsGo missed v.clock (try_with body tx birth end u w d behind) end → Tried missed body tx birth end u v
 tried missed body tx birth end u w v d behind ends grows left drops =
     record {
@@ -88,92 +88,12 @@ tried missed body tx birth end u w v d behind ends grows left drops =
       dropped = drops;
     }
 
-no_answers : (answers : List Answer) → length answers ≡ 0 → answers ≡ []
+pub no_answers : (answers : List Answer) → length answers ≡ 0 → answers ≡ []
 no_answers [] h = refl
 no_answers (a ∷ answers) h = absurd (let no : ⊥ = omega arith in no)
 
-more_touched : (touched : ℕ → Bool) (es : History) → ((n : ℕ) → touched n ≡ true → is_touched es n ≡ true) → (n : ℕ) → touched n ≡ true → is_touched (es ++ []) n ≡ true
+pub more_touched : (touched : ℕ → Bool) (es : History) → ((n : ℕ) → touched n ≡ true → is_touched es n ≡ true) → (n : ℕ) → touched n ≡ true → is_touched (es ++ []) n ≡ true
 more_touched touched es only n h = ap (λ l. is_touched l n) (append-nil es) ∙ only n h
 
-done_as : (body : Body) (ending : Ending) (answers : List Answer) → next_op body.actions answers ≡ None → body.ending ≡ ending → IsDone body ending answers
+pub done_as : (body : Body) (ending : Ending) (answers : List Answer) → next_op body.actions answers ≡ None → body.ending ≡ ending → IsDone body ending answers
 done_as body ending answers all is = record { all = all; ending_is = is }
-
-committed : (missed : Misses) (body : Body) (tx : TxId) (birth : Birth) (end : TryEnd) (u w x v : Seen) (d : HasDone tx birth body.actions u w) → IsDone body Commit d.answers → CommitTold tx birth (length d.answers) d.touched end w x → GivenUp missed end x v
-    → Tried missed body tx birth end u v
-committed missed body tx birth Acknowledged u w x v d all (home, asked, told, a, l, grows, idle) g =
-    tried missed body tx birth Acknowledged u w v d (asked ∷ told ∷ []) (acknowledged home asked told all a l) (subst (Grows (asked ∷ told ∷ []) w) (sym g) grows) (ap (λ s. s.standing) g ∙ idle) tt
-committed missed body tx birth Empty u w x v d all (zero_nth, grows, idle) g =
-    tried missed body tx birth Empty u w v d [] (nothing all (no_answers d.answers zero_nth)) (subst (Grows [] w) (sym g) grows) (ap (λ s. s.standing) g ∙ idle) tt
-committed missed body tx birth Asked u w x v d all t g = absurd t
-committed missed body tx birth (Aborted cause) u w x v d all (inl (home, asked, drops, a, are, grows), idle) g =
-    tried missed body tx birth (Aborted cause) u w v d (asked ∷ drops) (at_request home cause asked drops all a (drops_as tx d.touched d.entries (Some home) drops d.only are)) (subst (Grows (asked ∷ drops) w) (sym g) grows)
-    (ap (λ s. s.standing) g ∙ idle) tt
-committed missed body tx birth (Aborted cause) u w x v d all (inr (home, asked, told, drops, a, l, are, grows), idle) g =
-    tried missed body tx birth (Aborted cause) u w v d (asked ∷ told ∷ drops) (at_look home cause asked told drops all a l (drops_as tx d.touched d.entries (Some home) drops d.only are))
-    (subst (Grows (asked ∷ told ∷ drops) w) (sym g) grows) (ap (λ s. s.standing) g ∙ idle) tt
-committed missed body tx birth (Stopped (Down n)) u w x v d all (grows, (nth, active)) g =
-    let h = g tx birth nth d.touched active in
-    tried missed body tx birth (Stopped (Down n)) u w v d h.0 (down n [] h.0 (request_next all) (drops_as tx d.touched (d.entries ++ []) None h.0 (more_touched d.touched d.entries d.only) h.1)) (grows_on [] h.0 w x v grows h.2) tt
-    (let_go_or missed d.touched (try_with body tx birth (Stopped (Down n)) u w d h.0) u.entries (d.entries ++ []) h.0 x.entries v (ap (λ es. es ++ h.0) (sym (append-nil d.entries)))
-    (drops_as tx d.touched (d.entries ++ []) None h.0 (more_touched d.touched d.entries d.only) h.1) (λ k t. d.all k (ap (λ l. is_touched l k) (sym (append-nil d.entries)) ∙ t)) (grows_on d.entries [] u w x d.grows grows).entries_are h.3)
-committed missed body tx birth (Stopped (Unsettled n)) u w x v d all (home, asked, a, grows) g =
-    tried missed body tx birth (Stopped (Unsettled n)) u w v d (asked ∷ []) (unsettled n home asked all a) (subst (Grows (asked ∷ []) w) (sym g) grows) tt tt
-committed missed body tx birth (Stopped (Worn at)) u w x v d all (inl grows) g = tried missed body tx birth (Stopped (Worn at)) u w v d [] (wanting_before (Worn at) [] refl (request_next all)) (subst (Grows [] w) (sym g) grows) tt tt
-committed missed body tx birth (Stopped (Worn at)) u w x v d all (inr (home, asked, a, grows)) g =
-    tried missed body tx birth (Stopped (Worn at)) u w v d (asked ∷ []) (wanting_behind (Worn at) home asked refl all a) (subst (Grows (asked ∷ []) w) (sym g) grows) tt tt
-committed missed body tx birth (Stopped Memory) u w x v d all (inl grows) g = tried missed body tx birth (Stopped Memory) u w v d [] (wanting_before Memory [] refl (request_next all)) (subst (Grows [] w) (sym g) grows) tt tt
-committed missed body tx birth (Stopped Memory) u w x v d all (inr (home, asked, a, grows)) g =
-    tried missed body tx birth (Stopped Memory) u w v d (asked ∷ []) (wanting_behind Memory home asked refl all a) (subst (Grows (asked ∷ []) w) (sym g) grows) tt tt
-
-line_aborted : (missed : Misses) (body : Body) (tx : TxId) (birth : Birth) (end : TryEnd) (u w v : Seen) (d : HasDone tx birth body.actions u w) → IsDone body Abort d.answers → LineAborts missed tx birth d.touched end w v → Tried missed body tx birth end u v
-line_aborted missed body tx birth Asked u w v d all (drops, are, grows, idle, each) =
-    tried missed body tx birth Asked u w v d drops (by_line drops all (drops_as tx d.touched d.entries None drops d.only are)) grows idle
-    (let_go missed d.touched (try_with body tx birth Asked u w d drops) u.entries d.entries drops w.entries refl (drops_as tx d.touched d.entries None drops d.only are) d.all (d.grows).entries_are each)
-line_aborted missed body tx birth (Stopped (Worn at)) u w v d all (drops, are, grows, worn) =
-    tried missed body tx birth (Stopped (Worn at)) u w v d drops (worn_at_line at drops all (drops_as tx d.touched d.entries None drops d.only are)) grows tt tt
-line_aborted missed body tx birth (Stopped (Down n)) u w v d all t = absurd t
-line_aborted missed body tx birth (Stopped (Unsettled n)) u w v d all t = absurd t
-line_aborted missed body tx birth (Stopped Memory) u w v d all t = absurd t
-line_aborted missed body tx birth Acknowledged u w v d all t = absurd t
-line_aborted missed body tx birth Empty u w v d all t = absurd t
-line_aborted missed body tx birth (Aborted cause) u w v d all t = absurd t
-
-ended : (missed : Misses) (body : Body) (tx : TxId) (birth : Birth) (ending : Ending) (end : TryEnd) (u w v : Seen) (d : HasDone tx birth body.actions u w) → next_op body.actions d.answers ≡ None → body.ending ≡ ending
-    → EndTold missed tx birth (length d.answers) d.touched ending end w v → Tried missed body tx birth end u v
-ended missed body tx birth Commit end u w v d all is (x, t, g) = committed missed body tx birth end u w x v d (done_as body Commit d.answers all is) t g
-ended missed body tx birth Abort end u w v d all is t = line_aborted missed body tx birth end u w v d (done_as body Abort d.answers all is) t
-
--- each line was done, and then the end that was asked for
-pub tried_whole : (missed : Misses) (body : Body) (tx : TxId) (birth : Birth) (ending : Ending) (end : TryEnd) (u w v : Seen) (d : HasDone tx birth body.actions u w) → next_op body.actions d.answers ≡ None → ending ≡ body.ending
-    → ((tx : TxId) (birth : Birth) (nth : ℕ) (touched : ℕ → Bool) → w.standing ≡ Active tx birth nth touched → EndTold missed tx birth nth touched ending end w v) → Tried missed body tx birth end u v
-tried_whole missed body tx birth ending end u w v d all is t = ended missed body tx birth ending end u w v d all (sym is) (t tx birth (length d.answers) d.touched d.standing_is)
-
--- an operation wasn't answered
-pub tried_part : (missed : Misses) (body : Body) (tx : TxId) (birth : Birth) (end : TryEnd) (u w x v : Seen) (d : HasDone tx birth body.actions u w) (op : Op) → next_op body.actions d.answers ≡ Some op
-    → OperateTold tx birth (length d.answers) d.touched op (Err end) w x → GivenUp missed end x v → Tried missed body tx birth end u v
-tried_part missed body tx birth (Aborted cause) u w x v d op next (here, drops, n, after, died, by, are, grows, idle) g =
-    tried missed body tx birth (Aborted cause) u w v d (here ++ drops)
-    (in_operation op cause n here drops next (subst (λ s. IsDeath s tx birth (suc (length d.answers)) op cause n here) (d.grows).splits_are died)
-    (drops_as tx after (d.entries ++ here) (Some n) drops (touches_on d.touched after d.entries here d.only by) are))
-    (subst (Grows (here ++ drops) w) (sym g) grows) (ap (λ s. s.standing) g ∙ idle) tt
-tried_part missed body tx birth (Stopped (Down n)) u w x v d op next (here, after, begun, by, grows, (nth, active)) g =
-    let h = g tx birth nth after active in
-    tried missed body tx birth (Stopped (Down n)) u w v d (here ++ h.0)
-    (down n here h.0 (operation_begun op here next (subst (λ s. IsBegun s tx birth (suc (length d.answers)) op here) (d.grows).splits_are begun))
-    (drops_as tx after (d.entries ++ here) None h.0 (touches_on d.touched after d.entries here d.only by.only) h.1))
-    (grows_on here h.0 w x v grows h.2) tt
-    (let_go_or missed after (try_with body tx birth (Stopped (Down n)) u w d (here ++ h.0)) u.entries (d.entries ++ here) h.0 x.entries v (sym (append_assoc d.entries here h.0))
-    (drops_as tx after (d.entries ++ here) None h.0 (touches_on d.touched after d.entries here d.only by.only) h.1) (touches_all d.touched after d.entries here d.all by) (grows_on d.entries here u w x d.grows grows).entries_are h.3)
-tried_part missed body tx birth (Stopped (Worn at)) u w x v d op next (here, begun, grows) g =
-    tried missed body tx birth (Stopped (Worn at)) u w v d here
-    (wanting_before (Worn at) here refl (operation_begun op here next (subst (λ s. IsBegun s tx birth (suc (length d.answers)) op here) (d.grows).splits_are begun))) (subst (Grows here w) (sym g) grows) tt tt
-tried_part missed body tx birth (Stopped Memory) u w x v d op next (here, inl begun, grows) g =
-    tried missed body tx birth (Stopped Memory) u w v d here
-    (wanting_before Memory here refl (operation_begun op here next (subst (λ s. IsBegun s tx birth (suc (length d.answers)) op here) (d.grows).splits_are begun))) (subst (Grows here w) (sym g) grows) tt tt
-tried_part missed body tx birth (Stopped Memory) u w x v d op next (here, inr (parts, are), grows) g =
-    tried missed body tx birth (Stopped Memory) u w v d here
-    (unanswered op parts here next (subst (λ s. ArePartsAnswered tx birth (suc (length d.answers)) (parts_of s op) parts here) (d.grows).splits_are are)) (subst (Grows here w) (sym g) grows) tt tt
-tried_part missed body tx birth (Stopped (Unsettled n)) u w x v d op next t g = absurd t
-tried_part missed body tx birth Acknowledged u w x v d op next t g = absurd t
-tried_part missed body tx birth Empty u w x v d op next t g = absurd t
-tried_part missed body tx birth Asked u w x v d op next t g = absurd t

@@ -7,6 +7,14 @@ mod Retried
 pub mod TriesListed
 pub mod TriesSessions
 mod TriesTell
+mod Quiet
+mod BooksApart
+mod Wholes
+mod TryBooks
+mod TransactionBooks
+mod Open
+mod Kept
+mod KeptTries
 mod Alone
 mod Begun
 pub mod Laws

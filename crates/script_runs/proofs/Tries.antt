@@ -42,7 +42,7 @@ entries_more (t ∷ ts) us = ap (λ es. t.entries ++ es) (entries_more ts us) �
 -- ---- a transaction on its way
 
 -- the try that was told
-abbrev try_of : (missed : Misses) (body : Body) (tx : TxId) (birth : Birth) (end : TryEnd) (v w : Seen) → Tried missed body tx birth end v w → Try
+abbrev pub try_of : (missed : Misses) (body : Body) (tx : TxId) (birth : Birth) (end : TryEnd) (v w : Seen) → Tried missed body tx birth end v w → Try
 try_of missed body tx birth end v w t = record { tx = tx; answers = t.answers; end = end; entries = t.entries }
 
 -- the tries so far, of which each calls for a further one, and the next one's name
@@ -93,7 +93,7 @@ tried_later missed later body tx birth end v w keeps t =
       dropped = (all_let_go_later missed later w.clock w.clock (try_of missed body tx birth end v w t ∷ []) keeps (omega arith) (t.dropped, tt)).0;
     }
 
-pub no_try : (missed : Misses) (body : Body) (first : TxId) (birth : Birth) (most : Option ℕ) (u : Seen) → u.standing ≡ Active first birth 0 untouched → first.serial ≡ u.serial → first.run ≡ u.run → first.session ≡ u.walker
+abbrev pub no_try : (missed : Misses) (body : Body) (first : TxId) (birth : Birth) (most : Option ℕ) (u : Seen) → u.standing ≡ Active first birth 0 untouched → first.serial ≡ u.serial → first.run ≡ u.run → first.session ≡ u.walker
     → Trying missed body first birth most 1 u u
 no_try missed body first birth most u active serial run session =
     record {
@@ -123,7 +123,7 @@ record HasTried (missed : Misses) (body : Body) (first : TxId) (birth : Birth) (
   serials_rise : (lo : ℕ) → lo < first.serial → Rise lo (serials ts) w.serial
   dropped : AllLetGo missed w.clock ts
 
-one_more_try : (missed : Misses) (body : Body) (first : TxId) (birth : Birth) (most : Option ℕ) (tried : ℕ) (end : TryEnd) (u v w : Seen) (d : Trying missed body first birth most tried u v) (t : Tried missed body d.tx birth end v w)
+abbrev one_more_try : (missed : Misses) (body : Body) (first : TxId) (birth : Birth) (most : Option ℕ) (tried : ℕ) (end : TryEnd) (u v w : Seen) (d : Trying missed body first birth most tried u v) (t : Tried missed body d.tx birth end v w)
     → HasTried missed body first birth u w (d.tries ++ try_of missed body d.tx birth end v w t ∷ [])
 one_more_try missed body first birth most tried end u v w d t =
     let new = try_of missed body d.tx birth end v w t in
@@ -147,25 +147,25 @@ one_more_try missed body first birth most tried end u v w d t =
           (t.dropped, tt);
     }
 
-told_so : (missed : Misses) (body : Body) (first : TxId) (birth : Birth) (most : Option ℕ) (cause : Option StopCause) (u w : Seen) (ts : List Try) → HasTried missed body first birth u w ts → InTries most 1 ts cause → InTriesTold missed body first birth most cause u w
+abbrev told_so : (missed : Misses) (body : Body) (first : TxId) (birth : Birth) (most : Option ℕ) (cause : Option StopCause) (u w : Seen) (ts : List Try) → HasTried missed body first birth u w ts → InTries most 1 ts cause → InTriesTold missed body first birth most cause u w
 told_so missed body first birth most cause u w ts h i = record { tries = ts; each = h.each; named = h.named; in_tries = i; more = h.more; counted = h.counted; grows = h.grows; serials_rise = h.serials_rise; dropped = h.dropped }
 
-same_left : (most : Option ℕ) (tried n : ℕ) (b : Bool) → ((k : ℕ) → most ≡ Some k → tried ≡ n) → has_left most tried ≡ b → has_left most n ≡ b
+pub same_left : (most : Option ℕ) (tried n : ℕ) (b : Bool) → ((k : ℕ) → most ≡ Some k → tried ≡ n) → has_left most tried ≡ b → has_left most n ≡ b
 same_left None tried n b c h = h
 same_left (Some k) tried n b c h = ap (λ m. nat_lt m k) (sym (c k refl)) ∙ h
 
-done_in : (most : Option ℕ) (tried n : ℕ) (t : Try) → ((k : ℕ) → most ≡ Some k → tried ≡ n) → NextIs t.end most tried Done → InTries most n (t ∷ []) None
+pub done_in : (most : Option ℕ) (tried n : ℕ) (t : Try) → ((k : ℕ) → most ≡ Some k → tried ≡ n) → NextIs t.end most tried Done → InTries most n (t ∷ []) None
 done_in most tried n t c (inl (r, s)) = subst (InTries most n (t ∷ [])) s (last n t r)
 done_in most tried n t c (inr (r, h)) = none_left n t r (same_left most tried n false c h)
 
-pub tries_done : (missed : Misses) (body : Body) (first : TxId) (birth : Birth) (most : Option ℕ) (tried : ℕ) (end : TryEnd) (next : Next) (u v w : Seen) (d : Trying missed body first birth most tried u v) → Tried missed body d.tx birth end v w → next ≡ Done
+abbrev pub tries_done : (missed : Misses) (body : Body) (first : TxId) (birth : Birth) (most : Option ℕ) (tried : ℕ) (end : TryEnd) (next : Next) (u v w : Seen) (d : Trying missed body first birth most tried u v) → Tried missed body d.tx birth end v w → next ≡ Done
     → NextIs end most tried next → InTriesTold missed body first birth most None u w
 tries_done missed body first birth most tried end next u v w d t is n =
     let new = try_of missed body d.tx birth end v w t in
     told_so missed body first birth most None u w (d.tries ++ new ∷ []) (one_more_try missed body first birth most tried end u v w d t)
     (d.front (new ∷ []) None (done_in most tried d.n new d.count (subst (NextIs end most tried) is n)))
 
-pub tries_stopped : (missed : Misses) (body : Body) (first : TxId) (birth : Birth) (most : Option ℕ) (tried : ℕ) (end : TryEnd) (next : Next) (cause : StopCause) (u v w : Seen) (d : Trying missed body first birth most tried u v) → Tried missed body d.tx birth end v w → next ≡ Stop cause
+abbrev pub tries_stopped : (missed : Misses) (body : Body) (first : TxId) (birth : Birth) (most : Option ℕ) (tried : ℕ) (end : TryEnd) (next : Next) (cause : StopCause) (u v w : Seen) (d : Trying missed body first birth most tried u v) → Tried missed body d.tx birth end v w → next ≡ Stop cause
     → NextIs end most tried next → InTriesTold missed body first birth most (Some cause) u w
 tries_stopped missed body first birth most tried end next cause u v w d t is n =
     let new = try_of missed body d.tx birth end v w t in
@@ -174,13 +174,13 @@ tries_stopped missed body first birth most tried end next cause u v w d t is n =
     (d.front (new ∷ []) (Some cause) (subst (InTries most d.n (new ∷ [])) (ap stopped_by e) (last d.n new (ap is_to_retry e))))
 
 -- what stopped the session between two tries made nothing
-told_between : (birth : Birth) (cause : StopCause) (w x : Seen) → RetryTold {A = Unit {0}} birth (Err cause) w x → (stops_between cause ≡ true) × Grows [] w x
+pub told_between : (birth : Birth) (cause : StopCause) (w x : Seen) → RetryTold {A = Unit {0}} birth (Err cause) w x → (stops_between cause ≡ true) × Grows [] w x
 told_between birth (Down n) w x grows = (refl, grows)
 told_between birth (Unsettled n) w x told = absurd told
 told_between birth (Worn at) w x grows = (refl, grows)
 told_between birth Memory w x told = absurd told
 
-stopped_in : (missed : Misses) (body : Body) (first : TxId) (birth : Birth) (most : Option ℕ) (tried : ℕ) (end : TryEnd) (cause : StopCause) (u v w x : Seen) (d : Trying missed body first birth most tried u v) → Tried missed body d.tx birth end v w → is_to_retry end ≡ true
+abbrev stopped_in : (missed : Misses) (body : Body) (first : TxId) (birth : Birth) (most : Option ℕ) (tried : ℕ) (end : TryEnd) (cause : StopCause) (u v w x : Seen) (d : Trying missed body first birth most tried u v) → Tried missed body d.tx birth end v w → is_to_retry end ≡ true
     → has_left most tried ≡ true → stops_between cause ≡ true → Grows [] w x → InTriesTold missed body first birth most (Some cause) u x
 stopped_in missed body first birth most tried end cause u v w x d t r l s grows =
     let new = try_of missed body d.tx birth end v w t in
@@ -207,14 +207,14 @@ can_retry birth Asked st l h = l
 can_retry birth (Aborted cause) st l h = l
 can_retry birth (Stopped cause) st l h = absurd cc
 
-pub tries_stopped_between : (missed : Misses) (body : Body) (first : TxId) (birth : Birth) (most : Option ℕ) (tried : ℕ) (end : TryEnd) (next : Next) (cause : StopCause) (u v w x : Seen) (d : Trying missed body first birth most tried u v) → Tried missed body d.tx birth end v w → next ≡ Again
+abbrev pub tries_stopped_between : (missed : Misses) (body : Body) (first : TxId) (birth : Birth) (most : Option ℕ) (tried : ℕ) (end : TryEnd) (next : Next) (cause : StopCause) (u v w x : Seen) (d : Trying missed body first birth most tried u v) → Tried missed body d.tx birth end v w → next ≡ Again
     → NextIs end most tried next → ((b : Birth) → w.standing ≡ Idle (Some b) → RetryTold {A = Unit {0}} b (Err cause) w x) → InTriesTold missed body first birth most (Some cause) u x
 tries_stopped_between missed body first birth most tried end next cause u v w x d t is n told =
     let p = subst (NextIs end most tried) is n in
     let k = told_between birth cause w x (told birth (can_retry birth end w.standing t.left p.0)) in
     stopped_in missed body first birth most tried end cause u v w x d t p.0 p.1 k.0 k.1
 
-next_tried : (missed : Misses) (body : Body) (first : TxId) (birth : Birth) (most : Option ℕ) (tried more_tried : ℕ) (end : TryEnd) (u v w x : Seen) (d : Trying missed body first birth most tried u v) → Tried missed body d.tx birth end v w → is_to_retry end ≡ true
+abbrev next_tried : (missed : Misses) (body : Body) (first : TxId) (birth : Birth) (most : Option ℕ) (tried more_tried : ℕ) (end : TryEnd) (u v w x : Seen) (d : Trying missed body first birth most tried u v) → Tried missed body d.tx birth end v w → is_to_retry end ≡ true
     → has_left most tried ≡ true → Begins birth w x → ((k : ℕ) → most ≡ Some k → more_tried ≡ suc tried) → Trying missed body first birth most more_tried u x
 next_tried missed body first birth most tried more_tried end u v w x d t r l b number =
     let new = try_of missed body d.tx birth end v w t in
@@ -240,7 +240,7 @@ next_tried missed body first birth most tried more_tried end u v w x d t r l b n
       dropped = all_let_go_later missed missed w.clock x.clock (d.tries ++ new ∷ []) (kept_so missed) (b.grows).clock_rises h.dropped;
     }
 
-pub tries_go_on : (missed : Misses) (body : Body) (first : TxId) (birth : Birth) (most : Option ℕ) (tried more_tried : ℕ) (end : TryEnd) (next : Next) (u v w x : Seen) (d : Trying missed body first birth most tried u v) → Tried missed body d.tx birth end v w → next ≡ Again
+abbrev pub tries_go_on : (missed : Misses) (body : Body) (first : TxId) (birth : Birth) (most : Option ℕ) (tried more_tried : ℕ) (end : TryEnd) (next : Next) (u v w x : Seen) (d : Trying missed body first birth most tried u v) → Tried missed body d.tx birth end v w → next ≡ Again
     → NextIs end most tried next → ((b : Birth) → w.standing ≡ Idle (Some b) → Begins b w x) → ((k : ℕ) → most ≡ Some k → more_tried ≡ suc tried) → Trying missed body first birth most more_tried u x
 tries_go_on missed body first birth most tried more_tried end next u v w x d t is n told number =
     let p = subst (NextIs end most tried) is n in
@@ -259,7 +259,7 @@ idle_when_done birth (Stopped cause) most tried next w l is n = at (subst (NextI
 
 -- ---- a transaction
 
-pub ran : (missed : Misses) (body : Body) (most : Option ℕ) (cause : Option StopCause) (birth : Birth) (u v w : Seen) → birth.session ≡ u.walker → u.clock < birth.stamp → birth.stamp ≤ v.clock → (b : Begins birth u v)
+abbrev pub ran : (missed : Misses) (body : Body) (most : Option ℕ) (cause : Option StopCause) (birth : Birth) (u v w : Seen) → birth.session ≡ u.walker → u.clock < birth.stamp → birth.stamp ≤ v.clock → (b : Begins birth u v)
     → InTriesTold missed body b.tx birth most cause v w → Ran missed body most cause u w
 ran missed body most cause birth u v w born later earlier b t =
     record {

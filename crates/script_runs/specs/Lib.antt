@@ -9,6 +9,8 @@ pub mod Tries
 pub mod Sessions
 pub mod TriesLaws
 pub mod TriesTell
+pub mod Books
+pub mod Keeping
 pub mod Examples
 pub mod Begun
 pub mod Alone

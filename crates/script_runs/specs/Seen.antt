@@ -1,9 +1,12 @@
 -- What whoever runs a script knows of a session.
-use Rattle.std.specs.Prelude.{◌≡◌, ℕ, ◌+◌, ◌<◌, ◌≤◌, ◌^◌, ◌-◌, max, Bool, false, List, ◌++◌, Option}
+use Rattle.std.specs.Prelude.{◌≡◌, ℕ, ◌+◌, ◌<◌, ◌≤◌, ◌^◌, ◌-◌, max, Bool, true, false, List, ◌++◌, Option}
 use Rattle.std.specs.List.{AllByRecursion}
 use Rattle.clv_base.specs.declared.names.TxId.{TxId}
 use Rattle.clv_base.specs.declared.names.Birth.{Birth}
+use Rattle.clv_base.specs.declared.names.Point.{Point}
 use Rattle.clv_base.specs.Journals.{History}
+use Rattle.script_runs.specs.declared.calls.Stage.{Stage}
+use Rattle.script_runs.specs.declared.calls.Stage.TheVariants as stage
 
 -- how its last transaction stands: none is active, and the last one may be tried again with its birth, if it ended by an abort; or it is active: its
 -- name, its birth, the number of its last operation, and which shards it touched; or its request stands
@@ -15,8 +18,19 @@ pub data Standing : Type 0 where
 abbrev pub untouched : ℕ → Bool
 untouched n = false
 
+-- whether some shard is touched
+abbrev pub IsTouching : (ℕ → Bool) → Bool → Type 0
+IsTouching touched true = (n : ℕ) × (touched n ≡ true)
+IsTouching touched false = (n : ℕ) → touched n ≡ false
+
+-- how far it is, without its names
+abbrev pub IsStage : Standing → Stage → Type 0
+IsStage (Idle again) st = st ≡ stage.Idle
+IsStage (Active tx birth nth touched) st = (some : Bool) × (st ≡ stage.Active some) × IsTouching touched some
+IsStage Asked st = st ≡ stage.Asked
+
 -- a session: the splits, its run and its walker's number, the entries that it made, a clock that none of its births is past, the greatest stamp of the entries
--- that it has seen, whoever made them, the serial of its last transaction, and how that stands
+-- that it has seen, whoever made them, the serial of its last transaction, how that stands, and the place of its last request
 pub record Seen : Type 0 where
   pub splits : List ℕ
   pub run : ℕ
@@ -26,6 +40,7 @@ pub record Seen : Type 0 where
   pub latest : ℕ
   pub serial : ℕ
   pub standing : Standing
+  pub asked : Point
 
 -- it with a clock that is up to this one at least
 abbrev pub raised : ℕ → Seen → Seen

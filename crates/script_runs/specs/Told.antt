@@ -3,6 +3,7 @@ use Rattle.std.specs.Prelude.{◌≡◌, ◌⊎◌, ⊤, ℕ, suc, ◌<◌, ◌�
 use Rattle.std.specs.List.{AllByRecursion}
 use Rattle.clv_base.specs.declared.names.TxId.{TxId}
 use Rattle.clv_base.specs.declared.names.Birth.{Birth}
+use Rattle.clv_base.specs.declared.names.Point.{Point}
 use Rattle.clv_base.specs.declared.causes.AbortCause.{AbortCause}
 use Rattle.clv_base.specs.declared.ops.Op.{Op}
 use Rattle.clv_base.specs.declared.ops.Op.TheVariants.{Get, Put, Del, Scan}
@@ -20,6 +21,7 @@ use Rattle.script_runs.specs.declared.ends.TryEnd.TheVariants.{Acknowledged, Emp
 use Rattle.script_runs.specs.Operations.{IsOperation, ArePartsAnswered, IsBegun, IsDeath, parts_of}
 use Rattle.script_runs.specs.Tries.{IsRequest, IsLook, is_touched}
 use Rattle.script_runs.specs.Seen.{Idle, Active, Seen, Misses, Grows, GrowsIn, IsWornOut, untouched}
+use Rattle.script_runs.specs.Seen as seen
 
 -- ---- beginnings
 
@@ -102,9 +104,11 @@ OperateTold tx birth nth touched op (Err (Aborted cause)) u v =
     × AreDropsOf tx after (Some n) drops × Grows (here ++ drops) u v × (v.standing ≡ Idle (Some birth))
 OperateTold tx birth nth touched op (Err (Stopped (Down n))) u v =
     (here : History) × (after : ℕ → Bool) × IsBegun u.splits tx birth (suc nth) op here × TouchesJust touched here after × Grows here u v × StaysActive tx birth after v
-OperateTold tx birth nth touched op (Err (Stopped (Worn at))) u v = (here : History) × IsBegun u.splits tx birth (suc nth) op here × Grows here u v
+OperateTold tx birth nth touched op (Err (Stopped (Worn at))) u v =
+    (here : History) × (after : ℕ → Bool) × IsBegun u.splits tx birth (suc nth) op here × TouchesJust touched here after × Grows here u v × StaysActive tx birth after v
 OperateTold tx birth nth touched op (Err (Stopped Memory)) u v =
-    (here : History) × (IsBegun u.splits tx birth (suc nth) op here ⊎ IsUnanswered u.splits tx birth (suc nth) op here) × Grows here u v
+    (here : History) × (after : ℕ → Bool) × (IsBegun u.splits tx birth (suc nth) op here ⊎ IsUnanswered u.splits tx birth (suc nth) op here)
+    × TouchesJust touched here after × Grows here u v × StaysActive tx birth after v
 OperateTold tx birth nth touched op (Err (Stopped (Unsettled n))) u v = ⊥
 OperateTold tx birth nth touched op (Err Acknowledged) u v = ⊥
 OperateTold tx birth nth touched op (Err Empty) u v = ⊥
@@ -115,6 +119,17 @@ OperateTold tx birth nth touched op (Err Asked) u v = ⊥
 -- its request stands at its home, and nothing else was made
 abbrev pub RequestStands : TxId → Seen → Seen → Type 0
 RequestStands tx u v = (home : ℕ) × (asked : ℕ × Entry) × IsRequest tx home AskedOut asked × Grows (asked ∷ []) u v
+
+-- the place of an entry
+abbrev pub place_of : ℕ × Entry → Point
+place_of e = record { stamp = (e.1).stamp; shard = e.0 }
+
+-- its request stands without an answer; or it was not made, and the transaction is active still
+abbrev pub StaysAsked : TxId → Seen → Seen → Type 0
+StaysAsked tx u v = RequestStands tx u v × (v.standing ≡ seen.Asked)
+
+abbrev pub StaysUnasked : TxId → Birth → (ℕ → Bool) → Seen → Seen → Type 0
+StaysUnasked tx birth touched u v = Grows [] u v × StaysActive tx birth touched v
 
 -- it died of its request; it was told of its abort by a look
 abbrev pub DiesAtRequest : TxId → (ℕ → Bool) → AbortCause → Seen → Seen → Type 0
@@ -130,13 +145,13 @@ AbortsAtLook tx touched cause u v =
 abbrev pub CommitTold : TxId → Birth → ℕ → (ℕ → Bool) → TryEnd → Seen → Seen → Type 0
 CommitTold tx birth nth touched Acknowledged u v =
     (home : ℕ) × (asked told : ℕ × Entry) × IsRequest tx home AskedOut asked × IsLook tx home AcknowledgedOut told × Grows (asked ∷ told ∷ []) u v
-    × (v.standing ≡ Idle None)
+    × (v.standing ≡ Idle None) × (v.asked ≡ place_of asked)
 CommitTold tx birth nth touched Empty u v = (nth ≡ 0) × Grows [] u v × (v.standing ≡ Idle None)
 CommitTold tx birth nth touched (Aborted cause) u v = (DiesAtRequest tx touched cause u v ⊎ AbortsAtLook tx touched cause u v) × (v.standing ≡ Idle (Some birth))
 CommitTold tx birth nth touched (Stopped (Down n)) u v = Grows [] u v × StaysActive tx birth touched v
-CommitTold tx birth nth touched (Stopped (Unsettled n)) u v = RequestStands tx u v
-CommitTold tx birth nth touched (Stopped (Worn at)) u v = Grows [] u v ⊎ RequestStands tx u v
-CommitTold tx birth nth touched (Stopped Memory) u v = Grows [] u v ⊎ RequestStands tx u v
+CommitTold tx birth nth touched (Stopped (Unsettled n)) u v = StaysAsked tx u v
+CommitTold tx birth nth touched (Stopped (Worn at)) u v = StaysUnasked tx birth touched u v ⊎ StaysAsked tx u v
+CommitTold tx birth nth touched (Stopped Memory) u v = StaysUnasked tx birth touched u v ⊎ StaysAsked tx u v
 CommitTold tx birth nth touched Asked u v = ⊥
 
 -- of its abort: each shard that it touched has a drop, or a drop came to nothing there; where stamps were wanting some may have none

@@ -4,6 +4,7 @@ ghost use Rattle.std.specs.List.{list_all};
 ghost use Rattle.script_lang.specs.Laws.{is_narrow_body};
 ghost use Rattle.script_runs.specs.Ran.{stop_in, IsIdle, IdleAfter};
 ghost use Rattle.script_runs.specs.Begun.{HasBegun};
+ghost use Rattle.script_runs.specs.Books.{IsKept};
 ghost use Rattle.script_runs.specs.Seen.{Keeps};
 ghost use Rattle.script_runs.specs.Alone.{AllFollow, BeganAlone};
 
@@ -24,16 +25,18 @@ fn run_first<R: Wait, C: SessionCalls>(
     requires session { C.holds seat.old.session }
     requires idle { IsIdle (C.seen seat.old.session) }
     requires narrow { list_all is_narrow_body seat.old.transactions.now ≡ true }
+    requires kept { IsKept (C.seen seat.old.session) seat.old.book }
     ensures session { C.holds seat.new.session }
     ensures base { C.base seat.new.session ≡ C.base seat.old.session }
     ensures misses { Keeps (C.missed seat.old.session) (C.missed seat.new.session) }
     ensures begun { HasBegun (C.missed seat.new.session) seat.old.transactions.now seat.new.transactions.now most (stop_in seat.new.ended) (C.seen seat.old.session) (C.seen seat.new.session) }
     ensures idle { IdleAfter seat.new.ended (C.seen seat.new.session) }
     ensures grounds { IfErr seat.new.ended (C.grounds seat.new.session) }
+    ensures kept { IsKept (C.seen seat.new.session) seat.new.book }
 {
     let first = seat.transactions.len().min(1);
     let (front, behind) = seat.transactions.split_at(first);
-    seat.ended = run_session(rt, alloc, &mut seat.session, front, most);
+    seat.ended = run_session(rt, alloc, &mut seat.session, front, most, &mut seat.book);
     seat.transactions = behind;
 }
 
@@ -48,6 +51,7 @@ pub(crate) fn run_behind_first<R: Threads + Wait + Sync, C: SessionCalls + Send>
     requires session { (k : ℕ) (d : _) → k < length seats.old → C.holds (slice_index_or seats.old k d).session }
     requires idle { (k : ℕ) (d : _) → k < length seats.old → IsIdle (C.seen (slice_index_or seats.old k d).session) }
     requires narrow { (k : ℕ) (d : _) → k < length seats.old → list_all is_narrow_body (slice_index_or seats.old k d).transactions.now ≡ true }
+    requires kept { (k : ℕ) (d : _) → k < length seats.old → IsKept (C.seen (slice_index_or seats.old k d).session) (slice_index_or seats.old k d).book }
     ensures session { (k : ℕ) (d : _) → k < length seats.old → C.holds (slice_index_or seats.new k d).session }
     ensures base { (k : ℕ) (d : _) → k < length seats.old → C.base (slice_index_or seats.new k d).session ≡ C.base (slice_index_or seats.old k d).session }
     ensures misses { (k : ℕ) (d : _) → k < length seats.old → Keeps (C.missed (slice_index_or seats.old k d).session) (C.missed (slice_index_or seats.new k d).session) }
@@ -55,6 +59,7 @@ pub(crate) fn run_behind_first<R: Threads + Wait + Sync, C: SessionCalls + Send>
     ensures follows { AllFollow C.seen C.missed most seats.old seats.new }
     ensures grounds { (k : ℕ) (d : _) → k < length seats.old → IfErr (slice_index_or seats.new k d).ended (C.grounds (slice_index_or seats.new k d).session) }
     ensures alone { BeganAlone C.seen most seats.old seats.new }
+    ensures kept { (k : ℕ) (d : _) → k < length seats.old → IsKept (C.seen (slice_index_or seats.new k d).session) (slice_index_or seats.new k d).book }
 {
     sessions_go_on::<C>();
     sessions_stop::<C>();

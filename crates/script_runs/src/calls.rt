@@ -4,13 +4,23 @@ ghost use Rattle.clv_base.specs.declared.names.TxId.{TxId};
 ghost use Rattle.clv_base.specs.declared.names.Birth.{Birth as BirthIs};
 ghost use Rattle.clv_base.specs.Journals.{History};
 ghost use Rattle.script_runs.specs.declared.ends.StopCause.{StopCause as CauseIs};
-ghost use Rattle.script_runs.specs.Seen.{Standing, Idle, Active, Seen as SeenIs, Keeps, raised};
+ghost use Rattle.script_runs.specs.declared.ends.StopCause.TheVariants.{Memory};
+ghost use Rattle.script_runs.specs.Seen.{Standing, Idle, Active, Seen as SeenIs, Keeps, IsStage, raised};
 ghost use Rattle.script_runs.specs.Told.{has_range, BeginTold, RetryTold, OperateTold, CommitTold, AbortTold};
 ghost use Rattle.script_runs.specs.Tried.{OnStop, OnRefusal};
 
 use crate::{StopCause, TryEnd};
+use clv_base::names::{Point, TxId as Name};
 use clv_base::ops::{Answer, Op};
 use std::alloc::Global;
+
+/// How far a session's last transaction is: none is active; it is active, and touched a shard or none; or its request stands without an answer.
+#[derive(Clone, Copy)]
+pub enum Stage {
+    Idle,
+    Active { touched: bool },
+    Asked,
+}
 
 /// A session of a store. What its calls add to its entries is told by their answers, in the words of tries.
 pub trait SessionCalls {
@@ -33,6 +43,19 @@ pub trait SessionCalls {
     /// The session's clock: what it makes from then on has stamps past it.
     fn clock(&self) -> u64
         ensures { result ≡ (seen self.now).clock };
+
+    /// How far its last transaction is.
+    fn stage(&self) -> Stage
+        ensures { IsStage (seen self.now).standing result };
+
+    /// The place of its last request.
+    fn last_request(&self) -> Point
+        ensures { result ≡ (seen self.now).asked };
+
+    /// The name of the active transaction.
+    fn name(&self) -> Name
+        requires active { (tx : TxId) × (birth : BirthIs) × (nth : ℕ) × (touched : ℕ → Bool) × ((seen self.now).standing ≡ Active tx birth nth touched) }
+        ensures { (tx : TxId) (birth : BirthIs) (nth : ℕ) (touched : ℕ → Bool) → (seen self.now).standing ≡ Active tx birth nth touched → result ≡ tx };
 
     /// Raises the session's clock to this one, if it is lower, while no transaction is active. Nothing else changes.
     fn raise(&mut self, clock: u64)
@@ -95,4 +118,7 @@ pub trait SessionCalls {
         ensures misses { Keeps (missed self.old) (missed self.new) }
         ensures grounds { IfErr result (grounds self.new) }
         ensures keeps { (cause : CauseIs) → grounds self.old cause → grounds self.new cause };
+
+    /// Memory may be wanting at any time.
+    ghost wanting: { (s : Self) → grounds s Memory };
 }

@@ -6,9 +6,11 @@
 #![tactic(auto)]
 
 mod behind;
+pub mod book_laws;
 mod calls;
 mod ends;
 pub mod examples;
+pub mod fates;
 pub mod promises;
 mod retrying;
 mod running;
@@ -17,7 +19,7 @@ pub mod statements;
 mod threads;
 mod trying;
 
-pub use calls::SessionCalls;
+pub use calls::{SessionCalls, Stage};
 pub use ends::{StopCause, TryEnd};
 pub use running::run_session;
 pub use seats::Seat;

@@ -1,43 +1,54 @@
 // One try of a transaction.
-ghost use Rattle.std.specs.Prelude.{◌≡◌, ℕ, Bool, true};
+ghost use Rattle.std.specs.Prelude.{◌≡◌, ◌<◌, ℕ, Bool, true};
 ghost use Rattle.std.specs.List.{list_all};
-ghost use Rattle.clv_base.specs.declared.names.TxId.{TxId};
+ghost use Rattle.clv_base.specs.declared.names.TxId.{TxId as Name};
 ghost use Rattle.clv_base.specs.declared.names.Birth.{Birth as BirthIs};
 ghost use Rattle.script_lang.specs.Laws.{is_narrow};
+ghost use Rattle.clv_base.specs.Shards.{are_splits};
 ghost use Rattle.script_runs.specs.Seen.{Active, untouched, Keeps};
-ghost use Rattle.script_runs.specs.Told.{GivenUp, IsActiveWhereDown, EndTold};
-ghost use Rattle.script_runs.specs.Tried.{OnStop, OnRefusal, Tried};
+ghost use Rattle.script_runs.specs.Told.{GivenUp, IsActiveWhereDown, LineAborts};
+ghost use Rattle.script_runs.specs.Tried.{OnStop, OnRefusal};
 ghost use Rattle.script_runs.specs.Lines.{LinesTold};
+ghost use Rattle.script_runs.specs.Keeping.{TouchedBy, is_asked as is_asked_in, AddsRows, row_told, CommitKept, EndMade, TriedKept};
 
-use crate::calls::SessionCalls;
+use crate::calls::{SessionCalls, Stage};
+use crate::fates::{Fate, fate_of};
 use crate::{StopCause, TryEnd};
+use clv_base::names::TxId;
 use script_lang::{Action, Ending, Following, Transaction};
+use session_books::books::{Book, Operations, Row};
 use std::alloc::Global;
 use std::sync::Wait;
 
-// The operations of its lines, until each is done.
+// The operations of its lines, until each is done; their answers are kept.
 fn do_lines<R: Wait, C: SessionCalls>(
     rt: &R,
     alloc: Global,
     session: &mut C,
     lines: &[Action],
-) -> Result<(), TryEnd>
+) -> Result<Operations, TryEnd>
     requires session { C.holds session.old }
-    requires begun { (tx : TxId) × (birth : BirthIs) × ((C.seen session.old).standing ≡ Active tx birth 0 untouched) }
+    requires begun { (tx : Name) × (birth : BirthIs) × ((C.seen session.old).standing ≡ Active tx birth 0 untouched) }
     requires narrow { list_all is_narrow lines.now ≡ true }
     ensures session { C.holds session.new }
     ensures base { C.base session.new ≡ C.base session.old }
     ensures misses { Keeps (C.missed session.old) (C.missed session.new) }
-    ensures told { (tx : TxId) (birth : BirthIs) → (C.seen session.old).standing ≡ Active tx birth 0 untouched → LinesTold tx birth lines.now result (C.seen session.old) (C.seen session.new) }
+    ensures told { (tx : Name) (birth : BirthIs) → (C.seen session.old).standing ≡ Active tx birth 0 untouched → LinesTold tx birth lines.now result (C.seen session.old) (C.seen session.new) }
     ensures grounds { OnRefusal (C.grounds session.new) result }
 {
     let mut following = Following::new(lines);
+    let mut done = Vec::new(alloc);
     for _ in rt.forever() {
         let Some(op) = following.next() else {
-            return Ok(());
+            return Ok(Operations::new(done));
         };
         match session.operate(alloc, op) {
-            Ok(answer) => following.answered(&answer),
+            Ok(answer) => {
+                following.answered(&answer);
+                if done.push((op, answer)).is_err() {
+                    return Err(TryEnd::Stopped(StopCause::Memory));
+                }
+            }
             Err(end) => return Err(end),
         }
     }
@@ -79,27 +90,93 @@ fn give_up<C: SessionCalls>(alloc: Global, session: &mut C, end: TryEnd)
     }
 }
 
-fn commit<C: SessionCalls>(alloc: Global, session: &mut C) -> TryEnd
+// Whether the active transaction touched a shard; one that is over did.
+fn has_touched<C: SessionCalls>(session: &C) -> bool
+    ensures { TouchedBy (C.seen session.now).standing result }
+{
+    match session.stage() {
+        Stage::Active { touched } => touched,
+        _ => true,
+    }
+}
+
+// Whether its request stands without an answer.
+fn is_asked<C: SessionCalls>(session: &C) -> bool
+    ensures { result ≡ is_asked_in (C.seen session.now).standing }
+{
+    match session.stage() {
+        Stage::Asked => true,
+        _ => false,
+    }
+}
+
+// The row of a transaction that ended so, if it is acknowledged.
+fn keep_row<C: SessionCalls>(
+    session: &C,
+    tx: TxId,
+    end: TryEnd,
+    done: Operations,
+    book: &mut Book,
+)
+    requires room { 0 < book.old.room }
+    ensures { AddsRows (row_told end tx (C.seen session.now).asked done) book.old book.new }
+{
+    match end {
+        TryEnd::Acknowledged => {
+            let point = session.last_request();
+            book.push(Row {
+                tx,
+                point,
+                ops: done,
+            });
+        }
+        _ => {}
+    }
+}
+
+// How a commit ended, and whether its request stands without an answer.
+#[derive(Clone, Copy)]
+struct Committed {
+    end: TryEnd,
+    asked: bool,
+}
+
+// Room for the row is made first, as none may be wanting behind the acknowledgement.
+fn commit<C: SessionCalls>(
+    alloc: Global,
+    session: &mut C,
+    done: Operations,
+    book: &mut Book,
+) -> Committed
     requires session { C.holds session.old }
-    requires active { (tx : TxId) × (birth : BirthIs) × (nth : ℕ) × (touched : ℕ → Bool) × ((C.seen session.old).standing ≡ Active tx birth nth touched) }
+    requires active { (tx : Name) × (birth : BirthIs) × (nth : ℕ) × (touched : ℕ → Bool) × ((C.seen session.old).standing ≡ Active tx birth nth touched) }
     ensures session { C.holds session.new }
     ensures base { C.base session.new ≡ C.base session.old }
     ensures misses { Keeps (C.missed session.old) (C.missed session.new) }
-    ensures told { (tx : TxId) (birth : BirthIs) (nth : ℕ) (touched : ℕ → Bool) → (C.seen session.old).standing ≡ Active tx birth nth touched → EndTold (C.missed session.new) tx birth nth touched Ending.Commit result (C.seen session.old) (C.seen session.new) }
-    ensures grounds { OnStop (C.grounds session.new) result }
+    ensures kept { (tx : Name) (birth : BirthIs) (nth : ℕ) (touched : ℕ → Bool) → (C.seen session.old).standing ≡ Active tx birth nth touched → CommitKept (C.missed session.new) tx birth nth touched done result.end result.asked book.old book.new (C.seen session.old) (C.seen session.new) }
+    ensures grounds { OnStop (C.grounds session.new) result.end }
 {
+    if book.reserve(1).is_err() {
+        return Committed {
+            end: TryEnd::Stopped(StopCause::Memory),
+            asked: false,
+        };
+    }
+    let tx = session.name();
     let end = session.commit(alloc);
+    let asked = is_asked(session);
+    keep_row(session, tx, end, done, book);
     give_up(alloc, session, end);
-    end
+    Committed { end, asked }
 }
 
 fn abort<C: SessionCalls>(alloc: Global, session: &mut C) -> TryEnd
     requires session { C.holds session.old }
-    requires active { (tx : TxId) × (birth : BirthIs) × (nth : ℕ) × (touched : ℕ → Bool) × ((C.seen session.old).standing ≡ Active tx birth nth touched) }
+    requires active { (tx : Name) × (birth : BirthIs) × (nth : ℕ) × (touched : ℕ → Bool) × ((C.seen session.old).standing ≡ Active tx birth nth touched) }
     ensures session { C.holds session.new }
     ensures base { C.base session.new ≡ C.base session.old }
     ensures misses { Keeps (C.missed session.old) (C.missed session.new) }
-    ensures told { (tx : TxId) (birth : BirthIs) (nth : ℕ) (touched : ℕ → Bool) → (C.seen session.old).standing ≡ Active tx birth nth touched → EndTold (C.missed session.new) tx birth nth touched Ending.Abort result (C.seen session.old) (C.seen session.new) }
+    ensures told { (tx : Name) (birth : BirthIs) (nth : ℕ) (touched : ℕ → Bool) → (C.seen session.old).standing ≡ Active tx birth nth touched → LineAborts (C.missed session.new) tx birth touched result (C.seen session.old) (C.seen session.new) }
     ensures grounds { OnStop (C.grounds session.new) result }
 {
     match session.abort(alloc) {
@@ -108,44 +185,70 @@ fn abort<C: SessionCalls>(alloc: Global, session: &mut C) -> TryEnd
     }
 }
 
+/// A try that was made: how it ended, and as what it is counted.
+#[derive(Clone, Copy)]
+pub(crate) struct Made {
+    pub end: TryEnd,
+    pub fate: Option<Fate>,
+}
+
 // The end that its lines ask for.
-fn end_as<C: SessionCalls>(alloc: Global, session: &mut C, ending: Ending) -> TryEnd
+fn end_as<C: SessionCalls>(
+    alloc: Global,
+    session: &mut C,
+    ending: Ending,
+    done: Operations,
+    book: &mut Book,
+) -> Made
     requires session { C.holds session.old }
-    requires active { (tx : TxId) × (birth : BirthIs) × (nth : ℕ) × (touched : ℕ → Bool) × ((C.seen session.old).standing ≡ Active tx birth nth touched) }
+    requires active { (tx : Name) × (birth : BirthIs) × (nth : ℕ) × (touched : ℕ → Bool) × ((C.seen session.old).standing ≡ Active tx birth nth touched) }
     ensures session { C.holds session.new }
     ensures base { C.base session.new ≡ C.base session.old }
     ensures misses { Keeps (C.missed session.old) (C.missed session.new) }
-    ensures told { (tx : TxId) (birth : BirthIs) (nth : ℕ) (touched : ℕ → Bool) → (C.seen session.old).standing ≡ Active tx birth nth touched → EndTold (C.missed session.new) tx birth nth touched ending result (C.seen session.old) (C.seen session.new) }
-    ensures grounds { OnStop (C.grounds session.new) result }
+    ensures kept { (tx : Name) (birth : BirthIs) (nth : ℕ) (touched : ℕ → Bool) → (C.seen session.old).standing ≡ Active tx birth nth touched → EndMade (C.missed session.new) tx birth nth touched done ending result.end result.fate book.old book.new (C.seen session.old) (C.seen session.new) }
+    ensures grounds { OnStop (C.grounds session.new) result.end }
 {
+    let touched = has_touched(session);
     match ending {
-        Ending::Commit => commit(alloc, session),
-        Ending::Abort => abort(alloc, session),
+        Ending::Commit => {
+            let Committed { end, asked } = commit(alloc, session, done, book);
+            let fate = fate_of(touched, end, asked);
+            Made { end, fate }
+        }
+        Ending::Abort => {
+            let end = abort(alloc, session);
+            let fate = fate_of(touched, end, false);
+            Made { end, fate }
+        }
     }
 }
 
 /// Runs the active transaction, which made nothing so far, from its first line to its end. The entries that it adds are a try of it, which ended as it is
-/// told; what stopped the session, if anything did, has its grounds.
+/// told; what stopped the session, if anything did, has its grounds. Its row is in the book, if it is acknowledged.
 pub(crate) fn run_try<R: Wait, C: SessionCalls>(
     rt: &R,
     alloc: Global,
     session: &mut C,
     transaction: &Transaction,
-) -> TryEnd
+    book: &mut Book,
+) -> Made
     requires session { C.holds session.old }
-    requires begun { (tx : TxId) × (birth : BirthIs) × ((C.seen session.old).standing ≡ Active tx birth 0 untouched) }
+    requires begun { (tx : Name) × (birth : BirthIs) × ((C.seen session.old).standing ≡ Active tx birth 0 untouched) }
     requires narrow { list_all is_narrow transaction.now.actions ≡ true }
+    requires splits { are_splits (C.seen session.old).splits ≡ true }
     ensures session { C.holds session.new }
     ensures base { C.base session.new ≡ C.base session.old }
     ensures misses { Keeps (C.missed session.old) (C.missed session.new) }
-    ensures tried { (tx : TxId) (birth : BirthIs) → (C.seen session.old).standing ≡ Active tx birth 0 untouched → Tried (C.missed session.new) transaction.now tx birth result (C.seen session.old) (C.seen session.new) }
-    ensures grounds { OnStop (C.grounds session.new) result }
+    ensures kept { (tx : Name) (birth : BirthIs) → (C.seen session.old).standing ≡ Active tx birth 0 untouched → TriedKept (C.missed session.new) transaction.now tx birth result.end result.fate book.old book.new (C.seen session.old) (C.seen session.new) }
+    ensures grounds { OnStop (C.grounds session.new) result.end }
 {
     match do_lines(rt, alloc, session, transaction.actions()) {
-        Ok(()) => end_as(alloc, session, transaction.ending()),
+        Ok(done) => end_as(alloc, session, transaction.ending(), done, book),
         Err(end) => {
+            let touched = has_touched(session);
             give_up(alloc, session, end);
-            end
+            let fate = fate_of(touched, end, false);
+            Made { end, fate }
         }
     }
 }

@@ -2,7 +2,7 @@ use Rattle.std.proofs.Common.{◌≡◌}
 use Rattle.clv_base.specs.declared.names.TxId.{TxId}
 use Rattle.clv_base.specs.declared.names.Birth.{Birth as BirthIs}
 use Rattle.script_runs.specs.Seen.{Active, Keeps, untouched}
-use Rattle.script_runs.proofs.Tries.{Trying}
+use Rattle.script_runs.proofs.KeptTries.{TryingKept}
 use Rattle.script_runs.proofs.retrying.run_tries.Given as goal
 
 abbrev pub invariant-loop : goal.invariant-loop
@@ -14,5 +14,5 @@ invariant-loop g l =
       misses : Keeps (g.C.SessionCalls.missed l.fn.session) (g.C.SessionCalls.missed l.session);
       trying :
           (tx : TxId) (birth : BirthIs) → u.standing ≡ Active tx birth 0 untouched → tx.serial ≡ u.serial → tx.run ≡ u.run → tx.session ≡ u.walker
-          → Trying (g.C.SessionCalls.missed l.session) l.transaction tx birth l.most l.tried u (g.C.SessionCalls.seen l.session);
+          → TryingKept (g.C.SessionCalls.missed l.session) l.transaction tx birth l.most l.tried l.fate l.fn.book l.book u (g.C.SessionCalls.seen l.session);
     }

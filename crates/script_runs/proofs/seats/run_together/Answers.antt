@@ -2,6 +2,7 @@ use Rattle.std.proofs.Common.{◌≡◌, max, true, sym, subst, slice_index_or}
 use Rattle.std.specs.List.{list_all}
 use Rattle.script_lang.specs.Laws.{is_narrow_body}
 use Rattle.script_runs.specs.Ran.{stop_in, IsIdle, FollowsFrom}
+use Rattle.script_runs.specs.Books.{IsKept}
 use Rattle.script_runs.specs.Seen.{Keeps}
 use Rattle.script_runs.specs.Alone.{BeginsPast}
 use Rattle.script_runs.proofs.seats.run_together.Goals as goal
@@ -13,7 +14,10 @@ for_each_mut-requires-clause-accepts g c κs within =
       subst (λ s. g.C.SessionCalls.holds s.session) (sym same) (c.requires.session i p.now l),
       (
         subst (λ s. IsIdle (g.C.SessionCalls.seen s.session)) (sym same) (c.requires.idle i p.now l),
-        subst (λ s. list_all is_narrow_body s.transactions.now ≡ true) (sym same) (c.requires.narrow i p.now l),
+        (
+          subst (λ s. list_all is_narrow_body s.transactions.now ≡ true) (sym same) (c.requires.narrow i p.now l),
+          subst (λ s. IsKept (g.C.SessionCalls.seen s.session) s.book) (sym same) (c.requires.kept i p.now l),
+        ),
       ),
     )
 
@@ -48,4 +52,10 @@ returns-clause-past g c =
     let seen = g.C.SessionCalls.seen in
     let e = (c.for_each_mut.ensures k d l).1 in
     subst (λ y. BeginsPast c.args.clock (seen (slice_index_or c.args.seats.now k d).session) (seen y.session)) e.left
-    (subst (λ x. BeginsPast c.args.clock (seen x.session) (seen e.after_call.now.session)) e.argument_is e.call.1.1.1.1.1.1)
+    (subst (λ x. BeginsPast c.args.clock (seen x.session) (seen e.after_call.now.session)) e.argument_is e.call.1.1.1.1.1.1.0)
+
+pub returns-clause-kept : goal.returns-clause-kept
+returns-clause-kept g c =
+    λ k d l.
+    let e = (c.for_each_mut.ensures k d l).1 in
+    subst (λ y. IsKept (g.C.SessionCalls.seen y.session) y.book) e.left e.call.1.1.1.1.1.1.1

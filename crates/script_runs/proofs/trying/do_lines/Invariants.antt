@@ -13,5 +13,5 @@ invariant-loop g l =
       misses : Keeps (g.C.SessionCalls.missed l.fn.session) (g.C.SessionCalls.missed l.session);
       doing :
           (tx : TxId) (birth : BirthIs) → (g.C.SessionCalls.seen l.fn.session).standing ≡ Active tx birth 0 untouched
-          → Doing tx birth l.lines (g.C.SessionCalls.seen l.fn.session) (g.C.SessionCalls.seen l.session) l.following;
+          → Doing tx birth l.lines (g.C.SessionCalls.seen l.fn.session) (g.C.SessionCalls.seen l.session) l.following l.done.items;
     }

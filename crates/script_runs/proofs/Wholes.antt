@@ -1,0 +1,252 @@
+-- The operations of a try's lines, as its entries tell them whole.
+use Rattle.std.proofs.Common.{◌≡◌, ◌≢◌, refl, sym, ap, subst, ◌∙◌, ◌⊎◌, inl, inr, ℕ, zero, suc, pred, ◌+◌, ◌-◌, ◌<◌, ◌≤◌, ◌^◌, Bool, true, false, cond, max, min, nat_le, nat_lt, ◌&&◌, ◌==◌, List, [], ◌∷◌, ◌++◌, append_assoc, append-nil, length, Option, Some, None, arith, eq-eqb}
+use Rattle.std.specs.List.{AllByRecursion, list_all}
+use Rattle.std.proofs.lemmas.Bool.{both_ways, and_parts, cases_lt, leb-true, leb-false, ltb-true, ltb-false, lt-ltb, le-ltb, le-leb, lt-leb, ne_eqb}
+use Rattle.clv_base.specs.declared.names.TxId.{TxId}
+use Rattle.clv_base.specs.declared.names.Birth.{Birth}
+use Rattle.clv_base.specs.declared.ops.Op.{Op}
+use Rattle.clv_base.specs.declared.ops.Op.TheVariants.{Get, Put, Del, Scan}
+use Rattle.clv_base.specs.declared.ops.Answer.{Answer}
+use Rattle.clv_base.specs.declared.ops.Answer.TheVariants.{Value, Pairs}
+use Rattle.clv_base.specs.declared.events.Event.{Event}
+use Rattle.clv_base.specs.declared.events.Event.TheVariants.{Op as OpEvent}
+use Rattle.clv_base.specs.declared.events.Outcome.{Outcome}
+use Rattle.clv_base.specs.declared.events.Outcome.TheVariants.{Answered}
+use Rattle.clv_base.specs.declared.events.Entry.{Entry}
+use Rattle.clv_base.specs.Orders.{tx_same}
+use Rattle.clv_base.specs.Shards.{shard_of, shard_count, first_key, span, span_between, are_splits}
+use Rattle.clv_base.specs.Journals.{History}
+use Rattle.clv_base.proofs.SameNames.{tx_self}
+use Rattle.clv_base.proofs.Spans.{Rises, rises, start, span_is, first_key_past}
+use Rattle.law_base.proofs.Lists.{all_append, all_mono}
+use Rattle.script_lang.specs.Laws.{is_narrow_op}
+use Rattle.session_books.specs.declared.told.Told.{Told}
+use Rattle.session_books.specs.Told.{told_by, with_told, told_in}
+use Rattle.session_books.specs.Parts as told
+use Rattle.session_books.specs.Books.{whole, whole_from, whole_ops}
+use Rattle.script_runs.specs.Operations.{scan_within, part_at, scan_parts, parts_of, pairs_of, first_answer, answer_of, IsPart, ArePartsAnswered, no_part, part, IsOperation, AreOperations, no_operation, operation}
+use Rattle.script_runs.specs.Books.{answered}
+
+-- ---- what entries tell of operations
+
+-- parts with their answers
+abbrev pub tolds : ℕ → List (ℕ × Op) → List Answer → List Told
+tolds nth [] answers = []
+tolds nth (p ∷ parts) [] = []
+tolds nth (p ∷ parts) (a ∷ answers) = record { nth = nth; op = p.1; answer = a } ∷ tolds nth parts answers
+
+pub told_append : (t : TxId) (es fs : History) → told_in t (es ++ fs) ≡ told_in t es ++ told_in t fs
+told_append t [] fs = refl
+told_append t (e ∷ es) fs = ap (with_told t (told_by (e.1).event (e.1).outcome)) (told_append t es fs) ∙ at (told_by (e.1).event (e.1).outcome)
+  where
+    by : (b : Bool) (x : Told) → cond b (x ∷ told_in t es ++ told_in t fs) (told_in t es ++ told_in t fs) ≡ cond b (x ∷ told_in t es) (told_in t es) ++ told_in t fs
+    by true x = refl
+    by false x = refl
+
+    at : (o : Option (TxId × Told)) → with_told t o (told_in t es ++ told_in t fs) ≡ with_told t o (told_in t es) ++ told_in t fs
+    at None = refl
+    at (Some p) = by (tx_same p.0 t) p.1
+
+part_told : (tx : TxId) (birth : Birth) (nth epoch : ℕ) (p : ℕ × Op) (answer : Answer) (e : ℕ × Entry) (ts : List Told) → IsPart tx birth nth p (Answered answer epoch) e
+    → with_told tx (told_by (e.1).event (e.1).outcome) ts ≡ record { nth = nth; op = p.1; answer = answer } ∷ ts
+part_told tx birth nth epoch p answer e ts is =
+    ap (λ ev. with_told tx (told_by ev (e.1).outcome) ts) is.event ∙ ap (λ o. with_told tx (told_by (OpEvent tx birth nth is.seen p.1) o) ts) is.outcome
+    ∙ ap (λ b. cond b (record { nth = nth; op = p.1; answer = answer } ∷ ts) ts) (tx_self tx)
+
+parts_told : (tx : TxId) (birth : Birth) (nth : ℕ) (parts : List (ℕ × Op)) (answers : List Answer) (es : History) → ArePartsAnswered tx birth nth parts answers es → told_in tx es ≡ tolds nth parts answers
+parts_told tx birth nth _ _ _ no_part = refl
+parts_told tx birth nth _ _ _ (part p answer epoch e parts answers es is more) =
+    part_told tx birth nth epoch p answer e (told_in tx es) is ∙ ap (λ ts. record { nth = nth; op = p.1; answer = answer } ∷ ts) (parts_told tx birth nth parts answers es more)
+
+same_length : (tx : TxId) (birth : Birth) (nth : ℕ) (parts : List (ℕ × Op)) (answers : List Answer) (es : History) → ArePartsAnswered tx birth nth parts answers es → length answers ≡ length parts
+same_length tx birth nth _ _ _ no_part = refl
+same_length tx birth nth _ _ _ (part p answer epoch e parts answers es is more) = ap suc (same_length tx birth nth parts answers es more)
+
+-- ---- the parts of a scan
+
+abbrev upper_by : ℕ → List (ℕ × Op) → ℕ
+upper_by hi [] = hi
+upper_by hi (p ∷ parts) = upper_by (told.upper hi p.1) parts
+
+-- of the shards from a key on: none where that is past the range, else they go from where both begin to the range's end
+data Covers (lo hi from : ℕ) (parts : List (ℕ × Op)) : Type 0 where
+  past : hi < from → parts ≡ [] → Covers lo hi from parts
+  within :
+      (n high : ℕ) (rest : List (ℕ × Op)) → from ≤ hi → parts ≡ (n, Scan (max lo from) high) ∷ rest → upper_by high rest ≡ hi → Covers lo hi from parts
+
+keys_rise : (splits : List ℕ) (n : ℕ) → Rises splits → suc n < length splits → first_key splits n < first_key splits (suc n)
+keys_rise [] n r l = absurd (omega arith)
+keys_rise (s ∷ []) n r l = absurd (omega arith)
+keys_rise (s ∷ t ∷ ss) zero r l = r.0
+keys_rise (s ∷ t ∷ ss) (suc n) r l = keys_rise (t ∷ ss) n r.1 (omega arith)
+
+starts_rise : (splits : List ℕ) (n : ℕ) → Rises splits → n < length splits → start splits n ≤ first_key splits n
+starts_rise splits zero r l = omega arith
+starts_rise splits (suc n) r l = let up = keys_rise splits n r l in omega arith
+
+-- one shard more: from here up to below there, or without keys
+module _ (lo hi : ℕ) (ordered : lo ≤ hi) where
+  covers_here : (n from to : ℕ) (rest : List (ℕ × Op)) (b : Bool) → nat_le (max lo from) (min hi (pred to)) ≡ b → from < to → Covers lo hi to rest
+      → Covers lo hi from (part_at n (cond b (Some (Scan (max lo from) (min hi (pred to)))) None) ++ rest)
+  covers_here n from zero rest b is l c = absurd (omega arith)
+  covers_here n from (suc to) rest true is l (past h none) =
+      let e = leb-true (max lo from) (min hi to) is in
+      within n (min hi to) rest (omega arith) refl (ap (upper_by (min hi to)) none ∙ (let same : min hi to ≡ hi = omega arith in same))
+  covers_here n from (suc to) rest true is l (within m high more h first up) =
+      let e = leb-true (max lo from) (min hi to) is in
+      within n (min hi to) rest (omega arith) refl (ap (upper_by (min hi to)) first ∙ up)
+  covers_here n from (suc to) rest false is l (past h none) =
+      let e = leb-false (max lo from) (min hi to) is in
+      past (omega arith) none
+  covers_here n from (suc to) rest false is l (within m high more h first up) =
+      let e = leb-false (max lo from) (min hi to) is in
+      within m high more (omega arith) (first ∙ ap (λ low. (m, Scan low high) ∷ more) (let same : max lo (suc to) ≡ max lo from = omega arith in same)) up
+
+  covers_none : (from to : ℕ) (rest : List (ℕ × Op)) → to ≤ from → (to ≤ hi → from ≤ to) → Covers lo hi to rest → Covers lo hi from rest
+  covers_none from to rest l up (past h none) = past (omega arith) none
+  covers_none from to rest l up (within m high more h first high_is) =
+      let k = up h in
+      within m high more (omega arith) (first ∙ ap (λ low. (m, Scan low high) ∷ more) (let same : max lo to ≡ max lo from = omega arith in same)) high_is
+
+  covers_span : (n from to : ℕ) (rest : List (ℕ × Op)) (b : Bool) → nat_lt from to ≡ b → (to ≤ hi → from ≤ to) → Covers lo hi to rest → Covers lo hi from (part_at n (scan_within lo hi (cond b (Some (from, pred to)) None)) ++ rest)
+  covers_span n from to rest true is up c = covers_here n from to rest (nat_le (max lo from) (min hi (pred to))) refl (ltb-true from to is) c
+  covers_span n from to rest false is up c = covers_none from to rest (ltb-false from to is) up c
+
+  covers : (splits : List ℕ) → Rises splits → hi < 2 ^ 64 → (k n : ℕ) → n + k ≡ suc (length splits) → Covers lo hi (start splits n) (scan_parts splits lo hi n k)
+  covers splits r low zero n is = subst (λ m. Covers lo hi (start splits m) []) (let same : suc (length splits) ≡ n = omega arith in same) (past (subst (λ key. hi < key) (sym (first_key_past splits (length splits) (omega arith))) low) refl)
+  covers splits r low (suc k) n is =
+      subst (λ o. Covers lo hi (start splits n) (part_at n (scan_within lo hi o) ++ scan_parts splits lo hi (suc n) k)) (sym (span_is splits n))
+      (covers_span n (start splits n) (first_key splits n) (scan_parts splits lo hi (suc n) k) (nat_lt (start splits n) (first_key splits n)) refl
+      (λ l. at l (cases_lt n (length splits))) (covers splits r low k (suc n) (omega arith)))
+    where
+      at : first_key splits n ≤ hi → (n < length splits) ⊎ (length splits ≤ n) → start splits n ≤ first_key splits n
+      at l (inl h) = starts_rise splits n r h
+      at l (inr h) = absurd (let past_all = first_key_past splits n h in let no : ⊥ = omega arith in no)
+
+-- ---- an operation, told whole
+
+abbrev AllPast : ℕ → List Told → Type 0
+AllPast nth ts = AllByRecursion (λ (t : Told). nth < t.nth) ts
+
+no_parts : (nth : ℕ) (ts : List Told) → AllPast nth ts → told.parts_of nth ts ≡ []
+no_parts nth [] h = refl
+no_parts nth (t ∷ ts) h = ap (λ b. cond b (t ∷ told.parts_of nth ts) []) (ne_eqb nth t.nth (λ e. let l = h.0 in let no : ⊥ = omega arith in no))
+
+all_parts : (nth : ℕ) (parts : List (ℕ × Op)) (answers : List Answer) (ts : List Told) → AllPast nth ts → told.parts_of nth (tolds nth parts answers ++ ts) ≡ tolds nth parts answers
+all_parts nth [] answers ts h = no_parts nth ts h
+all_parts nth (p ∷ parts) [] ts h = no_parts nth ts h
+all_parts nth (p ∷ parts) (a ∷ answers) ts h =
+    let t : Told = record { nth = nth; op = p.1; answer = a } in
+    ap (λ b. cond b (t ∷ told.parts_of nth (tolds nth parts answers ++ ts)) []) (eq-eqb nth nth refl) ∙ ap (λ l. t ∷ l) (all_parts nth parts answers ts h)
+
+skipped : (nth : ℕ) (parts : List (ℕ × Op)) (answers : List Answer) (ts : List Told) → whole_from (Some nth) (tolds nth parts answers ++ ts) ≡ whole_from (Some nth) ts
+skipped nth [] answers ts = refl
+skipped nth (p ∷ parts) [] ts = refl
+skipped nth (p ∷ parts) (a ∷ answers) ts =
+    ap (λ b. cond b (whole_from (Some nth) (tolds nth parts answers ++ ts)) (whole p.1 a (told.parts_of nth (tolds nth parts answers ++ ts)) ∷ whole_from (Some nth) (tolds nth parts answers ++ ts))) (eq-eqb nth nth refl)
+    ∙ skipped nth parts answers ts
+
+first_whole : (before : Option ℕ) (nth : ℕ) (p : ℕ × Op) (parts : List (ℕ × Op)) (a : Answer) (answers : List Answer) (ts : List Told) → told.goes_on before nth ≡ false → AllPast nth ts
+    → whole_from before (tolds nth (p ∷ parts) (a ∷ answers) ++ ts) ≡ whole p.1 a (tolds nth parts answers) ∷ whole_from (Some nth) ts
+first_whole before nth p parts a answers ts new h =
+    let rest = tolds nth parts answers ++ ts in
+    ap (λ b. cond b (whole_from (Some nth) rest) (whole p.1 a (told.parts_of nth rest) ∷ whole_from (Some nth) rest)) new
+    ∙ ap (λ l. whole p.1 a l ∷ whole_from (Some nth) rest) (all_parts nth parts answers ts h) ∙ ap (λ l. whole p.1 a (tolds nth parts answers) ∷ l) (skipped nth parts answers ts)
+
+upper_told : (nth high : ℕ) (parts : List (ℕ × Op)) (answers : List Answer) → length answers ≡ length parts → told.upper_of high (tolds nth parts answers) ≡ upper_by high parts
+upper_told nth high [] answers h = refl
+upper_told nth high (p ∷ parts) [] h = absurd (let no : ⊥ = omega arith in no)
+upper_told nth high (p ∷ parts) (a ∷ answers) h = upper_told nth (told.upper high p.1) parts answers (omega arith)
+
+pairs_told : (nth : ℕ) (parts : List (ℕ × Op)) (answers : List Answer) → length answers ≡ length parts → told.all_pairs (tolds nth parts answers) ≡ pairs_of answers
+pairs_told nth [] [] h = refl
+pairs_told nth [] (a ∷ answers) h = absurd (let no : ⊥ = omega arith in no)
+pairs_told nth (p ∷ parts) [] h = absurd (let no : ⊥ = omega arith in no)
+pairs_told nth (p ∷ parts) (Value v ∷ answers) h = pairs_told nth parts answers (omega arith)
+pairs_told nth (p ∷ parts) (Pairs ps ∷ answers) h = ap (λ l. ps ++ l) (pairs_told nth parts answers (omega arith))
+
+first_pairs : (a : Answer) (answers : List Answer) → told.pairs_of a ++ pairs_of answers ≡ pairs_of (a ∷ answers)
+first_pairs (Value v) answers = refl
+first_pairs (Pairs ps) answers = refl
+
+-- its bounds don't fall, and are keys
+abbrev pub has_bounds : Op → Bool
+has_bounds (Get k) = true
+has_bounds (Put k v) = true
+has_bounds (Del k) = true
+has_bounds (Scan lo hi) = nat_le lo hi && nat_lt hi (2 ^ 64)
+
+pub bounds_narrow : (op : Op) → is_narrow_op op ≡ true → has_bounds op ≡ true
+bounds_narrow (Get k) h = refl
+bounds_narrow (Put k v) h = refl
+bounds_narrow (Del k) h = refl
+bounds_narrow (Scan lo hi) h = h
+
+scan_whole : (before : Option ℕ) (nth lo hi : ℕ) (parts : List (ℕ × Op)) (answers : List Answer) (ts : List Told) → Covers lo hi 0 parts → length answers ≡ length parts → told.goes_on before nth ≡ false → AllPast nth ts
+    → whole_from before (tolds nth parts answers ++ ts) ≡ (Scan lo hi, Pairs (pairs_of answers)) ∷ whole_from (Some nth) ts
+scan_whole before nth lo hi parts answers ts (past h none) same new later = absurd (let no : ⊥ = omega arith in no)
+scan_whole before nth lo hi parts [] ts (within n high rest h first up) same new later = absurd (let l = ap length first in let no : ⊥ = omega arith in no)
+scan_whole before nth lo hi parts (a ∷ answers) ts (within n high rest h first up) same new later =
+    let long : length answers ≡ length rest = (let l = ap length first in omega arith) in
+    let low : max lo 0 ≡ lo = omega arith in
+    ap (λ ps. whole_from before (tolds nth ps (a ∷ answers) ++ ts)) (first ∙ ap (λ l. (n, Scan l high) ∷ rest) low)
+    ∙ first_whole before nth (n, Scan lo high) rest a answers ts new later
+    ∙ ap (λ u. (Scan lo u, Pairs (told.pairs_of a ++ told.all_pairs (tolds nth rest answers))) ∷ whole_from (Some nth) ts) (upper_told nth high rest answers long ∙ up)
+    ∙ ap (λ l. (Scan lo hi, Pairs l) ∷ whole_from (Some nth) ts) (ap (λ l. told.pairs_of a ++ l) (pairs_told nth rest answers long) ∙ first_pairs a answers)
+
+-- an operation of one part
+one_whole : (before : Option ℕ) (nth : ℕ) (p : ℕ × Op) (answers : List Answer) (ts : List Told) → ((a : Answer) → whole p.1 a [] ≡ (p.1, a)) → length answers ≡ 1 → told.goes_on before nth ≡ false → AllPast nth ts
+    → whole_from before (tolds nth (p ∷ []) answers ++ ts) ≡ (p.1, first_answer answers) ∷ whole_from (Some nth) ts
+one_whole before nth p [] ts is same new later = absurd (let no : ⊥ = omega arith in no)
+one_whole before nth p (a ∷ answers) ts is same new later = first_whole before nth p [] a answers ts new later ∙ ap (λ x. x ∷ whole_from (Some nth) ts) (is a)
+
+op_whole : (splits : List ℕ) (op : Op) (before : Option ℕ) (nth : ℕ) (answers : List Answer) (ts : List Told) → are_splits splits ≡ true → has_bounds op ≡ true → length answers ≡ length (parts_of splits op) → told.goes_on before nth ≡ false
+    → AllPast nth ts → whole_from before (tolds nth (parts_of splits op) answers ++ ts) ≡ (op, answer_of op answers) ∷ whole_from (Some nth) ts
+op_whole splits (Get k) before nth answers ts s b same new later = one_whole before nth (shard_of splits k, Get k) answers ts (λ a. refl) same new later
+op_whole splits (Put k v) before nth answers ts s b same new later = one_whole before nth (shard_of splits k, Put k v) answers ts (λ a. refl) same new later
+op_whole splits (Del k) before nth answers ts s b same new later = one_whole before nth (shard_of splits k, Del k) answers ts (λ a. refl) same new later
+op_whole splits (Scan lo hi) before nth answers ts s b same new later =
+    let p = and_parts (nat_le lo hi) (nat_lt hi (2 ^ 64)) b in
+    scan_whole before nth lo hi (scan_parts splits lo hi 0 (shard_count splits)) answers ts
+    (covers lo hi (leb-true lo hi p.0) splits (rises splits s) (ltb-true hi (2 ^ 64) p.1) (shard_count splits) 0 (omega arith)) same new later
+
+-- ---- all operations
+
+abbrev AllFrom : ℕ → List Told → Type 0
+AllFrom nth ts = AllByRecursion (λ (t : Told). nth ≤ t.nth) ts
+
+tolds_from : (nth : ℕ) (parts : List (ℕ × Op)) (answers : List Answer) → AllFrom nth (tolds nth parts answers)
+tolds_from nth [] answers = tt
+tolds_from nth (p ∷ parts) [] = tt
+tolds_from nth (p ∷ parts) (a ∷ answers) = (omega arith, tolds_from nth parts answers)
+
+module _ (splits : List ℕ) (tx : TxId) (birth : Birth) where
+  here_behind : (nth : ℕ) (op : Op) (answer : Answer) (here behind es : History) → es ≡ here ++ behind → (o : IsOperation splits tx birth nth op answer here) → told_in tx es ≡ tolds nth (parts_of splits op) o.answers ++ told_in tx behind
+  here_behind nth op answer here behind es is o =
+      ap (told_in tx) is ∙ told_append tx here behind ∙ ap (λ l. l ++ told_in tx behind) (parts_told tx birth nth (parts_of splits op) o.answers here o.parts)
+
+  ops_from : (nth : ℕ) (ops : List Op) (answers : List Answer) (es : History) → AreOperations splits tx birth nth ops answers es → AllFrom nth (told_in tx es)
+  ops_from _ _ _ _ (no_operation nth) = tt
+  ops_from _ _ _ _ (operation nth op answer ops answers here behind es is o more) =
+      subst (AllFrom nth) (sym (here_behind nth op answer here behind es is o))
+      (all_append (λ (t : Told). nth ≤ t.nth) (tolds nth (parts_of splits op) o.answers) (told_in tx behind) (tolds_from nth (parts_of splits op) o.answers)
+      (all_mono (λ (t : Told). suc nth ≤ t.nth) (λ (t : Told). nth ≤ t.nth) (λ t l. omega arith) (told_in tx behind) (ops_from (suc nth) ops answers behind more)))
+
+  not_before : (nth : ℕ) → told.goes_on (Some nth) (suc nth) ≡ false
+  not_before nth = ne_eqb nth (suc nth) (λ e. let no : ⊥ = omega arith in no)
+
+  ops_whole : are_splits splits ≡ true → (before : Option ℕ) (nth : ℕ) (ops : List Op) (answers : List Answer) (es : History) → AreOperations splits tx birth nth ops answers es → list_all has_bounds ops ≡ true → told.goes_on before nth ≡ false
+      → whole_from before (told_in tx es) ≡ answered ops answers
+  ops_whole s before _ _ _ _ (no_operation nth) b new = refl
+  ops_whole s before _ _ _ _ (operation nth op answer ops answers here behind es is o more) b new =
+      let p = and_parts (has_bounds op) (list_all has_bounds ops) b in
+      let long = same_length tx birth nth (parts_of splits op) o.answers here o.parts in
+      let later = all_mono (λ (t : Told). suc nth ≤ t.nth) (λ (t : Told). nth < t.nth) (λ t l. omega arith) (told_in tx behind) (ops_from (suc nth) ops answers behind more) in
+      ap (whole_from before) (here_behind nth op answer here behind es is o)
+      ∙ op_whole splits op before nth o.answers (told_in tx behind) s p.0 long new later
+      ∙ ap (λ a. (op, a) ∷ whole_from (Some nth) (told_in tx behind)) (sym o.whole)
+      ∙ ap (λ l. (op, answer) ∷ l) (ops_whole s (Some nth) (suc nth) ops answers behind more p.1 (not_before nth))
+
+pub told_whole : (splits : List ℕ) (tx : TxId) (birth : Birth) (ops : List Op) (answers : List Answer) (es : History) → are_splits splits ≡ true → list_all has_bounds ops ≡ true → AreOperations splits tx birth 1 ops answers es
+    → whole_ops (told_in tx es) ≡ answered ops answers
+told_whole splits tx birth ops answers es s b is = ops_whole splits tx birth s None 1 ops answers es is b refl
