@@ -5,6 +5,7 @@ use Rattle.std.specs.List.{AllByRecursion}
 use Rattle.std.proofs.lemmas.Bool.{ltb-true, ltb-false}
 use Rattle.std.proofs.lemmas.Option.{slice_get_within}
 use Rattle.clv_base.specs.Journals.{History, own}
+use Rattle.clv_base.specs.declared.names.Point.{Point}
 use Rattle.cluster_turns.specs.declared.shards.Shards.{Shards}
 use Rattle.cluster_turns.specs.declared.shards.Walker.{Walker}
 use Rattle.cluster_turns.specs.Walkers.{kept}
@@ -65,23 +66,23 @@ module _ {M S G : Type 0} (sh : Shards M S G) (most : Option ℕ) (script : List
       → session_entries (kept v.passes.items) ≡ more
   made_all clock0 k old w v s bodies more seat is = is ∙ ap (λ l. session_entries l ++ more) (new_walkers_keep_none _ _ _ sh (suc k) clock0 w seat.new)
 
-  pub sat_first : (clock0 clock : ℕ) (old new : Shards M S G) (w v : Walker M S G) (s t : Progress) (bodies wanted : List Body) → IsSeated sh clock0 script 0 old w s bodies → slice_get script 0 ≡ Some wanted
-      → BeginsBy clock bodies most (seen_in old w s) (seen_in new v t) → BeginsWith sh.splits sh.run most wanted clock (session_entries (kept v.passes.items))
-  sat_first clock0 clock old new w v s t bodies wanted seat at b = record {
-    cause = b.cause;
-    first = b.first;
-    rest = b.rest;
-    entries_are = made_all clock0 0 old w v s bodies (b.first ++ b.rest) seat b.entries_are;
+  pub sat_first : (clock0 clock : ℕ) (old new : Shards M S G) (w v : Walker M S G) (a b : Point) (s t : Progress) (bodies wanted : List Body) → IsSeated sh clock0 script 0 old w s bodies → slice_get script 0 ≡ Some wanted
+      → BeginsBy clock bodies most (seen_in old w a s) (seen_in new v b t) → BeginsWith sh.splits sh.run most wanted clock (session_entries (kept v.passes.items))
+  sat_first clock0 clock old new w v a b s t bodies wanted seat at begun = record {
+    cause = begun.cause;
+    first = begun.first;
+    rest = begun.rest;
+    entries_are = made_all clock0 0 old w v s bodies (begun.first ++ begun.rest) seat begun.entries_are;
     follows =
-        subst (λ bs. FollowsScript sh.splits sh.run 1 most (take 1 bs) b.cause b.first) (seat.bodies wanted at)
-        (subst (λ n. FollowsScript sh.splits sh.run n most (take 1 bodies) b.cause b.first) (seat.new).number_is
-        (subst (λ z. FollowsScript z.splits z.run w.number most (take 1 bodies) b.cause b.first) seat.on b.follows));
-    early = b.early;
+        subst (λ bs. FollowsScript sh.splits sh.run 1 most (take 1 bs) begun.cause begun.first) (seat.bodies wanted at)
+        (subst (λ n. FollowsScript sh.splits sh.run n most (take 1 bodies) begun.cause begun.first) (seat.new).number_is
+        (subst (λ z. FollowsScript z.splits z.run w.number most (take 1 bodies) begun.cause begun.first) seat.on begun.follows));
+    early = begun.early;
   }
 
-  pub sat_past : (clock0 clock k : ℕ) (old new : Shards M S G) (w v : Walker M S G) (s t : Progress) (bodies : List Body) → IsSeated sh clock0 script k old w s bodies → BeginsPast clock (seen_in old w s) (seen_in new v t)
+  pub sat_past : (clock0 clock k : ℕ) (old new : Shards M S G) (w v : Walker M S G) (a b : Point) (s t : Progress) (bodies : List Body) → IsSeated sh clock0 script k old w s bodies → BeginsPast clock (seen_in old w a s) (seen_in new v b t)
       → AllByRecursion (λ e. clock < (e.1).stamp) (session_entries (kept v.passes.items))
-  sat_past clock0 clock k old new w v s t bodies seat b = subst (AllByRecursion (λ e. clock < (e.1).stamp)) (sym (made_all clock0 k old w v s bodies b.more seat b.entries_are)) b.late
+  sat_past clock0 clock k old new w v a b s t bodies seat past = subst (AllByRecursion (λ e. clock < (e.1).stamp)) (sym (made_all clock0 k old w v s bodies past.more seat past.entries_are)) past.late
 
 -- another walker 0 leaves those behind it
 pub behind_first : {X : Type 0} (xs : List X) (x : X) (k : ℕ) (d : X) → get_or (set xs 0 x) (suc k) d ≡ get_or xs (suc k) d

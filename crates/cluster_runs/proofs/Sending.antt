@@ -66,7 +66,7 @@ pub session_row_send : (l : NamedLft) (M P R S G : RattleType) (a : _) (b : _) (
 session_row_send l M P R S G a b c m p r = let W = session.the_type l M P R S G a b c in recorded_send (Struct (shape W)) W.D W.to W.to_one (session_send l M P R S G a b c m p r)
 
 pub script_send : (l : NamedLft) (M P R S G : RattleType) (a : _) (b : _) (c : _) → IsSend M → IsSync P → IsSync R → IsSend (script.the_field l M P R S G a b c).row
-script_send l M P R S G a b c m p r = struct_send (shape (script.the_type l M P R S G a b c)) (session_send l M P R S G a b c m p r, tt)
+script_send l M P R S G a b c m p r = struct_send (shape (script.the_type l M P R S G a b c)) (session_send l M P R S G a b c m p r, (search (sendable, crosses) depth 20, tt))
 
 pub script_row_send : (l : NamedLft) (M P R S G : RattleType) (a : _) (b : _) (c : _) → IsSend M → IsSync P → IsSync R → IsSend (script.the_row l M P R S G a b c)
 script_row_send l M P R S G a b c m p r = let W = script.the_type l M P R S G a b c in recorded_send (Struct (shape W)) W.D W.to W.to_one (script_send l M P R S G a b c m p r)

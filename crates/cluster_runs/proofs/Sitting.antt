@@ -1,6 +1,7 @@
 -- What a session of a seat leaves.
 use Rattle.std.proofs.Common.{◌≡◌, refl, ◌∙◌, sym, ap, subst, arith, true, ℕ, zero, suc, max, ◌+◌, ◌<◌, List, [], ◌∷◌, ◌++◌, length, Option, Some, IfErr, slice_get}
 use Rattle.std.specs.List.{AllByRecursion, list_all}
+use Rattle.clv_base.specs.declared.names.Point.{Point}
 use Rattle.cluster_turns.specs.declared.shards.Shards.{Shards}
 use Rattle.cluster_turns.specs.declared.shards.Walker.{Walker}
 use Rattle.script_lang.specs.Bodies.{Body}
@@ -19,20 +20,20 @@ use Rattle.cluster_runs.specs.Sessions.{IsSeated, HasSat, base_from}
 use Rattle.law_base.proofs.Bools.{and_first, and_second}
 
 module _ {M S G : Type 0} where
-  pub sat : (sh old new : Shards M S G) (clock base : ℕ) (w v : Walker M S G) (s t : Progress) (bodies : List Body) (most : Option ℕ) (script : List (List Body)) (k : ℕ) (end : End)
-      → IsSeated sh clock script k old w s bodies → Holds new v t → new ≡ old → FollowsFrom base (HasMissed v) bodies most (stop_in end) (seen_in old w s) (seen_in new v t) → IfErr end (Grounds v) → HasSat sh clock base most script k v end
-  sat sh old new clock base w v s t bodies most script k end seat holds stays follows grounds =
+  pub sat : (sh old new : Shards M S G) (clock base : ℕ) (w v : Walker M S G) (a b : Point) (s t : Progress) (bodies : List Body) (most : Option ℕ) (script : List (List Body)) (k : ℕ) (end : End)
+      → IsSeated sh clock script k old w s bodies → Holds new v t → new ≡ old → FollowsFrom base (HasMissed v) bodies most (stop_in end) (seen_in old w a s) (seen_in new v b t) → IfErr end (Grounds v) → HasSat sh clock base most script k v end
+  sat sh old new clock base w v a b s t bodies most script k end seat holds stays follows grounds =
       let is : new ≡ sh = stays ∙ seat.on in
-      let f = subst (λ z. FollowsFrom base (HasMissed v) bodies most (stop_in end) (seen_in sh w s) (seen_in z v t)) is (subst (λ z. FollowsFrom base (HasMissed v) bodies most (stop_in end) (seen_in z w s) (seen_in new v t)) seat.on follows) in
-      let told = scripts_follow M S G sh (suc k) clock base w v (standing_of s) (standing_of t) bodies most (stop_in end) seat.new f in
+      let f = subst (λ z. FollowsFrom base (HasMissed v) bodies most (stop_in end) (seen_in sh w a s) (seen_in z v b t)) is (subst (λ z. FollowsFrom base (HasMissed v) bodies most (stop_in end) (seen_in z w a s) (seen_in new v b t)) seat.on follows) in
+      let told = scripts_follow M S G sh (suc k) clock base w v a b (standing_of s) (standing_of t) bodies most (stop_in end) seat.new f in
       let r = sessions_rest M S G sh v t (subst (λ z. Holds z v t) is holds) in
       let kept_is = (f.2).entries_are ∙ ap (λ l. session_entries l ++ f.0) (new_walkers_keep_none M S G sh (suc k) clock w seat.new) in
       let began = (f.2).serial_is in
       let none = (seat.new).none_begun in
       record {
         rest = record { walker = r.walker; number_is = told.0; landed = r.landed; fetched = r.fetched; disks = r.disks };
-        went = λ wanted at. (scripts_follow M S G sh (suc k) clock base w v (standing_of s) (standing_of t) wanted most (stop_in end) seat.new
-            (subst (λ z. FollowsFrom base (HasMissed v) z most (stop_in end) (seen_in sh w s) (seen_in sh v t)) (seat.bodies wanted at) f)).1.0;
+        went = λ wanted at. (scripts_follow M S G sh (suc k) clock base w v a b (standing_of s) (standing_of t) wanted most (stop_in end) seat.new
+            (subst (λ z. FollowsFrom base (HasMissed v) z most (stop_in end) (seen_in sh w a s) (seen_in sh v b t)) (seat.bodies wanted at) f)).1.0;
         dated = (let d = (f.2).dated in omega arith);
         few = λ wanted at.
             (let t = session_tries_are_few sh.splits sh.run w.number most bodies (f.1).transactions (stop_in end) (f.1).in_order in

@@ -7,6 +7,7 @@ use Rattle.std.proofs.lemmas.Bool.{both_ways}
 use Rattle.std.proofs.lemmas.List.Folds.{list_any-append}
 use Rattle.clv_base.specs.declared.names.TxId.{TxId}
 use Rattle.clv_base.specs.declared.names.Birth.{Birth}
+use Rattle.clv_base.specs.declared.names.Point.{Point}
 use Rattle.clv_base.specs.declared.events.Event.TheVariants.{Drop}
 use Rattle.clv_base.specs.declared.events.Outcome.{Outcome}
 use Rattle.clv_base.specs.declared.events.Outcome.TheVariants.{Dropped, Absent, Down as DownOut}
@@ -95,7 +96,7 @@ module _ {M S G : Type 0} (sh : Shards M S G) (w : Walker M S G) (p : SessionSta
       let l = found_below (shard_count sh.splits) n p.touched (subst (λ (z : SessionState). AllByRecursion (λ x. x.0 < shard_count sh.splits) z.touched) (sym same) all) h in omega arith
 
 pub aborts_tell : (M S G A : Type 0) → AbortsTell M S G A
-aborts_tell M S G A sh w v p birth r en unasked has same d = at r d
+aborts_tell M S G A sh w v asked p birth r en unasked has same d = at r d
   where
     drops : (r : Result A WornClock) (d : Dropping w.number w.clock w.passes.items p.tx p.touched None 0 (length sh.locks.items) r v.clock v.passes.items) → AreDropsOf p.tx (touched_in p.touched) None (made_in d.turns)
     drops r d = are_drops w.number p.tx p.touched None d.turns d.only (are_plain w.number w.clock v.clock w.passes.items v.passes.items d.turns d.took)
@@ -116,16 +117,16 @@ aborts_tell M S G A sh w v p birth r en unasked has same d = at r d
         by (inr k) = inr (missed n d.turns d.took k)
 
     at : (r : Result A WornClock) → Dropping w.number w.clock w.passes.items p.tx p.touched None 0 (length sh.locks.items) r v.clock v.passes.items
-        → AbortTold (HasMissed v) p.tx birth (touched_in p.touched) (abort_end r) (seen_as sh w (is_active p birth)) (seen_as sh v (after_abort birth r en))
-    at (Ok a) d = (made_in d.turns, drops (Ok a) d, seen_grows sh w v (is_active p birth) (Idle (Some birth)) d.turns same d.took, refl, each a d)
+        → AbortTold (HasMissed v) p.tx birth (touched_in p.touched) (abort_end r) (seen_as sh w asked (is_active p birth)) (seen_as sh v asked (after_abort birth r en))
+    at (Ok a) d = (made_in d.turns, drops (Ok a) d, seen_grows sh w v asked asked (is_active p birth) (Idle (Some birth)) d.turns same d.took, refl, each a d)
     at (Err worn) d =
-        (made_in d.turns, drops (Err worn) d, seen_grows sh w v (is_active p birth) en d.turns same d.took, (worn_is_last worn.at w.number w.clock v.clock w.passes.items v.passes.items d.turns d.took d.told).1)
+        (made_in d.turns, drops (Err worn) d, seen_grows sh w v asked asked (is_active p birth) en d.turns same d.took, (worn_is_last worn.at w.number w.clock v.clock w.passes.items v.passes.items d.turns d.took d.told).1)
 
 -- the next transaction p has this birth, and made nothing so far
-begun_begins : (M S G : Type 0) (sh : Shards M S G) (w v : Walker M S G) (p : SessionState) (birth : Birth) (st : Standing)
+begun_begins : (M S G : Type 0) (sh : Shards M S G) (w v : Walker M S G) (asked : Point) (p : SessionState) (birth : Birth) (st : Standing)
     → p ≡ begun (no_session sh.run w.number) (record { run = sh.run; session = w.number; serial = suc w.serial }) birth
-    → v ≡ record w { clock = suc w.clock; serial = suc w.serial } → Begins birth (seen_as sh w st) (seen_as sh v (is_active p birth))
-begun_begins M S G sh w v p birth st place walker_is =
+    → v ≡ record w { clock = suc w.clock; serial = suc w.serial } → Begins birth (seen_as sh w asked st) (seen_as sh v asked (is_active p birth))
+begun_begins M S G sh w v asked p birth st place walker_is =
     let clock : v.clock ≡ suc w.clock = ap (λ z. z.clock) walker_is in
     let serial : v.serial ≡ suc w.serial = ap (λ z. z.serial) walker_is in
     let name = ap (λ z. z.tx) place in
@@ -151,7 +152,7 @@ begun_begins M S G sh w v p birth st place walker_is =
     }
 
 pub beginnings_tell : (M S G : Type 0) → BeginningsTell M S G
-beginnings_tell M S G sh w v p again b =
+beginnings_tell M S G sh w v asked p again b =
     let clock : v.clock ≡ suc w.clock = ap (λ z. z.clock) b.walker_is in
     let stamp : (b.birth).stamp ≡ suc w.clock = ap (λ z. z.stamp) b.birth_is in
     let place = b.is (no_session sh.run w.number) in (
@@ -160,12 +161,12 @@ beginnings_tell M S G sh w v p again b =
       ap (λ z. z.session) b.birth_is,
       (omega arith),
       (omega arith),
-      begun_begins M S G sh w v p b.birth (Idle again) place b.walker_is,
+      begun_begins M S G sh w v asked p b.birth (Idle again) place b.walker_is,
     )
 
 pub retries_tell : (M S G : Type 0) → RetriesTell M S G
-retries_tell M S G sh w v last p birth is r =
+retries_tell M S G sh w v asked last p birth is r =
     let same : r.birth ≡ birth = some_birth r.birth birth (sym r.birth_is ∙ is) in
     let place = r.is (no_session sh.run w.number) in
-    let begins : Begins r.birth (seen_as sh w (Idle (Some birth))) (seen_as sh v (is_active p r.birth)) = begun_begins M S G sh w v p r.birth (Idle (Some birth)) place r.walker_is in
-    (ap (λ z. z.birth) place ∙ ap (λ (b : Birth). Some b) same, subst (λ (b : Birth). Begins b (seen_as sh w (Idle (Some birth))) (seen_as sh v (is_active p b))) same begins)
+    let begins : Begins r.birth (seen_as sh w asked (Idle (Some birth))) (seen_as sh v asked (is_active p r.birth)) = begun_begins M S G sh w v asked p r.birth (Idle (Some birth)) place r.walker_is in
+    (ap (λ z. z.birth) place ∙ ap (λ (b : Birth). Some b) same, subst (λ (b : Birth). Begins b (seen_as sh w asked (Idle (Some birth))) (seen_as sh v asked (is_active p b))) same begins)

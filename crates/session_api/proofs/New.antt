@@ -134,7 +134,7 @@ all_its splits run walker number clock most bodies cause missed es fs is same f 
     (subst (λ l. (g : FollowsScript splits run walker most bodies cause l) × AllLetGo missed clock (tries_of g.transactions)) (sym same) (f, dropped))
 
 pub scripts_follow : (M S G : Type 0) → ScriptsFollow M S G
-scripts_follow M S G sh number first base w v s t bodies most cause new f =
+scripts_follow M S G sh number first base w v a b s t bodies most cause new f =
     let g = f.2 in (
       g.walker_is ∙ new.number_is,
       all_its sh.splits sh.run w.number number v.clock most bodies cause (HasMissed v) f.0 (session_entries (kept v.passes.items)) new.number_is

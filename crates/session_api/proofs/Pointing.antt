@@ -11,6 +11,7 @@ use Rattle.std.specs.declared.cmp.Ordering.TheVariants.{Less, Equal, Greater}
 use Rattle.std.proofs.lemmas.Bool.{both_ways, and_parts}
 use Rattle.clv_base.specs.declared.names.TxId.{TxId}
 use Rattle.clv_base.specs.declared.names.Birth.{Birth}
+use Rattle.clv_base.specs.declared.names.Point.{Point}
 use Rattle.clv_base.specs.declared.ops.Op.{Op as Operation}
 use Rattle.clv_base.specs.declared.ops.Answer.{Answer}
 use Rattle.clv_base.specs.declared.ops.Answer.TheVariants.{Value, Pairs}
@@ -154,8 +155,8 @@ touches_none touched es m h = inl h
 -- ---- growing
 
 module _ {M S G : Type 0} (sh : Shards M S G) where
-  pub seen_grows : (w v : Walker M S G) (st en : Standing) (ts : List Turn) → IsSameWalker w v → Took w.number w.clock w.passes.items ts v.clock v.passes.items → Grows (made_in ts) (seen_as sh w st) (seen_as sh v en)
-  seen_grows w v st en ts same took = record {
+  pub seen_grows : (w v : Walker M S G) (a b : Point) (st en : Standing) (ts : List Turn) → IsSameWalker w v → Took w.number w.clock w.passes.items ts v.clock v.passes.items → Grows (made_in ts) (seen_as sh w a st) (seen_as sh v b en)
+  seen_grows w v a b st en ts same took = record {
     splits_are = refl;
     run_is = refl;
     walker_is = same.0;
@@ -167,8 +168,8 @@ module _ {M S G : Type 0} (sh : Shards M S G) where
     stamped = made_stamped w.number w.clock v.clock w.passes.items v.passes.items ts took;
   }
 
-  pub grows_by : (w v : Walker M S G) (st en : Standing) (ts : List Turn) (es : History) → IsSameWalker w v → Took w.number w.clock w.passes.items ts v.clock v.passes.items → made_in ts ≡ es → Grows es (seen_as sh w st) (seen_as sh v en)
-  grows_by w v st en ts es same took is = subst (λ l. Grows l (seen_as sh w st) (seen_as sh v en)) is (seen_grows w v st en ts same took)
+  pub grows_by : (w v : Walker M S G) (a b : Point) (st en : Standing) (ts : List Turn) (es : History) → IsSameWalker w v → Took w.number w.clock w.passes.items ts v.clock v.passes.items → made_in ts ≡ es → Grows es (seen_as sh w a st) (seen_as sh v b en)
+  grows_by w v a b st en ts es same took is = subst (λ l. Grows l (seen_as sh w a st) (seen_as sh v b en)) is (seen_grows w v a b st en ts same took)
 
 -- ---- drops
 
@@ -273,7 +274,7 @@ no_pairs key _ pairs gets h = absurd (both_ways false refl h)
 no_pairs key _ pairs (puts value) h = absurd (both_ways false refl h)
 no_pairs key _ pairs dels h = absurd (both_ways false refl h)
 
-module _ {M S G : Type 0} (sh : Shards M S G) (w v : Walker M S G) (p q : SessionState) (birth : Birth) (key : ℕ) (o : Operation) (is_at : IsAt key o) (has : p.birth ≡ Some birth) (same : IsSameWalker w v) where
+module _ {M S G : Type 0} (sh : Shards M S G) (w v : Walker M S G) (asked : Point) (p q : SessionState) (birth : Birth) (key : ℕ) (o : Operation) (is_at : IsAt key o) (has : p.birth ≡ Some birth) (same : IsSameWalker w v) where
   abbrev Performs : Result Answer OpError → Type 0
   Performs r = Performing (length sh.locks.items) w.number w.clock w.passes.items (shard_of sh.splits key) p (Op p.tx birth (p.nth + 1) (lookup (◌==◌ (shard_of sh.splits key)) p.touched) o) r v.clock v.passes.items
 
@@ -293,7 +294,7 @@ module _ {M S G : Type 0} (sh : Shards M S G) (w v : Walker M S G) (p q : Sessio
 
   point : (r : Result Answer OpError) (h : Performs r) → PlacedBy (shard_of sh.splits key) (p.nth + 1) o p (answered_in r) q
       → EntriesBy (shard_of sh.splits key) (Op p.tx birth (p.nth + 1) (lookup (◌==◌ (shard_of sh.splits key)) p.touched) o) r (made_in h.asking)
-      → OperateTold p.tx birth p.nth (touched_in p.touched) o (value_end (value_in r)) (seen_as sh w (is_active p birth)) (seen_as sh v (unless_dead q birth (has_died (value_in r))))
+      → OperateTold p.tx birth p.nth (touched_in p.touched) o (value_end (value_in r)) (seen_as sh w asked (is_active p birth)) (seen_as sh v asked (unless_dead q birth (has_died (value_in r))))
   point (Ok (Value value)) h (epoch', place) (x, epoch, is, event, outcome, fits) = (
     (shard_of sh.splits key, x) ∷ [],
     touched_in q.touched,
@@ -305,7 +306,7 @@ module _ {M S G : Type 0} (sh : Shards M S G) (w v : Walker M S G) (p q : Sessio
       whole = sym (at_answer key o (Value value ∷ []) is_at);
     },
     touches_just_one (shard_of sh.splits key) epoch' p.touched q.touched x (ap (λ z. z.touched) place),
-    grows_by sh w v (is_active p birth) (is_active q birth) (h.asking ++ h.leaving) ((shard_of sh.splits key, x) ∷ []) same h.took
+    grows_by sh w v asked asked (is_active p birth) (is_active q birth) (h.asking ++ h.leaving) ((shard_of sh.splits key, x) ∷ []) same h.took
         (made_asking sh w v (length sh.locks.items) (shard_of sh.splits key) p (Op p.tx birth (p.nth + 1) (lookup (◌==◌ (shard_of sh.splits key)) p.touched) o) (Ok (Value value)) h refl ∙ is),
     ap (λ t. Active t birth q.nth (touched_in q.touched)) (ap (λ z. z.tx) place) ∙ ap (λ k. Active p.tx birth k (touched_in q.touched)) (ap (λ z. z.nth) place ∙ next),
   )
@@ -330,7 +331,7 @@ module _ {M S G : Type 0} (sh : Shards M S G) (w v : Walker M S G) (p q : Sessio
     },
     touches_none (touched_in p.touched) ((shard_of sh.splits key, x) ∷ []),
     others_drop sh w v (length sh.locks.items) (shard_of sh.splits key) p (Op p.tx birth (p.nth + 1) (lookup (◌==◌ (shard_of sh.splits key)) p.touched) o) (Err (op.Aborted cause)) h,
-    grows_by sh w v (is_active p birth) (Idle (Some birth)) (h.asking ++ h.leaving) ((shard_of sh.splits key, x) ∷ [] ++ made_in h.leaving) same h.took (made_in_more h.asking h.leaving ∙ ap (λ es. es ++ made_in h.leaving) is),
+    grows_by sh w v asked asked (is_active p birth) (Idle (Some birth)) (h.asking ++ h.leaving) ((shard_of sh.splits key, x) ∷ [] ++ made_in h.leaving) same h.took (made_in_more h.asking h.leaving ∙ ap (λ es. es ++ made_in h.leaving) is),
     refl,
   )
   point (Err (op.Down m)) h place is = (
@@ -338,21 +339,27 @@ module _ {M S G : Type 0} (sh : Shards M S G) (w v : Walker M S G) (p q : Sessio
     touched_in p.touched,
     begun,
     touches_just_none (touched_in p.touched),
-    grows_by sh w v (is_active p birth) (is_active q birth) (h.asking ++ h.leaving) [] same h.took
+    grows_by sh w v asked asked (is_active p birth) (is_active q birth) (h.asking ++ h.leaving) [] same h.took
         (made_asking sh w v (length sh.locks.items) (shard_of sh.splits key) p (Op p.tx birth (p.nth + 1) (lookup (◌==◌ (shard_of sh.splits key)) p.touched) o) (Err (op.Down m)) h refl ∙ is),
     (p.nth, ap (λ z. is_active z birth) place),
   )
   point (Err (op.Worn at)) h place is = (
     [],
+    touched_in p.touched,
     begun,
-    grows_by sh w v (is_active p birth) (is_active q birth) (h.asking ++ h.leaving) [] same h.took
+    touches_just_none (touched_in p.touched),
+    grows_by sh w v asked asked (is_active p birth) (is_active q birth) (h.asking ++ h.leaving) [] same h.took
         (made_asking sh w v (length sh.locks.items) (shard_of sh.splits key) p (Op p.tx birth (p.nth + 1) (lookup (◌==◌ (shard_of sh.splits key)) p.touched) o) (Err (op.Worn at)) h refl ∙ is),
+    (p.nth, ap (λ z. is_active z birth) place),
   )
   point (Err op.Memory) h place is = (
     [],
+    touched_in p.touched,
     inl begun,
-    grows_by sh w v (is_active p birth) (is_active q birth) (h.asking ++ h.leaving) [] same h.took
+    touches_just_none (touched_in p.touched),
+    grows_by sh w v asked asked (is_active p birth) (is_active q birth) (h.asking ++ h.leaving) [] same h.took
         (made_asking sh w v (length sh.locks.items) (shard_of sh.splits key) p (Op p.tx birth (p.nth + 1) (lookup (◌==◌ (shard_of sh.splits key)) p.touched) o) (Err op.Memory) h refl ∙ is),
+    (p.nth, ap (λ z. is_active z birth) place),
   )
 
 died_same : (r : Result Answer OpError) → has_died (value_in r) ≡ has_died r
@@ -364,9 +371,9 @@ died_same (Err (op.Worn at)) = refl
 died_same (Err op.Memory) = refl
 
 pub points_tell : (M S G : Type 0) → PointsTell M S G
-points_tell M S G sh w v p q birth key o r is_at active has same told stands =
+points_tell M S G sh w v asked p q birth key o r is_at active has same told stands =
     let h = told.turns birth has in
     let ends = subst (λ b. StandsUnless b sh v q) (ap has_died told.is ∙ died_same told.answer) stands in
-    subst (λ z. OperateTold p.tx birth p.nth (touched_in p.touched) o (value_end z) (seen_as sh w (is_active p birth)) (seen_as sh v (unless_dead q birth (has_died z)))) (sym told.is)
-    (point sh w v p q birth key o is_at has same told.answer h told.place
+    subst (λ z. OperateTold p.tx birth p.nth (touched_in p.touched) o (value_end z) (seen_as sh w asked (is_active p birth)) (seen_as sh v asked (unless_dead q birth (has_died z)))) (sym told.is)
+    (point sh w v asked p q birth key o is_at has same told.answer h told.place
     (asked_entries sh w v (shard_of sh.splits key) (p.nth + 1) birth o p q told.answer active has same.0 (at_last sh.splits key o is_at) h told.place ends))

@@ -6,6 +6,7 @@ use Rattle.std.proofs.lemmas.Bool.{both_ways, and_parts, leb-true, ltb-true, le-
 use Rattle.std.proofs.lemmas.List.Folds.{list_any-append}
 use Rattle.clv_base.specs.declared.names.TxId.{TxId}
 use Rattle.clv_base.specs.declared.names.Birth.{Birth}
+use Rattle.clv_base.specs.declared.names.Point.{Point}
 use Rattle.clv_base.specs.declared.ops.Op.{Op as Operation}
 use Rattle.clv_base.specs.declared.ops.Op.TheVariants.{Scan}
 use Rattle.clv_base.specs.declared.ops.Answer.{Answer}
@@ -164,7 +165,7 @@ then_touches_just es fs before middle after a b = record {
 
 -- ---- the parts so far
 
-module _ {M S G : Type 0} (sh : Shards M S G) (birth : Birth) (lo hi : ℕ) (w : Walker M S G) (p : SessionState) (rise : IsTrue (are_splits sh.splits)) (small : hi < 2 ^ 64) (has : p.birth ≡ Some birth) where
+module _ {M S G : Type 0} (sh : Shards M S G) (asked : Point) (birth : Birth) (lo hi : ℕ) (w : Walker M S G) (p : SessionState) (rise : IsTrue (are_splits sh.splits)) (small : hi < 2 ^ 64) (has : p.birth ≡ Some birth) where
   pub record SoFar (n : ℕ) (answers : List Answer) (u : Walker M S G) (m : SessionState) : Type 0 where
     pub es : History
     pub entries : session_entries (kept u.passes.items) ≡ session_entries (kept w.passes.items) ++ es
@@ -196,9 +197,9 @@ module _ {M S G : Type 0} (sh : Shards M S G) (birth : Birth) (lo hi : ℕ) (w :
     }
 
     -- all entries then
-    grown : (answer : Result Answer OpError) (made : PartMade sh birth (p.nth + 1) n x u m answer v q) (en : Standing) (fs : History) → made_in (made.turns.asking ++ made.turns.leaving) ≡ fs → Grows (s.es ++ fs) (seen_as sh w (is_active p birth)) (seen_as sh v en)
+    grown : (answer : Result Answer OpError) (made : PartMade sh birth (p.nth + 1) n x u m answer v q) (en : Standing) (fs : History) → made_in (made.turns.asking ++ made.turns.leaving) ≡ fs → Grows (s.es ++ fs) (seen_as sh w asked (is_active p birth)) (seen_as sh v asked en)
     grown answer made en fs is =
-        let g = seen_grows sh u v (is_active p birth) en (made.turns.asking ++ made.turns.leaving) made.same made.turns.took in
+        let g = seen_grows sh u v asked asked (is_active p birth) en (made.turns.asking ++ made.turns.leaving) made.same made.turns.took in
         let c = g.clock_rises in
         let old = s.clock in
         let k = s.same.1 in
@@ -279,7 +280,7 @@ module _ {M S G : Type 0} (sh : Shards M S G) (birth : Birth) (lo hi : ℕ) (w :
 
   -- the whole scan
   all_told : (answers : List Answer) (pairs : List (ℕ × ℕ)) (v : Walker M S G) (q : SessionState) → SoFar (shard_count sh.splits) answers v q → answers ≢ [] → pairs ≡ all_pairs answers
-      → OperateTold p.tx birth p.nth (touched_in p.touched) (Scan lo hi) (Ok (Pairs pairs)) (seen_as sh w (is_active p birth)) (seen_as sh v (is_active q birth))
+      → OperateTold p.tx birth p.nth (touched_in p.touched) (Scan lo hi) (Ok (Pairs pairs)) (seen_as sh w asked (is_active p birth)) (seen_as sh v asked (is_active q birth))
   all_told answers pairs v q s some is = (
     s.es,
     touched_in q.touched,
@@ -293,7 +294,7 @@ module _ {M S G : Type 0} (sh : Shards M S G) (birth : Birth) (lo hi : ℕ) (w :
       last (inl none) = absurd (some none)
       last (inr k) = k
 
-      whole_grows : (s : SoFar (shard_count sh.splits) answers v q) (en : Standing) → Grows s.es (seen_as sh w (is_active p birth)) (seen_as sh v en)
+      whole_grows : (s : SoFar (shard_count sh.splits) answers v q) (en : Standing) → Grows s.es (seen_as sh w asked (is_active p birth)) (seen_as sh v asked en)
       whole_grows s en = let k = s.same.1 in record { splits_are = refl; run_is = refl; walker_is = s.same.0; entries_are = s.entries; clock_rises = s.clock; serial_is = (omega arith); latest_rises = s.dated.0; dated = (let d = s.dated.1 in omega arith); stamped = s.stamped }
 
   -- one part failed
@@ -309,13 +310,13 @@ module _ {M S G : Type 0} (sh : Shards M S G) (birth : Birth) (lo hi : ℕ) (w :
       answered = s.parts;
     }
 
-    unmade : (answer : Result Answer OpError) (made : PartMade sh birth (p.nth + 1) n x u m answer v q) (en : Standing) → has_died answer ≡ false → made_in made.turns.asking ≡ [] → Grows s.es (seen_as sh w (is_active p birth)) (seen_as sh v en)
+    unmade : (answer : Result Answer OpError) (made : PartMade sh birth (p.nth + 1) n x u m answer v q) (en : Standing) → has_died answer ≡ false → made_in made.turns.asking ≡ [] → Grows s.es (seen_as sh w asked (is_active p birth)) (seen_as sh v asked en)
     unmade answer made en not_so none =
-        subst (λ l. Grows l (seen_as sh w (is_active p birth)) (seen_as sh v en)) (append-nil s.es) (grown n x answers u v m q s meets answer made en [] (quiet_makes n x answers u v m q s meets answer made [] not_so none))
+        subst (λ l. Grows l (seen_as sh w asked (is_active p birth)) (seen_as sh v asked en)) (append-nil s.es) (grown n x answers u v m q s meets answer made en [] (quiet_makes n x answers u v m q s meets answer made [] not_so none))
 
     pub failed_told : (e : OpError) (made : PartMade sh birth (p.nth + 1) n x u m (Err e) v q) → EntriesBy n (Op m.tx birth (p.nth + 1) (lookup (◌==◌ n) m.touched) (Scan x.0 x.1)) (Err e) (made_in made.turns.asking)
         → PlacedBy n (p.nth + 1) (Scan x.0 x.1) m (Err e) q
-        → OperateTold p.tx birth p.nth (touched_in p.touched) (Scan lo hi) (pairs_end (Err e)) (seen_as sh w (is_active p birth)) (seen_as sh v (unless_dead q birth (has_died {A = List (ℕ × ℕ)} (Err e))))
+        → OperateTold p.tx birth p.nth (touched_in p.touched) (Scan lo hi) (pairs_end (Err e)) (seen_as sh w asked (is_active p birth)) (seen_as sh v asked (unless_dead q birth (has_died {A = List (ℕ × ℕ)} (Err e))))
     failed_told (op.Aborted cause) made (y, is, event, outcome) place = (
       s.es ++ (n, y) ∷ [],
       made_in made.turns.leaving,
@@ -337,7 +338,7 @@ module _ {M S G : Type 0} (sh : Shards M S G) (birth : Birth) (lo hi : ℕ) (w :
       then_touches s.es ((n, y) ∷ []) (touched_in p.touched) (touched_in m.touched) (touched_in m.touched) s.touches.only (touches_none (touched_in m.touched) ((n, y) ∷ [])),
       subst (λ t. AreDropsOf t (touched_in m.touched) (Some n) (made_in made.turns.leaving)) s.tx
           (others_drop sh u v (length sh.locks.items) n m (Op m.tx birth (p.nth + 1) (lookup (◌==◌ n) m.touched) (Scan x.0 x.1)) (Err (op.Aborted cause)) made.turns),
-      subst (λ l. Grows l (seen_as sh w (is_active p birth)) (seen_as sh v (Idle (Some birth)))) (sym (append_assoc s.es ((n, y) ∷ []) (made_in made.turns.leaving)))
+      subst (λ l. Grows l (seen_as sh w asked (is_active p birth)) (seen_as sh v asked (Idle (Some birth)))) (sym (append_assoc s.es ((n, y) ∷ []) (made_in made.turns.leaving)))
           (grown n x answers u v m q s meets (Err (op.Aborted cause)) made (Idle (Some birth)) ((n, y) ∷ made_in made.turns.leaving)
           (made_in_more made.turns.asking made.turns.leaving ∙ ap (λ l. l ++ made_in made.turns.leaving) is)),
       refl,
@@ -350,15 +351,36 @@ module _ {M S G : Type 0} (sh : Shards M S G) (birth : Birth) (lo hi : ℕ) (w :
       unmade (Err (op.Down k)) made (is_active q birth) refl none,
       (q.nth, ap (λ t. Active t birth q.nth (touched_in q.touched)) (ap (λ z. z.tx) place ∙ s.tx)),
     )
-    failed_told (op.Worn at) made none place = (s.es, begun, unmade (Err (op.Worn at)) made (is_active q birth) refl none)
-    failed_told op.Memory made none place = (s.es, inl begun, unmade (Err op.Memory) made (is_active q birth) refl none)
+    failed_told (op.Worn at) made none place = (
+      s.es,
+      touched_in q.touched,
+      begun,
+      subst (λ z. TouchesJust (touched_in p.touched) s.es (touched_in z.touched)) (sym place) s.touches,
+      unmade (Err (op.Worn at)) made (is_active q birth) refl none,
+      (q.nth, ap (λ t. Active t birth q.nth (touched_in q.touched)) (ap (λ z. z.tx) place ∙ s.tx)),
+    )
+    failed_told op.Memory made none place = (
+      s.es,
+      touched_in q.touched,
+      inl begun,
+      subst (λ z. TouchesJust (touched_in p.touched) s.es (touched_in z.touched)) (sym place) s.touches,
+      unmade (Err op.Memory) made (is_active q birth) refl none,
+      (q.nth, ap (λ t. Active t birth q.nth (touched_in q.touched)) (ap (λ z. z.tx) place ∙ s.tx)),
+    )
 
     -- no memory for the pairs of an answered part
     pub forgotten : (answer : Answer) (made : PartMade sh birth (p.nth + 1) n x u m (Ok answer) v q) (t : SoFar (suc n) (answers ++ answer ∷ []) v q)
-        → OperateTold p.tx birth p.nth (touched_in p.touched) (Scan lo hi) (pairs_end (Err op.Memory)) (seen_as sh w (is_active p birth)) (seen_as sh v (is_active q birth))
-    forgotten answer made t = (t.es, at (scan_parts sh.splits lo hi (suc n) (shard_count sh.splits - suc n)) refl, whole)
+        → OperateTold p.tx birth p.nth (touched_in p.touched) (Scan lo hi) (pairs_end (Err op.Memory)) (seen_as sh w asked (is_active p birth)) (seen_as sh v asked (is_active q birth))
+    forgotten answer made t = (
+      t.es,
+      touched_in q.touched,
+      at (scan_parts sh.splits lo hi (suc n) (shard_count sh.splits - suc n)) refl,
+      t.touches,
+      whole,
+      (q.nth, ap (λ x. Active x birth q.nth (touched_in q.touched)) t.tx),
+    )
       where
-        whole : Grows t.es (seen_as sh w (is_active p birth)) (seen_as sh v (is_active q birth))
+        whole : Grows t.es (seen_as sh w asked (is_active p birth)) (seen_as sh v asked (is_active q birth))
         whole = let k = t.same.1 in record { splits_are = refl; run_is = refl; walker_is = t.same.0; entries_are = t.entries; clock_rises = t.clock; serial_is = (omega arith); latest_rises = t.dated.0; dated = (let d = t.dated.1 in omega arith); stamped = t.stamped }
 
         at : (l : List (ℕ × Operation)) → scan_parts sh.splits lo hi (suc n) (shard_count sh.splits - suc n) ≡ l
@@ -401,40 +423,40 @@ some_behind (y ∷ xs) ys x h = cc
 
 module _ (M S G : Type 0) where
   pub scans_tell : ScansTell M S G
-  scans_tell sh w v p q birth lo hi r rise falls small active has told stands = at r told
+  scans_tell sh w v asked p q birth lo hi r rise falls small active has told stands = at r told
     where
       count : length sh.locks.items ≡ shard_count sh.splits
       count = active.ready.walker.count
 
       failed : (e : OpError) → PartFailed sh birth (p.nth + 1) lo hi w p e v q
-          → OperateTold p.tx birth p.nth (touched_in p.touched) (Scan lo hi) (pairs_end (Err e)) (seen_as sh w (is_active p birth)) (seen_as sh v (unless_dead q birth (has_died {A = List (ℕ × ℕ)} (Err e))))
+          → OperateTold p.tx birth p.nth (touched_in p.touched) (Scan lo hi) (pairs_end (Err e)) (seen_as sh w asked (is_active p birth)) (seen_as sh v asked (unless_dead q birth (has_died {A = List (ℕ × ℕ)} (Err e))))
       failed e f = by f.fails f.made
         where
-          s : SoFar sh birth lo hi w p rise small has f.shard f.answers f.walker f.middle
-          s = so_far sh birth lo hi w p rise small has f.shard f.answers f.walker f.middle f.before
+          s : SoFar sh asked birth lo hi w p rise small has f.shard f.answers f.walker f.middle
+          s = so_far sh asked birth lo hi w p rise small has f.shard f.answers f.walker f.middle f.before
 
           below : f.shard < shard_count sh.splits
           below = let b = f.below in let c = count in omega arith
 
           by : Fails f.answer e → PartMade sh birth (p.nth + 1) f.shard f.part f.walker f.middle f.answer v q
-              → OperateTold p.tx birth p.nth (touched_in p.touched) (Scan lo hi) (pairs_end (Err e)) (seen_as sh w (is_active p birth)) (seen_as sh v (unless_dead q birth (has_died {A = List (ℕ × ℕ)} (Err e))))
+              → OperateTold p.tx birth p.nth (touched_in p.touched) (Scan lo hi) (pairs_end (Err e)) (seen_as sh w asked (is_active p birth)) (seen_as sh v asked (unless_dead q birth (has_died {A = List (ℕ × ℕ)} (Err e))))
           by (inl is) made =
               let own = subst (λ a. PartMade sh birth (p.nth + 1) f.shard f.part f.walker f.middle a v q) is made in
-              failed_told sh birth lo hi w p rise small has v q f.shard f.part f.answers f.walker f.middle s f.meets below e own
-              (its_entries sh birth lo hi w p rise small has f.shard f.part f.answers f.walker v f.middle q s f.meets (Err e) own) own.place
+              failed_told sh asked birth lo hi w p rise small has v q f.shard f.part f.answers f.walker f.middle s f.meets below e own
+              (its_entries sh asked birth lo hi w p rise small has f.shard f.part f.answers f.walker v f.middle q s f.meets (Err e) own) own.place
           by (inr ((a, is), wants)) made =
               let own = subst (λ z. PartMade sh birth (p.nth + 1) f.shard f.part f.walker f.middle z v q) is made in
-              subst (λ z. OperateTold p.tx birth p.nth (touched_in p.touched) (Scan lo hi) (pairs_end (Err z)) (seen_as sh w (is_active p birth)) (seen_as sh v (unless_dead q birth (has_died {A = List (ℕ × ℕ)} (Err z))))) (sym wants)
-              (forgotten sh birth lo hi w p rise small has v q f.shard f.part f.answers f.walker f.middle s f.meets below a own
-              (with_part sh birth lo hi w p rise small has f.shard f.part f.answers f.walker v f.middle q s f.meets a own))
+              subst (λ z. OperateTold p.tx birth p.nth (touched_in p.touched) (Scan lo hi) (pairs_end (Err z)) (seen_as sh w asked (is_active p birth)) (seen_as sh v asked (unless_dead q birth (has_died {A = List (ℕ × ℕ)} (Err z))))) (sym wants)
+              (forgotten sh asked birth lo hi w p rise small has v q f.shard f.part f.answers f.walker f.middle s f.meets below a own
+              (with_part sh asked birth lo hi w p rise small has f.shard f.part f.answers f.walker v f.middle q s f.meets a own))
 
       at : (r : Result (List (ℕ × ℕ)) OpError) → PartsTold sh birth (p.nth + 1) lo hi w p r v q
-          → OperateTold p.tx birth p.nth (touched_in p.touched) (Scan lo hi) (pairs_end r) (seen_as sh w (is_active p birth)) (seen_as sh v (unless_dead q birth (has_died r)))
+          → OperateTold p.tx birth p.nth (touched_in p.touched) (Scan lo hi) (pairs_end r) (seen_as sh w asked (is_active p birth)) (seen_as sh v asked (unless_dead q birth (has_died r)))
       at (Ok pairs) (answers, made, is) =
-          let s = subst (λ k. SoFar sh birth lo hi w p rise small has k answers v q) count (so_far sh birth lo hi w p rise small has (length sh.locks.items) answers v q made) in
-          all_told sh birth lo hi w p rise small has answers pairs v q s (some answers s) is
+          let s = subst (λ k. SoFar sh asked birth lo hi w p rise small has k answers v q) count (so_far sh asked birth lo hi w p rise small has (length sh.locks.items) answers v q made) in
+          all_told sh asked birth lo hi w p rise small has answers pairs v q s (some answers s) is
         where
-          some : (answers : List Answer) → SoFar sh birth lo hi w p rise small has (shard_count sh.splits) answers v q → answers ≢ []
+          some : (answers : List Answer) → SoFar sh asked birth lo hi w p rise small has (shard_count sh.splits) answers v q → answers ≢ []
           some answers s none =
               let m = meets_first sh.splits lo hi rise falls small in
               some_behind (scan_parts sh.splits lo hi 0 (shard_of sh.splits lo)) (scan_parts sh.splits lo hi (suc (shard_of sh.splits lo)) (shard_count sh.splits - suc (shard_of sh.splits lo))) (shard_of sh.splits lo, Scan m.0.0 m.0.1)

@@ -3,6 +3,7 @@ use Rattle.std.proofs.Common.{◌≡◌, ◌≢◌, ◌∙◌, refl, sym, ap, su
 use Rattle.std.specs.Prelude.{IfErr}
 use Rattle.clv_base.specs.declared.names.TxId.{TxId}
 use Rattle.clv_base.specs.declared.names.Birth.{Birth}
+use Rattle.clv_base.specs.declared.names.Point.{Point}
 use Rattle.clv_base.specs.Sessions.{SessionState}
 use Rattle.cluster_turns.specs.declared.shards.Shards.{Shards}
 use Rattle.cluster_turns.specs.declared.shards.Walker.{Walker}
@@ -24,10 +25,10 @@ use Rattle.session_api.specs.Ends.{BeginEnds, RetryEnds}
 use Rattle.session_api.proofs.Standings.{unasked_born, never_idle, asked_idle, idle_again, none_again, stays_grown, worn_still}
 use Rattle.session_api.proofs.Taking.{HoldsOn, held_so}
 
-module _ {M S G : Type 0} (sh : Shards M S G) where
+module _ {M S G : Type 0} (sh : Shards M S G) (asked : Point) where
   -- what a beginning leaves, tells, and is stopped by
   abbrev pub BeginDone : Walker M S G → Progress → Result Unit StopCause → Shards M S G → Walker M S G → Progress → Type 0
-  BeginDone w s e after v t = HoldsOn sh w after v t × BeginTold e (seen_in sh w s) (seen_in after v t) × IfErr e (Grounds v)
+  BeginDone w s e after v t = HoldsOn sh w after v t × BeginTold e (seen_in sh w asked s) (seen_in after v asked t) × IfErr e (Grounds v)
 
   -- ---- where none is active
 
@@ -44,13 +45,13 @@ module _ {M S G : Type 0} (sh : Shards M S G) where
   pub begin_alone : (w v : Walker M S G) (s t : Progress) (r : Result TxId BeginError) → Holds sh w s → (again : Option Birth) × (standing_of s ≡ Idle again) → BeginCalled sh w s r v t → (tx : TxId) → r ≢ Err (begin.Active tx)
   begin_alone w v s t r h idle c tx = none_active w v s t r tx (begun_next w v s t idle.0 r h idle.1 c)
 
-  begins_as : (w v : Walker M S G) (s t : Progress) (birth : Birth) (st su : Standing) → standing_of s ≡ st → standing_of t ≡ su → Begins birth (seen_as sh w st) (seen_as sh v su) → Begins birth (seen_in sh w s) (seen_in sh v t)
-  begins_as w v s t birth st su is same b = subst (λ x. Begins birth (seen_as sh w x) (seen_in sh v t)) (sym is) (subst (λ x. Begins birth (seen_as sh w st) (seen_as sh v x)) (sym same) b)
+  begins_as : (w v : Walker M S G) (s t : Progress) (birth : Birth) (st su : Standing) → standing_of s ≡ st → standing_of t ≡ su → Begins birth (seen_as sh w asked st) (seen_as sh v asked su) → Begins birth (seen_in sh w asked s) (seen_in sh v asked t)
+  begins_as w v s t birth st su is same b = subst (λ x. Begins birth (seen_as sh w asked x) (seen_in sh v asked t)) (sym is) (subst (λ x. Begins birth (seen_as sh w asked st) (seen_as sh v asked x)) (sym same) b)
 
   began : (w v : Walker M S G) (s t : Progress) (again : Option Birth) (r : Result TxId BeginError) (e : Result Unit StopCause) → Holds sh w s → standing_of s ≡ Idle again → BegunNext sh w s r v t → IsSession sh v t → BeginEnds r e → BeginDone w s e sh v t
   began w v s t again (Ok tx) e h idle c session ends =
       let b = (c.1).1 in
-      let k = beginnings_tell M S G sh w v (c.1).0 again b in
+      let k = beginnings_tell M S G sh w v asked (c.1).0 again b in
       subst (λ x. BeginDone w s x sh v t) (sym ends) (
         held_so sh w v s t h session (ap (λ z. z.number) b.walker_is) (ap (λ z. z.passes.items) b.walker_is),
         (k.0, k.2, k.3, k.4, begins_as w v s t k.0 (Idle again) (is_active (c.1).0 k.0) idle (ap standing_of (c.1).3 ∙ ap (active_as (c.1).0) k.1) k.5),
@@ -59,7 +60,7 @@ module _ {M S G : Type 0} (sh : Shards M S G) where
   began w v s t again (Err (begin.Worn at)) e h idle c session ends =
       subst (λ x. BeginDone w s x sh v t) (sym ends) (
         held_so sh w v s t h session (ap (λ z. z.number) c.2) (ap (λ z. z.passes.items) c.2),
-        stays_grown sh w v s t c.2 c.3,
+        stays_grown sh w v asked s t c.2 c.3,
         (c.0, worn_still w v c.2 c.1),
       )
   began w v s t again (Err (begin.Active tx)) e h idle c session ends = absurd c
@@ -72,7 +73,7 @@ module _ {M S G : Type 0} (sh : Shards M S G) where
   -- ---- where the last one ended by an abort
 
   abbrev pub RetryDone : Walker M S G → Progress → Result Unit StopCause → Shards M S G → Walker M S G → Progress → Type 0
-  RetryDone w s e after v t = HoldsOn sh w after v t × ((birth : Birth) → standing_of s ≡ Idle (Some birth) → RetryTold birth e (seen_in sh w s) (seen_in after v t)) × IfErr e (Grounds v)
+  RetryDone w s e after v t = HoldsOn sh w after v t × ((birth : Birth) → standing_of s ≡ Idle (Some birth) → RetryTold birth e (seen_in sh w asked s) (seen_in after v asked t)) × IfErr e (Grounds v)
 
   -- it is this one
   abbrev pub LastIs : Walker M S G → Progress → Birth → Result TxId RetryError → Walker M S G → Progress → Type 0
@@ -98,7 +99,7 @@ module _ {M S G : Type 0} (sh : Shards M S G) where
       subst (λ x. RetryDone w s x sh v t) (sym ends) (
         held_so sh w v s t h session (ap (λ z. z.number) b.walker_is) (ap (λ z. z.passes.items) b.walker_is),
         λ birth idle. (
-            let k = retries_tell M S G sh w v last (c.1).0 birth (idle_again last.birth (Some birth) (sym (ap standing_of is) ∙ idle)) b in
+            let k = retries_tell M S G sh w v asked last (c.1).0 birth (idle_again last.birth (Some birth) (sym (ap standing_of is) ∙ idle)) b in
             begins_as w v s t birth (Idle (Some birth)) (is_active (c.1).0 birth) idle (ap standing_of (c.1).3 ∙ ap (active_as (c.1).0) k.0) k.1
             ),
         tt,
@@ -106,7 +107,7 @@ module _ {M S G : Type 0} (sh : Shards M S G) where
   tried_again w v s t last (Err (retry.Worn at)) e h is c session ends =
       subst (λ x. RetryDone w s x sh v t) (sym ends) (
         held_so sh w v s t h session (ap (λ z. z.number) c.2) (ap (λ z. z.passes.items) c.2),
-        λ birth idle. stays_grown sh w v s t c.2 (c.3 ∙ sym is),
+        λ birth idle. stays_grown sh w v asked s t c.2 (c.3 ∙ sym is),
         (c.0, worn_still w v c.2 c.1),
       )
   tried_again w v s t last (Err (retry.Active tx)) e h is c session ends = absurd c

@@ -1,5 +1,5 @@
 -- Commits and aborts, as whoever runs a script is told of them.
-use Rattle.std.proofs.Common.{◌≡◌, ◌∙◌, refl, sym, ap, subst, ℕ, ◌^◌, Bool, true, false, List, ◌++◌, length, Some, None, Result, Ok, Err, inl, inr}
+use Rattle.std.proofs.Common.{◌≡◌, ◌∙◌, refl, sym, ap, subst, ℕ, ◌^◌, Bool, true, false, List, [], ◌++◌, length, Some, None, Result, Ok, Err, inl, inr}
 use Rattle.std.specs.Prelude.{⊤, IfErr}
 use Rattle.clv_base.specs.declared.names.TxId.{TxId}
 use Rattle.clv_base.specs.declared.names.Birth.{Birth}
@@ -23,7 +23,7 @@ use Rattle.session_ops.specs.Standings.{IsUnasked}
 use Rattle.session_ops.specs.declared.settled_looking.SettleError.{SettleError}
 use Rattle.session_ops.specs.declared.settled_looking.SettleError.TheVariants as settle
 use Rattle.session_ops.specs.declared.committing.Settled.{Settled}
-use Rattle.session_ops.specs.declared.committing.Settled.TheVariants.{Committed}
+use Rattle.session_ops.specs.declared.committing.Settled.TheVariants.{Committed, Empty}
 use Rattle.session_ops.specs.declared.committing.CommitError.{CommitError as CommitFailure}
 use Rattle.session_ops.specs.declared.committing.CommitError.TheVariants as unmade
 use Rattle.session_ops.specs.Decided.{DecidedBy, committed_as}
@@ -32,7 +32,7 @@ use Rattle.script_runs.specs.declared.ends.StopCause.{StopCause}
 use Rattle.script_runs.specs.declared.ends.StopCause.TheVariants as stop
 use Rattle.script_runs.specs.declared.ends.TryEnd.{TryEnd}
 use Rattle.script_runs.specs.declared.ends.TryEnd.TheVariants as end
-use Rattle.script_runs.specs.Seen.{Idle, Active}
+use Rattle.script_runs.specs.Seen.{Idle, Active, Grows}
 use Rattle.script_runs.specs.Told.{CommitTold, AbortTold}
 use Rattle.script_runs.specs.Tried.{OnStop}
 use Rattle.session_api.specs.declared.progress.Progress.{Progress}
@@ -41,7 +41,7 @@ use Rattle.session_api.specs.declared.ending.CommitError.{CommitError}
 use Rattle.session_api.specs.declared.ending.AbortError.{AbortError}
 use Rattle.session_api.specs.Progresses.{commit_told, abort_told, is_nothing, after_commit, progress_committed, progress_aborted}
 use Rattle.session_api.specs.Sessions.{IsSession, CommitMade, CommitCalled, AbortMade, AbortCalled}
-use Rattle.session_api.specs.Seeing.{seen_as, touched_in, is_active, by_phase, after_commit as commit_leaves, after_abort as abort_leaves, commit_end, abort_end}
+use Rattle.session_api.specs.Seeing.{seen_as, touched_in, is_active, by_phase, after_commit as commit_leaves, asked_after, after_abort as abort_leaves, commit_end, abort_end}
 use Rattle.session_api.proofs.Committing.{commits_tell}
 use Rattle.session_api.proofs.Leaving.{aborts_tell}
 use Rattle.session_api.specs.Standing.{Holds, active_as, standing_of, seen_in}
@@ -146,16 +146,27 @@ module _ {M S G : Type 0} where
   end_grounds w v ts took (end.Aborted cause) h = tt
   end_grounds w v ts took (end.Stopped cause) h = cause_grounds w v ts took cause h
 
-module _ {M S G : Type 0} (sh : Shards M S G) where
+-- ---- the point of the last request
+
+asked_as : (asked : Point) (r : Result Settled CommitFailure) → asked_after asked (commit_told r) ≡ asked_after asked r
+asked_as asked (Ok (Committed point)) = refl
+asked_as asked (Ok Empty) = refl
+asked_as asked (Err (unmade.Aborted cause)) = refl
+asked_as asked (Err (unmade.Down n)) = refl
+asked_as asked (Err (unmade.Unsettled n)) = refl
+asked_as asked (Err (unmade.Worn at)) = refl
+asked_as asked (Err unmade.Memory) = refl
+
+module _ {M S G : Type 0} (sh : Shards M S G) (asked : Point) where
   -- ---- commits
 
-  pub record EndsSo (w : Walker M S G) (s : Progress) (e : TryEnd) (after : Shards M S G) (v : Walker M S G) (t : Progress) : Type 0 where
+  pub record EndsSo (w : Walker M S G) (s : Progress) (e : TryEnd) (after : Shards M S G) (v : Walker M S G) (now : Point) (t : Progress) : Type 0 where
     pub holds : HoldsOn sh w after v t
-    pub told : (tx : TxId) (birth : Birth) (nth : ℕ) (touched : ℕ → Bool) → standing_of s ≡ Active tx birth nth touched → CommitTold tx birth nth touched e (seen_in sh w s) (seen_in after v t)
+    pub told : (tx : TxId) (birth : Birth) (nth : ℕ) (touched : ℕ → Bool) → standing_of s ≡ Active tx birth nth touched → CommitTold tx birth nth touched e (seen_in sh w asked s) (seen_in after v now t)
     pub grounds : OnStop (Grounds v) e
 
   abbrev pub CommitDone : Walker M S G → Progress → Result Settled CommitError → Walker M S G → Progress → Type 0
-  CommitDone w s r v t = (e : Result Settled CommitFailure) × (r ≡ commit_told e) × EndsSo w s (commit_end e) sh v t
+  CommitDone w s r v t = (e : Result Settled CommitFailure) × (r ≡ commit_told e) × EndsSo w s (commit_end e) sh v (asked_after asked r) t
 
   commit_holds : (w v : Walker M S G) (s t : Progress) (p q : SessionState) (stamp : ℕ) (r : Result Settled CommitFailure) → Holds sh w s → IsSession sh v t → IsSameWalker w v → Commits (length sh.locks.items) w p stamp r v q → HoldsOn sh w sh v t
   commit_holds w v s t p q stamp r h session same (inl c) = held_so sh w v s t h session (ap (λ z. z.number) c.2) (ap (λ z. z.passes.items) c.2)
@@ -176,16 +187,23 @@ module _ {M S G : Type 0} (sh : Shards M S G) where
           holds = commit_holds w v (progress.Active p) t p m.place m.stamp m.answer h session m.walker m.told;
           told = λ tx birth nth touched st. (
               let of = read_active p p.birth tx birth nth touched st in
-              of_this p p.birth tx birth nth touched of (λ x k f. CommitTold x birth k f (commit_end m.answer) (seen_in sh w (progress.Active p)) (seen_in sh v t))
-              (subst (λ x. CommitTold p.tx birth p.nth (touched_in p.touched) (commit_end m.answer) (seen_as sh w x) (seen_in sh v t)) (sym (ap (active_as p) of.birth_is))
-              (subst (λ x. CommitTold p.tx birth p.nth (touched_in p.touched) (commit_end m.answer) (seen_as sh w (is_active p birth)) (seen_as sh v x)) (sym (ap standing_of m.then ∙ place.stands m.stamp birth (place.birth ∙ of.birth_is)))
-              (commits_tell M S G sh w v p m.place birth m.stamp m.answer active of.birth_is m.walker m.told m.stands)))
+              of_this p p.birth tx birth nth touched of (λ x k f. CommitTold x birth k f (commit_end m.answer) (seen_in sh w asked (progress.Active p)) (seen_in sh v (asked_after asked r) t))
+              (subst (λ x. CommitTold p.tx birth p.nth (touched_in p.touched) (commit_end m.answer) (seen_as sh w asked x) (seen_in sh v (asked_after asked r) t)) (sym (ap (active_as p) of.birth_is))
+              (subst (λ x. CommitTold p.tx birth p.nth (touched_in p.touched) (commit_end m.answer) (seen_as sh w asked (is_active p birth)) (seen_as sh v (asked_after asked r) x)) (sym (ap standing_of m.then ∙ place.stands m.stamp birth (place.birth ∙ of.birth_is)))
+              (subst (λ x. CommitTold p.tx birth p.nth (touched_in p.touched) (commit_end m.answer) (seen_as sh w asked (is_active p birth)) (seen_as sh v x (commit_leaves m.place birth m.answer))) (sym (ap (asked_after asked) m.is ∙ asked_as asked m.answer))
+              (commits_tell M S G sh w v asked p m.place birth m.stamp m.answer active of.birth_is m.walker m.told m.stands))))
               );
           grounds = commit_grounds w v p m.place m.stamp m.answer m.told;
         },
       )
 
-  pub commit_done : (w v : Walker M S G) (s t : Progress) (r : Result Settled CommitError) → Holds sh w s → IsUnderWay sh s → CommitCalled sh w s r v t → IsSession sh v t → CommitDone w s r v t
+  -- a refusal leaves the point
+  worn_grown : (w v : Walker M S G) (p : SessionState) (t : Progress) (r : Result Settled CommitError) → r ≡ commit_told (Err (unmade.Worn (2 ^ 48))) → v ≡ w → t ≡ progress.Worn p
+      → Grows [] (seen_in sh w asked (progress.Worn p)) (seen_in sh v (asked_after asked r) t)
+  worn_grown w v p t r refused is same =
+      subst (λ x. Grows [] (seen_in sh w asked (progress.Worn p)) (seen_in sh v (asked_after asked x) t)) (sym refused) (stays_grown sh w v asked (progress.Worn p) t is same)
+
+  pub commit_done : (w v : Walker M S G) (s t : Progress) (r : Result Settled CommitError) → Holds sh w s → IsUnderWay sh asked s → CommitCalled sh w s r v t → IsSession sh v t → CommitDone w s r v t
   commit_done w v progress.Idle t r h way c session = idle_active None way.0 way.1 way.2 way.3 way.4
   commit_done w v (progress.Active p) t r h way c session = commit_made w v p t r h session c
   commit_done w v (progress.Worn p) t r h way c session = (
@@ -193,7 +211,7 @@ module _ {M S G : Type 0} (sh : Shards M S G) where
     c.0,
     record {
       holds = held_so sh w v (progress.Worn p) t h session (ap (λ z. z.number) c.1) (ap (λ z. z.passes.items) c.1);
-      told = λ tx birth nth touched st. inl (stays_grown sh w v (progress.Worn p) t c.1 c.2);
+      told = λ tx birth nth touched st. inl (worn_grown w v p t r c.0 c.1 c.2, (nth, ap standing_of c.2 ∙ st));
       grounds = (refl, worn_still w v c.1 ((h.session).stands).1);
     },
   )
@@ -204,7 +222,7 @@ module _ {M S G : Type 0} (sh : Shards M S G) where
 
   pub record Aborts (w : Walker M S G) (s : Progress) (e : Result Unit StopCause) (after : Shards M S G) (v : Walker M S G) (t : Progress) : Type 0 where
     pub holds : HoldsOn sh w after v t
-    pub told : (tx : TxId) (birth : Birth) (nth : ℕ) (touched : ℕ → Bool) → standing_of s ≡ Active tx birth nth touched → AbortTold (HasMissed v) tx birth touched e (seen_in sh w s) (seen_in after v t)
+    pub told : (tx : TxId) (birth : Birth) (nth : ℕ) (touched : ℕ → Bool) → standing_of s ≡ Active tx birth nth touched → AbortTold (HasMissed v) tx birth touched e (seen_in sh w asked s) (seen_in after v asked t)
     pub grounds : IfErr e (Grounds v)
     pub keeps : (cause : StopCause) → Grounds w cause → Grounds v cause
 
@@ -234,17 +252,17 @@ module _ {M S G : Type 0} (sh : Shards M S G) where
           holds = held_after sh w v s t d.turns h session m.walker d.took;
           told = λ tx birth nth touched st. (
               let of = read_active p p.birth tx birth nth touched (sym stands ∙ st) in
-              of_this p p.birth tx birth nth touched of (λ x k f. AbortTold (HasMissed v) x birth f (abort_end m.answer) (seen_in sh w s) (seen_in sh v t))
-              (subst (λ x. AbortTold (HasMissed v) p.tx birth (touched_in p.touched) (abort_end m.answer) (seen_as sh w x) (seen_in sh v t)) (sym (stands ∙ ap (active_as p) of.birth_is))
-              (subst (λ x. AbortTold (HasMissed v) p.tx birth (touched_in p.touched) (abort_end m.answer) (seen_as sh w (is_active p birth)) (seen_as sh v x)) (sym (ap standing_of m.then ∙ abort_leaves_so m.place birth m.answer (left_birth p m.place m.left ∙ of.birth_is)))
-              (aborts_tell M S G Unit sh w v p birth m.answer (active_as m.place (m.place).birth) unasked of.birth_is m.walker d)))
+              of_this p p.birth tx birth nth touched of (λ x k f. AbortTold (HasMissed v) x birth f (abort_end m.answer) (seen_in sh w asked s) (seen_in sh v asked t))
+              (subst (λ x. AbortTold (HasMissed v) p.tx birth (touched_in p.touched) (abort_end m.answer) (seen_as sh w asked x) (seen_in sh v asked t)) (sym (stands ∙ ap (active_as p) of.birth_is))
+              (subst (λ x. AbortTold (HasMissed v) p.tx birth (touched_in p.touched) (abort_end m.answer) (seen_as sh w asked (is_active p birth)) (seen_as sh v asked x)) (sym (ap standing_of m.then ∙ abort_leaves_so m.place birth m.answer (left_birth p m.place m.left ∙ of.birth_is)))
+              (aborts_tell M S G Unit sh w v asked p birth m.answer (active_as m.place (m.place).birth) unasked of.birth_is m.walker d)))
               );
           grounds = abort_grounds w v p m.answer d;
           keeps = grounds_stay w v d.turns d.took;
         },
       )
 
-  pub abort_done : (w v : Walker M S G) (s t : Progress) (r : Result Unit AbortError) → Holds sh w s → IsUnderWay sh s → AbortCalled sh w s r v t → IsSession sh v t → AbortDone w s r v t
+  pub abort_done : (w v : Walker M S G) (s t : Progress) (r : Result Unit AbortError) → Holds sh w s → IsUnderWay sh asked s → AbortCalled sh w s r v t → IsSession sh v t → AbortDone w s r v t
   abort_done w v progress.Idle t r h way c session = idle_active None way.0 way.1 way.2 way.3 way.4
   abort_done w v (progress.Active p) t r h way c session = abort_made w v (progress.Active p) p t r refl (inl (h.session).stands) h session c
   abort_done w v (progress.Worn p) t r h way c session = abort_made w v (progress.Worn p) p t r refl ((h.session).stands).0 h session c
@@ -253,21 +271,21 @@ module _ {M S G : Type 0} (sh : Shards M S G) where
 
   -- ---- the calls, as the session makes them
 
-  pub commit_answers : (after : Shards M S G) (w v : Walker M S G) (s t : Progress) (r : Result Settled CommitError) → after ≡ sh → Holds sh w s → IsUnderWay sh s → CommitCalled sh w s r v t → IsSession after v t
+  pub commit_answers : (after : Shards M S G) (w v : Walker M S G) (s t : Progress) (r : Result Settled CommitError) → after ≡ sh → Holds sh w s → IsUnderWay sh asked s → CommitCalled sh w s r v t → IsSession after v t
       → (e : Result Settled CommitFailure) × (r ≡ commit_told e)
   commit_answers after w v s t r same h way c session = let k = commit_done w v s t r h way c (subst (λ x. IsSession x v t) same session) in (k.0, k.1)
 
-  pub commit_call : (after : Shards M S G) (w v : Walker M S G) (s t : Progress) (r : Result Settled CommitError) (result : TryEnd) → after ≡ sh → Holds sh w s → IsUnderWay sh s → CommitCalled sh w s r v t → IsSession after v t
-      → ((e : Result Settled CommitFailure) → r ≡ commit_told e → result ≡ commit_end e) → EndsSo w s result after v t
+  pub commit_call : (after : Shards M S G) (w v : Walker M S G) (s t : Progress) (r : Result Settled CommitError) (result : TryEnd) → after ≡ sh → Holds sh w s → IsUnderWay sh asked s → CommitCalled sh w s r v t → IsSession after v t
+      → ((e : Result Settled CommitFailure) → r ≡ commit_told e → result ≡ commit_end e) → EndsSo w s result after v (asked_after asked r) t
   commit_call after w v s t r result same h way c session told =
       let k = commit_done w v s t r h way c (subst (λ x. IsSession x v t) same session) in
-      subst (λ x. EndsSo w s x after v t) (sym (told k.0 k.1)) (subst (λ x. EndsSo w s (commit_end k.0) x v t) (sym same) k.2)
+      subst (λ x. EndsSo w s x after v (asked_after asked r) t) (sym (told k.0 k.1)) (subst (λ x. EndsSo w s (commit_end k.0) x v (asked_after asked r) t) (sym same) k.2)
 
-  pub abort_answers : (after : Shards M S G) (w v : Walker M S G) (s t : Progress) (r : Result Unit AbortError) → after ≡ sh → Holds sh w s → IsUnderWay sh s → AbortCalled sh w s r v t → IsSession after v t
+  pub abort_answers : (after : Shards M S G) (w v : Walker M S G) (s t : Progress) (r : Result Unit AbortError) → after ≡ sh → Holds sh w s → IsUnderWay sh asked s → AbortCalled sh w s r v t → IsSession after v t
       → (e : Result Unit WornClock) × (r ≡ abort_told e)
   abort_answers after w v s t r same h way c session = let k = abort_done w v s t r h way c (subst (λ x. IsSession x v t) same session) in (k.0, k.1)
 
-  pub abort_call : (after : Shards M S G) (w v : Walker M S G) (s t : Progress) (r : Result Unit AbortError) (result : Result Unit StopCause) → after ≡ sh → Holds sh w s → IsUnderWay sh s → AbortCalled sh w s r v t → IsSession after v t
+  pub abort_call : (after : Shards M S G) (w v : Walker M S G) (s t : Progress) (r : Result Unit AbortError) (result : Result Unit StopCause) → after ≡ sh → Holds sh w s → IsUnderWay sh asked s → AbortCalled sh w s r v t → IsSession after v t
       → ((e : Result Unit WornClock) → r ≡ abort_told e → result ≡ abort_end e) → Aborts w s result after v t
   abort_call after w v s t r result same h way c session told =
       let k = abort_done w v s t r h way c (subst (λ x. IsSession x v t) same session) in

@@ -3,6 +3,7 @@ use Rattle.std.proofs.Common.{◌≡◌, ◌∙◌, refl, sym, ap, subst, ℕ, s
 use Rattle.std.proofs.lemmas.Bool.{leb-true, le-ltb}
 use Rattle.clv_base.specs.declared.names.TxId.{TxId}
 use Rattle.clv_base.specs.declared.names.Birth.{Birth}
+use Rattle.clv_base.specs.declared.names.Point.{Point}
 use Rattle.clv_base.specs.declared.ops.Op.{Op}
 use Rattle.clv_base.specs.declared.ops.Op.TheVariants.{Scan}
 use Rattle.clv_base.specs.declared.ops.Answer.{Answer}
@@ -32,7 +33,7 @@ use Rattle.session_api.specs.Progresses.{active_tx, answer_told, after_op}
 use Rattle.session_api.specs.Sessions.{IsSession, PointMade, PointCalled, ScanMade, RangeCalled, RangeBeside, ScanCalled}
 use Rattle.session_api.specs.Seeing.{seen_as, touched_in, is_active, unless_dead, value_end, pairs_end}
 use Rattle.session_api.specs.ToldLaws.{IsAt}
-use Rattle.session_api.proofs.Pointing.{points_tell}
+use Rattle.session_api.proofs.Pointing.{points_tell, touches_just_none}
 use Rattle.session_api.proofs.Scanning.{scans_tell}
 use Rattle.session_api.specs.Standing.{Holds, active_as, standing_of, seen_in}
 use Rattle.session_api.specs.Grounds.{Grounds}
@@ -54,12 +55,12 @@ pub stands_after : (q : SessionState) (birth : Birth) → q.birth ≡ Some birth
 stands_after q birth is true = ap (λ b. Idle b) is
 stands_after q birth is false = ap (active_as q) is
 
-module _ {M S G : Type 0} (sh : Shards M S G) where
+module _ {M S G : Type 0} (sh : Shards M S G) (last : Point) where
   -- ---- what an operation leaves, tells, and is stopped by
 
   pub record Done (w : Walker M S G) (s : Progress) (op : Op) (end : Result Answer TryEnd) (after : Shards M S G) (v : Walker M S G) (t : Progress) : Type 0 where
     pub holds : HoldsOn sh w after v t
-    pub told : (tx : TxId) (birth : Birth) (nth : ℕ) (touched : ℕ → Bool) → standing_of s ≡ Active tx birth nth touched → OperateTold tx birth nth touched op end (seen_in sh w s) (seen_in after v t)
+    pub told : (tx : TxId) (birth : Birth) (nth : ℕ) (touched : ℕ → Bool) → standing_of s ≡ Active tx birth nth touched → OperateTold tx birth nth touched op end (seen_in sh w last s) (seen_in after v last t)
     pub grounds : OnRefusal (Grounds v) end
 
   -- the active transaction may have operations, or is worn; no other has a standing like it
@@ -67,11 +68,11 @@ module _ {M S G : Type 0} (sh : Shards M S G) where
   IsUnderWay s = (tx : TxId) × (birth : Birth) × (nth : ℕ) × (touched : ℕ → Bool) × (standing_of s ≡ Active tx birth nth touched)
 
   told_so : (w v : Walker M S G) (s t : Progress) (p : SessionState) (st su : Standing) (op : Op) (end : Result Answer TryEnd) (tx : TxId) (birth : Birth) (nth : ℕ) (touched : ℕ → Bool) → IsOf p p.birth tx birth nth touched → standing_of s ≡ st → standing_of t ≡ su
-      → OperateTold p.tx birth p.nth (touched_in p.touched) op end (seen_as sh w st) (seen_as sh v su) → OperateTold tx birth nth touched op end (seen_in sh w s) (seen_in sh v t)
+      → OperateTold p.tx birth p.nth (touched_in p.touched) op end (seen_as sh w last st) (seen_as sh v last su) → OperateTold tx birth nth touched op end (seen_in sh w last s) (seen_in sh v last t)
   told_so w v s t p st su op end tx birth nth touched of is same h =
-      of_this p p.birth tx birth nth touched of (λ x k f. OperateTold x birth k f op end (seen_in sh w s) (seen_in sh v t))
-      (subst (λ x. OperateTold p.tx birth p.nth (touched_in p.touched) op end (seen_as sh w x) (seen_in sh v t)) (sym is)
-      (subst (λ x. OperateTold p.tx birth p.nth (touched_in p.touched) op end (seen_as sh w st) (seen_as sh v x)) (sym same) h))
+      of_this p p.birth tx birth nth touched of (λ x k f. OperateTold x birth k f op end (seen_in sh w last s) (seen_in sh v last t))
+      (subst (λ x. OperateTold p.tx birth p.nth (touched_in p.touched) op end (seen_as sh w last x) (seen_in sh v last t)) (sym is)
+      (subst (λ x. OperateTold p.tx birth p.nth (touched_in p.touched) op end (seen_as sh w last st) (seen_as sh v last x)) (sym same) h))
 
   -- ---- where the last abort was worn
 
@@ -79,7 +80,14 @@ module _ {M S G : Type 0} (sh : Shards M S G) where
       → Done w (progress.Worn p) op (Err (Stopped (Worn (2 ^ 48)))) sh v t
   worn_done w v p t op h session part is same = record {
     holds = held_so sh w v (progress.Worn p) t h session (ap (λ z. z.number) is) (ap (λ z. z.passes.items) is);
-    told = λ tx birth nth touched st. ([], begun_with_none sh.splits tx birth (suc nth) op part, stays_grown sh w v (progress.Worn p) t is same);
+    told = λ tx birth nth touched st. (
+        [],
+        touched,
+        begun_with_none sh.splits tx birth (suc nth) op part,
+        touches_just_none touched,
+        stays_grown sh w v last (progress.Worn p) t is same,
+        (nth, ap standing_of same ∙ st),
+        );
     grounds = (refl, worn_still w v is ((h.session).stands).1);
   }
 
@@ -110,7 +118,7 @@ module _ {M S G : Type 0} (sh : Shards M S G) where
               let of = read_active p p.birth tx birth nth touched st in
               told_so w v (progress.Active p) t p (is_active p birth) (unless_dead m.place birth (has_died m.answer)) op (value_end m.answer) tx birth nth touched of (ap (active_as p) of.birth_is)
               (ap standing_of m.then ∙ stands_after m.place birth (placed_birth _ _ op p m.place (m.told).answer (m.told).place ∙ of.birth_is) (has_died m.answer))
-              (points_tell M S G sh w v p m.place birth key op m.answer is_at (h.session).stands of.birth_is m.walker m.told m.stands)
+              (points_tell M S G sh w v last p m.place birth key op m.answer is_at (h.session).stands of.birth_is m.walker m.told m.stands)
               );
           grounds = subst (λ x. OnRefusal (Grounds v) (value_end x)) (sym (m.told).is) (point_grounds w v _ p _ (m.told).answer k);
         },
@@ -149,7 +157,7 @@ module _ {M S G : Type 0} (sh : Shards M S G) where
               let of = read_active p p.birth tx birth nth touched st in
               told_so w v (progress.Active p) t p (is_active p birth) (unless_dead m.place birth (has_died m.answer)) (Scan lo hi) (pairs_end m.answer) tx birth nth touched of (ap (active_as p) of.birth_is)
               (ap standing_of m.then ∙ stands_after m.place birth ((m.same).1 ∙ of.birth_is) (has_died m.answer))
-              (scans_tell M S G sh w v p m.place birth lo hi m.answer h.splits falls small (h.session).stands of.birth_is (m.parts birth of.birth_is) m.stands)
+              (scans_tell M S G sh w v last p m.place birth lo hi m.answer h.splits falls small (h.session).stands of.birth_is (m.parts birth of.birth_is) m.stands)
               );
           grounds = scan_grounds w v _ _ m.answer k;
         },

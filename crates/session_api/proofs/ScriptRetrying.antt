@@ -2,6 +2,7 @@
 use Rattle.std.proofs.Common.{◌≡◌, ◌∙◌, sym, ap, subst, ℕ, [], Option, Some, Result, Ok, Err, arith}
 use Rattle.clv_base.specs.declared.names.TxId.{TxId}
 use Rattle.clv_base.specs.declared.names.Birth.{Birth}
+use Rattle.clv_base.specs.declared.names.Point.{Point}
 use Rattle.cluster_turns.specs.declared.shards.Shards.{Shards}
 use Rattle.cluster_turns.specs.declared.shards.Walker.{Walker}
 use Rattle.cluster_turns.specs.Walkers.{IsSameWalker}
@@ -46,16 +47,16 @@ pub shard_was_down : {M S G : Type 0} (w m : Walker M S G) (found : Option ℕ) 
 shard_was_down w m found n d is =
     let k = subst (λ o. Rounded w.number w.clock w.passes.items (found_in o) m.clock m.passes.items) is d in found_down n w.number w.clock m.clock w.passes.items m.passes.items k.turns k.took k.ended
 
-module _ {M S G : Type 0} (sh : Shards M S G) where
+module _ {M S G : Type 0} (sh : Shards M S G) (asked : Point) where
   -- what a round before another try leaves: the session stands as it did, and made nothing
   pub record RoundDone (w : Walker M S G) (s : Progress) (mid : Shards M S G) (m : Walker M S G) (x : Progress) : Type 0 where
     pub holds_on : HoldsOn sh w mid m x
-    pub grows : Grows [] (seen_in sh w s) (seen_in mid m x)
+    pub grows : Grows [] (seen_in sh w asked s) (seen_in mid m asked x)
 
   rounded : {A : Type 0} (w m : Walker M S G) (s : Progress) (r : Result A RoundError) → Holds sh w s → IsSession sh m s → IsSameWalker w m → Rounded w.number w.clock w.passes.items r m.clock m.passes.items → RoundDone w s sh m s
   rounded w m s r h session same d = record {
     holds_on = held_after sh w m s s d.turns h session same d.took;
-    grows = grows_by sh w m (standing_of s) (standing_of s) d.turns [] same d.took (others_make_none d.turns d.others);
+    grows = grows_by sh w m asked asked (standing_of s) (standing_of s) d.turns [] same d.took (others_make_none d.turns d.others);
   }
 
   pub round_done : {A : Type 0} (mid : Shards M S G) (w m : Walker M S G) (s x : Progress) (r : Result A RoundError) → mid ≡ sh → x ≡ s → Holds sh w s → IsSession mid m x → IsSameWalker w m
@@ -65,10 +66,10 @@ module _ {M S G : Type 0} (sh : Shards M S G) where
 
   -- another try follows
   pub retried_done : (mid after : Shards M S G) (w m v : Walker M S G) (s x t : Progress) (r : Result TxId RetryError) (e : Result Unit StopCause) → RoundDone w s mid m x → after ≡ mid → x ≡ s → (birth : Birth) × (standing_of s ≡ Idle (Some birth))
-      → RetryCalled mid m x r v t → IsSession after v t → RetryEnds r e → RetryDone sh w s e after v t
+      → RetryCalled mid m x r v t → IsSession after v t → RetryEnds r e → RetryDone sh asked w s e after v t
   retried_done mid after w m v s x t r e done second is ended c session ends =
-      let k = retry_done mid after m v x t r e second (done.holds_on).holds (subst (λ y. (birth : Birth) × (standing_of y ≡ Idle (Some birth))) (sym is) ended) c session ends in (
+      let k = retry_done mid asked after m v x t r e second (done.holds_on).holds (subst (λ y. (birth : Birth) × (standing_of y ≡ Idle (Some birth))) (sym is) ended) c session ends in (
         record { holds = (k.0).holds; misses = λ tx n es h. (k.0).misses tx n es ((done.holds_on).misses tx n es h) },
-        λ birth idle. retry_told_later birth e (seen_in sh w s) (seen_in mid m x) (seen_in after v t) done.grows (k.1 birth (ap standing_of is ∙ idle)),
+        λ birth idle. retry_told_later birth e (seen_in sh w asked s) (seen_in mid m asked x) (seen_in after v asked t) done.grows (k.1 birth (ap standing_of is ∙ idle)),
         k.2,
       )

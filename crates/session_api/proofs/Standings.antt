@@ -2,6 +2,7 @@
 use Rattle.std.proofs.Common.{◌≡◌, sym, ap, subst, ℕ, ◌≤◌, ◌^◌, ◌-◌, Bool, [], Option, Some, None, inl, inr}
 use Rattle.clv_base.specs.declared.names.TxId.{TxId}
 use Rattle.clv_base.specs.declared.names.Birth.{Birth}
+use Rattle.clv_base.specs.declared.names.Point.{Point}
 use Rattle.clv_base.specs.Sessions.{SessionState}
 use Rattle.cluster_turns.specs.declared.shards.Shards.{Shards}
 use Rattle.cluster_turns.specs.declared.shards.Walker.{Walker}
@@ -59,8 +60,9 @@ module _ {M S G : Type 0} (sh : Shards M S G) where
   unasked_born w p (inl active) = active.born
   unasked_born w p (inr ending) = ending.over.born
 
-  pub stays_grown : (w v : Walker M S G) (s t : Progress) → v ≡ w → t ≡ s → Grows [] (seen_in sh w s) (seen_in sh v t)
-  stays_grown w v s t is same = subst (λ z. Grows [] (seen_in sh w s) (seen_in sh z t)) (sym is) (subst (λ x. Grows [] (seen_in sh w s) (seen_in sh w x)) (sym same) (grows_none (seen_in sh w s)))
+  pub stays_grown : (w v : Walker M S G) (asked : Point) (s t : Progress) → v ≡ w → t ≡ s → Grows [] (seen_in sh w asked s) (seen_in sh v asked t)
+  stays_grown w v asked s t is same =
+      subst (λ z. Grows [] (seen_in sh w asked s) (seen_in sh z asked t)) (sym is) (subst (λ x. Grows [] (seen_in sh w asked s) (seen_in sh w asked x)) (sym same) (grows_none (seen_in sh w asked s)))
 
 module _ {M S G : Type 0} where
   -- the clock is at its end still

@@ -37,6 +37,6 @@ SessionsRest M S G = (sh : Shards M S G) (w : Walker M S G) (s : Progress) → H
 -- try that was given up let go of its parts
 abbrev pub ScriptsFollow : (M S G : Type 0) → Type 0
 ScriptsFollow M S G =
-    (sh : Shards M S G) (number first base : ℕ) (w v : Walker M S G) (s t : Standing) (bodies : List Body) (most : Option ℕ) (cause : Option StopCause) → IsNewWalker sh number first w
-    → FollowsFrom base (HasMissed v) bodies most cause (seen_as sh w s) (seen_as sh v t) → (v.number ≡ number)
+    (sh : Shards M S G) (number first base : ℕ) (w v : Walker M S G) (a b : Point) (s t : Standing) (bodies : List Body) (most : Option ℕ) (cause : Option StopCause) → IsNewWalker sh number first w
+    → FollowsFrom base (HasMissed v) bodies most cause (seen_as sh w a s) (seen_as sh v b t) → (v.number ≡ number)
     × ((f : FollowsScript sh.splits sh.run number most bodies cause (session_entries (kept v.passes.items))) × AllLetGo (HasMissed v) v.clock (tries_of f.transactions))

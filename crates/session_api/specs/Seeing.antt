@@ -2,6 +2,7 @@
 use Rattle.std.specs.Prelude.{ℕ, ◌==◌, Bool, true, false, is_some, List, Option, Some, None, Result, Ok, Err}
 use Rattle.std.specs.Map.{lookup}
 use Rattle.clv_base.specs.declared.names.Birth.{Birth}
+use Rattle.clv_base.specs.declared.names.Point.{Point}
 use Rattle.clv_base.specs.declared.ops.Answer.{Answer}
 use Rattle.clv_base.specs.declared.ops.Answer.TheVariants.{Value, Pairs}
 use Rattle.clv_base.specs.Sessions.{SessionState, Phase, Touching, Ended, Standing as IsStanding, Told, Refused}
@@ -24,10 +25,11 @@ use Rattle.script_runs.specs.Sessions.{session_entries}
 use Rattle.script_runs.specs.Seen.{Standing, Idle, Active, Asked, Seen}
 
 module _ {M S G : Type 0} where
-  -- its walker's entries that only sessions make, the greatest stamp that its passes have seen, and how its last transaction stands
-  abbrev pub seen_as : Shards M S G → Walker M S G → Standing → Seen
-  seen_as sh w st =
-      record { splits = sh.splits; run = sh.run; walker = w.number; entries = session_entries (kept w.passes.items); clock = w.clock; latest = last_seen w.passes.items; serial = w.serial; standing = st }
+  -- its walker's entries that only sessions make, the greatest stamp that its passes have seen, the point of its last request that was acknowledged, and how
+  -- its last transaction stands
+  abbrev pub seen_as : Shards M S G → Walker M S G → Point → Standing → Seen
+  seen_as sh w asked st =
+      record { splits = sh.splits; run = sh.run; walker = w.number; entries = session_entries (kept w.passes.items); clock = w.clock; latest = last_seen w.passes.items; serial = w.serial; standing = st; asked = asked }
 
 -- the touched shards
 abbrev pub touched_in : List (ℕ × ℕ) → ℕ → Bool
@@ -58,6 +60,12 @@ after_commit p birth (Err (commit.Down n)) = is_active p birth
 after_commit p birth (Err (commit.Unsettled n)) = Asked
 after_commit p birth (Err (commit.Worn at)) = by_phase p birth p.phase
 after_commit p birth (Err commit.Memory) = by_phase p birth p.phase
+
+-- the point of the last request that was acknowledged, after a commit
+abbrev pub asked_after : {E : Type 0} → Point → Result Settled E → Point
+asked_after asked (Ok (Committed point)) = point
+asked_after asked (Ok NothingToCommit) = asked
+asked_after asked (Err e) = asked
 
 -- after an abort, where stamps weren't wanting
 abbrev pub after_abort : {A : Type 0} → Birth → Result A WornClock → Standing → Standing

@@ -1,6 +1,7 @@
 -- A session of a cluster, as whoever runs a script sees it.
 use Rattle.std.specs.Prelude.{◌≡◌, ℕ, IsTrue, Option, Some, None}
 use Rattle.clv_base.specs.declared.names.Birth.{Birth}
+use Rattle.clv_base.specs.declared.names.Point.{Point}
 use Rattle.clv_base.specs.Sessions.{SessionState}
 use Rattle.clv_base.specs.Shards.{are_splits}
 use Rattle.cluster_turns.specs.declared.shards.Shards.{Shards}
@@ -28,8 +29,8 @@ standing_of (progress.Asked p home stamp) = Asked
 standing_of (progress.Ended p) = Idle p.birth
 
 module _ {M S G : Type 0} where
-  abbrev pub seen_in : Shards M S G → Walker M S G → Progress → Seen
-  seen_in sh w s = seen_as sh w (standing_of s)
+  abbrev pub seen_in : Shards M S G → Walker M S G → Point → Progress → Seen
+  seen_in sh w asked s = seen_as sh w asked (standing_of s)
 
   -- it is a session between two calls, and its walker never took a disk, and has none
   pub record Holds (sh : Shards M S G) (w : Walker M S G) (s : Progress) : Type 0 where

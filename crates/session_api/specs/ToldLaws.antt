@@ -3,6 +3,7 @@ use Rattle.std.specs.Prelude.{◌≡◌, ℕ, ◌+◌, ◌^◌, ◌<◌, ◌≤�
 use Rattle.clv_base.specs.Shards.{are_splits}
 use Rattle.session_ops.specs.Stepped.{PartsTold}
 use Rattle.clv_base.specs.declared.names.Birth.{Birth}
+use Rattle.clv_base.specs.declared.names.Point.{Point}
 use Rattle.clv_base.specs.declared.ops.Op.{Op}
 use Rattle.clv_base.specs.declared.ops.Op.TheVariants.{Get, Put, Del, Scan}
 use Rattle.clv_base.specs.Sessions.{SessionState}
@@ -23,7 +24,7 @@ use Rattle.session_ops.specs.Committed.{CommitTold as Commits}
 use Rattle.script_runs.specs.Seen.{Standing, Idle}
 use Rattle.script_runs.specs.Told.{Begins, OperateTold, CommitTold, AbortTold}
 use Rattle.session_api.specs.Grounds.{HasMissed}
-use Rattle.session_api.specs.Seeing.{seen_as, touched_in, is_active, unless_dead, after_commit, after_abort, value_end, pairs_end, commit_end, abort_end}
+use Rattle.session_api.specs.Seeing.{seen_as, touched_in, is_active, unless_dead, after_commit, asked_after, after_abort, value_end, pairs_end, commit_end, abort_end}
 
 -- an operation at this key
 pub data IsAt (key : ℕ) : Op → Type 0 where
@@ -34,39 +35,39 @@ pub data IsAt (key : ℕ) : Op → Type 0 where
 -- its entry is the operation's, if it was answered; else there is none, but where the transaction died of it, and then there are drops behind it
 abbrev pub PointsTell : (M S G : Type 0) → Type 0
 PointsTell M S G =
-    (sh : Shards M S G) (w v : Walker M S G) (p q : SessionState) (birth : Birth) (key : ℕ) (op : Op) (r : Result (Option ℕ) OpError) → IsAt key op → IsActive sh w p → p.birth ≡ Some birth → IsSameWalker w v
+    (sh : Shards M S G) (w v : Walker M S G) (asked : Point) (p q : SessionState) (birth : Birth) (key : ℕ) (op : Op) (r : Result (Option ℕ) OpError) → IsAt key op → IsActive sh w p → p.birth ≡ Some birth → IsSameWalker w v
     → PointTold sh w p op key r v q → StandsUnless (has_died r) sh v q
-    → OperateTold p.tx birth p.nth (touched_in p.touched) op (value_end r) (seen_as sh w (is_active p birth)) (seen_as sh v (unless_dead q birth (has_died r)))
+    → OperateTold p.tx birth p.nth (touched_in p.touched) op (value_end r) (seen_as sh w asked (is_active p birth)) (seen_as sh v asked (unless_dead q birth (has_died r)))
 
 -- a scan's entries are those of its parts, shards rising, up to one that wasn't answered; where it died of one, there are drops behind it
 abbrev pub ScansTell : (M S G : Type 0) → Type 0
 ScansTell M S G =
-    (sh : Shards M S G) (w v : Walker M S G) (p q : SessionState) (birth : Birth) (lo hi : ℕ) (r : Result (List (ℕ × ℕ)) OpError) → IsTrue (are_splits sh.splits) → lo ≤ hi → hi < 2 ^ 64 → IsActive sh w p → p.birth ≡ Some birth
+    (sh : Shards M S G) (w v : Walker M S G) (asked : Point) (p q : SessionState) (birth : Birth) (lo hi : ℕ) (r : Result (List (ℕ × ℕ)) OpError) → IsTrue (are_splits sh.splits) → lo ≤ hi → hi < 2 ^ 64 → IsActive sh w p → p.birth ≡ Some birth
     → PartsTold sh birth (p.nth + 1) lo hi w p r v q → StandsUnless (has_died r) sh v q
-    → OperateTold p.tx birth p.nth (touched_in p.touched) (Scan lo hi) (pairs_end r) (seen_as sh w (is_active p birth)) (seen_as sh v (unless_dead q birth (has_died r)))
+    → OperateTold p.tx birth p.nth (touched_in p.touched) (Scan lo hi) (pairs_end r) (seen_as sh w asked (is_active p birth)) (seen_as sh v asked (unless_dead q birth (has_died r)))
 
 -- an abort's entries are drops of the transaction; each shard that it touched has one, or the drop came to nothing there
 abbrev pub AbortsTell : (M S G A : Type 0) → Type 0
 AbortsTell M S G A =
-    (sh : Shards M S G) (w v : Walker M S G) (p : SessionState) (birth : Birth) (r : Result A WornClock) (en : Standing) → IsUnasked sh w p → p.birth ≡ Some birth → IsSameWalker w v
+    (sh : Shards M S G) (w v : Walker M S G) (asked : Point) (p : SessionState) (birth : Birth) (r : Result A WornClock) (en : Standing) → IsUnasked sh w p → p.birth ≡ Some birth → IsSameWalker w v
     → Dropping w.number w.clock w.passes.items p.tx p.touched None 0 (length sh.locks.items) r v.clock v.passes.items
-    → AbortTold (HasMissed v) p.tx birth (touched_in p.touched) (abort_end r) (seen_as sh w (is_active p birth)) (seen_as sh v (after_abort birth r en))
+    → AbortTold (HasMissed v) p.tx birth (touched_in p.touched) (abort_end r) (seen_as sh w asked (is_active p birth)) (seen_as sh v asked (after_abort birth r en))
 
--- a commit's are its request, a look that was told its decision, and drops where it was aborted
+-- a commit's are its request, a look that was told its decision, and drops where it was aborted. The point that it answers is that of its request
 abbrev pub CommitsTell : (M S G : Type 0) → Type 0
 CommitsTell M S G =
-    (sh : Shards M S G) (w v : Walker M S G) (p q : SessionState) (birth : Birth) (stamp : ℕ) (r : Result Settled CommitError) → IsActive sh w p → p.birth ≡ Some birth → IsSameWalker w v → Commits (length sh.locks.items) w p stamp r v q
+    (sh : Shards M S G) (w v : Walker M S G) (asked : Point) (p q : SessionState) (birth : Birth) (stamp : ℕ) (r : Result Settled CommitError) → IsActive sh w p → p.birth ≡ Some birth → IsSameWalker w v → Commits (length sh.locks.items) w p stamp r v q
     → StandsAs sh v q
-    → CommitTold p.tx birth p.nth (touched_in p.touched) (commit_end r) (seen_as sh w (is_active p birth)) (seen_as sh v (after_commit q birth r))
+    → CommitTold p.tx birth p.nth (touched_in p.touched) (commit_end r) (seen_as sh w asked (is_active p birth)) (seen_as sh v (asked_after asked r) (after_commit q birth r))
 
 -- a beginning makes no entry, and the transaction has none so far
 abbrev pub BeginningsTell : (M S G : Type 0) → Type 0
 BeginningsTell M S G =
-    (sh : Shards M S G) (w v : Walker M S G) (p : SessionState) (again : Option Birth) → Begun sh w v p
-    → (birth : Birth) × (p.birth ≡ Some birth) × (birth.session ≡ w.number) × (w.clock < birth.stamp) × (birth.stamp ≤ v.clock) × Begins birth (seen_as sh w (Idle again)) (seen_as sh v (is_active p birth))
+    (sh : Shards M S G) (w v : Walker M S G) (asked : Point) (p : SessionState) (again : Option Birth) → Begun sh w v p
+    → (birth : Birth) × (p.birth ≡ Some birth) × (birth.session ≡ w.number) × (w.clock < birth.stamp) × (birth.stamp ≤ v.clock) × Begins birth (seen_as sh w asked (Idle again)) (seen_as sh v asked (is_active p birth))
 
 -- nor does another try, and it has the birth of the last one
 abbrev pub RetriesTell : (M S G : Type 0) → Type 0
 RetriesTell M S G =
-    (sh : Shards M S G) (w v : Walker M S G) (last p : SessionState) (birth : Birth) → last.birth ≡ Some birth → Retried sh w v last p
-    → (p.birth ≡ Some birth) × Begins birth (seen_as sh w (Idle (Some birth))) (seen_as sh v (is_active p birth))
+    (sh : Shards M S G) (w v : Walker M S G) (asked : Point) (last p : SessionState) (birth : Birth) → last.birth ≡ Some birth → Retried sh w v last p
+    → (p.birth ≡ Some birth) × Begins birth (seen_as sh w asked (Idle (Some birth))) (seen_as sh v asked (is_active p birth))

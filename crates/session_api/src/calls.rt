@@ -3,13 +3,15 @@ ghost use Rattle.std.specs.Prelude.{◌≡◌, ◌<◌, ◌^◌};
 ghost use Rattle.session_api.specs.Standing.{Holds, seen_in};
 ghost use Rattle.session_api.specs.Grounds.{Grounds, HasMissed};
 
-use crate::ends::{aborted, begun, committed, pairs_told, retried, value_told};
+use crate::ends::{aborted, begun, committed, last_asked, pairs_told, retried, value_told};
 use crate::script_session::ScriptSession;
+use crate::stages::stage_of;
 use cluster_turns::Shards;
+use clv_base::names::Point;
 use clv_base::ops::{Answer, Op};
 use io_model::Pace;
 use machine_calls::Flier;
-use script_runs::{SessionCalls, StopCause, TryEnd};
+use script_runs::{SessionCalls, Stage, StopCause, TryEnd};
 use std::alloc::Global;
 use std::sync::Wait;
 
@@ -26,7 +28,7 @@ impl<'a, M: Flier, P: Pace, R: Wait> SessionCalls for ScriptSession<'a, M, P, R>
 
     ghost base = { λ s. s.session.shards.now };
 
-    ghost seen = { λ s. seen_in s.session.shards.now s.session.walker s.session.progress };
+    ghost seen = { λ s. seen_in s.session.shards.now s.session.walker s.asked s.session.progress };
 
     ghost holds = { λ s. Holds s.session.shards.now s.session.walker s.session.progress };
 
@@ -36,6 +38,14 @@ impl<'a, M: Flier, P: Pace, R: Wait> SessionCalls for ScriptSession<'a, M, P, R>
 
     fn clock(&self) -> u64 {
         self.session.walker.clock
+    }
+
+    fn stage(&self) -> Stage {
+        stage_of(&self.session.progress)
+    }
+
+    fn last_request(&self) -> Point {
+        self.asked
     }
 
     fn raise(&mut self, clock: u64) {
@@ -69,7 +79,9 @@ impl<'a, M: Flier, P: Pace, R: Wait> SessionCalls for ScriptSession<'a, M, P, R>
     fn commit(&mut self, alloc: Global) -> TryEnd {
         let shards = self.session.shards;
         let walker = self.session.walker.number;
-        committed(shards, walker, self.session.commit(alloc))
+        let answer = self.session.commit(alloc);
+        self.asked = last_asked(self.asked, answer);
+        committed(shards, walker, answer)
     }
 
     fn abort(&mut self, alloc: Global) -> Result<(), StopCause> {

@@ -6,13 +6,13 @@ ghost use Rattle.session_ops.specs.declared.operating.OpError.{OpError as Failur
 ghost use Rattle.session_ops.specs.declared.committing.Settled.{Settled as SettledIs};
 ghost use Rattle.session_ops.specs.declared.committing.CommitError.{CommitError as CommitFailure};
 ghost use Rattle.session_api.specs.Progresses.{failure_told, answer_told, commit_told, abort_told};
-ghost use Rattle.session_api.specs.Seeing.{op_end, value_end, pairs_end, commit_end, abort_end};
+ghost use Rattle.session_api.specs.Seeing.{asked_after, op_end, value_end, pairs_end, commit_end, abort_end};
 ghost use Rattle.session_api.specs.Ends.{BeginEnds, RetryEnds};
 
 use crate::{AbortError, BeginError, CommitError, OpError, RetryError, Settled};
 use cluster_turns::Shards;
 use clv_base::lists::Pairs;
-use clv_base::names::TxId;
+use clv_base::names::{Point, TxId};
 use clv_base::ops::Answer;
 use machine_calls::Machine;
 use script_runs::{StopCause, TryEnd};
@@ -117,6 +117,16 @@ pub(crate) fn committed<M: Machine>(
             TryEnd::Stopped(StopCause::Memory)
         }
         Err(CommitError::NoTx) => unreachable!(),
+    }
+}
+
+// The point of the last request that was acknowledged, after a commit.
+pub(crate) fn last_asked(asked: Point, answer: Result<Settled, CommitError>) -> Point
+    ensures { result ≡ asked_after asked answer }
+{
+    match answer {
+        Ok(Settled::Committed { point }) => point,
+        _ => asked,
     }
 }
 

@@ -20,6 +20,7 @@ mod retrying;
 mod rounds;
 mod script_session;
 mod session;
+mod stages;
 pub mod told_promises;
 
 pub use beginning::BeginError;

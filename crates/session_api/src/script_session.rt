@@ -7,6 +7,7 @@ ghost use Rattle.session_api.specs.Standing.{Holds, seen_in};
 
 use crate::Session;
 use cluster_turns::{Shards, Walker};
+use clv_base::names::Point;
 use io_model::Pace;
 use machine_calls::Flier;
 use std::sync::Wait;
@@ -15,6 +16,8 @@ use std::sync::Wait;
 #[derive(Drop)]
 pub struct ScriptSession<'a, M: Flier, P: Pace, R: Wait> {
     pub session: Session<'a, M, P, R>,
+    /// The point of the last request that was acknowledged.
+    pub asked: Point,
 }
 
 impl<'a, M: Flier, P: Pace, R: Wait> ScriptSession<'a, M, P, R> {
@@ -29,10 +32,11 @@ impl<'a, M: Flier, P: Pace, R: Wait> ScriptSession<'a, M, P, R> {
         ensures session { Holds result.session.shards.now result.session.walker result.session.progress }
         ensures shards { result.session.shards.now ≡ shards.now }
         ensures begins { (result.session.walker ≡ walker) × (result.session.progress ≡ Idle) }
-        ensures seen { seen_in result.session.shards.now result.session.walker result.session.progress ≡ seen_as shards.now walker (NoneActive None) }
+        ensures seen { seen_in result.session.shards.now result.session.walker result.asked result.session.progress ≡ seen_as shards.now walker result.asked (NoneActive None) }
     {
         ScriptSession {
             session: Session::new(rt, shards, pace, walker),
+            asked: Point { stamp: 0, shard: 0 },
         }
     }
 
@@ -40,7 +44,7 @@ impl<'a, M: Flier, P: Pace, R: Wait> ScriptSession<'a, M, P, R> {
     pub fn into_walker(self) -> Walker<M>
         ensures { result ≡ self.entry.session.walker }
     {
-        let ScriptSession { session } = self;
+        let ScriptSession { session, asked: _ } = self;
         session.into_walker()
     }
 }

@@ -4,6 +4,7 @@ use Rattle.std.specs.Prelude.{IfOk}
 use Rattle.std.proofs.lemmas.List.Elements.{filter-append}
 use Rattle.clv_base.specs.declared.names.TxId.{TxId}
 use Rattle.clv_base.specs.declared.names.Birth.{Birth}
+use Rattle.clv_base.specs.declared.names.Point.{Point}
 use Rattle.clv_base.specs.declared.ops.Op.{Op}
 use Rattle.clv_base.specs.declared.ops.Op.TheVariants.{Get, Put}
 use Rattle.clv_base.specs.declared.ops.Answer.{Answer}
@@ -29,7 +30,7 @@ use Rattle.session_api.specs.Progresses.{after_op, answer_told, commit_told}
 use Rattle.session_api.specs.declared.operating.OpError.{OpError}
 use Rattle.session_api.specs.declared.ending.CommitError.{CommitError}
 use Rattle.session_api.specs.Sessions.{IsSession, StandsIn, PointMade, PointCalled, CommitMade, CommitCalled}
-use Rattle.session_api.specs.Seeing.{seen_as, touched_in, is_active, unless_dead, after_commit as commit_leaves, value_end as value_tells, commit_end as commit_tells}
+use Rattle.session_api.specs.Seeing.{seen_as, touched_in, is_active, unless_dead, after_commit as commit_leaves, asked_after, value_end as value_tells, commit_end as commit_tells}
 use Rattle.session_api.specs.ToldLaws.{IsAt, gets, puts}
 use Rattle.session_api.proofs.Laws.{points_tell, commits_tell, placed_birth}
 use Rattle.session_examples.specs.declared.transfers.Failure.{Failure}
@@ -40,6 +41,10 @@ use Rattle.session_examples.specs.Later.{IsLater}
 use Rattle.session_examples.specs.Ends.{value_end, written_end, commit_end}
 use Rattle.session_examples.specs.Moves.{Acknowledges, made_by, Doing, HasAcknowledged, HasMoved, MovesAs}
 use Rattle.script_runs.proofs.Laws.{one_more}
+
+-- where the last request was isn't asked here
+nowhere : Point
+nowhere = record { stamp = 0; shard = 0 }
 
 -- ---- operations
 
@@ -55,9 +60,9 @@ module _ {M S G : Type 0} (sh : Shards M S G) where
   op_made w u v s t op key r value ops answers h is_at d m is =
       let p = d.place in
       let q = m.place in
-      let told : OperateTold p.tx d.birth p.nth (touched_in p.touched) op (value_tells (Ok value)) (seen_as sh u (is_active p d.birth)) (seen_as sh v (unless_dead q d.birth false)) =
-      subst (λ a. OperateTold p.tx d.birth p.nth (touched_in p.touched) op (value_tells a) (seen_as sh u (is_active p d.birth)) (seen_as sh v (unless_dead q d.birth (has_died a)))) is
-      (points_tell M S G sh u v p q d.birth key op m.answer is_at (active_is u s p h d.is) d.birth_is m.walker m.told m.stands) in
+      let told : OperateTold p.tx d.birth p.nth (touched_in p.touched) op (value_tells (Ok value)) (seen_as sh u nowhere (is_active p d.birth)) (seen_as sh v nowhere (unless_dead q d.birth false)) =
+      subst (λ a. OperateTold p.tx d.birth p.nth (touched_in p.touched) op (value_tells a) (seen_as sh u nowhere (is_active p d.birth)) (seen_as sh v nowhere (unless_dead q d.birth (has_died a)))) is
+      (points_tell M S G sh u v nowhere p q d.birth key op m.answer is_at (active_is u s p h d.is) d.birth_is m.walker m.told m.stands) in
       let parts = active_parts q.tx p.tx d.birth d.birth q.nth (suc p.nth) (touched_in q.touched) told.1 told.5 in
       let grown = (told.4).entries_are in
       let nth = d.nth_is in
@@ -108,7 +113,7 @@ module _ {M S G : Type 0} (sh : Shards M S G) where
   -- ---- a commit
 
   settled_by : (w u v : Walker M S G) (s : Progress) (q : SessionState) (ops : List Op) (answers : List Answer) → 1 ≤ length answers → (d : Doing sh w u s ops answers) → (e : Result Settled CommitFailure)
-      → CommitTold (d.place).tx d.birth (d.place).nth (touched_in (d.place).touched) (commit_tells e) (seen_as sh u (is_active d.place d.birth)) (seen_as sh v (commit_leaves q d.birth e)) → IfOk (commit_end e) (λ u. HasAcknowledged sh ops answers w v)
+      → CommitTold (d.place).tx d.birth (d.place).nth (touched_in (d.place).touched) (commit_tells e) (seen_as sh u nowhere (is_active d.place d.birth)) (seen_as sh v (asked_after nowhere e) (commit_leaves q d.birth e)) → IfOk (commit_end e) (λ u. HasAcknowledged sh ops answers w v)
   settled_by w u v s q ops answers some d (Ok (Committed point)) k =
       let grown = (k.5).entries_are in (
         d.made ++ k.1 ∷ k.2 ∷ [],
@@ -127,7 +132,7 @@ module _ {M S G : Type 0} (sh : Shards M S G) where
   settled_done w u v s t r x ops answers h c told some d =
       let m : CommitMade sh u d.place r v t = subst (λ y. CommitCalled sh u y r v t) d.is c in
       subst (λ y. IfOk y (λ u. HasAcknowledged sh ops answers w v)) (sym (told m.answer m.is))
-      (settled_by w u v s m.place ops answers some d m.answer (commits_tell M S G sh u v d.place m.place d.birth m.stamp m.answer (active_is u s d.place h d.is) d.birth_is m.walker m.told m.stands))
+      (settled_by w u v s m.place ops answers some d m.answer (commits_tell M S G sh u v nowhere d.place m.place d.birth m.stamp m.answer (active_is u s d.place h d.is) d.birth_is m.walker m.told m.stands))
 
   -- ---- a transfer
 

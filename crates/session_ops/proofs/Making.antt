@@ -23,7 +23,7 @@ use Rattle.journal_laws.specs.Offers.{may_make}
 use Rattle.machine_calls.specs.declared.machine.StepError.{StepError}
 use Rattle.machine_calls.specs.declared.machine.StepError.TheVariants.{Memory}
 use Rattle.machine_calls.specs.Events.{touched_fit}
-use Rattle.machine_calls.specs.Steps.{Tells}
+use Rattle.machine_calls.specs.Steps.{Tells, clock_after}
 use Rattle.cluster_turns.specs.declared.shards.Shards.{Shards}
 use Rattle.cluster_turns.specs.declared.shards.Walker.{Walker}
 use Rattle.turn_lock.specs.Passes.{pass_origin}
@@ -105,7 +105,12 @@ module _ {M S G : Type 0} (sh : Shards M S G) (w : Walker M S G) (p : SessionSta
 
 module _ {M S G : Type 0} (sh : Shards M S G) (w v : Walker M S G) (p : SessionState) (a : IsActive sh w p) (n : ℕ) (r : Result Outcome StepError) where
   pub request_told : IsAsked w v n (Request p.tx p.touched) r → RequestTold w.number w.clock w.passes.items n (Request p.tx p.touched) r v.clock v.passes.items
-  request_told walked = record { turns = turn_of w v n (Request p.tx p.touched) r walked ∷ []; took = took_turn w v n (Request p.tx p.touched) r walked refl; is = inr (turn_of w v n (Request p.tx p.touched) r walked, refl, refl, refl, refl) }
+  request_told walked = record {
+    turns = turn_of w v n (Request p.tx p.touched) r walked ∷ [];
+    took = took_turn w v n (Request p.tx p.touched) r walked refl;
+    is = inr (turn_of w v n (Request p.tx p.touched) r walked, refl, refl, refl, refl);
+    stamped = (λ x made. walked.turned.told.clock_is ∙ ap (clock_after w.clock r) made, tt);
+  }
 
   pub request_fits : IsAsked w v n (Request p.tx p.touched) r → IfOk r (λ o. is_request_outcome o ≡ true)
   request_fits walked = told_fits (Request p.tx p.touched) is_told is_request_outcome (λ s. happens_fits s p.tx p.touched) walked.turned.s walked.turned.t w.clock w.number r walked.turned.told.made walked.turned.told.tells
@@ -184,4 +189,4 @@ module _ {M S G : Type 0} (sh : Shards M S G) (w v : Walker M S G) (p : SessionS
 module _ {M S G : Type 0} where
   -- for want of memory there was no turn
   pub no_request : (w : Walker M S G) (n : ℕ) (e : Event) → RequestTold w.number w.clock w.passes.items n e (Err Memory) w.clock w.passes.items
-  no_request w n e = record { turns = []; took = no_turn w.clock w.passes.items; is = inl (refl, refl) }
+  no_request w n e = record { turns = []; took = no_turn w.clock w.passes.items; is = inl (refl, refl); stamped = tt }

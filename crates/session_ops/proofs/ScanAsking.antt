@@ -102,6 +102,7 @@ module _ {T : Type 0} where
         rest = after.turns;
         took = turns_follow w c d e ps qs rs a.turns after.turns a.took after.took;
         asked = a.is;
+        stamped = a.stamped;
         requested = λ is. request_stays w d e qs rs after.turns p asked after.took (request_made w c d n ps qs p (subst (λ (z : Result Outcome StepError). RequestTold w c ps n (Request p.tx p.touched) z d qs) is a));
         only = subst (λ ts. AllByRecursion (λ t. IsLookOrDrop p.tx ts n t) after.turns) (same_request n p x).1
             (subst (λ y. AllByRecursion (λ t. IsLookOrDrop y (place_requested n p x).touched n t) after.turns) (same_request n p x).0 after.only);

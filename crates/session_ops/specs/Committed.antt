@@ -15,7 +15,7 @@ use Rattle.cluster_turns.specs.declared.shards.Shards.{Shards}
 use Rattle.cluster_turns.specs.declared.shards.Walker.{Walker}
 use Rattle.cluster_turns.specs.CallTurns.{Turn, Took}
 use Rattle.session_ops.specs.Standing.{IsActive, IsGoneAt}
-use Rattle.session_ops.specs.Requested.{IsStanding, IsTurnOf, HasRequest}
+use Rattle.session_ops.specs.Requested.{IsStanding, IsTurnOf, HasStamp, HasRequest}
 use Rattle.session_ops.specs.Dropped.{IsEnding}
 use Rattle.session_ops.specs.declared.settled_looking.SettleError.{SettleError}
 use Rattle.session_ops.specs.declared.committing.Settled.{Settled}
@@ -56,7 +56,7 @@ pub record Following {T : Type 0} (count w clock : ℕ) (before : List (Option (
   pub only : AllByRecursion (IsLookOrDrop p.tx p.touched n) turns
   pub told : FollowedBy count n p asked x r turns q
 
--- one request, and what comes after it. Where it was asked, it is among the walker's entries, with this stamp
+-- one request, whose entry has this stamp, and what comes after it. Where it was asked, it is among the walker's entries
 pub record Committing {T : Type 0} (count w clock : ℕ) (before : List (Option (Pass T Note Origin))) (n : ℕ) (p : SessionState) (stamp : ℕ) (r : Result Settled CommitError) (clock' : ℕ) (after : List (Option (Pass T Note Origin)))
     (q : SessionState) : Type 0 where
   pub answer : Result Outcome StepError
@@ -64,6 +64,7 @@ pub record Committing {T : Type 0} (count w clock : ℕ) (before : List (Option 
   pub rest : List Turn
   pub took : Took w clock before (asking ++ rest) clock' after
   pub asked : IsTurnOf n (Request p.tx p.touched) answer asking
+  pub stamped : AllByRecursion (HasStamp stamp) asking
   pub only : AllByRecursion (IsLookOrDrop p.tx p.touched n) rest
   pub requested : answer ≡ Ok Asked → HasRequest after p (record { stamp = stamp; shard = n })
   pub told : CommittedBy count n p (record { stamp = stamp; shard = n }) answer r rest q

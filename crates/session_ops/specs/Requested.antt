@@ -1,5 +1,6 @@
 -- What the event of a request tells, and what holds after it.
-use Rattle.std.specs.Prelude.{◌≡◌, ◌⊎◌, ℕ, Bool, true, false, List, [], ◌∷◌, Option, Result, Ok, Err}
+use Rattle.std.specs.Prelude.{◌≡◌, ◌⊎◌, ℕ, Bool, true, false, List, [], ◌∷◌, Option, Some, Result, Ok, Err}
+use Rattle.std.specs.List.{AllByRecursion}
 use Rattle.clv_base.specs.declared.names.Point.{Point}
 use Rattle.clv_base.specs.declared.events.Entry.{Entry}
 use Rattle.clv_base.specs.declared.events.Event.{Event}
@@ -37,10 +38,16 @@ place_requested home p _ = p
 abbrev pub IsTurnOf : ℕ → Event → Result Outcome StepError → List Turn → Type 0
 IsTurnOf n e r ts = ((r ≡ Err Memory) × (ts ≡ [])) ⊎ ((t : Turn) × (ts ≡ t ∷ []) × (t.shard ≡ n) × (t.event ≡ e) × (t.answer ≡ r))
 
+-- the turn's entry, if it made one, has this stamp
+abbrev pub HasStamp : ℕ → Turn → Type 0
+HasStamp stamp t = (x : Entry) → t.made ≡ Some x → stamp ≡ x.stamp
+
+-- and the walker's clock behind it is its entry's stamp
 pub record RequestTold {T : Type 0} (w clock : ℕ) (before : List (Option (Pass T Note Origin))) (n : ℕ) (e : Event) (r : Result Outcome StepError) (clock' : ℕ) (after : List (Option (Pass T Note Origin))) : Type 0 where
   pub turns : List Turn
   pub took : Took w clock before turns clock' after
   pub is : IsTurnOf n e r turns
+  pub stamped : AllByRecursion (HasStamp clock') turns
 
 -- among the entries that a walker has made is the request of p, asked at this point
 pub record HasRequest {T : Type 0} (passes : List (Option (Pass T Note Origin))) (p : SessionState) (point : Point) : Type 0 where
