@@ -5,6 +5,7 @@ use Rattle.std.proofs.lemmas.List.{take_all, get_or_append_left}
 use borrow.Rule.Slice.PartMut.{put_mid}
 use Rattle.clv_base.specs.Journals.{History}
 use Rattle.script_runs.specs.declared.ends.StopCause.{StopCause}
+use Rattle.script_runs.specs.Books.{IsKept}
 use Rattle.script_runs.specs.Seen.{Seen, Misses, Keeps}
 use Rattle.script_runs.specs.Ran.{stop_in, IsIdle, IdleAfter, FollowsFrom, Follows}
 use Rattle.script_runs.specs.Laws.{SessionsGoOn, SessionsStop}
@@ -81,7 +82,7 @@ module _ {S B : Type 0} (holds : S → Type 0) (base : S → B) (seen : S → Se
     pub stopped : IfErr new.ended (grounds new.session)
 
   abbrev given_back : Seat S → Seat S → Seat S
-  given_back x y = record { session = y.session; transactions = x.transactions; ended = y.ended }
+  given_back x y = record { session = y.session; transactions = x.transactions; ended = y.ended; book = y.book }
 
   fine : {A : Type 0} (r : Result A StopCause) → is_ok r ≡ true → stop_in r ≡ None
   fine (Ok a) h = refl
@@ -209,6 +210,36 @@ module _ {S B : Type 0} (holds : S → Type 0) (base : S → B) (seen : S → Se
         (alone_at clock x s (seen s.session) [] b at (sym (append-nil (seen s.session).entries)));
     others = λ k d pos l. others_behind (Past clock) (x ∷ xs) s ys zs (given_back x (slice_index_or zs 0 r)) is len all k d pos l;
   }
+
+-- ---- their books
+
+module _ {S : Type 0} (seen : S → Seen) where
+  -- a seat's book tells what its session's entries tell
+  abbrev pub IsSeatKept : Seat S → Type 0
+  IsSeatKept s = IsKept (seen s.session) s.book
+
+  abbrev with_transactions : Seat S → Seat S → Seat S
+  with_transactions x y = record { session = y.session; transactions = x.transactions; ended = y.ended; book = y.book }
+
+  pub kept_joined : (xs : List (Seat S)) (s : Seat S) (ys : List (Seat S)) (q r : Seat S) → length ys ≡ length (slice_set xs 0 s) → ((k : ℕ) (d : Seat S) → k < length (slice_set xs 0 s) → IsSeatKept (slice_index_or ys k d))
+      → (k : ℕ) (d : Seat S) → k < length xs → IsSeatKept (slice_index_or (slice_set ys 0 (with_transactions (slice_index_or xs 0 q) (slice_index_or ys 0 r))) k d)
+  kept_joined [] s ys q r len all k d l = absurd (omega arith)
+  kept_joined (x ∷ xs) s [] q r len all k d l = absurd (omega arith)
+  kept_joined (x ∷ xs) s (y ∷ ys) q r len all zero d l = all 0 d (omega arith)
+  kept_joined (x ∷ xs) s (y ∷ ys) q r len all (suc k) d l = all (suc k) d l
+
+  pub kept_behind : (xs : List (Seat S)) (s : Seat S) (ys zs : List (Seat S)) (q r : Seat S) → zs ≡ put_mid 1 (length (slice_set xs 0 s) - 1) (slice_set xs 0 s) ys → length ys ≡ length (take (length (slice_set xs 0 s) - 1) (drop 1 (slice_set xs 0 s)))
+      → IsSeatKept s → ((k : ℕ) (d : Seat S) → k < length (take (length (slice_set xs 0 s) - 1) (drop 1 (slice_set xs 0 s))) → IsSeatKept (slice_index_or ys k d))
+      → (k : ℕ) (d : Seat S) → k < length xs → IsSeatKept (slice_index_or (slice_set zs 0 (with_transactions (slice_index_or xs 0 q) (slice_index_or zs 0 r))) k d)
+  kept_behind [] s ys zs q r is len first all k d l = absurd (omega arith)
+  kept_behind (x ∷ xs) s ys zs q r is len first all zero d l = subst (λ w. IsSeatKept (slice_index_or (slice_set w 0 (with_transactions x (slice_index_or w 0 r))) 0 d)) (sym is) first
+  kept_behind (x ∷ xs) s ys zs q r is len first all (suc k) d l =
+      let whole : take (length (s ∷ xs) - 1) xs ≡ xs = take_all (length (s ∷ xs) - 1) xs (omega arith) in
+      let rest = drop (length (s ∷ xs) - 1) xs in
+      let same : zs ≡ s ∷ (ys ++ rest) = is in
+      let many : length ys ≡ length xs = len ∙ ap length whole in
+      subst (λ w. IsSeatKept (slice_index_or (slice_set w 0 (with_transactions x (slice_index_or w 0 r))) (suc k) d)) (sym same)
+      (subst IsSeatKept (sym (get_or_append_left ys rest d k (omega arith))) (all k d (subst (λ w. k < length w) (sym whole) (omega arith))))
 
 -- ---- seats that ran beside each other, from their own clocks
 

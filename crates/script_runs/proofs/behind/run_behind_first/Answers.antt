@@ -4,7 +4,7 @@ use Rattle.std.specs.Result.{is_ok}
 use Rattle.script_lang.specs.Laws.{is_narrow_body}
 use Rattle.script_runs.specs.Ran.{IsIdle}
 use Rattle.script_runs.specs.Alone.{BeginsPast, BeganAlone, base_of, IsReached}
-use Rattle.script_runs.proofs.Begun.{first_is, idle_when_ok, with_first, behind_first, Begun, Sat, all_joined, all_behind, reached_joined, reached_behind, none_follow, alone_joined, alone_behind}
+use Rattle.script_runs.proofs.Begun.{first_is, idle_when_ok, with_first, behind_first, Begun, Sat, all_joined, all_behind, reached_joined, reached_behind, IsSeatKept, kept_joined, kept_behind, none_follow, alone_joined, alone_behind}
 use Rattle.script_runs.proofs.behind.run_behind_first.Goals as goal
 use Rattle.script_runs.proofs.behind.run_behind_first.Goals.{then-is_ok, else-is_ok}
 
@@ -15,6 +15,12 @@ run_together-requires-clause-idle g c κs within =
     subst (λ s. is_ok s.ended ≡ true) (first_is c.args.seats.now c.run_first.new.seat c.index-seats-0-4.result some) (sym c.is_ok.ensures.value ∙ c.if-is_ok.true) in
     with_first (λ s. IsIdle (g.C.SessionCalls.seen s.session)) c.args.seats.now c.run_first.new.seat
     (idle_when_ok c.run_first.new.seat.ended (g.C.SessionCalls.seen c.run_first.new.seat.session) ok c.run_first.ensures.idle) c.requires.idle
+
+pub run_together-requires-clause-kept : goal.run_together-requires-clause-kept
+run_together-requires-clause-kept g c κs within = with_first (IsSeatKept g.C.SessionCalls.seen) c.args.seats.now c.run_first.new.seat c.run_first.ensures.kept c.requires.kept
+
+pub run_together-requires-else-is_ok-clause-kept : goal.run_together-requires-else-is_ok-clause-kept
+run_together-requires-else-is_ok-clause-kept g c κs within = behind_first (IsSeatKept g.C.SessionCalls.seen) c.args.seats.now c.run_first.new.seat c.requires.kept
 
 pub run_together-requires-else-is_ok-clause-session : goal.run_together-requires-else-is_ok-clause-session
 run_together-requires-else-is_ok-clause-session g c κs within = behind_first (λ s. g.C.SessionCalls.holds s.session) c.args.seats.now c.run_first.new.seat c.requires.session
@@ -35,7 +41,7 @@ returns g c =
     let begun : Begun g.C.SessionCalls.holds g.C.SessionCalls.base g.C.SessionCalls.seen g.C.SessionCalls.grounds g.C.SessionCalls.missed c.args.most (slice_index_or c.args.seats.now 0 c.index-seats-0-2.result) c.run_first.new.seat =
     record { session = c.run_first.ensures.session; base_is = c.run_first.ensures.base; misses = c.run_first.ensures.misses; begun = c.run_first.ensures.begun; stopped = c.run_first.ensures.grounds } in
     let clock : c.clock-clock.result ≡ (g.C.SessionCalls.seen c.run_first.new.seat.session).clock = c.clock-clock.ensures ∙ ap (λ z. (g.C.SessionCalls.seen z.session).clock) (first_is c.args.seats.now c.run_first.new.seat c.index-seats-0-3.result some) in
-    let all : (k : ℕ) (d : _) → k < length c.args.seats.now → Sat g.C.SessionCalls.holds g.C.SessionCalls.base g.C.SessionCalls.seen g.C.SessionCalls.grounds g.C.SessionCalls.missed c.args.most (base_of c.clock-clock.result k (g.C.SessionCalls.seen (slice_index_or c.args.seats.now k d).session)) (slice_index_or c.args.seats.now k d) (slice_index_or (slice_set c.if-is_ok.seats 0 (record { session = (slice_index_or c.if-is_ok.seats 0 c.index-seats-0-5.result).session; transactions = (slice_index_or c.args.seats.now 0 c.index-seats-0.result).transactions; ended = (slice_index_or c.if-is_ok.seats 0 c.index-seats-0-5.result).ended })) k d) =
+    let all : (k : ℕ) (d : _) → k < length c.args.seats.now → Sat g.C.SessionCalls.holds g.C.SessionCalls.base g.C.SessionCalls.seen g.C.SessionCalls.grounds g.C.SessionCalls.missed c.args.most (base_of c.clock-clock.result k (g.C.SessionCalls.seen (slice_index_or c.args.seats.now k d).session)) (slice_index_or c.args.seats.now k d) (slice_index_or (slice_set c.if-is_ok.seats 0 (record { session = (slice_index_or c.if-is_ok.seats 0 c.index-seats-0-5.result).session; transactions = (slice_index_or c.args.seats.now 0 c.index-seats-0.result).transactions; ended = (slice_index_or c.if-is_ok.seats 0 c.index-seats-0-5.result).ended; book = (slice_index_or c.if-is_ok.seats 0 c.index-seats-0-5.result).book })) k d) =
     elim c.if-is_ok.branch [
       | then-is_ok w ↦
           let ok : is_ok c.run_first.new.seat.ended ≡ true = subst (λ s. is_ok s.ended ≡ true) one (sym c.is_ok.ensures.value ∙ w.if-is_ok.true) in
@@ -54,7 +60,7 @@ returns g c =
           c.if-is_ok.seats c.index-seats-0-2.result c.index-seats-0.result c.index-seats-0-5.result w.seats-is w.run_together-else-is_ok.auto.seats begun off
           (λ k d l. record { session = e.session k d l; base_is = e.base k d l; misses = e.misses k d l; transactions = e.transactions k d l; follows = e.follows k d l; stopped = e.grounds k d l })
     ] in
-    let reached : (d : _) → 0 < length c.args.seats.now → IsReached c.clock-clock.result (g.C.SessionCalls.seen (slice_index_or c.args.seats.now 0 d).session) (g.C.SessionCalls.seen (slice_index_or (slice_set c.if-is_ok.seats 0 (record { session = (slice_index_or c.if-is_ok.seats 0 c.index-seats-0-5.result).session; transactions = (slice_index_or c.args.seats.now 0 c.index-seats-0.result).transactions; ended = (slice_index_or c.if-is_ok.seats 0 c.index-seats-0-5.result).ended })) 0 d).session) =
+    let reached : (d : _) → 0 < length c.args.seats.now → IsReached c.clock-clock.result (g.C.SessionCalls.seen (slice_index_or c.args.seats.now 0 d).session) (g.C.SessionCalls.seen (slice_index_or (slice_set c.if-is_ok.seats 0 (record { session = (slice_index_or c.if-is_ok.seats 0 c.index-seats-0-5.result).session; transactions = (slice_index_or c.args.seats.now 0 c.index-seats-0.result).transactions; ended = (slice_index_or c.if-is_ok.seats 0 c.index-seats-0-5.result).ended; book = (slice_index_or c.if-is_ok.seats 0 c.index-seats-0-5.result).book })) 0 d).session) =
     elim c.if-is_ok.branch [
       | then-is_ok w ↦
           let e = w.run_together.ensures in
@@ -67,7 +73,7 @@ returns g c =
       | else-is_ok w ↦
           reached_behind g.C.SessionCalls.holds g.C.SessionCalls.base g.C.SessionCalls.seen g.C.SessionCalls.grounds g.C.SessionCalls.missed c.args.most c.clock-clock.result c.args.seats.now c.run_first.new.seat w.run_together-else-is_ok.new.seats c.if-is_ok.seats c.index-seats-0-2.result c.index-seats-0.result c.index-seats-0-5.result clock w.seats-is begun
     ] in
-    let alone : BeganAlone g.C.SessionCalls.seen c.args.most c.args.seats.now (slice_set c.if-is_ok.seats 0 (record { session = (slice_index_or c.if-is_ok.seats 0 c.index-seats-0-5.result).session; transactions = (slice_index_or c.args.seats.now 0 c.index-seats-0.result).transactions; ended = (slice_index_or c.if-is_ok.seats 0 c.index-seats-0-5.result).ended })) =
+    let alone : BeganAlone g.C.SessionCalls.seen c.args.most c.args.seats.now (slice_set c.if-is_ok.seats 0 (record { session = (slice_index_or c.if-is_ok.seats 0 c.index-seats-0-5.result).session; transactions = (slice_index_or c.args.seats.now 0 c.index-seats-0.result).transactions; ended = (slice_index_or c.if-is_ok.seats 0 c.index-seats-0-5.result).ended; book = (slice_index_or c.if-is_ok.seats 0 c.index-seats-0-5.result).book })) =
     elim c.if-is_ok.branch [
       | then-is_ok w ↦
           alone_joined g.C.SessionCalls.holds g.C.SessionCalls.base g.C.SessionCalls.seen g.C.SessionCalls.grounds g.C.SessionCalls.missed c.args.most c.clock-clock.result c.args.seats.now c.run_first.new.seat c.if-is_ok.seats
@@ -77,6 +83,15 @@ returns g c =
           alone_behind g.C.SessionCalls.holds g.C.SessionCalls.base g.C.SessionCalls.seen g.C.SessionCalls.grounds g.C.SessionCalls.missed c.args.most c.clock-clock.result c.args.seats.now c.run_first.new.seat w.run_together-else-is_ok.new.seats
           c.if-is_ok.seats c.index-seats-0-2.result c.index-seats-0.result c.index-seats-0-5.result w.seats-is w.run_together-else-is_ok.auto.seats begun clock w.run_together-else-is_ok.ensures.past
     ] in
+    let kept : (k : ℕ) (d : _) → k < length c.args.seats.now → IsSeatKept g.C.SessionCalls.seen (slice_index_or (slice_set c.if-is_ok.seats 0 (record { session = (slice_index_or c.if-is_ok.seats 0 c.index-seats-0-5.result).session; transactions = (slice_index_or c.args.seats.now 0 c.index-seats-0.result).transactions; ended = (slice_index_or c.if-is_ok.seats 0 c.index-seats-0-5.result).ended; book = (slice_index_or c.if-is_ok.seats 0 c.index-seats-0-5.result).book })) k d) =
+    elim c.if-is_ok.branch [
+      | then-is_ok w ↦
+          kept_joined g.C.SessionCalls.seen c.args.seats.now c.run_first.new.seat c.if-is_ok.seats c.index-seats-0.result c.index-seats-0-5.result c.if-is_ok.auto.seats
+          (λ k d l. subst (λ z. IsSeatKept g.C.SessionCalls.seen (slice_index_or z k d)) (sym w.seats-is) (w.run_together.ensures.kept k d l))
+      | else-is_ok w ↦
+          kept_behind g.C.SessionCalls.seen c.args.seats.now c.run_first.new.seat w.run_together-else-is_ok.new.seats c.if-is_ok.seats c.index-seats-0.result c.index-seats-0-5.result w.seats-is w.run_together-else-is_ok.auto.seats
+          c.run_first.ensures.kept w.run_together-else-is_ok.ensures.kept
+    ] in
     record {
       session = λ k d l. (all k d l).session;
       base = λ k d l. (all k d l).base_is;
@@ -85,4 +100,5 @@ returns g c =
       follows = record { clock = c.clock-clock.result; reached = reached; each = λ k d l. (all k d l).follows };
       grounds = λ k d l. (all k d l).stopped;
       alone = alone;
+      kept = kept;
     }
