@@ -1,5 +1,5 @@
 -- What the sink took of a report.
-use Rattle.std.proofs.Common.{◌≡◌, refl, inl, inr, ℕ, Bool, true, false, List, Option, Some, Result, Ok, Err}
+use Rattle.std.proofs.Common.{◌≡◌, refl, inl, inr, ℕ, true, false, List, Option, Some, Result, Ok, Err}
 use Rattle.std.proofs.lemmas.Bool.{both_ways}
 use Rattle.history_replay.specs.Entries.{Kept}
 use Rattle.report_text.specs.declared.texts.ReportError.{ReportError}
