@@ -81,13 +81,13 @@ module _ {M S G : Type 0} (sh : Shards M S G) (last : Point) where
   worn_done w v p t op h session part is same = record {
     holds = held_so sh w v (progress.Worn p) t h session (ap (λ z. z.number) is) (ap (λ z. z.passes.items) is);
     told = λ tx birth nth touched st. (
-        [],
-        touched,
-        begun_with_none sh.splits tx birth (suc nth) op part,
-        touches_just_none touched,
-        stays_grown sh w v last (progress.Worn p) t is same,
-        (nth, ap standing_of same ∙ st),
-        );
+      [],
+      touched,
+      begun_with_none sh.splits tx birth (suc nth) op part,
+      touches_just_none touched,
+      stays_grown sh w v last (progress.Worn p) t is same,
+      (nth, ap standing_of same ∙ st),
+    );
     grounds = (refl, worn_still w v is ((h.session).stands).1);
   }
 

@@ -1,14 +1,18 @@
 -- How a session's last transaction stands, as whoever runs a script reads it.
-use Rattle.std.proofs.Common.{◌≡◌, sym, ap, subst, ℕ, ◌≤◌, ◌^◌, ◌-◌, Bool, [], Option, Some, None, inl, inr}
+use Rattle.std.proofs.Common.{◌≡◌, refl, sym, ap, subst, ℕ, ◌<◌, ◌≤◌, ◌^◌, ◌-◌, ◌==◌, Bool, true, false, cond, List, [], ◌∷◌, Option, Some, None, inl, inr}
+use Rattle.std.specs.Prelude.{is_some, IfNone, IfSome}
+use Rattle.std.specs.Map.{lookup}
+use Rattle.std.proofs.lemmas.Bool.{both_ways}
 use Rattle.clv_base.specs.declared.names.TxId.{TxId}
 use Rattle.clv_base.specs.declared.names.Birth.{Birth}
 use Rattle.clv_base.specs.declared.names.Point.{Point}
-use Rattle.clv_base.specs.Sessions.{SessionState}
+use Rattle.clv_base.specs.Sessions.{SessionState, is_lowest}
 use Rattle.cluster_turns.specs.declared.shards.Shards.{Shards}
 use Rattle.cluster_turns.specs.declared.shards.Walker.{Walker}
 use Rattle.session_ops.specs.Standing.{HasBirth}
 use Rattle.session_ops.specs.Standings.{IsUnasked}
-use Rattle.script_runs.specs.Seen.{Idle, Active, Asked, Grows}
+use Rattle.script_runs.specs.Seen.{Idle, Active, Asked, IsStage, Grows}
+use Rattle.script_runs.specs.declared.calls.Stage.TheVariants as stage
 use Rattle.session_api.specs.declared.progress.Progress.{Progress}
 use Rattle.session_api.specs.Seeing.{touched_in}
 use Rattle.session_api.specs.Standing.{active_as, seen_in}
@@ -54,6 +58,18 @@ idle_again a b h = cc
 
 pub none_again : {X : Type 0} (birth : Birth) → Idle None ≡ Idle (Some birth) → X
 none_again birth h = absurd cc
+
+-- ---- its stage
+
+lowest_touched : (n : ℕ) (ts : List (ℕ × ℕ)) → is_lowest n ts ≡ true → touched_in ts n ≡ true
+lowest_touched n [] h = absurd (both_ways false refl h)
+lowest_touched n (t ∷ ts) h = ap (λ b. is_some (cond b (Some t.1) (lookup (◌==◌ n) ts))) h
+
+-- an active transaction, by the lowest shard that it touched, if any
+pub stage_active : (p : SessionState) (o : Option Birth) (birth : Birth) (home : Option ℕ) → o ≡ Some birth → IfNone home (p.touched ≡ []) → IfSome home (λ n. (is_lowest n p.touched ≡ true) × (n < 16)) → IsStage (active_as p o) (stage.Active (is_some home))
+stage_active p None birth home is none low = absurd cc
+stage_active p (Some b) birth None is none low = (false, refl, λ n. ap (λ ts. touched_in ts n) none)
+stage_active p (Some b) birth (Some home) is none low = (true, refl, (home, lowest_touched home p.touched low.0))
 
 module _ {M S G : Type 0} (sh : Shards M S G) where
   pub unasked_born : (w : Walker M S G) (p : SessionState) → IsUnasked sh w p → HasBirth w p

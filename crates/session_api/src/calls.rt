@@ -5,9 +5,9 @@ ghost use Rattle.session_api.specs.Grounds.{Grounds, HasMissed};
 
 use crate::ends::{aborted, begun, committed, last_asked, pairs_told, retried, value_told};
 use crate::script_session::ScriptSession;
-use crate::stages::stage_of;
+use crate::stages::{name_of, stage_of};
 use cluster_turns::Shards;
-use clv_base::names::Point;
+use clv_base::names::{Point, TxId};
 use clv_base::ops::{Answer, Op};
 use io_model::Pace;
 use machine_calls::Flier;
@@ -46,6 +46,10 @@ impl<'a, M: Flier, P: Pace, R: Wait> SessionCalls for ScriptSession<'a, M, P, R>
 
     fn last_request(&self) -> Point {
         self.asked
+    }
+
+    fn name(&self) -> TxId {
+        name_of(&self.session.progress)
     }
 
     fn raise(&mut self, clock: u64) {
@@ -89,4 +93,6 @@ impl<'a, M: Flier, P: Pace, R: Wait> SessionCalls for ScriptSession<'a, M, P, R>
         let walker = self.session.walker.number;
         aborted(shards, walker, self.session.abort(alloc))
     }
+
+    ghost wanting = { λ s. tt };
 }
