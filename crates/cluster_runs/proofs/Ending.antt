@@ -446,6 +446,15 @@ own_is_kept {D = D} shard sh walkers homes kept down counts counts_now out out_n
     (history {D = D} shard sh walkers homes kept down counts counts_now out out_now before now r).same_own k
     ∙ ap entries_of (view_at walkers k k d l (numbers k d l) (λ j e low same. (let n = numbers j e (omega arith) in omega arith)))
 
+-- and there are none of others
+pub others_own_none :
+    {M S G D : Type 0} (shard : M → Shard) (sh : Shards M S G) (walkers : List (Walker M S G)) (homes : List (Home M S G)) (kept : Kept) (down : Option ℕ) (counts counts_now : ℕ → ℕ) (out out_now : ℕ → Bool) (before now : ℕ → Option Story)
+    → IsClosedRun D shard sh walkers homes kept down counts counts_now out out_now before now → ((k : ℕ) (d : Walker M S G) → k < length walkers → (get_or walkers k d).number ≡ k)
+    → (w : ℕ) → length walkers ≤ w → own w (entries_of kept.journals) ≡ []
+others_own_none {D = D} shard sh walkers homes kept down counts counts_now out out_now before now r numbers w past =
+    (history {D = D} shard sh walkers homes kept down counts counts_now out out_now before now r).same_own w
+    ∙ ap entries_of (no_view walkers w (λ j e l same. (let n = numbers j e l in omega arith)))
+
 -- where the walkers came to the last stamp, an entry is so near it
 all_below : {M S G : Type 0} (top : ℕ) (ws : List (Walker M S G)) → ((k : ℕ) (d : Walker M S G) → k < length ws → last_seen (get_or ws k d).passes.items ≤ top) → seen_by_all ws ≤ top
 all_below top [] all = omega arith

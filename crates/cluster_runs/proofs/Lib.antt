@@ -29,4 +29,5 @@ mod Alone
 mod Replaying
 mod Stored
 mod Scripted
+mod Books
 pub mod Laws

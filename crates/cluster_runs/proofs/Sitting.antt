@@ -1,5 +1,5 @@
 -- What a session of a seat leaves.
-use Rattle.std.proofs.Common.{◌≡◌, refl, ◌∙◌, sym, ap, subst, arith, true, ℕ, zero, suc, max, ◌+◌, ◌<◌, List, [], ◌∷◌, ◌++◌, length, Option, Some, IfErr, slice_get}
+use Rattle.std.proofs.Common.{◌≡◌, refl, ◌∙◌, sym, ap, subst, arith, true, ℕ, zero, suc, max, ◌+◌, ◌<◌, ◌≤◌, List, [], ◌∷◌, ◌++◌, length, Option, Some, IfErr, slice_get}
 use Rattle.std.specs.List.{AllByRecursion, list_all}
 use Rattle.clv_base.specs.declared.names.Point.{Point}
 use Rattle.cluster_turns.specs.declared.shards.Shards.{Shards}
@@ -16,6 +16,12 @@ use Rattle.script_runs.specs.Seen.{Seen}
 use Rattle.script_runs.specs.Alone.{base_of}
 use Rattle.script_runs.proofs.Laws.{all_past, session_tries_are_few}
 use Rattle.session_api.proofs.Laws.{sessions_rest, scripts_follow, new_walkers_keep_none}
+use Rattle.clv_base.specs.Shards.{are_splits}
+use Rattle.cluster_turns.specs.Walkers.{kept}
+use Rattle.session_books.specs.Counts.{counts_in}
+use Rattle.session_books.specs.Books.{Book, rows}
+use Rattle.script_runs.specs.Books.{IsKept, AreUpTo, total}
+use Rattle.cluster_runs.specs.Books.{IsBlank}
 use Rattle.cluster_runs.specs.Sessions.{IsSeated, HasSat, base_from}
 use Rattle.law_base.proofs.Bools.{and_first, and_second}
 
@@ -43,6 +49,17 @@ module _ {M S G : Type 0} where
             omega arith);
         grounds = grounds;
         later = subst (AllByRecursion (λ e. clock < (e.1).stamp)) (sym kept_is) (all_past clock w.clock v.clock f.0 (let c = (seat.new).clock_is in omega arith) (f.2).stamped);
+      }
+
+  -- a new session has made nothing, and its book is blank
+  pub new_kept : (sh old : Shards M S G) (clock : ℕ) (w : Walker M S G) (a : Point) (s : Progress) (bodies : List Body) (script : List (List Body)) (k : ℕ) (book : Book) → IsSeated sh clock script k old w s bodies → IsBlank book → IsKept (seen_in old w a s) book
+  new_kept sh old clock w a s bodies script k book seat blank =
+      let none : session_entries (kept w.passes.items) ≡ [] = ap session_entries (new_walkers_keep_none M S G sh (suc k) clock w seat.new) in
+      record {
+        splits_are = ap (λ z. are_splits z.splits) seat.on ∙ (seat.holds).splits;
+        is_book = record { rows = blank.rows ∙ ap rows (sym none); counts = blank.counts ∙ ap (λ es. counts_in es es) (sym none) };
+        up_to = subst (AreUpTo w.serial w.clock) (sym none) tt;
+        few = subst (λ c. total c ≤ w.clock) (sym blank.counts) (omega arith);
       }
 
 -- the clock from which each rose

@@ -1,5 +1,6 @@
 pub mod Ran
 pub mod Sessions
+pub mod Books
 pub mod Drained
 pub mod Alone
 pub mod Ends

@@ -1,5 +1,5 @@
 // What a run does with a cluster that was opened.
-ghost use Rattle.std.specs.Prelude.{◌≡◌, ◌<◌, ◌≤◌, ◌+◌, ℕ, suc, true, length, slice_index_or, vec_len, IfOk};
+ghost use Rattle.std.specs.Prelude.{◌≡◌, ◌<◌, ◌≤◌, ◌+◌, ℕ, suc, true, [], length, slice_index_or, vec_len, vec_capacity, IfOk};
 ghost use Rattle.std.specs.List.{list_all};
 ghost use Rattle.clv_base.specs.Shards.{are_splits};
 ghost use Rattle.cluster_opening.specs.Made.{IsNewWalker};
@@ -8,6 +8,7 @@ ghost use Rattle.script_runs.specs.declared.threads.Start.TheVariants.{FirstAlon
 ghost use Rattle.session_api.specs.Standing.{IsAtRest};
 ghost use Rattle.cluster_runs.specs.PromisedSessions.{Went};
 ghost use Rattle.cluster_runs.specs.Sessions.{SessionsGone, AreCounted, HasWornLast};
+ghost use Rattle.cluster_runs.specs.Books.{WalkersHaveBooks};
 ghost use Rattle.cluster_runs.specs.Drained.{AreDrained, SeeSettled};
 ghost use Rattle.cluster_runs.specs.Alone.{AreAlone};
 
@@ -19,6 +20,7 @@ use io_model::Pace;
 use machine_calls::Flier;
 use script_lang::Session;
 use script_runs::{Start, StopCause};
+use session_books::books::Book;
 use std::alloc::Global;
 use std::sync::Wait;
 use std::thread::Threads;
@@ -27,8 +29,8 @@ use std::thread::Threads;
 ///
 /// What its walker kept of a session is its transactions in order, each in its tries, or nothing where it wasn't begun. The end is fine only where each session
 /// went through, and worn only where the walkers came to the last stamp. Where one was begun, walker 0 has seen each shard settled before it, and what the sessions made has stamps
-/// past those that it had seen. Where the end is fine, each walker has seen each shard settled in the end. Where the first transaction is to run alone, what other sessions made has stamps past all of its. No clause says that
-/// sessions run beside each other.
+/// past those that it had seen. Where the end is fine, each walker has seen each shard settled in the end. Where the first transaction is to run alone, what other sessions made has stamps past all of its. The books of the
+/// sessions that were begun go into the list, each of what its walker kept. No clause says that sessions run beside each other.
 pub fn run_over<M: Flier + Send, P: Pace + Sync, R: Threads + Wait + Sync>(
     rt: &R,
     alloc: Global,
@@ -38,6 +40,7 @@ pub fn run_over<M: Flier + Send, P: Pace + Sync, R: Threads + Wait + Sync>(
     sessions: &[Session],
     most: Option<u32>,
     start: Start,
+    books: &mut Vec<Book>,
 ) -> Result<(), StopCause>
 where
     M::Store: Send,
@@ -47,6 +50,8 @@ where
     requires splits { are_splits shards.now.splits ≡ true }
     requires new { (k : ℕ) (d : _) → k < length sessions.now + 1 → IsNewWalker shards.now k 0 (slice_index_or walkers.old.items k d) }
     requires narrow { list_all (list_all is_narrow_body) sessions.now ≡ true }
+    requires none { books.old.items ≡ [] }
+    requires wide { length sessions.now ≤ vec_capacity books.old }
     ensures len { vec_len walkers.new ≡ vec_len walkers.old }
     ensures rest { (k : ℕ) (d : _) → k < length sessions.now + 1 → IsAtRest shards.now k (slice_index_or walkers.new.items k d) }
     ensures went { (went : ℕ → Went) × SessionsGone shards.now most sessions.now walkers.new.items went result × AreDrained shards.now (length sessions.now) walkers.new.items went }
@@ -54,6 +59,7 @@ where
     ensures alone { start ≡ FirstAlone → AreAlone shards.now most sessions.now (λ k d. slice_index_or walkers.new.items (suc k) d) }
     ensures counted { AreCounted sessions.now walkers.new.items }
     ensures worn { HasWornLast walkers.new.items result }
+    ensures books { WalkersHaveBooks walkers.new.items books.new.items }
 {
     let first = drain_all(rt, alloc, shards, &mut walkers[0], pace);
     if first.is_err() {
@@ -61,7 +67,7 @@ where
     }
     let clock = walkers[0].clock;
     let ran = run_sessions(
-        rt, alloc, shards, pace, walkers, sessions, most, start, clock,
+        rt, alloc, shards, pace, walkers, sessions, most, start, clock, books,
     );
     let last = drain_last(rt, alloc, shards, walkers, pace);
     graver(ran, last)

@@ -1,9 +1,10 @@
 // Seats for the sessions of a script.
-ghost use Rattle.std.specs.Prelude.{◌≡◌, ◌<◌, ◌≤◌, ◌+◌, ℕ, suc, true, length, slice_index_or, vec_len, vec_capacity, Err, IfErr};
+ghost use Rattle.std.specs.Prelude.{◌≡◌, ◌<◌, ◌≤◌, ◌+◌, ℕ, suc, true, [], length, slice_index_or, vec_len, vec_capacity, Err, IfErr};
 ghost use Rattle.clv_base.specs.Shards.{are_splits};
 ghost use Rattle.cluster_opening.specs.Made.{IsNewWalker};
 ghost use Rattle.command_line.specs.Running.{IsOk};
 ghost use Rattle.cluster_runs.specs.Sessions.{IsSeated};
+ghost use Rattle.cluster_runs.specs.Books.{IsBlank};
 
 use cluster_turns::{Shards, Walker};
 use command_line::graver;
@@ -12,11 +13,14 @@ use machine_calls::Flier;
 use script_lang::Session;
 use script_runs::{Seat, StopCause};
 use session_api::ScriptSession;
+use session_books::books::Book;
+use std::alloc::Global;
 use std::sync::Wait;
 
-// A seat for each session, with its walker, which leaves the list of walkers, and has this clock from then on; walker 0 stays.
+// A seat for each session, with a blank book and its walker, which leaves the list of walkers, and has this clock from then on; walker 0 stays.
 pub(crate) fn take_seats<'a, M: Flier, P: Pace, R: Wait>(
     rt: &'a R,
+    alloc: Global,
     shards: &'a Shards<M>,
     pace: &'a P,
     walkers: &mut Vec<Walker<M>>,
@@ -32,36 +36,45 @@ pub(crate) fn take_seats<'a, M: Flier, P: Pace, R: Wait>(
     ensures len { (vec_len walkers.new ≡ 1) × (vec_capacity walkers.new ≡ vec_capacity walkers.old) × (vec_len result ≡ length sessions.now) }
     ensures first { (d : _) → slice_index_or walkers.new.items 0 d ≡ slice_index_or walkers.old.items 0 d }
     ensures seated { (k : ℕ) (d : _) → k < length sessions.now → IsSeated shards.now clock sessions.now k (slice_index_or result.items k d).session.session.shards.now (slice_index_or result.items k d).session.session.walker (slice_index_or result.items k d).session.session.progress (slice_index_or result.items k d).transactions.now }
+    ensures blank { (k : ℕ) (d : _) → k < length sessions.now → IsBlank (slice_index_or result.items k d).book }
 {
     let count = sessions.len();
     for taken in 0..count {
         let place = count - 1 - taken;
         let mut walker = walkers.pop().unwrap();
         walker.clock = clock;
+        let book = Book::new(alloc);
         seats.push_reserved(Seat {
             session: ScriptSession::new(rt, shards, pace, walker),
             transactions: sessions[place].transactions(),
             ended: Ok(()),
+            book,
         });
     }
     seats.reverse();
     seats
 }
 
-// The walkers of all seats go back behind walker 0.
+// The walkers of all seats go back behind walker 0, and their books are given out.
 pub(crate) fn leave_seats<M: Flier, P: Pace, R: Wait>(
     walkers: &mut Vec<Walker<M>>,
     seats: Vec<Seat<'_, ScriptSession<'_, M, P, R>>>,
+    books: &mut Vec<Book>,
 )
     requires room { vec_len walkers.old + vec_len seats ≤ vec_capacity walkers.old }
     requires one { vec_len walkers.old ≡ 1 }
+    requires none { books.old.items ≡ [] }
+    requires wide { vec_len seats ≤ vec_capacity books.old }
     ensures len { vec_len walkers.new ≡ vec_len seats.entry + 1 }
     ensures first { (d : _) → slice_index_or walkers.new.items 0 d ≡ slice_index_or walkers.old.items 0 d }
     ensures walkers { (k : ℕ) (d e : _) → k < vec_len seats.entry → slice_index_or walkers.new.items (suc k) d ≡ (slice_index_or seats.entry.items k e).session.session.walker }
+    ensures many { vec_len books.new ≡ vec_len seats.entry }
+    ensures books { (k : ℕ) (d e : _) → k < vec_len seats.entry → slice_index_or books.new.items k d ≡ (slice_index_or seats.entry.items k e).book }
 {
     for seat in seats {
-        let Seat { session, .. } = seat;
+        let Seat { session, book, .. } = seat;
         walkers.push_reserved(session.into_walker());
+        books.push_reserved(book);
     }
 }
 

@@ -1,5 +1,5 @@
 // The sessions of a script, beside each other.
-ghost use Rattle.std.specs.Prelude.{◌≡◌, ◌<◌, ◌≤◌, ◌+◌, ℕ, suc, true, List, length, slice_get, slice_index_or, vec_len, Some};
+ghost use Rattle.std.specs.Prelude.{◌≡◌, ◌<◌, ◌≤◌, ◌+◌, ℕ, suc, true, List, [], length, slice_get, slice_index_or, vec_len, vec_capacity, Some};
 ghost use Rattle.std.specs.List.{AllByRecursion, list_all};
 ghost use Rattle.clv_base.specs.Shards.{are_splits};
 ghost use Rattle.cluster_opening.specs.Made.{IsNewWalker};
@@ -13,6 +13,8 @@ ghost use Rattle.session_api.specs.Standing.{IsAtRest};
 ghost use Rattle.cluster_runs.specs.Alone.{AreAlone};
 ghost use Rattle.cluster_runs.specs.PromisedSessions.{Went};
 ghost use Rattle.cluster_runs.specs.Sessions.{IsSeated, HaveSat, SessionsGone, HasWornLast};
+ghost use Rattle.cluster_runs.specs.Books.{IsBlank, WalkersHaveBooks};
+ghost use Rattle.session_books.specs.Books.{IsBook};
 
 use crate::seats::{gravest, leave_seats, take_seats};
 use cluster_turns::{Shards, Walker};
@@ -21,6 +23,7 @@ use machine_calls::Flier;
 use script_lang::Session;
 use script_runs::{Seat, Start, StopCause, run_all};
 use session_api::ScriptSession;
+use session_books::books::Book;
 use std::alloc::Global;
 use std::sync::Wait;
 use std::thread::Threads;
@@ -42,9 +45,11 @@ where
     requires count { vec_len seats.old ≡ length sessions.now }
     requires narrow { list_all (list_all is_narrow_body) sessions.now ≡ true }
     requires seated { (k : ℕ) (d : _) → k < length sessions.now → IsSeated shards.now clock sessions.now k (slice_index_or seats.old.items k d).session.session.shards.now (slice_index_or seats.old.items k d).session.session.walker (slice_index_or seats.old.items k d).session.session.progress (slice_index_or seats.old.items k d).transactions.now }
+    requires blank { (k : ℕ) (d : _) → k < length sessions.now → IsBlank (slice_index_or seats.old.items k d).book }
     ensures len { vec_len seats.new ≡ vec_len seats.old }
     ensures alone { start ≡ FirstAlone → AreAlone shards.now most sessions.now (λ k d. (slice_index_or seats.new.items k d).session.session.walker) }
     ensures sat { HaveSat shards.now clock most sessions.now (λ k d. (slice_index_or seats.new.items k d).session.session.walker) (λ k d. (slice_index_or seats.new.items k d).ended) }
+    ensures kept { (k : ℕ) (d : _) → k < length sessions.now → IsBook (session_entries (kept (slice_index_or seats.new.items k d).session.session.walker.passes.items)) (slice_index_or seats.new.items k d).book }
 {
     run_all(rt, alloc, seats.as_mut_slice(), most, start);
 }
@@ -56,8 +61,8 @@ fn let_stay<M: Flier, P: Pace>(shards: &Shards<M>, pace: &P, sessions: usize) {
     }
 }
 
-// Runs each session with a walker of its own on a thread of its own, behind walker 0; what they make has stamps past the clock. Where there is no memory for
-// their seats none is begun.
+// Runs each session with a walker of its own on a thread of its own, behind walker 0; what they make has stamps past the clock, and their books go
+// into the list. Where there is no memory for their seats none is begun.
 pub(crate) fn run_sessions<M: Flier + Send, P: Pace + Sync, R: Threads + Wait + Sync>(
     rt: &R,
     alloc: Global,
@@ -68,6 +73,7 @@ pub(crate) fn run_sessions<M: Flier + Send, P: Pace + Sync, R: Threads + Wait + 
     most: Option<u32>,
     start: Start,
     clock: u64,
+    books: &mut Vec<Book>,
 ) -> Result<(), StopCause>
 where
     M::Store: Send,
@@ -77,6 +83,8 @@ where
     requires splits { are_splits shards.now.splits ≡ true }
     requires new { (k : ℕ) (d : _) → k < length sessions.now → IsNewWalker shards.now (suc k) 0 (slice_index_or walkers.old.items (suc k) d) }
     requires narrow { list_all (list_all is_narrow_body) sessions.now ≡ true }
+    requires none { books.old.items ≡ [] }
+    requires wide { length sessions.now ≤ vec_capacity books.old }
     ensures len { vec_len walkers.new ≡ vec_len walkers.old }
     ensures first { (d : _) → slice_index_or walkers.new.items 0 d ≡ slice_index_or walkers.old.items 0 d }
     ensures rest { (k : ℕ) (d : _) → k < length sessions.now → IsAtRest shards.now (suc k) (slice_index_or walkers.new.items (suc k) d) }
@@ -85,15 +93,16 @@ where
     ensures alone { start ≡ FirstAlone → AreAlone shards.now most sessions.now (λ k d. slice_index_or walkers.new.items (suc k) d) }
     ensures counted { (k : ℕ) (bodies : List Body) (d : _) → slice_get sessions.now k ≡ Some bodies → (slice_index_or walkers.new.items (suc k) d).serial ≤ length bodies + length (session_entries (kept (slice_index_or walkers.new.items (suc k) d).passes.items)) }
     ensures worn { (d : _) → clock ≤ last_seen (slice_index_or walkers.new.items 0 d).passes.items → HasWornLast walkers.new.items result }
+    ensures books { WalkersHaveBooks walkers.new.items books.new.items }
 {
     let Ok(room) = Vec::with_capacity(alloc, sessions.len()) else {
         return Err(StopCause::Memory);
     };
-    let mut seats = take_seats(rt, shards, pace, walkers, sessions, room, clock);
+    let mut seats = take_seats(rt, alloc, shards, pace, walkers, sessions, room, clock);
     let_stay(shards, pace, sessions.len());
     run_seats(rt, alloc, shards, sessions, &mut seats, most, start, clock);
     shards.let_stay(0);
     let end = gravest(seats.as_slice());
-    leave_seats(walkers, seats);
+    leave_seats(walkers, seats, books);
     end
 }

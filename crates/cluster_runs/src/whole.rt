@@ -6,6 +6,8 @@ ghost use Rattle.script_lang.specs.Laws.{is_narrow_body};
 ghost use Rattle.cluster_opening.specs.Opening.{Refuses, CountsOpen};
 ghost use Rattle.cluster_runs.specs.Begun.{LeavesDisks};
 ghost use Rattle.command_line.specs.declared.status.Status.TheVariants.{Fine};
+ghost use Rattle.cluster_runs.specs.Books.{HasBooks};
+ghost use Rattle.cluster_runs.specs.Histories.{entries};
 ghost use Rattle.cluster_runs.specs.Ran.{RanAll};
 ghost use Rattle.ordered_store.specs.InTurn.{live_in_turn};
 
@@ -36,7 +38,7 @@ use std::thread::Threads;
 /// through, and then each transaction has ended; a disk's fault is of the lowest shard whose flush failed; at worn stamps and at want of memory none failed.
 /// Before a session begins each shard was settled, with no entry of a session in its journal so far; and where the first session's first transaction is to run
 /// alone, all that other sessions make has stamps past those of its entries. Where the status is fine each shard is settled at the end of its journal; and where, too,
-/// there was no session, the live pairs of all stores are what the logs found stand for.
+/// there was no session, the live pairs of all stores are what the logs found stand for. The books that its sessions kept tell what the history tells of them.
 /// An `Err` is the first refusal of the opening, as `open_all` tells it; then there is no history.
 pub fn run_script<
     S: Store + Drop + Send,
@@ -59,6 +61,7 @@ where
     requires few { length sessions.now ≤ 64 }
     requires narrow { list_all (list_all is_narrow_body) sessions.now ≡ true }
     ensures ran { IfOk result (λ r. RanAll (H.story house.old) (H.story house.new) (H.faults house.old) (H.faults house.new) most start sessions.now r.history r.status) }
+    ensures books { IfOk result (λ r. HasBooks (entries r.history) r.books.items) }
     ensures maps { IfOk result (λ r. sessions.now ≡ [] → r.status ≡ Fine → live_in_turn (map (λ m. S.records m) r.maps.items) ≡ stands r.history.found) }
     ensures back { (n : ℕ) → n < 16 → H.is_out house.new n ≡ false }
     ensures refused { IfErr result (Refuses (H.story house.old)) }
@@ -67,6 +70,9 @@ where
 {
     active_were_answered();
     sessions_have_ended();
+    let Ok(mut books) = Vec::with_capacity(alloc, sessions.len()) else {
+        return Err(OpenError::Memory);
+    };
     let opened = match open_all::<S, L, H>(alloc, house, sessions.len(), 0) {
         Ok(opened) => opened,
         Err(error) => return Err(error),
@@ -86,6 +92,7 @@ where
         sessions,
         most,
         start,
+        &mut books,
     );
     let closed = close_run::<H, ShardMachine<S, L, LogGate<H::Disk>>>(
         alloc, house, shards, walkers, room,
@@ -98,6 +105,7 @@ where
     } = closed;
     Ok(Ran {
         history: History::new(journals, found),
+        books,
         maps,
         status: running_status(down, end),
     })

@@ -195,6 +195,7 @@ where
         Ok(ran) => {
             let Ran {
                 history,
+                books: _,
                 maps: _,
                 status,
             } = ran;

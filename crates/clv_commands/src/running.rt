@@ -1,9 +1,12 @@
 // The command `run`.
 
-ghost use Rattle.std.specs.Prelude.{◌≡◌, ◌<◌, ◌≤◌, ◌^◌, ℕ, Some, None, length, true, false, IfSome, IfErr, IfOk, OnOk};
+ghost use Rattle.std.specs.Prelude.{◌≡◌, ◌<◌, ◌≤◌, ℕ, List, Some, None, length, true, false, IfSome, IfErr, IfOk, OnOk};
 ghost use Rattle.std.specs.List.{list_all};
 ghost use Rattle.command_line.specs.declared.commands.Command.TheVariants as commands;
-ghost use Rattle.cluster_runs.specs.Histories.{entries};
+ghost use Rattle.clv_base.specs.declared.logs.LogRecord.{LogRecord};
+ghost use Rattle.clv_base.specs.Journals.{History};
+ghost use Rattle.history_replay.specs.Entries.{Kept};
+ghost use Rattle.report_text.specs.Laws.{AreAllBooks};
 ghost use Rattle.report_text.specs.Report.{report};
 ghost use Rattle.script_lang.specs.Laws.{is_narrow_body};
 ghost use Rattle.clv_commands.specs.Kinds.{IsOfRun, IsOfShards};
@@ -17,13 +20,14 @@ use crate::ended::Ended;
 use cluster_opening::OpenError;
 use cluster_runs::{Ran, Start, run_script};
 use command_line::{Status, after_text};
-use history_replay::History;
 use io_model::{House, Pace, Sink, Source, read_all};
 use lock_index::HashedLocks;
 use ordered_store::BlockStore;
-use report_text::report_into;
+use report_text::laws::books_are_reported;
+use report_text::report_of_books_into;
 use script_lang::statements::{scripts_are_narrow, scripts_have_few_sessions};
 use script_lang::{MOST_BYTES, Script, parse};
+use session_books::books::Book;
 use std::alloc::Global;
 use std::sync::Wait;
 use std::thread::Threads;
@@ -49,16 +53,21 @@ fn read_script<S: Source>(alloc: Global, source: &mut S) -> Result<Script, Statu
     }
 }
 
-// Writes the report of a run that came to a status, and tells how it ends.
-fn write_report<K: Sink>(alloc: Global, history: &History, running: Status, sink: &mut K) -> Status
-    requires few { length history.now.journals < 2 ^ 32 }
+// Writes the report of what a run's sessions kept, which came to a status, and tells how it ends.
+fn write_report<K: Sink>(
+    alloc: Global,
+    books: Vec<Book>,
+    running: Status,
+    sink: &mut K,
+) -> Status
     requires running { IsOfShards running }
     ensures ends { EndsAs running result }
-    ensures took { TookReport (report (entries history.now)) result (K.faults sink.old) (K.faults sink.new) (K.taken sink.old) (K.taken sink.new) }
-    ensures cause { CountsSink (Some history.now) (K.faults sink.old) (K.faults sink.new) result }
+    ensures took { (splits : List ℕ) (before : List (List LogRecord)) (h : History) (after : List (List LogRecord)) → AreAllBooks splits before h after books.items → TookReport (report h) result (K.faults sink.old) (K.faults sink.new) (K.taken sink.old) (K.taken sink.new) }
+    ensures cause { (kept : Kept) → CountsSink (Some kept) (K.faults sink.old) (K.faults sink.new) result }
 {
+    books_are_reported();
     if running.writes_report() {
-        after_text(running, report_into(alloc, history, sink))
+        after_text(running, report_of_books_into(alloc, books, sink))
     } else {
         running
     }
@@ -112,7 +121,7 @@ where
     );
     match ran {
         Ok(ran) => Ended {
-            status: write_report(alloc, &ran.history, ran.status, sink),
+            status: write_report(alloc, ran.books, ran.status, sink),
             history: Some(ran.history),
         },
         Err(error) => Ended {

@@ -15,6 +15,7 @@ use Rattle.cluster_runs.proofs.Gone.{none_gone, new_rest, all_rest, each_rest, g
 use Rattle.cluster_runs.proofs.Wearing.{first_counted, drain_worn, worn_still}
 use Rattle.cluster_runs.proofs.Alone.{none_alone, same_alone, behind_first}
 use Rattle.cluster_runs.proofs.Seeing.{rest_still, gone_still, drained_still, alone_still, counted_still, worn_later}
+use Rattle.cluster_runs.proofs.Books.{no_books, books_behind, books_still}
 use Rattle.cluster_runs.proofs.over.run_over.Goals as goal
 
 pub drain_all-first-requires : goal.drain_all-first-requires
@@ -158,3 +159,15 @@ returns-clause-worn g c =
     (told.0, worn_still us v (λ e. (let f = ap (λ w. last_seen w.passes.items) (same e) in let m = more.0 in omega arith)) (λ e. (let f = ap (λ w. w.serial) (same e) in omega arith)) told.1))
     (λ end. let told = (has d).worn at (sym end ∙ is) in (told.0, drain_worn us v (omega arith) (let z = more.1 in let m = more.0 in omega arith) told.1))
     c.graver.ensures.one)
+
+-- ---- books
+
+pub returns-then-is_err-clause-books : goal.returns-then-is_err-clause-books
+returns-then-is_err-clause-books g c =
+    let count = c.requires.count in let ok = c.args.walkers.now.ok in let ws = c.args.walkers.now.items in let books = c.args.books.now.items in
+    books_behind ws c.drain_all-first.new.walker books (no_books c.args.shards.now (length c.args.sessions.now) ws books (omega arith) c.requires.none (λ k d l. c.requires.new (suc k) d (omega arith)))
+
+pub returns-clause-books : goal.returns-clause-books
+returns-clause-books g c =
+    let us = c.run_sessions-ran.new.walkers.items in let books = c.run_sessions-ran.new.books.items in let (v, has, looked) = c.drain_last-last.ensures.drained in
+    books_still c.args.shards.now (set us 0 v) c.drain_last-last.new.walkers.items books looked (books_behind us v books c.run_sessions-ran.ensures.books)

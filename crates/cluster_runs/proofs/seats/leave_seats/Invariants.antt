@@ -8,5 +8,8 @@ invariant-loop-seat g l = record {
   all : l.yielded ++ l.seat-iterator.rest.items ≡ l.fn.seats.items;
   len : vec_len l.walkers ≡ length l.yielded + 1;
   wide : vec_capacity l.walkers ≡ vec_capacity l.fn.walkers;
+  len_books : vec_len l.books ≡ length l.yielded;
+  wide_books : vec_capacity l.books ≡ vec_capacity l.fn.books;
+  made_books : l.books.items ≡ map (λ s. s.book) l.yielded;
   made : l.walkers.items ≡ l.fn.walkers.items ++ map (λ s. s.session.session.walker) l.yielded;
 }

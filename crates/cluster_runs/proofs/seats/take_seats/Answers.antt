@@ -4,6 +4,7 @@ use Rattle.cluster_opening.specs.Made.{IsNewWalker}
 use Rattle.session_api.proofs.Laws.{new_walkers_are_sessions}
 use Rattle.session_api.specs.Standing.{Holds}
 use Rattle.cluster_runs.specs.Sessions.{IsSeated}
+use Rattle.cluster_runs.specs.Books.{IsBlank}
 use Rattle.cluster_runs.proofs.Drained.{new_up}
 use Rattle.cluster_runs.proofs.Steps.{pushed_each, bodies_at}
 use Rattle.cluster_runs.proofs.seats.take_seats.Goals as goal
@@ -39,6 +40,8 @@ loop-taken-preserved g c =
             holds = subst (λ z. Holds z c.new.result.session.walker c.new.result.session.progress) c.new.ensures.shards c.new.ensures.session;
             bodies = λ b has. c.transactions.ensures ∙ (c.index-sessions-place.is ∙ (ap (λ x. get_or c.args.sessions.now x c.index-sessions-place.result) (omega arith) ∙ bodies_at c.args.sessions.now k b c.index-sessions-place.result has));
           })) j d l);
+      blank = λ j d l. subst (λ z. IsBlank (get_or z j d).book) (sym c.push_reserved.ensures.items)
+          (pushed_each (λ a z. IsBlank z.book) c.loop-taken.seats.items _ i (omega arith) inv.blank (record { rows = c.new-book.ensures.0; counts = c.new-book.ensures.1 }) j d l);
     }
 
 pub returns-clause-seated : goal.returns-clause-seated
@@ -46,3 +49,8 @@ returns-clause-seated g c =
     let inv = c.loop-taken.invariant in let out = c.loop-taken-test.false in let hs = inv.seats in
     λ k d l. subst (λ z. IsSeated c.args.shards.now c.args.clock c.args.sessions.now k z.session.session.shards.now z.session.session.walker z.session.session.progress z.transactions.now) (sym (c.reverse.ensures.by_index k d (omega arith)))
     (inv.seated (vec_len c.loop-taken.seats - 1 - k) d (omega arith) k (omega arith))
+
+pub returns-clause-blank : goal.returns-clause-blank
+returns-clause-blank g c =
+    let inv = c.loop-taken.invariant in let out = c.loop-taken-test.false in let hs = inv.seats in
+    λ k d l. subst (λ z. IsBlank z.book) (sym (c.reverse.ensures.by_index k d (omega arith))) (inv.blank (vec_len c.loop-taken.seats - 1 - k) d (omega arith))

@@ -1,5 +1,6 @@
 use Rattle.std.proofs.Common.{◌≡◌, ◌<◌, ◌≤◌, ◌+◌, ℕ, suc, get_or, vec_len, vec_capacity}
 use Rattle.cluster_runs.specs.Sessions.{IsSeated}
+use Rattle.cluster_runs.specs.Books.{IsBlank}
 use Rattle.cluster_runs.proofs.seats.take_seats.Given as goal
 
 abbrev pub invariant-loop-taken : goal.invariant-loop-taken
@@ -10,4 +11,5 @@ invariant-loop-taken g l = record {
   seats : vec_len l.seats ≡ l.taken;
   wide : l.count ≤ vec_capacity l.seats;
   seated : (j : ℕ) (d : _) → j < l.taken → (k : ℕ) → j + suc k ≡ l.count → IsSeated l.shards l.fn.clock l.sessions k (get_or l.seats.items j d).session.session.shards.now (get_or l.seats.items j d).session.session.walker (get_or l.seats.items j d).session.session.progress (get_or l.seats.items j d).transactions.now;
+  blank : (j : ℕ) (d : _) → j < l.taken → IsBlank (get_or l.seats.items j d).book;
 }

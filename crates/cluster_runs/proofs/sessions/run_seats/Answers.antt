@@ -13,7 +13,10 @@ use Rattle.cluster_runs.specs.Sessions.{IsSeated, HasSat, base_from}
 use Rattle.cluster_runs.specs.Alone.{BeginsWith}
 use Rattle.cluster_runs.proofs.Alone.{sat_first, sat_past}
 use Rattle.cluster_runs.proofs.Sending.{script_row_send}
-use Rattle.cluster_runs.proofs.Sitting.{sat, same_base, narrow_at}
+use Rattle.session_api.specs.Standing.{seen_in}
+use Rattle.session_books.specs.Books.{IsBook}
+use Rattle.script_runs.specs.Books.{IsKept}
+use Rattle.cluster_runs.proofs.Sitting.{sat, new_kept, same_base, narrow_at}
 use Rattle.cluster_runs.proofs.sessions.run_seats.Goals as goal
 use Rattle.law_base.proofs.Lists.{get_or_taken as written}
 
@@ -29,6 +32,18 @@ pub run_all-requires-clause-narrow : goal.run_all-requires-clause-narrow
 run_all-requires-clause-narrow g c κs within k d l =
     let low : k < length c.args.sessions.now = (let a = c.as_mut_slice.ensures.len in let n = c.requires.count in omega arith) in
     subst (λ z. list_all is_narrow_body (get_or z k d).transactions.now ≡ true) (sym c.as_mut_slice.ensures.value) (narrow_at c.args.sessions.now k _ low c.requires.narrow (c.requires.seated k d low).bodies)
+
+pub run_all-requires-clause-kept : goal.run_all-requires-clause-kept
+run_all-requires-clause-kept g c κs within k d l =
+    let low : k < length c.args.sessions.now = (let a = c.as_mut_slice.ensures.len in let n = c.requires.count in omega arith) in
+    subst (λ z. IsKept (seen_in (get_or z k d).session.session.shards.now (get_or z k d).session.session.walker (get_or z k d).session.asked (get_or z k d).session.session.progress) (get_or z k d).book) (sym c.as_mut_slice.ensures.value)
+    (new_kept c.args.shards.now _ c.args.clock _ _ _ _ c.args.sessions.now k _ (c.requires.seated k d low) (c.requires.blank k d low))
+
+pub returns-clause-kept : goal.returns-clause-kept
+returns-clause-kept g c =
+    let E = c.run_all.ensures in let many = c.run_all.auto.seats in let a = c.as_mut_slice.ensures.len in let n = c.requires.count in
+    λ k d l. (let low : k < length c.run_all.new.seats = omega arith in let was : k < length c.as_mut_slice.result.now = omega arith in
+    subst (λ z. IsBook (session_entries (kept z.session.session.walker.passes.items)) z.book) (sym (written c.run_all.new.seats _ c.args.seats.now.len k d (omega arith) low)) (E.kept k d was).is_book)
 
 pub returns-clause-sat : goal.returns-clause-sat
 returns-clause-sat g c =

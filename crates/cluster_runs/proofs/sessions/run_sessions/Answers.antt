@@ -16,6 +16,8 @@ use Rattle.cluster_runs.specs.Alone.{BeginsWith}
 use Rattle.cluster_runs.proofs.Alone.{none_alone}
 use Rattle.cluster_runs.proofs.Wearing.{session_worn, one_worn}
 use Rattle.cluster_runs.proofs.Gone.{gone, none_gone, new_rest}
+use Rattle.session_books.specs.Books.{IsBook}
+use Rattle.cluster_runs.proofs.Books.{no_books}
 use Rattle.cluster_runs.proofs.sessions.run_sessions.Goals as goal
 use Rattle.law_base.proofs.Lists.{elem_at as some_elem}
 
@@ -96,3 +98,21 @@ returns-clause-worn g c =
       session_worn ws c.args.clock r.base k d (omega arith) start (subst (λ w. r.base ≤ w.serial + max c.args.clock (last_seen w.passes.items)) (sym there) (r.reached e0 (omega arith)))
           (subst (λ w. w.clock ≤ w.serial + max (base_from c.args.clock r.base k) (last_seen w.passes.items)) (sym here) sat.dated) (subst (λ w. 2 ^ 48 - 1 ≤ w.clock) (sym here) ground.1),
     ))
+
+-- ---- books
+
+pub returns-in_default-clause-books : goal.returns-in_default-clause-books
+returns-in_default-clause-books g c =
+    let count = c.requires.count in let ok = c.args.walkers.now.ok in no_books c.args.shards.now (length c.args.sessions.now) c.args.walkers.now.items c.args.books.now.items (omega arith) c.requires.none c.requires.new
+
+pub returns-clause-books : goal.returns-clause-books
+returns-clause-books g c =
+    let S = c.run_seats.new.seats in let okS = S.ok in let many = c.run_seats.ensures.len in let took = c.take_seats-seats.ensures.len.2 in let len = c.leave_seats.ensures.len in let okW = c.leave_seats.new.walkers.ok in
+    let out = c.leave_seats.ensures.many in let B = c.leave_seats.new.books in let okB = B.ok in
+    record {
+      few = omega arith;
+      each = λ k d e low. (let x = some_elem S.items k (omega arith) in
+          subst (λ w. IsBook (session_entries (kept w.passes.items)) (get_or B.items k e)) (sym (c.leave_seats.ensures.walkers k d x (omega arith)))
+          (subst (λ b. IsBook (session_entries (kept (get_or S.items k x).session.session.walker.passes.items)) b) (sym (c.leave_seats.ensures.books k e x (omega arith))) (c.run_seats.ensures.kept k x (omega arith))));
+      others = λ k d past low. absurd (omega arith);
+    }

@@ -11,6 +11,10 @@ use Rattle.cluster_runs.specs.Ran.{RanAll}
 use Rattle.ordered_store.specs.InTurn.{live_in_turn}
 use Rattle.cluster_runs.proofs.Promised.{ran_all}
 use Rattle.cluster_runs.proofs.Stored.{stores_hold}
+use Rattle.history_replay.specs.Entries.{entries_of}
+use Rattle.law_base.proofs.Lists.{elem_at as some_elem}
+use Rattle.cluster_runs.specs.Books.{HasBooks}
+use Rattle.cluster_runs.proofs.Books.{have_books}
 use Rattle.cluster_runs.proofs.whole.run_script.Goals as goal
 
 pub close_run-closed-requires-clause-out : goal.close_run-closed-requires-clause-out
@@ -75,3 +79,22 @@ returns-clause-maps g c = λ empty fine. (
     (stores_hold c.active_were_answered.ensures c.sessions_have_ended.ensures _ _ sh W.items r.ends.value.items kept r.down (faults h0) (faults h1) (out h0) (out h1) (story h0) (story h1) c.args.most c.args.start c.args.sessions.now went.0 c.run_over-end.result c.running_status.result g.S.Store.records r.maps.items ended
     (omega arith) went.1 went.2 (λ k d l. c.run_over-end.ensures.rest k d (omega arith)) (well c.run_over-end.result c.run_over-end.ensures.settled) c.run_over-end.ensures.alone c.run_over-end.ensures.counted c.run_over-end.ensures.worn c.running_status.ensures.is
     (let maps = r.maps.ok in let l = c.close_run-closed.ensures.len.1 in omega arith) c.close_run-closed.ensures.maps empty fine))
+
+pub returns-clause-books : goal.returns-clause-books
+returns-clause-books g c =
+    let sh = c.in-Ok.opened.shards in let W = c.run_over-end.new.walkers in let r = c.close_run-closed.result in let B = c.run_over-end.new.books.items in
+    let story = g.H.House.story in let faults = g.H.House.faults in let out = g.H.House.is_out in let h0 = c.args.house.now in let h1 = c.close_run-closed.new.house in
+    let many = c.run_over-end.ensures.len in let made = c.in-Ok.ensures.walkers.0 in let ok = W.ok in
+    let kept : Kept = record { journals = lists r.journals.items; found = founds_of sh } in
+    let ended : IsClosedRun _ _ sh W.items r.ends.value.items kept r.down (faults h0) (faults h1) (out h0) (out h1) (story h0) (story h1) = record {
+      passes = length c.args.sessions.now + 1;
+      counts_open = faults c.open_all.new.house;
+      out_open = out c.open_all.new.house;
+      open_now = story c.open_all.new.house;
+      begun = c.in-Ok.ensures.shards;
+      went_out = c.in-Ok.ensures.out;
+      closed = c.close_run-closed.ensures.closed;
+    } in
+    subst (λ j. HasBooks (entries_of j) B) (sym c.new.ensures.journals)
+    (have_books {D = _} _ sh W.items r.ends.value.items kept r.down (faults h0) (faults h1) (out h0) (out h1) (story h0) (story h1) B ended
+    (λ k d l. (c.run_over-end.ensures.rest k d (omega arith)).number_is) (some_elem W.items 0 (omega arith)) c.run_over-end.ensures.books)
