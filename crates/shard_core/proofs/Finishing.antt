@@ -1,16 +1,15 @@
 -- After a COMMIT was done.
-use Rattle.std.proofs.Common.{◌≡◌, Bool, true, false, cond, ◌&&◌, ◌||◌, List, [], ◌∷◌, Option, Some, None, is_none, is_some, refl, sym, ap, subst, ◌∙◌}
+use Rattle.std.proofs.Common.{◌≡◌, Bool, true, false, cond, ◌&&◌, ◌||◌, [], ◌∷◌, Option, Some, None, is_none, is_some, refl, ap}
 use Rattle.clv_base.specs.declared.names.TxId.{TxId}
 use Rattle.clv_base.specs.declared.parts.PartFacts.{PartFacts}
 use Rattle.clv_base.specs.declared.state.Held.{Held}
 use Rattle.clv_base.specs.declared.state.Stage.{Stage}
-use Rattle.clv_base.specs.Orders.{Table, tx_get, tx_in, tx_same}
+use Rattle.clv_base.specs.Orders.{Table, tx_get, tx_same}
 use Rattle.clv_base.specs.State.{Shard, with_local}
 use Rattle.clv_base.specs.Undo.{gone_in, gone_part}
 use Rattle.clv_base.specs.Facts.{doom_by, facts_of, has_durable_commit, is_closed_state, is_waiting, state_by}
 use Rattle.clv_base.specs.Due.{due_of}
 use Rattle.due_step.proofs.Laws.{finds_nothing}
-use Rattle.due_step.specs.declared.finding.Due.{Due}
 use Rattle.due_step.specs.declared.finding.Due.TheVariants.{Commit}
 use Rattle.due_step.specs.Found.{carried}
 use Rattle.clv_base.specs.OneShard.{purge}

@@ -14,7 +14,7 @@ use Rattle.shard_core.specs.Finished.{IsFinished}
 use Rattle.shard_core.proofs.Finishing.{finished_rests}
 use Rattle.shard_core.proofs.shard.ShardCore.leave_over.Given as given
 use Rattle.shard_core.proofs.shard.ShardCore.leave_over.Goals as goal
-use Rattle.shard_core.proofs.shard.ShardCore.leave_over.Goals.{Then-is_over}
+use Rattle.shard_core.proofs.shard.ShardCore.leave_over.Goals.{After-leave_first}
 
 same_rest : (ts : List TxId) → but_least ts ≡ rest_held ts
 same_rest [] = refl
@@ -37,7 +37,7 @@ is_it : (f : TxId → TxId → Bool) (o : Option TxId) (tx : TxId) → false ≡
 is_it f None tx e same = absurd cc
 is_it f (Some x) tx e same = ap (λ (y : TxId). Some y) (same x tx (holds (f x tx) e))
 
-rest : (g : given.Over) (c : Then-is_over g) → least c.self.inside.candidates.txs ≡ Some c.args.tx
+rest : (g : given.Over) (c : After-leave_first g) → least c.self.inside.candidates.txs ≡ Some c.args.tx
     → IsReady (seen_as c.self.inside.run c.self.inside.transactions c.self.inside.participant c.self.inside.coordinator c.self.inside.outbox) (rest_held c.self.inside.candidates.txs) c.self.inside.candidates.limit
 rest g c first =
     let i = c.self.inside in let tx = c.args.tx in let over = c.if-is_over.ensures in
