@@ -54,12 +54,7 @@ fn read_script<S: Source>(alloc: Global, source: &mut S) -> Result<Script, Statu
 }
 
 // Writes the report of what a run's sessions kept, which came to a status, and tells how it ends.
-fn write_report<K: Sink>(
-    alloc: Global,
-    books: Vec<Book>,
-    running: Status,
-    sink: &mut K,
-) -> Status
+fn write_report<K: Sink>(alloc: Global, books: Vec<Book>, running: Status, sink: &mut K) -> Status
     requires running { IsOfShards running }
     ensures ends { EndsAs running result }
     ensures took { (splits : List ℕ) (before : List (List LogRecord)) (h : History) (after : List (List LogRecord)) → AreAllBooks splits before h after books.items → TookReport (report h) result (K.faults sink.old) (K.faults sink.new) (K.taken sink.old) (K.taken sink.new) }
