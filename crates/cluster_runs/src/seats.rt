@@ -63,7 +63,7 @@ pub(crate) fn leave_seats<M: Flier, P: Pace, R: Wait>(
 )
     requires room { vec_len walkers.old + vec_len seats ≤ vec_capacity walkers.old }
     requires one { vec_len walkers.old ≡ 1 }
-    requires none { books.old.items ≡ [] }
+    requires none { (books.old.items ≡ []) × (vec_len books.old ≡ 0) }
     requires wide { vec_len seats ≤ vec_capacity books.old }
     ensures len { vec_len walkers.new ≡ vec_len seats.entry + 1 }
     ensures first { (d : _) → slice_index_or walkers.new.items 0 d ≡ slice_index_or walkers.old.items 0 d }

@@ -1,4 +1,4 @@
-use Rattle.std.proofs.Common.{arith, ◌≡◌, ◌∙◌, ℕ, suc, ◌+◌, ◌-◌, ◌^◌, ◌<◌, ◌≤◌, max, get_or, length, map, sym, subst, Err, IfErr}
+use Rattle.std.proofs.Common.{arith, ◌≡◌, ◌∙◌, ℕ, suc, ◌+◌, ◌-◌, ◌^◌, ◌<◌, ◌≤◌, max, get_or, length, map, sym, ap, subst, Err, IfErr}
 use Rattle.std.specs.List.{AllByRecursion}
 use Rattle.std.proofs.lemmas.List.{get_or-map, length-map}
 use Rattle.std.proofs.lemmas.Option.{slice_get_within}
@@ -100,6 +100,9 @@ returns-clause-worn g c =
     ))
 
 -- ---- books
+
+pub leave_seats-requires-clause-none : goal.leave_seats-requires-clause-none
+leave_seats-requires-clause-none g c = (c.requires.none, (let ok = c.args.books.now.ok in let none = ap length c.requires.none in omega arith))
 
 pub returns-in_default-clause-books : goal.returns-in_default-clause-books
 returns-in_default-clause-books g c =

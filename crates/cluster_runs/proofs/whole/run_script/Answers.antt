@@ -18,7 +18,7 @@ use Rattle.cluster_runs.proofs.Books.{have_books}
 use Rattle.cluster_runs.proofs.whole.run_script.Goals as goal
 
 pub close_run-closed-requires-clause-out : goal.close_run-closed-requires-clause-out
-close_run-closed-requires-clause-out g c = λ n low. c.in-Ok.ensures.out.first n (let count = c.in-Ok.ensures.shards.count in let ok = c.in-Ok.opened.shards.locks.ok in omega arith)
+close_run-closed-requires-clause-out g c = λ n low. c.in-Ok-open_all.ensures.out.first n (let count = c.in-Ok-open_all.ensures.shards.count in let ok = c.in-Ok-open_all.opened.shards.locks.ok in omega arith)
 
 -- what holds where an end is well holds where it is fine
 well : {P : Type 0} (end : End) → IfOk end (λ u. P) → IsOk end → P
@@ -27,72 +27,72 @@ well (Err cause) h ok = absurd ok
 
 pub returns-clause-ran : goal.returns-clause-ran
 returns-clause-ran g c =
-    let sh = c.in-Ok.opened.shards in let W = c.run_over-end.new.walkers in let r = c.close_run-closed.result in let went = c.run_over-end.ensures.went in
+    let sh = c.in-Ok-open_all.opened.shards in let W = c.run_over-end.new.walkers in let r = c.close_run-closed.result in let went = c.run_over-end.ensures.went in
     let story = g.H.House.story in let faults = g.H.House.faults in let out = g.H.House.is_out in let h0 = c.args.house.now in let h1 = c.close_run-closed.new.house in
-    let many = c.run_over-end.ensures.len in let made = c.in-Ok.ensures.walkers.0 in let ok = W.ok in
+    let many = c.run_over-end.ensures.len in let made = c.in-Ok-open_all.ensures.walkers.0 in let ok = W.ok in
     let ended : IsClosedRun _ _ sh W.items r.ends.value.items (record { journals = lists r.journals.items; found = founds_of sh }) r.down (faults h0) (faults h1) (out h0) (out h1) (story h0) (story h1) = record {
       passes = length c.args.sessions.now + 1;
       counts_open = faults c.open_all.new.house;
       out_open = out c.open_all.new.house;
       open_now = story c.open_all.new.house;
-      begun = c.in-Ok.ensures.shards;
-      went_out = c.in-Ok.ensures.out;
+      begun = c.in-Ok-open_all.ensures.shards;
+      went_out = c.in-Ok-open_all.ensures.out;
       closed = c.close_run-closed.ensures.closed;
     } in
-    subst (λ f. RanAll (story h0) (story h1) (faults h0) (faults h1) c.args.most c.args.start c.args.sessions.now (record { journals = c.new.result.journals; found = f }) c.running_status.result) (sym (c.new.ensures.found ∙ c.in-Ok.ensures.founds))
+    subst (λ f. RanAll (story h0) (story h1) (faults h0) (faults h1) c.args.most c.args.start c.args.sessions.now (record { journals = c.new.result.journals; found = f }) c.running_status.result) (sym (c.new.ensures.found ∙ c.in-Ok-open_all.ensures.founds))
     (subst (λ j. RanAll (story h0) (story h1) (faults h0) (faults h1) c.args.most c.args.start c.args.sessions.now (record { journals = j; found = founds_of sh }) c.running_status.result) (sym c.new.ensures.journals)
     (ran_all c.sessions_have_ended.ensures _ _ sh W.items r.ends.value.items (record { journals = lists r.journals.items; found = founds_of sh }) r.down (faults h0) (faults h1) (out h0) (out h1) (story h0) (story h1) c.args.most c.args.start c.args.sessions.now went.0 c.run_over-end.result c.running_status.result ended
     (omega arith) went.1 went.2 (λ k d l. c.run_over-end.ensures.rest k d (omega arith)) (well c.run_over-end.result c.run_over-end.ensures.settled) c.run_over-end.ensures.alone c.run_over-end.ensures.counted c.run_over-end.ensures.worn c.running_status.ensures.is))
 
 pub returns-clause-back : goal.returns-clause-back
 returns-clause-back g c =
-    let sh = c.in-Ok.opened.shards in let W = c.run_over-end.new.walkers in let r = c.close_run-closed.result in let went = c.run_over-end.ensures.went in
+    let sh = c.in-Ok-open_all.opened.shards in let W = c.run_over-end.new.walkers in let r = c.close_run-closed.result in let went = c.run_over-end.ensures.went in
     let story = g.H.House.story in let faults = g.H.House.faults in let out = g.H.House.is_out in let h0 = c.args.house.now in let h1 = c.close_run-closed.new.house in
-    let many = c.run_over-end.ensures.len in let made = c.in-Ok.ensures.walkers.0 in let ok = W.ok in
+    let many = c.run_over-end.ensures.len in let made = c.in-Ok-open_all.ensures.walkers.0 in let ok = W.ok in
     let ended : IsClosedRun _ _ sh W.items r.ends.value.items (record { journals = lists r.journals.items; found = founds_of sh }) r.down (faults h0) (faults h1) (out h0) (out h1) (story h0) (story h1) = record {
       passes = length c.args.sessions.now + 1;
       counts_open = faults c.open_all.new.house;
       out_open = out c.open_all.new.house;
       open_now = story c.open_all.new.house;
-      begun = c.in-Ok.ensures.shards;
-      went_out = c.in-Ok.ensures.out;
+      begun = c.in-Ok-open_all.ensures.shards;
+      went_out = c.in-Ok-open_all.ensures.out;
       closed = c.close_run-closed.ensures.closed;
     } in
     all_are_in {D = _} _ sh W.items r.ends.value.items (record { journals = lists r.journals.items; found = founds_of sh }) r.down (faults h0) (faults h1) (out h0) (out h1) (story h0) (story h1) ended c.requires.inside
 
 pub returns-clause-maps : goal.returns-clause-maps
 returns-clause-maps g c = λ empty fine. (
-    let sh = c.in-Ok.opened.shards in let W = c.run_over-end.new.walkers in let r = c.close_run-closed.result in let went = c.run_over-end.ensures.went in
+    let sh = c.in-Ok-open_all.opened.shards in let W = c.run_over-end.new.walkers in let r = c.close_run-closed.result in let went = c.run_over-end.ensures.went in
     let story = g.H.House.story in let faults = g.H.House.faults in let out = g.H.House.is_out in let h0 = c.args.house.now in let h1 = c.close_run-closed.new.house in
-    let many = c.run_over-end.ensures.len in let made = c.in-Ok.ensures.walkers.0 in let ok = W.ok in
+    let many = c.run_over-end.ensures.len in let made = c.in-Ok-open_all.ensures.walkers.0 in let ok = W.ok in
     let kept : Kept = record { journals = lists r.journals.items; found = founds_of sh } in
     let ended : IsClosedRun _ _ sh W.items r.ends.value.items kept r.down (faults h0) (faults h1) (out h0) (out h1) (story h0) (story h1) = record {
       passes = length c.args.sessions.now + 1;
       counts_open = faults c.open_all.new.house;
       out_open = out c.open_all.new.house;
       open_now = story c.open_all.new.house;
-      begun = c.in-Ok.ensures.shards;
-      went_out = c.in-Ok.ensures.out;
+      begun = c.in-Ok-open_all.ensures.shards;
+      went_out = c.in-Ok-open_all.ensures.out;
       closed = c.close_run-closed.ensures.closed;
     } in
-    subst (λ f. live_in_turn (map g.S.Store.records r.maps.items) ≡ stands f) (sym (c.new.ensures.found ∙ c.in-Ok.ensures.founds))
+    subst (λ f. live_in_turn (map g.S.Store.records r.maps.items) ≡ stands f) (sym (c.new.ensures.found ∙ c.in-Ok-open_all.ensures.founds))
     (stores_hold c.active_were_answered.ensures c.sessions_have_ended.ensures _ _ sh W.items r.ends.value.items kept r.down (faults h0) (faults h1) (out h0) (out h1) (story h0) (story h1) c.args.most c.args.start c.args.sessions.now went.0 c.run_over-end.result c.running_status.result g.S.Store.records r.maps.items ended
     (omega arith) went.1 went.2 (λ k d l. c.run_over-end.ensures.rest k d (omega arith)) (well c.run_over-end.result c.run_over-end.ensures.settled) c.run_over-end.ensures.alone c.run_over-end.ensures.counted c.run_over-end.ensures.worn c.running_status.ensures.is
     (let maps = r.maps.ok in let l = c.close_run-closed.ensures.len.1 in omega arith) c.close_run-closed.ensures.maps empty fine))
 
 pub returns-clause-books : goal.returns-clause-books
 returns-clause-books g c =
-    let sh = c.in-Ok.opened.shards in let W = c.run_over-end.new.walkers in let r = c.close_run-closed.result in let B = c.run_over-end.new.books.items in
+    let sh = c.in-Ok-open_all.opened.shards in let W = c.run_over-end.new.walkers in let r = c.close_run-closed.result in let B = c.run_over-end.new.books.items in
     let story = g.H.House.story in let faults = g.H.House.faults in let out = g.H.House.is_out in let h0 = c.args.house.now in let h1 = c.close_run-closed.new.house in
-    let many = c.run_over-end.ensures.len in let made = c.in-Ok.ensures.walkers.0 in let ok = W.ok in
+    let many = c.run_over-end.ensures.len in let made = c.in-Ok-open_all.ensures.walkers.0 in let ok = W.ok in
     let kept : Kept = record { journals = lists r.journals.items; found = founds_of sh } in
     let ended : IsClosedRun _ _ sh W.items r.ends.value.items kept r.down (faults h0) (faults h1) (out h0) (out h1) (story h0) (story h1) = record {
       passes = length c.args.sessions.now + 1;
       counts_open = faults c.open_all.new.house;
       out_open = out c.open_all.new.house;
       open_now = story c.open_all.new.house;
-      begun = c.in-Ok.ensures.shards;
-      went_out = c.in-Ok.ensures.out;
+      begun = c.in-Ok-open_all.ensures.shards;
+      went_out = c.in-Ok-open_all.ensures.out;
       closed = c.close_run-closed.ensures.closed;
     } in
     subst (λ j. HasBooks (entries_of j) B) (sym c.new.ensures.journals)
