@@ -49,7 +49,7 @@ where
     ensures len { vec_len seats.new ≡ vec_len seats.old }
     ensures alone { start ≡ FirstAlone → AreAlone shards.now most sessions.now (λ k d. (slice_index_or seats.new.items k d).session.session.walker) }
     ensures sat { HaveSat shards.now clock most sessions.now (λ k d. (slice_index_or seats.new.items k d).session.session.walker) (λ k d. (slice_index_or seats.new.items k d).ended) }
-    ensures kept { (k : ℕ) (d : _) → k < length sessions.now → IsBook (session_entries (kept (slice_index_or seats.new.items k d).session.session.walker.passes.items)) (slice_index_or seats.new.items k d).book }
+    ensures books { (k : ℕ) (d : _) → k < length sessions.now → IsBook (session_entries (kept (slice_index_or seats.new.items k d).session.session.walker.passes.items)) (slice_index_or seats.new.items k d).book }
 {
     run_all(rt, alloc, seats.as_mut_slice(), most, start);
 }

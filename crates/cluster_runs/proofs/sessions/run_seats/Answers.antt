@@ -39,8 +39,8 @@ run_all-requires-clause-kept g c κs within k d l =
     subst (λ z. IsKept (seen_in (get_or z k d).session.session.shards.now (get_or z k d).session.session.walker (get_or z k d).session.asked (get_or z k d).session.session.progress) (get_or z k d).book) (sym c.as_mut_slice.ensures.value)
     (new_kept c.args.shards.now _ c.args.clock _ _ _ _ c.args.sessions.now k _ (c.requires.seated k d low) (c.requires.blank k d low))
 
-pub returns-clause-kept : goal.returns-clause-kept
-returns-clause-kept g c =
+pub returns-clause-books : goal.returns-clause-books
+returns-clause-books g c =
     let E = c.run_all.ensures in let many = c.run_all.auto.seats in let a = c.as_mut_slice.ensures.len in let n = c.requires.count in
     λ k d l. (let low : k < length c.run_all.new.seats = omega arith in let was : k < length c.as_mut_slice.result.now = omega arith in
     subst (λ z. IsBook (session_entries (kept z.session.session.walker.passes.items)) z.book) (sym (written c.run_all.new.seats _ c.args.seats.now.len k d (omega arith) low)) (E.kept k d was).is_book)

@@ -1,4 +1,4 @@
-use Rattle.std.proofs.Common.{arith, ◌≡◌, ◌∙◌, ℕ, suc, ◌+◌, ◌-◌, ◌^◌, ◌<◌, ◌≤◌, max, get_or, length, map, sym, ap, subst, Err, IfErr}
+use Rattle.std.proofs.Common.{arith, ◌∙◌, suc, ◌+◌, ◌-◌, ◌^◌, ◌<◌, ◌≤◌, max, get_or, length, map, sym, ap, subst, IfErr}
 use Rattle.std.specs.List.{AllByRecursion}
 use Rattle.std.proofs.lemmas.List.{get_or-map, length-map}
 use Rattle.std.proofs.lemmas.Option.{slice_get_within}
@@ -116,6 +116,6 @@ returns-clause-books g c =
       few = omega arith;
       each = λ k d e low. (let x = some_elem S.items k (omega arith) in
           subst (λ w. IsBook (session_entries (kept w.passes.items)) (get_or B.items k e)) (sym (c.leave_seats.ensures.walkers k d x (omega arith)))
-          (subst (λ b. IsBook (session_entries (kept (get_or S.items k x).session.session.walker.passes.items)) b) (sym (c.leave_seats.ensures.books k e x (omega arith))) (c.run_seats.ensures.kept k x (omega arith))));
+          (subst (λ b. IsBook (session_entries (kept (get_or S.items k x).session.session.walker.passes.items)) b) (sym (c.leave_seats.ensures.books k e x (omega arith))) (c.run_seats.ensures.books k x (omega arith))));
       others = λ k d past low. absurd (omega arith);
     }
