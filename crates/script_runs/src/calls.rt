@@ -44,6 +44,9 @@ pub trait SessionCalls {
     fn clock(&self) -> u64
         ensures { result ≡ (seen self.now).clock };
 
+    /// Lets go of whatever it stays behind, and tells all sessions that memory was wanting: for whoever runs the session and stops it so between its calls.
+    fn tell_lack(&self);
+
     /// How far its last transaction is.
     fn stage(&self) -> Stage
         ensures { IsStage (seen self.now).standing result };

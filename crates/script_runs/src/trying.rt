@@ -46,6 +46,7 @@ fn do_lines<R: Wait, C: SessionCalls>(
             Ok(answer) => {
                 following.answered(&answer);
                 if done.push((op, answer)).is_err() {
+                    session.tell_lack();
                     return Err(TryEnd::Stopped(StopCause::Memory));
                 }
             }
@@ -151,6 +152,7 @@ fn commit<C: SessionCalls>(
     ensures grounds { OnStop (C.grounds session.new) result.end }
 {
     if book.reserve(1).is_err() {
+        session.tell_lack();
         return Committed {
             end: TryEnd::Stopped(StopCause::Memory),
             asked: false,

@@ -40,6 +40,11 @@ impl<'a, M: Flier, P: Pace, R: Wait> SessionCalls for ScriptSession<'a, M, P, R>
         self.session.walker.clock
     }
 
+    fn tell_lack(&self) {
+        self.session.shards.go_out(self.session.walker.number);
+        self.session.shards.tell_lack();
+    }
+
     fn stage(&self) -> Stage {
         stage_of(&self.session.progress)
     }
