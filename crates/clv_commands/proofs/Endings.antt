@@ -3,6 +3,9 @@ use Rattle.std.proofs.Common.{◌≡◌, refl, sym, subst, ⊎_elim, ℕ, ◌<�
 use Rattle.std.proofs.lemmas.Bool.{cases_lt}
 use Rattle.clv_base.specs.Shards.{shard_count}
 use Rattle.io_model.specs.Story.{Story}
+use Rattle.cluster_opening.specs.declared.error.OpenError.{OpenError}
+use Rattle.cluster_opening.specs.declared.error.OpenError.TheVariants as opening
+use Rattle.cluster_runs.specs.Begun.{LeavesDisks}
 use Rattle.cluster_runs.specs.Ran.{RanAll}
 use Rattle.history_replay.specs.Entries.{Kept}
 use Rattle.report_text.specs.declared.texts.ReportError.{ReportError}
@@ -10,6 +13,7 @@ use Rattle.report_text.specs.declared.texts.ReportError.TheVariants as text
 use Rattle.clv_base.specs.Journals.{History}
 use Rattle.cluster_runs.specs.Histories.{entries}
 use Rattle.cluster_runs.specs.Statuses.{StatusTold}
+use Rattle.command_line.specs.Refusals.{of_opening}
 use Rattle.command_line.specs.Running.{with_text}
 use Rattle.cluster_runs.specs.PromisedSessions.{Went}
 use Rattle.script_lang.specs.Bodies.{Body}
@@ -78,6 +82,13 @@ pub record Refused (counts counts_now : ℕ → ℕ) (stories stories' : ℕ →
   pub source : CountsSource faults faults' status
   pub sink : CountsSink None taken taken status
   pub disks : CountsDisks None counts counts_now status
+
+pub refusals_close : (e : OpenError) (stories stories' : ℕ → Option Story) → LeavesDisks stories stories' e → Closes (of_opening e) stories stories'
+refusals_close (opening.Failed shard) stories stories' left = left
+refusals_close (opening.NotLog shard at) stories stories' left = left
+refusals_close (opening.Apart tx) stories stories' left = left
+refusals_close (opening.Worn at) stories stories' left = left
+refusals_close opening.Memory stories stories' left = left
 
 -- ---- pairs that aren't written
 

@@ -56,9 +56,9 @@ reported_so (Apart tx) written kept before now of writes cause = absurd of
 -- at any other, which is want of memory, it isn't
 pub unreported : (running : Status) (report : List ℕ) (kept : Kept) (faults : ℕ) (old : Option (List ℕ)) → IsOfShards running → writes_report running ≡ false → TookReport report running faults faults old old × CountsSink (Some kept) faults faults running
 unreported Memory report kept faults old of writes = (refl, refl)
-unreported Fine report kept faults old of writes = absurd (both_ways true refl writes)
-unreported (DiskFault shard) report kept faults old of writes = absurd (both_ways true refl writes)
-unreported (Worn at) report kept faults old of writes = absurd (both_ways true refl writes)
+unreported Fine report kept faults old of writes = absurd (both_ways true writes refl)
+unreported (DiskFault shard) report kept faults old of writes = absurd (both_ways true writes refl)
+unreported (Worn at) report kept faults old of writes = absurd (both_ways true writes refl)
 unreported Usage report kept faults old of writes = absurd of
 unreported (Script line) report kept faults old of writes = absurd of
 unreported ReadFault report kept faults old of writes = absurd of

@@ -151,9 +151,9 @@ loads_keep are replay keep seed sessions accounts count before now counts counts
     ap (accounts_sum accounts) map_is ∙ sum
 
 pub loads_sum : MembersAreOfScript → MembersAreAcknowledged → FillingsForget → LoadsSumFromNothing
-loads_sum are acknowledged forget seed sessions accounts count before now counts counts_now kept some two r =
+loads_sum are done forget seed sessions accounts count before now counts counts_now kept some two r =
     let f = has_filling are seed sessions accounts count before now counts counts_now kept some two r in
     let sum = forget accounts kept.found f.front f.behind f.filling two (told are seed sessions accounts count before now counts counts_now kept some two r f) f.kinds f.fills in
     let map_is : replayed_from [] kept ≡ replay_map [] (serial_ops (f.front ++ f.filling ∷ f.behind)) =
-    ap (replay_map []) (sym (acknowledged r.splits before now counts counts_now None (load seed sessions accounts count) r.went kept all_kept r.opens r.promised r.told.1)) ∙ ap (λ l. replay_map [] (serial_ops l)) f.at in
+    ap (replay_map []) (sym (done r.splits before now counts counts_now None (load seed sessions accounts count) r.went kept all_kept r.opens r.promised r.told.1)) ∙ ap (λ l. replay_map [] (serial_ops l)) f.at in
     ap (accounts_sum accounts) map_is ∙ sum

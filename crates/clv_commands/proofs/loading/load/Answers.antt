@@ -1,7 +1,10 @@
-use Rattle.std.proofs.Common.{rules, ◌≡◌, None, subst}
+use Rattle.std.proofs.Common.{rules, ◌≡◌, None, refl, sym, subst}
 use Rattle.cluster_runs.specs.Ran.{RanAll}
 use Rattle.script_lang.specs.Loads.{load as script_by}
 use Rattle.script_runs.specs.declared.threads.Start.TheVariants.{FirstAlone}
+use Rattle.command_line.specs.declared.status.Status.{Status}
+use Rattle.clv_commands.specs.Disks.{Closes}
+use Rattle.clv_commands.proofs.Endings.{ended_so, refusals_close}
 use Rattle.clv_commands.proofs.Loaded.{loaded}
 use Rattle.clv_commands.proofs.loading.load.Goals as goal
 
@@ -21,3 +24,13 @@ returns-in-Ok-ran-clause-promised g c =
     let same : c.sessions.result.now ≡ script = search rules in
     loaded c.runs_replay.ensures c.loads_keep_their_sum.ensures work.seed work.sessions work.accounts work.transfers c.requires.sessions.0 c.requires.accounts.0 (story h0) (story h1) (faults h0) (faults h1) c.in-Ok-ran.ran.history c.in-Ok-ran.ran.status c.write_line.result
     (subst (λ s. RanAll (story h0) (story h1) (faults h0) (faults h1) None FirstAlone s c.in-Ok-ran.ran.history c.in-Ok-ran.ran.status) same c.in-Ok-ran.ensures.ran) c.write_line.ensures.ends
+
+pub returns-in-Ok-ran-clause-disks : goal.returns-in-Ok-ran-clause-disks
+returns-in-Ok-ran-clause-disks g c =
+    let story = g.H.House.story in let faults = g.H.House.faults in let h0 = c.args.house.now in let h1 = c.run_script-ran.new.house in
+    (ended_so (story h0) (story h1) (faults h0) (faults h1) _ _ _ c.in-Ok-ran.ran.history None 0 0 c.in-Ok-ran.ran.status c.write_line.result c.in-Ok-ran.ensures.ran c.write_line.ensures.ends refl).disks
+
+pub returns-clause-closed : goal.returns-clause-closed
+returns-clause-closed g c = λ none.
+    let story = g.H.House.story in let h0 = c.args.house.now in let h1 = c.run_script-ran.new.house in
+    subst (λ (s : Status). Closes s (story h0) (story h1)) (sym c.into.ensures) (refusals_close c.in-Err.error (story h0) (story h1) c.in-Err.ensures.left)
