@@ -30,7 +30,7 @@ use Rattle.clv_base.specs.Participant.{asked_voter, taken_if, taken_by}
 use Rattle.clv_base.specs.Coordinator.{new_request, others, vote_from, takes_vote, counts_vote, with_vote_of, takes_done, with_done_of, ask_answer}
 use Rattle.clv_base.specs.OneShard.{OpDies, seen_fits, locked, written, performed, rolled_back_if, without_part, op_granted, op_decided, op_by_stage, op_seen, closing, closed_in, close_part, drop_part}
 use Rattle.clv_base.specs.Due.{send}
-use Rattle.clv_base.specs.Events.{Reply, QuietBeforeWorn, QuietAfterWorn, Does, finish, op_event, is_alone, epoch_in, coordinate, request_by_stage, request_event, look_lost, look_state, look_known, look_event, request_epoch, drop_event, owe_vote, on_prepare, with_votes, on_vote, decided, on_decide, with_done, on_done, ask_messages, on_message, to_of, send_event, with_outbox, remind_with, reminders, out_event, with_flight, with_durable, put_down, happen_up, happen}
+use Rattle.clv_base.specs.Events.{Reply, QuietBeforeWorn, QuietAfterWorn, Does, finish, op_event, is_alone, epoch_in, coordinate, request_by_stage, request_event, look_lost, look_state, look_known, look_event, request_epoch, drop_event, owe_vote, is_followed, on_prepare, with_votes, on_vote, decided, on_decide, with_done, on_done, ask_messages, on_message, to_of, send_event, with_outbox, remind_with, reminders, out_event, with_flight, with_durable, put_down, happen_up, happen}
 use Rattle.shard_laws.specs.OneShard.{predecessors_committed}
 use Rattle.law_base.specs.Items.{Item}
 use Rattle.clv_base.proofs.SameNames.{or_left, or_right, tx_true, tx_self, tx_eq, tx_ne}
@@ -731,9 +731,9 @@ owed all g s tx home seen h no_request open_ = record {
     open_at u v false t e = h.unvoted u v e
 
 prepares : (all : List Item) (g : Past) (s : Shard) (m : Message) (stamp : ℕ) (tx : TxId) (home seen : ℕ) (o : Option Stage) → Sound all g s → stage_of s.local tx ≡ o → tx_in tx g.asked ≡ true → tx_get tx s.requests ≡ None → (wrote_in s.local.log tx ≡ false → committed_in s.local.log tx ≡ false) → Keeps_reply all g s (Deliver m stamp) (on_prepare s tx home seen o)
-prepares all g s m stamp tx home seen None h st asks none open_ = at_cond all g s (Deliver m stamp) (seen == s.local.epoch) (QuietBeforeWorn Stale) (Does Taken (finish (owe_vote tx home seen s))) early (quietly all g s (owe_vote tx home seen s) (Deliver m stamp) Taken (refl, refl, refl) refl (owed all g s tx home seen h none open_))
+prepares all g s m stamp tx home seen None h st asks none open_ = at_cond all g s (Deliver m stamp) (is_followed tx s.local.parts || (seen == s.local.epoch)) (QuietBeforeWorn Stale) (Does Taken (finish (owe_vote tx home seen s))) early (quietly all g s (owe_vote tx home seen s) (Deliver m stamp) Taken (refl, refl, refl) refl (owed all g s tx home seen h none open_))
 prepares all g s m stamp tx home seen (Some Closed) h st asks none open_ = quietly all g s (owe_vote tx home seen s) (Deliver m stamp) Taken (refl, refl, refl) refl (owed all g s tx home seen h none open_)
-prepares all g s m stamp tx home seen (Some (Gone d)) h st asks none open_ = quietly all g s (owe_vote tx home seen s) (Deliver m stamp) Taken (refl, refl, refl) refl (owed all g s tx home seen h none open_)
+prepares all g s m stamp tx home seen (Some (Gone d)) h st asks none open_ = at_cond all g s (Deliver m stamp) (is_followed tx s.local.parts) (QuietBeforeWorn Stale) (Does Taken (finish (owe_vote tx home seen s))) early (quietly all g s (owe_vote tx home seen s) (Deliver m stamp) Taken (refl, refl, refl) refl (owed all g s tx home seen h none open_))
 prepares all g s m stamp tx home seen (Some Active) h st asks none open_ =
     quietly all g s (owe_vote tx home seen (with_local (close_part tx home false) s)) (Deliver m stamp) Taken (refl, refl, refl) refl
     (owed all g (with_local (close_part tx home false) s) tx home seen
