@@ -1,5 +1,5 @@
 -- What comes back, shard by shard.
-use Rattle.std.proofs.Common.{◌≡◌, ◌∙◌, sym, ap, subst, refl, ℕ, suc, ◌<◌, Bool, true, false, List, [], ◌∷◌, map, length, get_or, arith, Option, Some, None, Vec, Global}
+use Rattle.std.proofs.Common.{◌≡◌, ◌∙◌, sym, ap, subst, refl, ℕ, suc, ◌<◌, Bool, true, false, List, [], ◌∷◌, map, length, get_or, arith, Option, Some, None}
 use Rattle.std.proofs.lemmas.Bool.{both_ways}
 use Rattle.std.proofs.lemmas.List.{get_or_default}
 use Rattle.clv_base.specs.declared.logs.LogRecord.{LogRecord}
@@ -20,6 +20,7 @@ use Rattle.cluster_turns.specs.Walkers.{IsOriginAt, IsWalker}
 use Rattle.cluster_closing.specs.Landed.{HasLanded}
 use Rattle.cluster_closing.specs.declared.fetching.Fetched.{Fetched}
 use Rattle.cluster_closing.specs.Ends.{shard_at, IsNotAmong, HasDisk, HaveDisks, EndsWith, its_gate, a_disk, HasNoGate}
+use Rattle.quiet_list.specs.declared.told.Told.{Told}
 use Rattle.cluster_closing.specs.Closing.{lists, CountsBack, IsBack, Returned, CameFrom}
 use Rattle.law_base.proofs.Lists.{some_inside as inside, elem_at as some_elem}
 
@@ -108,7 +109,7 @@ module _ {M S G : Type 0} where
 
 -- ---- lists
 
-pub lists_are : {A H : Type 0} (xs : List (Vec A Global)) (ys : List H) (f : H → List A) → length xs ≡ length ys → ((n : ℕ) (d : Vec A Global) (e : H) → n < length ys → (get_or xs n d).items ≡ f (get_or ys n e)) → lists xs ≡ map f ys
+pub lists_are : {A H : Type 0} (xs : List (Told A)) (ys : List H) (f : H → List A) → length xs ≡ length ys → ((n : ℕ) (d : Told A) (e : H) → n < length ys → (get_or xs n d).items ≡ f (get_or ys n e)) → lists xs ≡ map f ys
 lists_are [] [] f len same = refl
 lists_are [] (y ∷ ys) f len same = absurd (omega arith)
 lists_are (x ∷ xs) [] f len same = absurd (omega arith)

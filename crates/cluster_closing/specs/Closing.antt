@@ -1,6 +1,5 @@
 -- What a cluster leaves.
-use Rattle.std.specs.Prelude.{◌≡◌, ℕ, ◌<◌, Bool, true, false, List, map, length, slice_index_or, Option, Some, None, Vec}
-use Rattle.std.specs.Global.{Global}
+use Rattle.std.specs.Prelude.{◌≡◌, ℕ, ◌<◌, Bool, true, false, List, map, length, slice_index_or, Option, Some, None}
 use Rattle.clv_base.specs.declared.logs.LogRecord.{LogRecord}
 use Rattle.clv_base.specs.declared.events.Entry.{Entry}
 use Rattle.clv_base.specs.State.{Shard}
@@ -11,10 +10,11 @@ use Rattle.log_gate.specs.Header.{Layout}
 use Rattle.log_gate.specs.View.{Only, OnlyOrMore, logs_told}
 use Rattle.machine_laws.specs.Homes.{has_failed}
 use Rattle.cluster_closing.specs.declared.fetching.Fetched.{Fetched}
+use Rattle.quiet_list.specs.declared.told.Told.{Told}
 use Rattle.cluster_closing.specs.Ends.{IsNotAmong}
 use Rattle.machine_laws.specs.Gates.{EachLog, durable_records, flying_records}
 
-abbrev pub lists : {A : Type 0} → List (Vec A Global) → List (List A)
+abbrev pub lists : {A : Type 0} → List (Told A) → List (List A)
 lists vecs = map (λ v. v.items) vecs
 
 -- the first that is down, of values that are up or not

@@ -8,6 +8,7 @@ use io_model::House;
 use log_gate::Gate;
 use machine_calls::{Machine, OverDisks, Parts};
 use ordered_store::Store;
+use quiet_list::Told;
 
 // The lowest shard that is down.
 pub(crate) fn lowest_down<M: Machine>(homes: &[Home<M>]) -> Option<u32>
@@ -24,13 +25,13 @@ pub(crate) fn lowest_down<M: Machine>(homes: &[Home<M>]) -> Option<u32>
 
 // What one shard leaves: its journal and its records.
 pub(crate) struct Parted<S> {
-    pub(crate) journal: Vec<Entry>,
+    pub(crate) journal: Told<Entry>,
     pub(crate) map: S,
 }
 
 // What all shards leave, each in the place of its number.
 pub(crate) struct Lists<S> {
-    pub(crate) journals: Vec<Vec<Entry>>,
+    pub(crate) journals: Vec<Told<Entry>>,
     pub(crate) maps: Vec<S>,
 }
 

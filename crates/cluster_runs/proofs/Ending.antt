@@ -39,14 +39,13 @@ use Rattle.journal_laws.proofs.Laws.{notes_are_seen}
 use Rattle.cluster_turns.specs.declared.home.Home.{Home}
 use Rattle.cluster_turns.specs.declared.shards.Shards.{Shards}
 use Rattle.cluster_turns.specs.declared.shards.Walker.{Walker}
-use Rattle.machine_calls.specs.Settled.{is_settled}
+use Rattle.machine_calls.specs.Settled.{is_quiet, is_settled}
 use Rattle.cluster_turns.specs.Walkers.{IsWalker, own_lists, kept as kept_by, founds_of}
 use Rattle.cluster_closing.specs.declared.fetching.Fetched.{Fetched}
 use Rattle.cluster_closing.specs.Held.{never_restarts}
 use Rattle.cluster_closing.specs.Legal.{views_of}
 use Rattle.cluster_closing.specs.Ending.{seen_of, own_notes, origin_of}
 use Rattle.cluster_closing.specs.Landed.{HasLanded}
-use Rattle.cluster_turns.specs.Rounds.{SettledAt}
 use Rattle.cluster_closing.specs.Closing.{IsBack}
 use Rattle.cluster_closing.specs.Closing as closing
 use Rattle.cluster_runs.specs.Disks.{HoldsLog, flush_failed}
@@ -66,7 +65,7 @@ use Rattle.cluster_turns.proofs.Laws.{notes_left}
 use Rattle.cluster_runs.specs.Sessions.{AreCounted, seen_by_all, begun_by_all}
 use Rattle.cluster_runs.specs.Statuses.{StatusTold, FlushesTold, AreWorn, transactions, last_stamp}
 use Rattle.cluster_runs.proofs.Wearing.{owned_few, begun_few, filter_below, journal_below}
-use Rattle.cluster_runs.specs.Drained.{WasSettled, IsSettledAtEnd}
+use Rattle.cluster_runs.specs.Drained.{QuietAt, WasSettled, IsQuietAtEnd}
 use Rattle.cluster_runs.proofs.Seeing.{whole_seen}
 use Rattle.cluster_runs.specs.Laws.{ClustersEnd, OthersStand, AllAreIn, RunsKeep, SessionsHaveGone, StatusesTell, FlushesTell, DownsTell}
 use Rattle.law_base.proofs.Lists.{elem_at, all_mono}
@@ -354,12 +353,12 @@ module _
         early = all_mono (λ e. e.stamp ≤ (q.s).last) (λ e. e.stamp ≤ clock) (λ e m. (let f = q.early in omega arith)) (entries_in q.first) (stamps_rise (start_of kept.found n) q.s (entries_in q.first) at).1;
       }
 
-  -- ---- a shard that each walker has seen settled, after all that it has seen
+  -- ---- a shard that each walker has seen quiet, after all that it has seen
 
   -- one of them has seen all notes
-  pub settled_state : ((k : ℕ) (d : Walker M S G) → k < length walkers → (get_or walkers k d).number ≡ k) → ((k : ℕ) (d : Walker M S G) → k < length walkers → HasLanded k (get_or walkers k d).passes.items) → Walker M S G → 0 < length walkers
-      → (n : ℕ) → n < count → ((k : ℕ) (d : Walker M S G) → k < length walkers → SettledAt n (get_or walkers k d).passes.items) → is_settled (states n) ≡ true
-  settled_state numbers landed d some n l sees =
+  pub quiet_state : ((k : ℕ) (d : Walker M S G) → k < length walkers → (get_or walkers k d).number ≡ k) → ((k : ℕ) (d : Walker M S G) → k < length walkers → HasLanded k (get_or walkers k d).passes.items) → Walker M S G → 0 < length walkers
+      → (n : ℕ) → n < count → ((k : ℕ) (d : Walker M S G) → k < length walkers → QuietAt n (get_or walkers k d).passes.items) → is_quiet (states n) ≡ true
+  quiet_state numbers landed d some n l sees =
       let h = get_or homes n (home n l) in
       let s = made h in
       let notes = notes_of s.journal h.marks.items in
@@ -375,14 +374,14 @@ module _
       let same : h.origin ≡ at.origin = same_origin (sym (closed.origin_is k d one.1) ∙ (ap origin_of (at.had None) ∙ at.has_origin)) in
       let whole : notes ≡ seen at.p = one.2 ∙ ap seen_of (at.had None) in
       let is : states n ≡ at.s = state_is n (home n l) l ∙ (r.closed.noted n (home n l) (low n l)).is ∙ ap (state_of h.origin) whole ∙ ap (λ o. state_of o (seen at.p)) same ∙ sym at.s_is.is in
-      ap is_settled is ∙ at.settled
+      ap is_quiet is ∙ at.quiet
 
-  pub settled_at_end : ((k : ℕ) (d : Walker M S G) → k < length walkers → (get_or walkers k d).number ≡ k) → ((k : ℕ) (d : Walker M S G) → k < length walkers → HasLanded k (get_or walkers k d).passes.items) → Walker M S G → 0 < length walkers
-      → (n : ℕ) → n < count → ((k : ℕ) (d : Walker M S G) → k < length walkers → SettledAt n (get_or walkers k d).passes.items) → IsSettledAtEnd n kept
-  settled_at_end numbers landed d some n l sees = record {
+  pub quiet_at_end : ((k : ℕ) (d : Walker M S G) → k < length walkers → (get_or walkers k d).number ≡ k) → ((k : ℕ) (d : Walker M S G) → k < length walkers → HasLanded k (get_or walkers k d).passes.items) → Walker M S G → 0 < length walkers
+      → (n : ℕ) → n < count → ((k : ℕ) (d : Walker M S G) → k < length walkers → QuietAt n (get_or walkers k d).passes.items) → IsQuietAtEnd n kept
+  quiet_at_end numbers landed d some n l sees = record {
     state = states n;
     runs = subst (λ es. Runs (start_of kept.found n) es (states n)) (sym (history.same_journals n l)) (runs_at n l);
-    settled = settled_state numbers landed d some n l sees;
+    quiet = quiet_state numbers landed d some n l sees;
   }
 
 pub clusters_end : {M S G D : Type 0} → ClustersEnd M S G D

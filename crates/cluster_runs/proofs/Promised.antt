@@ -37,10 +37,10 @@ use Rattle.script_runs.specs.Sessions.{session_entries}
 use Rattle.clv_base.specs.Restarts.{run_after}
 use Rattle.script_runs.specs.declared.threads.Start.{Start}
 use Rattle.script_runs.specs.declared.threads.Start.TheVariants.{FirstAlone}
-use Rattle.cluster_runs.specs.Drained.{WasDrained, AreDrained, SeeSettled}
+use Rattle.cluster_runs.specs.Drained.{WasDrained, AreDrained, SeeQuiet}
 use Rattle.cluster_runs.specs.Alone.{BeginsWith, AreAlone, RanAlone}
 use Rattle.cluster_runs.proofs.Alone.{ran_alone}
-use Rattle.cluster_runs.proofs.Ending.{others_stand, runs_keep, sessions_have_gone, statuses_tell, flushes_tell, downs_tell, was_drained, settled_at_end, own_is_kept}
+use Rattle.cluster_runs.proofs.Ending.{others_stand, runs_keep, sessions_have_gone, statuses_tell, flushes_tell, downs_tell, was_drained, quiet_at_end, own_is_kept}
 use Rattle.cluster_runs.proofs.Before.{before_sessions}
 use Rattle.cluster_runs.specs.Sessions.{HasGrounds, SessionsGone, AreCounted, HasWornLast}
 use Rattle.cluster_runs.specs.Ran.{AllEnded, StopTold, RanAll}
@@ -92,7 +92,7 @@ fine_end None (Err (stop.Unsettled n)) h = absurd cc
 pub ran_all : {M S G : Type 0} → SessionsHaveEnded → (D : Type 0) (shard : M → Shard) (sh : Shards M S G) (walkers : List (Walker M S G)) (homes : List (Home M S G)) (kept : Kept) (down : Option ℕ) (counts counts_now : ℕ → ℕ) (out out_now : ℕ → Bool)
     (before now : ℕ → Option Story) (most : Option ℕ) (start : Start) (script : List (List Body)) (went : ℕ → Went) (end : End) (status : Status)
     → IsClosedRun D shard sh walkers homes kept down counts counts_now out out_now before now → length walkers ≡ suc (length script)
-    → SessionsGone sh most script walkers went end → AreDrained sh (length script) walkers went → ((k : ℕ) (d : Walker M S G) → k < length walkers → IsAtRest sh k (get_or walkers k d)) → (IsOk end → SeeSettled sh walkers) → (start ≡ FirstAlone → AreAlone sh most script (λ k d. get_or walkers (suc k) d)) → AreCounted script walkers → HasWornLast walkers end → status ≡ status_by down end → RanAll before now counts counts_now most start script kept status
+    → SessionsGone sh most script walkers went end → AreDrained sh (length script) walkers went → ((k : ℕ) (d : Walker M S G) → k < length walkers → IsAtRest sh k (get_or walkers k d)) → (IsOk end → SeeQuiet sh walkers) → (start ≡ FirstAlone → AreAlone sh most script (λ k d. get_or walkers (suc k) d)) → AreCounted script walkers → HasWornLast walkers end → status ≡ status_by down end → RanAll before now counts counts_now most start script kept status
 ran_all {M = M} {S = S} {G = G} ends D shard sh walkers homes kept down counts counts_now out out_now before now most start script went end status ended many gone drains rest seen_so apart counted worn is =
     let numbers : (k : ℕ) (d : Walker M S G) → k < length walkers → (get_or walkers k d).number ≡ k = λ k d few. (rest k d few).number_is in
     let each = subst (λ r. SessionsWent sh.splits r most script went (walked_by walkers)) ended.begun.run (sessions_have_gone sh.splits sh.run most script went walkers numbers many gone.each) in
@@ -126,8 +126,8 @@ ran_all {M = M} {S = S} {G = G} ends D shard sh walkers homes kept down counts c
           (subst (λ es. BeginsWith sh.splits sh.run most bodies a.clock (session_entries es))
           (sym (own_is_kept {D = D} shard sh walkers homes kept down counts counts_now out out_now before now ended numbers 1 w (omega arith))) (a.first bodies w at))));
       drained = drained;
-      settled = λ fine n low. (let w = some_elem walkers 0 (omega arith) in let seen = seen_so (fine_end down end (sym is ∙ fine)) in
-          settled_at_end {D = D} shard sh walkers homes kept down counts counts_now out out_now before now ended numbers
+      quiet = λ fine n low. (let w = some_elem walkers 0 (omega arith) in let seen = seen_so (fine_end down end (sym is ∙ fine)) in
+          quiet_at_end {D = D} shard sh walkers homes kept down counts counts_now out out_now before now ended numbers
           (λ k d few. subst (λ m. HasLanded m (get_or walkers k d).passes.items) (numbers k d few) (rest k d few).landed) w (omega arith) n low
           (λ k d few. seen k n d few (let c = ended.begun.count in omega arith)));
       ended = all_ended ends sh.splits before now counts counts_now most script went kept opens promised drained (shard_count sh.splits) status told;

@@ -10,7 +10,7 @@ use Rattle.clv_base.specs.LogRules.{log_of}
 use Rattle.clv_base.specs.FileRules.{may_open}
 use Rattle.clv_base.specs.Maps.{replay_map}
 use Rattle.clv_base.specs.Journals.{History}
-use Rattle.clv_base.specs.History.{Member, members, serial_ops, logs_left, acknowledged_in, ops_in, request_of}
+use Rattle.clv_base.specs.History.{Legal, Member, members, serial_ops, logs_left, acknowledged_in, ops_in, request_of}
 use Rattle.history_cases.proofs.Merging.{Among, among_is}
 use Rattle.history_cases.proofs.Worlds.{in_a_shard}
 use Rattle.fate_laws.proofs.Laws.{aborted_are_committed_nowhere}
@@ -18,7 +18,7 @@ use Rattle.history_replay.specs.Replayed.{operations_at, acknowledged_ops}
 use Rattle.cluster_runs.specs.Histories.{entries}
 use Rattle.cluster_runs.specs.PromisedSessions.{Went}
 use Rattle.cluster_runs.specs.Promises.{RunPromised}
-use Rattle.cluster_runs.specs.Replays.{HaveGone, MembersAreAcknowledged, RunsReplay}
+use Rattle.cluster_runs.specs.Replays.{AreTold, MembersAreAcknowledged, RunsReplay}
 use Rattle.history_replay.specs.Entries.{Kept}
 use Rattle.io_model.specs.Story.{Story}
 use Rattle.script_lang.specs.Bodies.{Body}
@@ -51,22 +51,21 @@ module _ (logs : List (List LogRecord)) (h : History) where
   members_are (e ∷ es) known =
       at e (members logs h es) (acknowledged_ops h es) (request_of (e.1).event (e.1).outcome) (known e (inl refl)) (members_are es (λ x m. known x (inr m)))
 
-pub known_all :
-    (splits : List ℕ) (before now : ℕ → Option Story) (counts counts_now : ℕ → ℕ) (most : Option ℕ) (script : List (List Body)) (went : ℕ → Went) (kept : Kept) → may_open splits kept.found ≡ true
-    → (p : RunPromised splits before now counts counts_now most script went kept) → HaveGone script went → (choice : ℕ → Bool) (e : ℕ × Entry) → Among e (entries kept)
-    → IsKnown (logs_left splits kept.found (entries kept) (p.keeps).left choice) (entries kept) e
-known_all splits before now counts counts_now most script went kept may p gone choice e m t some committed =
+-- where who made a request was told, so it is in each legal history's logs left
+pub known_by :
+    (splits : List ℕ) (kept : Kept) (left : List (List LogRecord)) → may_open splits kept.found ≡ true → Legal splits kept.found (entries kept) left → AreTold (entries kept) → (choice : ℕ → Bool) (e : ℕ × Entry) → Among e (entries kept)
+    → IsKnown (logs_left splits kept.found (entries kept) left choice) (entries kept) e
+known_by splits kept left may legal told choice e m t some committed =
     let h = entries kept in
-    let left = (p.keeps).left in
-    let legal = ((p.keeps).legal).legal in
     let logs = logs_left splits kept.found h left choice in
     ⊎_elim (λ a. a)
     (λ b. absurd (both_ways (committed_in (log_of logs e.0) t) (aborted_are_committed_nowhere splits kept.found h left choice e.0 t (record { opens = may; legal = legal }) (in_a_shard splits kept.found left h e legal m) b) committed))
-    (requests_are_told splits before now counts counts_now most script went kept p gone e.0 e.1 t (among_is e.0 e.1 h m) some)
+    (told e.0 e.1 t (among_is e.0 e.1 h m) some)
 
 pub members_are_acknowledged : MembersAreAcknowledged
 members_are_acknowledged splits before now counts counts_now most script went kept choice may p gone =
-    members_are (logs_left splits kept.found (entries kept) (p.keeps).left choice) (entries kept) (entries kept) (known_all splits before now counts counts_now most script went kept may p gone choice)
+    members_are (logs_left splits kept.found (entries kept) (p.keeps).left choice) (entries kept) (entries kept)
+    (known_by splits kept (p.keeps).left may ((p.keeps).legal).legal (requests_are_told splits before now counts counts_now most script went kept p gone) choice)
 
 pub runs_replay : RunsReplay
 runs_replay splits before now counts counts_now most script went kept may p gone choice =

@@ -16,7 +16,6 @@ use Rattle.cluster_turns.specs.declared.shards.Shards.{Shards}
 use Rattle.cluster_turns.specs.declared.shards.Walker.{Walker}
 use Rattle.cluster_turns.specs.Walkers.{IsWalker, Walked, kept}
 use Rattle.cluster_turns.specs.Dates.{IsDated, last_seen}
-use Rattle.cluster_turns.specs.Rounds.{SettledAt}
 use Rattle.cluster_closing.proofs.Laws.{inside, some_inj}
 use Rattle.history_replay.specs.Entries.{on_shard}
 use Rattle.script_lang.specs.Bodies.{Body}
@@ -28,7 +27,8 @@ use Rattle.session_api.specs.Grounds.{WasDown}
 use Rattle.cluster_runs.specs.PromisedSessions.{Went, NotBegun, Begun, SessionWent}
 use Rattle.cluster_runs.specs.Alone.{BeginsWith, AreAlone}
 use Rattle.cluster_runs.specs.Sessions.{seen_by_all, begun_by_all, HasWornLast, AreCounted, HasGrounds, SessionsGone}
-use Rattle.cluster_runs.specs.Drained.{LookTold, WasSettled, SeesOn, HasLooked, HaveLooked, HasDrained, AreDrained}
+use Rattle.cluster_runs.specs.declared.draining.Sight.{Sight}
+use Rattle.cluster_runs.specs.Drained.{LookTold, QuietAt, WasSettled, SeesOn, HasLooked, HaveLooked, HasDrained, AreDrained}
 
 -- ---- lists of notes
 
@@ -95,8 +95,8 @@ module _ {T : Type 0} where
         (r, holds, same ∙ origin, (more.0 ++ further.0, further.1 ∙ ap (λ l. l ++ further.0) more.1 ∙ append_assoc (seen p) more.0 further.0));
   }
 
-  pub looked_on : {m w : ℕ} {before after : List (Option (Pass T Note Origin))} (answer : Bool) (last : ℕ) → Walked (LookTold answer last) m w before after → SeesOn before after
-  looked_on {m} {w} {before} {after} answer last h =
+  pub looked_on : {m w : ℕ} {before after : List (Option (Pass T Note Origin))} (sight : Sight) → Walked (LookTold sight) m w before after → SeesOn before after
+  looked_on {m} {w} {before} {after} sight h =
       let t = h.turned in
       record {
         kept_is = h.kept_is ∙ ap (λ ns. kept before ++ on_shard m (entries_in ns)) (t.told).settled.added_is ∙ append-nil (kept before);
@@ -166,12 +166,12 @@ module _ {M S G : Type 0} (sh : Shards M S G) where
         (λ other. subst (λ z. HasLooked sh (get_or us k d) z) (sym (get_or-set_other ws place k v d other)) (all.each k d));
   }
 
-  -- and has seen each shard settled, as those before it have
-  pub one_settled : (count : ℕ) (ws : List (Walker M S G)) (place : ℕ) (v : Walker M S G) → place < length ws → ((k n : ℕ) (d : Walker M S G) → k < place → n < count → SettledAt n (get_or ws k d).passes.items) → ((n : ℕ) → n < count → SettledAt n v.passes.items)
-      → (k n : ℕ) (d : Walker M S G) → k < suc place → n < count → SettledAt n (get_or (set ws place v) k d).passes.items
-  one_settled count ws place v low before here k n d less few = dite (ℕ_discrete k place)
-      (λ same. subst (λ z. SettledAt n z.passes.items) (sym (ap (λ (j : ℕ). get_or (set ws place v) j d) same ∙ get_or-set_same ws place v d low)) (here n few))
-      (λ other. subst (λ z. SettledAt n z.passes.items) (sym (get_or-set_other ws place k v d other)) (before k n d (omega (arith, other)) few))
+  -- and has seen each shard quiet, as those before it have
+  pub one_quiet : (count : ℕ) (ws : List (Walker M S G)) (place : ℕ) (v : Walker M S G) → place < length ws → ((k n : ℕ) (d : Walker M S G) → k < place → n < count → QuietAt n (get_or ws k d).passes.items) → ((n : ℕ) → n < count → QuietAt n v.passes.items)
+      → (k n : ℕ) (d : Walker M S G) → k < suc place → n < count → QuietAt n (get_or (set ws place v) k d).passes.items
+  one_quiet count ws place v low before here k n d less few = dite (ℕ_discrete k place)
+      (λ same. subst (λ z. QuietAt n z.passes.items) (sym (ap (λ (j : ℕ). get_or (set ws place v) j d) same ∙ get_or-set_same ws place v d low)) (here n few))
+      (λ other. subst (λ z. QuietAt n z.passes.items) (sym (get_or-set_other ws place k v d other)) (before k n d (omega (arith, other)) few))
 
   -- walker 0 has drained, and the others stay
   pub others_walk : (ws : List (Walker M S G)) (v : Walker M S G) → IsWalker sh v → ((k : ℕ) (d : Walker M S G) → k < length ws → IsAtRest sh k (get_or ws k d)) → (k : ℕ) (d : Walker M S G) → k < length (set ws 0 v) → IsWalker sh (get_or (set ws 0 v) k d)

@@ -1,14 +1,14 @@
 -- What a walker has seen settled stays seen.
-use Rattle.std.proofs.Common.{◌≡◌, ◌∙◌, sym, ap, subst, ℕ, zero, suc, ◌≤◌, Bool, true, List, [], ◌∷◌, ◌++◌, set, get_or, append_assoc, append-nil, get_or-set_same, get_or-set_other, Option, Some, None, Result, Ok, Err, arith}
+use Rattle.std.proofs.Common.{◌≡◌, ◌∙◌, sym, ap, subst, ◌≢◌, ℕ, zero, suc, ◌<◌, ◌≤◌, true, List, [], ◌∷◌, ◌++◌, set, length, get_or, append_assoc, append-nil, get_or-set_same, get_or-set_other, Option, Some, None, Result, Ok, Err, arith}
 use mathlib.Core.Logic.{dite}
 use native.Mathlib.Decide.{ℕ_discrete}
 use Rattle.clv_base.specs.State.{Shard}
 use Rattle.turn_lock.specs.declared.pass.Pass.{Pass}
 use Rattle.turn_lock.specs.Passes.{seen}
-use Rattle.machine_calls.specs.Settled.{is_settled}
+use Rattle.machine_calls.specs.Settled.{is_quiet, is_settled, are_inactive}
 use Rattle.machine_laws.specs.declared.notes.Note.{Note}
 use Rattle.machine_laws.specs.declared.notes.Origin.{Origin}
-use Rattle.machine_laws.specs.Homes.{entries_in}
+use Rattle.machine_laws.specs.Homes.{IsLegal, entries_in}
 use Rattle.cluster_turns.specs.Dates.{latest, seen_by, last_seen}
 use Rattle.cluster_turns.proofs.Laws.{state_last}
 use Rattle.cluster_turns.specs.Turns.{Turned, SettledTold}
@@ -20,9 +20,11 @@ use Rattle.cluster_turns.specs.declared.carrying.Carry.{Carry}
 use Rattle.cluster_turns.specs.declared.carrying.CarryError.{CarryError}
 use Rattle.cluster_turns.specs.Carried.{BringTold, is_lost, is_brought, CarryTold, none_sent, one_sent}
 use Rattle.cluster_turns.specs.declared.tending.DrainError.{DrainError}
-use Rattle.cluster_turns.specs.Rounds.{Rounds, no_turn, flushes, carries, reminds, looks, Refused, no_flush, no_message, no_reminder, DrainTold}
+use Rattle.cluster_turns.specs.Rounds.{SettledAt, Rounds, no_turn, flushes, carries, reminds, looks, Refused, no_flush, no_message, no_reminder, DrainTold}
 use Rattle.cluster_closing.proofs.Laws.{inside, some_inj}
-use Rattle.cluster_runs.specs.Drained.{LookTold, HasSeenSettled, WasSettled}
+use Rattle.std.proofs.lemmas.Bool.{and_parts}
+use Rattle.cluster_runs.specs.declared.draining.Sight.{Sight}
+use Rattle.cluster_runs.specs.Drained.{LookTold, HasSeenSettled, QuietAt, WasSettled}
 
 module _ {T : Type 0} where
   turned_settled : {Told : Shard → Shard → List Note → Type 0} {w : ℕ} (clock : ℕ) (p q : Pass T Note Origin) → Turned Told w p q → HasSeenSettled clock p → HasSeenSettled clock q
@@ -77,8 +79,8 @@ module _ {T : Type 0} where
 
   -- ---- a look
 
-  pub as_look : {n w : ℕ} {before after : List (Option (Pass T Note Origin))} (answer : Bool) (last : ℕ) → Walked (LookTold answer last) n w before after → Walked (SettledTold answer) n w before after
-  as_look answer last h = let t = h.turned in record {
+  pub as_look : {n w : ℕ} {before after : List (Option (Pass T Note Origin))} (sight : Sight) → Walked (LookTold sight) n w before after → Walked (SettledTold sight.settled) n w before after
+  as_look sight h = let t = h.turned in record {
     p = h.p;
     q = h.q;
     had = h.had;
@@ -110,8 +112,8 @@ module _ {T : Type 0} where
   seen_among (suc n) (x ∷ xs) p had = let r = seen_among n xs p had in omega arith
 
   -- its last stamp is among those that the walker has seen then
-  pub looked_last : {n w : ℕ} {before after : List (Option (Pass T Note Origin))} (answer : Bool) (last : ℕ) → Walked (LookTold answer last) n w before after → last ≤ last_seen after
-  looked_last {n} {w} {before} {after} answer last h =
+  pub looked_last : {n w : ℕ} {before after : List (Option (Pass T Note Origin))} (sight : Sight) → Walked (LookTold sight) n w before after → sight.last ≤ last_seen after
+  looked_last {n} {w} {before} {after} sight h =
       let t = h.turned in
       let is = t.told.last_is in
       let low = state_last t.origin (t.before ++ t.added) t.t t.t_is in
@@ -119,8 +121,8 @@ module _ {T : Type 0} where
       let among = seen_among n after h.q (λ d. ap (λ ps. get_or ps n d) h.after_is ∙ get_or-set_same before n (Some h.q) d (inside before n h.p h.had)) in
       omega arith
 
-  pub seen_settled : {n w : ℕ} {before after : List (Option (Pass T Note Origin))} (answer : Bool) (last most : ℕ) → Walked (LookTold answer last) n w before after → answer ≡ true → last ≤ most → WasSettled n most after
-  seen_settled {n} {w} {before} {after} answer last most h is low =
+  pub seen_settled : {n w : ℕ} {before after : List (Option (Pass T Note Origin))} (sight : Sight) (most : ℕ) → Walked (LookTold sight) n w before after → sight.settled ≡ true → sight.last ≤ most → WasSettled n most after
+  seen_settled {n} {w} {before} {after} sight most h is low =
       let t = h.turned in (
         h.q,
         λ d. ap (λ ps. get_or ps n d) h.after_is ∙ get_or-set_same before n (Some h.q) d (inside before n h.p h.had),
@@ -153,3 +155,42 @@ module _ {T : Type 0} where
       early = (let e = k.early in omega arith);
     },
   )
+
+  -- ---- a look that finds nothing active either
+
+  -- a look at one shard leaves what was seen of the others
+  pub quiet_still : {Told : Shard → Shard → List Note → Type 0} {n w : ℕ} {before after : List (Option (Pass T Note Origin))} → Walked Told n w before after → (m : ℕ) → m ≢ n → QuietAt m before → QuietAt m after
+  quiet_still {Told} {n} {w} {before} {after} h m other k = record {
+    p = k.p;
+    had = λ d. ap (λ ps. get_or ps m d) h.after_is ∙ get_or-set_other before n m (Some h.q) d other ∙ k.had d;
+    origin = k.origin;
+    has_origin = k.has_origin;
+    s = k.s;
+    s_is = k.s_is;
+    quiet = k.quiet;
+  }
+
+  pub quiet_here : {n w : ℕ} {before after : List (Option (Pass T Note Origin))} (sight : Sight) → Walked (LookTold sight) n w before after → n < length before → sight.quiet ≡ true → QuietAt n after
+  quiet_here {n} {w} {before} {after} sight h low is =
+      let t = h.turned in
+      record {
+        p = h.q;
+        had = λ d. ap (λ ps. get_or ps n d) h.after_is ∙ get_or-set_same before n (Some h.q) d low;
+        origin = t.origin;
+        has_origin = t.origin_is ∙ t.has_origin;
+        s = t.t;
+        s_is = subst (λ ns. IsLegal t.origin ns t.t) (sym t.seen_is) t.t_is;
+        quiet = sym t.told.quiet_is ∙ is;
+      }
+
+  -- who is quiet is settled
+  pub settles : (n : ℕ) (passes : List (Option (Pass T Note Origin))) → QuietAt n passes → SettledAt n passes
+  settles n passes k = record {
+    p = k.p;
+    had = k.had;
+    origin = k.origin;
+    has_origin = k.has_origin;
+    s = k.s;
+    s_is = k.s_is;
+    settled = (and_parts (is_settled k.s) (are_inactive ((k.s).local).parts) k.quiet).0;
+  }

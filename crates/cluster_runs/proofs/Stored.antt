@@ -1,4 +1,4 @@
--- What the stores of a run hold in which no session was and all was fine: what the logs found stand for.
+-- What the stores of a run hold in which all was fine: the map after the acknowledged transactions.
 use Rattle.std.proofs.Common.{◌≡◌, refl, sym, ap, subst, ◌∙◌, ◌⊎◌, inl, inr, ℕ, zero, suc, ◌+◌, ◌<◌, ◌==◌, eqb-true, Bool, true, false, cond, not, ◌&&◌, ◌||◌, List, [], ◌∷◌, ◌++◌, length, map, get_or, Option, Some, None, is_none, arith}
 use Rattle.std.specs.List.{AllByRecursion, list_all, list_any}
 use Rattle.std.proofs.lemmas.Bool.{both_ways, and_parts, and_from}
@@ -73,7 +73,7 @@ turned records f (x ∷ xs) n each =
     let rest = turned records f xs (suc n) (λ j d l. ap f (let e : suc n + j ≡ n + suc j = omega arith in e) ∙ each (suc j) d (omega arith)) in
     ap (λ m. m ++ in_turn f (suc n) (length xs)) here ∙ ap (λ m. live_pairs (records x) ++ m) rest
 
--- ---- where no entry is one that only sessions make, there is no member
+-- ---- where no entry is one that only sessions make, no transaction is acknowledged
 
 never : (kept : Kept) → ((w : ℕ) → session_entries (own w (entries kept)) ≡ []) → (x : ℕ × Entry) → Among x (entries kept) → is_of_session (x.1).event ≡ false
 never kept none x m = at (is_of_session (x.1).event) refl
@@ -89,81 +89,54 @@ no_request e o of = at (request_of e o) refl
     at None is = is
     at (Some t) is = absurd (both_ways (is_of_session e) of (of_session e o t is))
 
-no_members : (logs : List (List LogRecord)) (h es : History) → ((x : ℕ × Entry) → Among x es → is_of_session (x.1).event ≡ false) → members logs h es ≡ []
-no_members logs h [] none = refl
-no_members logs h (e ∷ es) none =
-    ap
-    (λ o.
-    elim o as (λ z. List Member) [
-      | Some t ↦ cond (committed_in (log_of logs e.0) t || acknowledged_in h t) (record { tx = t; point = record { stamp = (e.1).stamp; shard = e.0 }; ops = ops_in t h } ∷ members logs h es) (members logs h es)
-      | None ↦ members logs h es
-    ])
-    (no_request (e.1).event (e.1).outcome (none e (inl refl)))
-    ∙ no_members logs h es (λ x m. none x (inr m))
+no_operations : (h es : History) → ((x : ℕ × Entry) → Among x es → is_of_session (x.1).event ≡ false) → acknowledged_ops h es ≡ []
+no_operations h [] none = refl
+no_operations h (e ∷ es) none = ap₂ (λ o ops. operations_at h o ++ ops) (no_request (e.1).event (e.1).outcome (none e (inl refl))) (no_operations h es (λ x m. none x (inr m)))
 
--- ---- and no part is active
+-- where there is no session, no walker makes such an entry
+none_at : (h : History) → ((w : ℕ) → (w ≡ 0) ⊎ (0 < w) → session_entries (own w h) ≡ []) → (w : ℕ) → session_entries (own w h) ≡ []
+none_at h others zero = others zero (inl refl)
+none_at h others (suc w) = others (suc w) (inr (omega arith))
 
-no_answer : (tx : TxId) (e : Event) (o : Outcome) → is_of_session e ≡ false → answered_epoch tx e o ≡ None
-no_answer tx (OpEvent u birth nth seen op) o of = absurd (both_ways true of refl)
-no_answer tx (Request u ts) o of = refl
-no_answer tx (Look u) o of = refl
-no_answer tx (Drop u) o of = refl
-no_answer tx Send o of = refl
-no_answer tx (Deliver m stamp) o of = refl
-no_answer tx Remind o of = refl
-no_answer tx FlushOut o of = refl
-no_answer tx FlushIn o of = refl
-no_answer tx Stop o of = refl
-no_answer tx Restart o of = refl
+pub nothing_is_replayed : NothingIsReplayed
+nothing_is_replayed splits before now counts counts_now most went kept p =
+    ap (replay_map (stands kept.found)) (no_operations (entries kept) (entries kept) (never kept (none_at (entries kept) (p.sessions).others)))
 
-not_answered : (epoch : ℕ) (tx : TxId) (es : List Entry) → ((e : Entry) → Among e es → is_of_session e.event ≡ false) → list_any (answered_in epoch tx) es ≡ false
-not_answered epoch tx [] none = refl
-not_answered epoch tx (e ∷ es) none =
-    ap (λ o. elim o as (λ z. Bool) [ Some n ↦ n == epoch | None ↦ false ] || list_any (answered_in epoch tx) es) (no_answer tx e.event e.outcome (none e (inl refl)))
-    ∙ not_answered epoch tx es (λ f m. none f (inr m))
+-- ---- a quiet shard
 
-none_active : ActiveWereAnswered → (n : ℕ) (found : List (List LogRecord)) (es : List Entry) (t : Shard) → Runs (start_of found n) es t → ((e : Entry) → Among e es → is_of_session e.event ≡ false) → AllByRecursion (λ p. (p.1).stage ≡ Active → ⊥) t.local.parts
-none_active were_answered n found es t runs none =
-    all_mono (λ p. is_active_stage (p.1).stage ≡ true → tx_get p.0 t.local.parts ≡ Some p.1) (λ p. (p.1).stage ≡ Active → ⊥)
-    (λ p known active.
-    both_ways (list_any (answered_in t.local.epoch p.0) es) (not_answered t.local.epoch p.0 es none)
-    (were_answered n (run_after found) (log_of found n) es t p.0 runs
-    (ap (λ o. elim o as (λ z. Option Stage) [ Some h ↦ Some h.stage | None ↦ None ]) (known (ap is_active_stage active)) ∙ ap (λ stage. Some stage) active)))
-    t.local.parts (runs_find_active n (run_after found) (log_of found n) es t runs)
-
--- ---- a settled shard on which none is active
-
-quiet_part : (log : List LogRecord) (tx : TxId) (stage : Stage) → (stage ≡ Active → ⊥) → (not (is_closed_stage stage) || committed_in log tx) ≡ true → (is_gone_stage stage || committed_in log tx) ≡ true
-quiet_part log tx Active inactive settled = absurd (inactive refl)
+quiet_part : (log : List LogRecord) (tx : TxId) (stage : Stage) → not (is_active_stage stage) ≡ true → (not (is_closed_stage stage) || committed_in log tx) ≡ true → (is_gone_stage stage || committed_in log tx) ≡ true
+quiet_part log tx Active inactive settled = absurd (both_ways false refl inactive)
 quiet_part log tx Closed inactive settled = settled
 quiet_part log tx (Gone d) inactive settled = refl
 
-quiet_parts : (log : List LogRecord) (parts : Table Held) → AllByRecursion (λ p. (p.1).stage ≡ Active → ⊥) parts → list_all (λ p. is_part_settled log p.0 p.1) parts ≡ true → list_all (λ p. is_gone_stage (p.1).stage || committed_in log p.0) parts ≡ true
+quiet_parts : (log : List LogRecord) (parts : Table Held) → are_inactive parts ≡ true → list_all (λ p. is_part_settled log p.0 p.1) parts ≡ true → list_all (λ p. is_gone_stage (p.1).stage || committed_in log p.0) parts ≡ true
 quiet_parts log [] none all = refl
 quiet_parts log (p ∷ ps) none all =
     let both = and_parts (is_part_settled log p.0 p.1) (list_all (λ q. is_part_settled log q.0 q.1) ps) all in
-    and_from (is_gone_stage (p.1).stage || committed_in log p.0) (list_all (λ q. is_gone_stage (q.1).stage || committed_in log q.0) ps) (quiet_part log p.0 (p.1).stage none.0 both.0) (quiet_parts log ps none.1 both.1)
+    let idle = and_parts (not (is_active_stage (p.1).stage)) (are_inactive ps) none in
+    and_from (is_gone_stage (p.1).stage || committed_in log p.0) (list_all (λ q. is_gone_stage (q.1).stage || committed_in log q.0) ps) (quiet_part log p.0 (p.1).stage idle.0 both.0) (quiet_parts log ps idle.1 both.1)
 
 nothing : (o : Option ℕ) → is_none o ≡ true → o ≡ None
 nothing None is = refl
 nothing (Some n) is = absurd (both_ways false refl is)
 
-quiet : (s : Shard) → is_settled s ≡ true → AllByRecursion (λ p. (p.1).stage ≡ Active → ⊥) s.local.parts → IsQuiet s
-quiet s settled none =
+quiet : (s : Shard) → is_quiet s ≡ true → IsQuiet s
+quiet s both =
+    let split = and_parts (is_settled s) (are_inactive s.local.parts) both in
     let parts = list_all (λ p. is_part_settled s.local.log p.0 p.1) s.local.parts in
     let requests = list_all (λ q. is_request_settled s.local.log q.0 q.1) s.requests in
-    let a = and_parts (s.is_up && is_flushed s && sends_nothing s.outbox && parts) requests settled in
+    let a = and_parts (s.is_up && is_flushed s && sends_nothing s.outbox && parts) requests split.0 in
     let b = and_parts (s.is_up && is_flushed s && sends_nothing s.outbox) parts a.0 in
     let c = and_parts (s.is_up && is_flushed s) (sends_nothing s.outbox) b.0 in
     let d = and_parts s.is_up (is_flushed s) c.0 in
     let e = and_parts (s.durable == length s.local.log) (is_none s.flight) d.1 in
-    (d.0, eqb-true s.durable (length s.local.log) e.0, nothing s.flight e.1, quiet_parts s.local.log s.local.parts none b.1)
+    (d.0, eqb-true s.durable (length s.local.log) e.0, nothing s.flight e.1, quiet_parts s.local.log s.local.parts split.1 b.1)
 
 -- ---- the end of a cluster
 
 module _
-    (were_answered : ActiveWereAnswered) (splits : List ℕ) (before now : ℕ → Option Story) (counts counts_now : ℕ → ℕ) (kept : Kept) (states : ℕ → Shard) (own_of : ℕ → History) (ended : ClusterEnded splits before now counts counts_now kept states own_of)
-    (none : (w : ℕ) → session_entries (own w (entries kept)) ≡ []) (settled : (n : ℕ) → n < shard_count splits → is_settled (states n) ≡ true) where
+    (splits : List ℕ) (before now : ℕ → Option Story) (counts counts_now : ℕ → ℕ) (kept : Kept) (states : ℕ → Shard) (own_of : ℕ → History) (ended : ClusterEnded splits before now counts counts_now kept states own_of)
+    (told : AreTold (entries kept)) (at_rest : (n : ℕ) → n < shard_count splits → is_quiet (states n) ≡ true) where
   abbrev count : ℕ
   count = shard_count splits
 
@@ -180,47 +153,41 @@ module _
   abbrev last : ℕ → Shard
   last n = final_of kept.found (entries kept) left n
 
-  is_quiet : (n : ℕ) → n < count → IsQuiet (last n)
-  is_quiet n l =
-      subst IsQuiet (sym (made.same_states n l))
-      (quiet (states n) (settled n l)
-      (none_active were_answered n kept.found (journal_at kept.journals n) (states n) (ended.runs n l)
-      (λ e m. never kept none (n, e) (from_journal n e (entries kept) (subst (Among e) (sym (made.same_journals n l)) m)))))
+  is_at_rest : (n : ℕ) → n < count → IsQuiet (last n)
+  is_at_rest n l = subst IsQuiet (sym (made.same_states n l)) (quiet (states n) (at_rest n l))
 
-  stored : {X : Type 0} (records : X → Records) (xs : List X) → length xs ≡ count → ((n : ℕ) (d : X) → n < count → records (get_or xs n d) ≡ (states n).local.records) → live_in_turn (map records xs) ≡ stands kept.found
+  stored : {X : Type 0} (records : X → Records) (xs : List X) → length xs ≡ count → ((n : ℕ) (d : X) → n < count → records (get_or xs n d) ≡ (states n).local.records) → live_in_turn (map records xs) ≡ replayed kept
   stored records xs long each =
-      let p = promise splits kept.found (entries kept) left (λ n. false) (record { opens = ended.opens; legal = made.legal }) in
+      let choice : ℕ → Bool = λ n. false in
+      let p = promise splits kept.found (entries kept) left choice (record { opens = ended.opens; legal = made.legal }) in
       let pairs : ℕ → KeyMap = λ n. live_pairs (last n).local.records in
       sym
       (turned records pairs xs 0
       (λ n d l. (let low : n < count = omega arith in
       ap pairs (let e : 0 + n ≡ n = omega arith in e) ∙ ap (λ s. live_pairs s.local.records) (made.same_states n low) ∙ ap live_pairs (sym (each n d low)))))
-      ∙ ap (in_turn pairs 0) long ∙ p.settled is_quiet ∙ sym p.map
-      ∙ ap (λ ms. replay_map (stands kept.found) (serial_ops ms)) (no_members (logs_left splits kept.found (entries kept) left (λ n. false)) (entries kept) (entries kept) (never kept none))
+      ∙ ap (in_turn pairs 0) long ∙ p.settled is_at_rest ∙ sym p.map
+      ∙ ap (replay_map (stands kept.found)) (members_are (logs_left splits kept.found (entries kept) left choice) (entries kept) (entries kept) (known_by splits kept left ended.opens made.legal told choice))
 
 -- ---- a run
 
--- where there is no session, no walker makes such an entry
-none_at : (h : History) (count : ℕ) → count ≡ 0 → ((w : ℕ) → (w ≡ 0) ⊎ (count < w) → session_entries (own w h) ≡ []) → (w : ℕ) → session_entries (own w h) ≡ []
-none_at h count empty others zero = others zero (inl refl)
-none_at h count empty others (suc w) = others (suc w) (inr (omega arith))
-
-pub stores_hold : {M S G : Type 0} → ActiveWereAnswered → SessionsHaveEnded → (D : Type 0) (shard : M → Shard) (sh : Shards M S G) (walkers : List (Walker M S G)) (homes : List (Home M S G)) (kept : Kept) (down : Option ℕ) (counts counts_now : ℕ → ℕ) (out out_now : ℕ → Bool)
+pub stores_hold : {M S G : Type 0} → SessionsHaveEnded → (D : Type 0) (shard : M → Shard) (sh : Shards M S G) (walkers : List (Walker M S G)) (homes : List (Home M S G)) (kept : Kept) (down : Option ℕ) (counts counts_now : ℕ → ℕ) (out out_now : ℕ → Bool)
     (before now : ℕ → Option Story) (most : Option ℕ) (start : Start) (script : List (List Body)) (went : ℕ → Went) (end : End) (status : Status) {X : Type 0} (records : X → Records) (xs : List X)
     → IsClosedRun D shard sh walkers homes kept down counts counts_now out out_now before now → length walkers ≡ suc (length script)
-    → SessionsGone sh most script walkers went end → AreDrained sh (length script) walkers went → ((k : ℕ) (d : Walker M S G) → k < length walkers → IsAtRest sh k (get_or walkers k d)) → (IsOk end → SeeSettled sh walkers) → (start ≡ FirstAlone → AreAlone sh most script (λ k d. get_or walkers (suc k) d)) → AreCounted script walkers → HasWornLast walkers end → status ≡ status_by down end
-    → length xs ≡ sh.locks.len → ((n : ℕ) (d : X) (e : Home M S G) → n < sh.locks.len → records (get_or xs n d) ≡ (shard (get_or homes n e).machine).local.records) → script ≡ [] → status ≡ Fine → live_in_turn (map records xs) ≡ stands kept.found
-stores_hold {M = M} {S = S} {G = G} were_answered ends D shard sh walkers homes kept down counts counts_now out out_now before now most start script went end status records xs ended many gone drains rest seen_so apart counted worn is long each empty fine =
+    → SessionsGone sh most script walkers went end → AreDrained sh (length script) walkers went → ((k : ℕ) (d : Walker M S G) → k < length walkers → IsAtRest sh k (get_or walkers k d)) → (IsOk end → SeeQuiet sh walkers) → (start ≡ FirstAlone → AreAlone sh most script (λ k d. get_or walkers (suc k) d)) → AreCounted script walkers → HasWornLast walkers end → status ≡ status_by down end
+    → length xs ≡ sh.locks.len → ((n : ℕ) (d : X) (e : Home M S G) → n < sh.locks.len → records (get_or xs n d) ≡ (shard (get_or homes n e).machine).local.records) → status ≡ Fine → live_in_turn (map records xs) ≡ replayed kept
+stores_hold {M = M} {S = S} {G = G} ends D shard sh walkers homes kept down counts counts_now out out_now before now most start script went end status records xs ended many gone drains rest seen_so apart counted worn is long each fine =
     let ran = ran_all ends D shard sh walkers homes kept down counts counts_now out out_now before now most start script went end status ended many gone drains rest seen_so apart counted worn is in
+    let through : HaveGone script ran.went = (subst (λ z. StatusTold (shard_count ran.splits) counts counts_now script (entries kept) ran.went z) fine ran.told).1 in
+    let told = requests_are_told ran.splits before now counts counts_now most script ran.went kept ran.promised through in
     let count = ended.begun.count in
     let ok = sh.locks.ok in
     let w = elem_at walkers 0 (omega arith) in
     let seen = seen_so (fine_end down end (sym is ∙ fine)) in
     let numbers : (k : ℕ) (d : Walker M S G) → k < length walkers → (get_or walkers k d).number ≡ k = λ k d few. (rest k d few).number_is in
-    stored were_answered sh.splits before now counts counts_now kept (end_of D shard sh homes) (walked_by walkers) (clusters_end {D = D} shard sh walkers homes kept down counts counts_now out out_now before now ended)
-    (none_at (entries kept) (length script) (ap length empty) ((ran.promised).sessions).others)
+    stored sh.splits before now counts counts_now kept (end_of D shard sh homes) (walked_by walkers) (clusters_end {D = D} shard sh walkers homes kept down counts counts_now out out_now before now ended)
+    told
     (λ n low.
-    settled_state {D = D} shard sh walkers homes kept down counts counts_now out out_now before now ended numbers (λ k d few. subst (λ m. HasLanded m (get_or walkers k d).passes.items) (numbers k d few) (rest k d few).landed) w (omega arith) n low
+    quiet_state {D = D} shard sh walkers homes kept down counts counts_now out out_now before now ended numbers (λ k d few. subst (λ m. HasLanded m (get_or walkers k d).passes.items) (numbers k d few) (rest k d few).landed) w (omega arith) n low
     (λ k d few. seen k n d few (omega arith)))
     records xs (omega arith)
     (λ n d low. (let l : n < length homes = (let c = ended.closed.len in omega arith) in

@@ -9,7 +9,7 @@ use Rattle.clv_base.specs.Machines.{Runs}
 use Rattle.turn_lock.specs.Journals.{StartsWith}
 use Rattle.turn_lock.specs.declared.pass.Pass.{Pass}
 use Rattle.turn_lock.specs.Passes.{seen, pass_origin}
-use Rattle.machine_calls.specs.Settled.{is_settled}
+use Rattle.machine_calls.specs.Settled.{is_quiet, is_settled}
 use Rattle.machine_laws.specs.declared.notes.Note.{Note}
 use Rattle.machine_laws.specs.declared.notes.Origin.{Origin}
 use Rattle.machine_laws.specs.Homes.{IsLegal}
@@ -21,12 +21,12 @@ use Rattle.cluster_turns.specs.declared.tending.DrainError.{DrainError}
 use Rattle.cluster_turns.specs.declared.tending.DrainError.TheVariants.{Worn}
 use Rattle.cluster_turns.specs.Walkers.{kept}
 use Rattle.cluster_turns.specs.Dates.{IsDated, last_seen}
-use Rattle.cluster_turns.specs.Rounds.{SettledAt}
 use Rattle.session_api.specs.Standing.{IsAtRest}
 use Rattle.script_runs.specs.declared.ends.StopCause.{StopCause}
 use Rattle.script_runs.specs.declared.ends.StopCause.TheVariants.{Worn as StopWorn}
 use Rattle.script_runs.specs.Sessions.{session_entries}
 use Rattle.command_line.specs.Running.{End}
+use Rattle.cluster_runs.specs.declared.draining.Sight.{Sight}
 use Rattle.cluster_runs.specs.Histories.{entries}
 use Rattle.cluster_runs.specs.PromisedSessions.{Went, Begun}
 
@@ -43,18 +43,19 @@ pub record WasDrained (n : ℕ) (run : Kept) : Type 0 where
   pub settled : is_settled state ≡ true
   pub no_session : list_all (λ e. not (is_of_session e.event)) front ≡ true
 
--- its whole journal leads to a state in which it is settled so
-pub record IsSettledAtEnd (n : ℕ) (run : Kept) : Type 0 where
+-- its whole journal leads to a state in which it is settled so, and no part of it is active
+pub record IsQuietAtEnd (n : ℕ) (run : Kept) : Type 0 where
   pub state : Shard
   pub runs : Runs (start_of run.found n) (journal_of n (entries run)) state
-  pub settled : is_settled state ≡ true
+  pub quiet : is_quiet state ≡ true
 
 -- ---- as walker 0 has seen it
 
--- a look at the state, which makes no entry: whether it is settled, and its last stamp
-pub record LookTold (answer : Bool) (last : ℕ) (s t : Shard) (added : List Note) : Type 0 where
-  pub settled : SettledTold answer s t added
-  pub last_is : last ≡ t.last
+-- a look at the state, which makes no entry: whether it is settled, and no part active besides, and its last stamp
+pub record LookTold (sight : Sight) (s t : Shard) (added : List Note) : Type 0 where
+  pub settled : SettledTold sight.settled s t added
+  pub quiet_is : sight.quiet ≡ is_quiet t
+  pub last_is : sight.last ≡ t.last
 
 module _ {T : Type 0} where
   -- after the first of the notes that the pass has seen, the shard was settled, and its last stamp was not past the clock
@@ -68,6 +69,16 @@ module _ {T : Type 0} where
     pub s_is : IsLegal origin first s
     pub settled : is_settled s ≡ true
     pub early : s.last ≤ clock
+
+  -- in the state of the journal that its pass has seen shard n is settled, and no part of it is active
+  pub record QuietAt (n : ℕ) (passes : List (Option (Pass T Note Origin))) : Type 0 where
+    pub p : Pass T Note Origin
+    pub had : (d : Option (Pass T Note Origin)) → slice_index_or passes n d ≡ Some p
+    pub origin : Origin
+    pub has_origin : pass_origin p ≡ Some origin
+    pub s : Shard
+    pub s_is : IsLegal origin (seen p) s
+    pub quiet : is_quiet s ≡ true
 
   -- the pass of shard n has seen it so
   abbrev pub WasSettled : ℕ → ℕ → List (Option (Pass T Note Origin)) → Type 0
@@ -105,9 +116,9 @@ module _ {M S G : Type 0} where
     pub count : length after ≡ length before
     pub each : (k : ℕ) (d : Walker M S G) → HasLooked sh (slice_index_or before k d) (slice_index_or after k d)
 
-  -- and has seen each shard settled, after all that its pass has seen
-  abbrev pub SeeSettled : Shards M S G → List (Walker M S G) → Type 0
-  SeeSettled sh walkers = (k n : ℕ) (d : Walker M S G) → k < length walkers → n < length sh.locks.items → SettledAt n (slice_index_or walkers k d).passes.items
+  -- and has seen each shard quiet, after all that its pass has seen
+  abbrev pub SeeQuiet : Shards M S G → List (Walker M S G) → Type 0
+  SeeQuiet sh walkers = (k n : ℕ) (d : Walker M S G) → k < length walkers → n < length sh.locks.items → QuietAt n (slice_index_or walkers k d).passes.items
 
   -- walker 0 was the first, and is the second after a drain that ended so
   pub record HasDrained (sh : Shards M S G) (before after : Walker M S G) (end : End) : Type 0 where

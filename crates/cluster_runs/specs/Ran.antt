@@ -17,7 +17,7 @@ use Rattle.script_runs.specs.declared.ends.StopCause.TheVariants.{Down, Unsettle
 use Rattle.cluster_runs.specs.Completing.{IsWanted, SessionEnded}
 use Rattle.script_runs.specs.declared.threads.Start.{Start}
 use Rattle.script_runs.specs.declared.threads.Start.TheVariants.{FirstAlone}
-use Rattle.cluster_runs.specs.Drained.{WasDrained, IsSettledAtEnd}
+use Rattle.cluster_runs.specs.Drained.{WasDrained, IsQuietAtEnd}
 use Rattle.cluster_runs.specs.Alone.{RanAlone}
 use Rattle.cluster_runs.specs.Promises.{RunPromised}
 use Rattle.cluster_runs.specs.PromisedSessions.{Went, Begun}
@@ -52,8 +52,8 @@ pub record RanAll (before now : ℕ → Option Story) (counts counts_now : ℕ �
   pub alone : start ≡ FirstAlone → (bodies : List Body) → slice_get script 0 ≡ Some bodies → RanAlone splits (run_after kept.found) most bodies (entries kept)
   -- before a session was begun, each shard was settled, and had no entry of a session so far
   pub drained : (k : ℕ) (cause : Option StopCause) → k < length script → went k ≡ Begun cause → (n : ℕ) → n < shard_count splits → WasDrained n kept
-  -- where all was fine each shard is settled at the end
-  pub settled : status ≡ Fine → (n : ℕ) → n < shard_count splits → IsSettledAtEnd n kept
+  -- where all was fine each shard is settled at the end, and no part of it is active
+  pub quiet : status ≡ Fine → (n : ℕ) → n < shard_count splits → IsQuietAtEnd n kept
   pub stops : (k : ℕ) → k < length script → StopTold (shard_count splits) (λ n. has_failed (journal_of n (entries kept))) (went k)
   -- each shard has its journal, and disks of no shard are as before
   pub shards : length kept.journals ≡ shard_count splits

@@ -1,5 +1,5 @@
 -- What a run leaves whose sessions all went through.
-use Rattle.std.specs.Prelude.{◌≡◌, ◌⊎◌, ℕ, ◌<◌, Bool, true, List, length, Option, Some, None}
+use Rattle.std.specs.Prelude.{◌≡◌, ◌⊎◌, ℕ, ◌<◌, Bool, true, List, [], length, Option, Some, None}
 use Rattle.clv_base.specs.declared.names.TxId.{TxId}
 use Rattle.clv_base.specs.declared.logs.LogRecord.{LogRecord}
 use Rattle.clv_base.specs.declared.events.Entry.{Entry}
@@ -46,3 +46,9 @@ MembersAreAcknowledged =
     (splits : List ℕ) (before now : ℕ → Option Story) (counts counts_now : ℕ → ℕ) (most : Option ℕ) (script : List (List Body)) (went : ℕ → Went) (kept : Kept) (choice : ℕ → Bool)
     → may_open splits kept.found ≡ true → (p : RunPromised splits before now counts counts_now most script went kept) → HaveGone script went
     → serial_ops (members_by splits kept (p.keeps).left choice) ≡ acknowledged_ops (entries kept) (entries kept)
+
+-- where there was no session, the map after the acknowledged transactions is what the logs found stand for
+abbrev pub NothingIsReplayed : Type 0
+NothingIsReplayed =
+    (splits : List ℕ) (before now : ℕ → Option Story) (counts counts_now : ℕ → ℕ) (most : Option ℕ) (went : ℕ → Went) (kept : Kept)
+    → RunPromised splits before now counts counts_now most [] went kept → replayed kept ≡ stands kept.found

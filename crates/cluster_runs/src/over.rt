@@ -9,7 +9,7 @@ ghost use Rattle.session_api.specs.Standing.{IsAtRest};
 ghost use Rattle.cluster_runs.specs.PromisedSessions.{Went};
 ghost use Rattle.cluster_runs.specs.Sessions.{SessionsGone, AreCounted, HasWornLast};
 ghost use Rattle.cluster_runs.specs.Books.{WalkersHaveBooks};
-ghost use Rattle.cluster_runs.specs.Drained.{AreDrained, SeeSettled};
+ghost use Rattle.cluster_runs.specs.Drained.{AreDrained, SeeQuiet};
 ghost use Rattle.cluster_runs.specs.Alone.{AreAlone};
 
 use crate::draining::{drain_all, drain_last};
@@ -29,7 +29,7 @@ use std::thread::Threads;
 ///
 /// What its walker kept of a session is its transactions in order, each in its tries, or nothing where it wasn't begun. The end is fine only where each session
 /// went through, and worn only where the walkers came to the last stamp. Where one was begun, walker 0 has seen each shard settled before it, and what the sessions made has stamps
-/// past those that it had seen. Where the end is fine, each walker has seen each shard settled in the end. Where the first transaction is to run alone, what other sessions made has stamps past all of its. The books of the
+/// past those that it had seen. Where the end is fine, each walker has seen each shard settled in the end, with no active part. Where the first transaction is to run alone, what other sessions made has stamps past all of its. The books of the
 /// sessions that were begun go into the list, each of what its walker kept. No clause says that sessions run beside each other.
 pub fn run_over<M: Flier + Send, P: Pace + Sync, R: Threads + Wait + Sync>(
     rt: &R,
@@ -55,7 +55,7 @@ where
     ensures len { vec_len walkers.new ≡ vec_len walkers.old }
     ensures rest { (k : ℕ) (d : _) → k < length sessions.now + 1 → IsAtRest shards.now k (slice_index_or walkers.new.items k d) }
     ensures went { (went : ℕ → Went) × SessionsGone shards.now most sessions.now walkers.new.items went result × AreDrained shards.now (length sessions.now) walkers.new.items went }
-    ensures settled { IfOk result (λ u. SeeSettled shards.now walkers.new.items) }
+    ensures quiet { IfOk result (λ u. SeeQuiet shards.now walkers.new.items) }
     ensures alone { start ≡ FirstAlone → AreAlone shards.now most sessions.now (λ k d. slice_index_or walkers.new.items (suc k) d) }
     ensures counted { AreCounted sessions.now walkers.new.items }
     ensures worn { HasWornLast walkers.new.items result }
@@ -69,6 +69,6 @@ where
     let ran = run_sessions(
         rt, alloc, shards, pace, walkers, sessions, most, start, clock, books,
     );
-    let last = drain_last(rt, alloc, shards, walkers, pace);
+    let last = drain_last(rt, alloc, shards, walkers, pace, ran.is_ok());
     graver(ran, last)
 }

@@ -1,6 +1,6 @@
 // Laws of runs that went through.
 
-ghost use Rattle.cluster_runs.specs.Replays.{MembersAreAcknowledged, RequestsAreTold, RunsReplay};
+ghost use Rattle.cluster_runs.specs.Replays.{MembersAreAcknowledged, NothingIsReplayed, RequestsAreTold, RunsReplay};
 
 /// Each transaction of a session that went through was told of its acknowledgement or of its abort, once it had made its request.
 pub fn requests_are_told()
@@ -15,4 +15,9 @@ pub fn runs_replay()
 /// The members are the acknowledged transactions.
 pub fn members_are_acknowledged()
     ensures { MembersAreAcknowledged }
+{}
+
+/// Where there was no session, no transaction is acknowledged: the map is what the logs found stand for.
+pub fn nothing_is_replayed()
+    ensures { NothingIsReplayed }
 {}

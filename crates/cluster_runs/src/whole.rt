@@ -1,7 +1,7 @@
 // A run, from the disks to the disks.
-ghost use Rattle.std.specs.Prelude.{◌≡◌, ◌<◌, ◌≤◌, ℕ, true, false, [], map, length, IfOk, IfErr};
+ghost use Rattle.std.specs.Prelude.{◌≡◌, ◌<◌, ◌≤◌, ℕ, true, false, map, length, IfOk, IfErr};
 ghost use Rattle.std.specs.List.{list_all};
-ghost use Rattle.clv_base.specs.Logs.{stands};
+ghost use Rattle.history_replay.specs.Replayed.{replayed};
 ghost use Rattle.script_lang.specs.Laws.{is_narrow_body};
 ghost use Rattle.cluster_opening.specs.Opening.{Refuses, CountsOpen};
 ghost use Rattle.cluster_runs.specs.Begun.{LeavesDisks};
@@ -20,7 +20,6 @@ use cluster_opening::OpenError;
 use command_line::running_status;
 use history_replay::History;
 use io_model::{House, Pace};
-use journal_laws::statements::active_were_answered;
 use lock_table::Locks;
 use log_gate::LogGate;
 use ordered_store::Store;
@@ -37,8 +36,8 @@ use std::thread::Threads;
 /// What all shards did is a legal history that keeps the promise of a run. The status is fine only where no shard's flush failed and each session went
 /// through, and then each transaction has ended; a disk's fault is of the lowest shard whose flush failed; at worn stamps and at want of memory none failed.
 /// Before a session begins each shard was settled, with no entry of a session in its journal so far; and where the first session's first transaction is to run
-/// alone, all that other sessions make has stamps past those of its entries. Where the status is fine each shard is settled at the end of its journal; and where, too,
-/// there was no session, the live pairs of all stores are what the logs found stand for. The books that its sessions kept tell what the history tells of them.
+/// alone, all that other sessions make has stamps past those of its entries. Where the status is fine each shard is settled at the end of its journal, with no
+/// active part, and the live pairs of all stores are the map after the acknowledged transactions. The books that its sessions kept tell what the history tells of them.
 /// An `Err` is the first refusal of the opening, as `open_all` tells it; then there is no history.
 pub fn run_script<
     S: Store + Drop + Send,
@@ -62,13 +61,12 @@ where
     requires narrow { list_all (list_all is_narrow_body) sessions.now ≡ true }
     ensures ran { IfOk result (λ r. RanAll (H.story house.old) (H.story house.new) (H.faults house.old) (H.faults house.new) most start sessions.now r.history r.status) }
     ensures books { IfOk result (λ r. HasBooks (entries r.history) r.books.items) }
-    ensures maps { IfOk result (λ r. sessions.now ≡ [] → r.status ≡ Fine → live_in_turn (map (λ m. S.records m) r.maps.items) ≡ stands r.history.found) }
+    ensures maps { IfOk result (λ r. r.status ≡ Fine → live_in_turn (map (λ m. S.records m) r.maps.items) ≡ replayed r.history) }
     ensures back { (n : ℕ) → n < 16 → H.is_out house.new n ≡ false }
     ensures refused { IfErr result (Refuses (H.story house.old)) }
     ensures counts { IfErr result (CountsOpen (H.faults house.old) (H.faults house.new)) }
     ensures left { IfErr result (LeavesDisks (H.story house.old) (H.story house.new)) }
 {
-    active_were_answered();
     sessions_have_ended();
     let Ok(mut books) = Vec::with_capacity(alloc, sessions.len()) else {
         return Err(OpenError::Memory);

@@ -4,13 +4,14 @@ ghost use Rattle.std.specs.Prelude.{◌≡◌, map};
 
 use clv_base::events::Entry;
 use clv_base::logs::LogRecord;
+use quiet_list::Told;
 use std::marker::Model;
 use std::snapshot::Snapshot;
 
-/// The journal of each shard, and, for contracts alone, each shard's log as opening found it.
+/// The journal of each shard, and each shard's log as opening found it, both for contracts alone.
 #[derive(Drop)]
 pub struct History {
-    journals: Vec<Vec<Entry>>,
+    journals: Vec<Told<Entry>>,
     found: Snapshot<Vec<Vec<LogRecord>>>,
 }
 
@@ -25,17 +26,10 @@ impl Model for History {
 
 impl History {
     /// The history of these journals and logs, one of each for each shard, from shard 0. Takes no memory.
-    pub fn new(journals: Vec<Vec<Entry>>, found: Snapshot<Vec<Vec<LogRecord>>>) -> Self
+    pub fn new(journals: Vec<Told<Entry>>, found: Snapshot<Vec<Vec<LogRecord>>>) -> Self
         ensures journals { result.journals ≡ map (λ j. j.items) journals.items }
         ensures found { result.found ≡ map (λ l. l.items) found.value.items }
     {
         History { journals, found }
-    }
-
-    /// The journals of the shards, from shard 0.
-    pub fn journals(&self) -> &[Vec<Entry>]
-        ensures { map (λ j. j.items) result.now ≡ self.now.journals }
-    {
-        self.journals.as_slice()
     }
 }

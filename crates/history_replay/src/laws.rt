@@ -1,6 +1,6 @@
 // Laws.
 
-ghost use Rattle.history_replay.specs.Laws.{OneShardsEntries, OneShardsJournal, OrderedJournalsRise};
+ghost use Rattle.history_replay.specs.Laws.{OneShardsEntries, OneShardsJournal};
 
 /// The entries of one shard are those of its journal, each with shard 0.
 pub fn one_shard()
@@ -10,9 +10,4 @@ pub fn one_shard()
 /// The journal of one shard is that of its entries.
 pub fn one_journal()
     ensures { OneShardsJournal }
-{}
-
-/// Where the entries of all shards are in order, as those of a legal history are, the stamps of each journal rise: what `History::next_after` asks.
-pub fn ordered_journals()
-    ensures { OrderedJournalsRise }
 {}

@@ -5,9 +5,10 @@ use crate::ListGate;
 use crate::seat::{Seat, let_go};
 use clv_base::events::Entry;
 use machine_calls::{Machine, Parts};
+use quiet_list::Told;
 
 /// Takes a seat apart, and gives the journal. Takes no memory.
-pub fn leave<M: Machine<Gate = ListGate>>(seat: Seat<M>) -> Vec<Entry>
+pub fn leave<M: Machine<Gate = ListGate>>(seat: Seat<M>) -> Told<Entry>
     ensures { result.items ≡ (M.shard seat.machine).journal }
 {
     let Seat { machine, air } = seat;

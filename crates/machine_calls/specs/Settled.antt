@@ -4,11 +4,12 @@ use Rattle.std.specs.List.{list_all}
 use Rattle.clv_base.specs.declared.names.TxId.{TxId}
 use Rattle.clv_base.specs.declared.logs.LogRecord.{LogRecord}
 use Rattle.clv_base.specs.Logs.{committed_in}
+use Rattle.clv_base.specs.Orders.{Table}
 use Rattle.clv_base.specs.declared.state.Held.{Held}
 use Rattle.clv_base.specs.declared.state.Request.{Request}
 use Rattle.clv_base.specs.declared.state.RequestState.{RequestState}
 use Rattle.clv_base.specs.declared.state.RequestState.TheVariants.{Undecided, Committed, Finished, Refused}
-use Rattle.clv_base.specs.State.{Shard, is_closed_stage}
+use Rattle.clv_base.specs.State.{Shard, is_active_stage, is_closed_stage}
 use Rattle.machine_calls.specs.Steps.{sends_nothing}
 
 -- all of the log is durable
@@ -37,3 +38,11 @@ is_request_settled log tx q = is_state_ended log tx q.is_ended q.state
 abbrev pub is_settled : Shard → Bool
 is_settled s =
     s.is_up && is_flushed s && sends_nothing s.outbox && list_all (λ p. is_part_settled s.local.log p.0 p.1) s.local.parts && list_all (λ q. is_request_settled s.local.log q.0 q.1) s.requests
+
+-- no part is active
+abbrev pub are_inactive : Table Held → Bool
+are_inactive parts = list_all (λ p. not (is_active_stage (p.1).stage)) parts
+
+-- it is settled, and no part is active: nothing is left to do at all
+abbrev pub is_quiet : Shard → Bool
+is_quiet s = is_settled s && are_inactive s.local.parts

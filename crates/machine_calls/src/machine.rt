@@ -6,12 +6,13 @@ ghost use Rattle.clv_base.specs.Events.{step};
 ghost use Rattle.clv_base.specs.Journals.{has_equal_active_birth as has_equal_birth_in, has_no_equal_active_birth};
 ghost use Rattle.machine_calls.specs.Events.{is_stepped, event_fits, sends_fit};
 ghost use Rattle.machine_calls.specs.Steps.{Tells};
-ghost use Rattle.machine_calls.specs.Settled.{is_settled as is_settled_in};
+ghost use Rattle.machine_calls.specs.Settled.{are_inactive, is_settled as is_settled_in};
 
 use clv_base::events::{Entry, Event, Outcome};
 use clv_base::names::{Birth, TxId};
 use log_gate::Gate;
 use ordered_store::Store;
+use quiet_list::Told;
 use std::alloc::Global;
 
 /// Why no event was made. The machine is as before.
@@ -27,7 +28,7 @@ pub struct Parts<S, G> {
     /// None where it was taken.
     pub gate: Option<G>,
     pub store: S,
-    pub journal: Vec<Entry>,
+    pub journal: Told<Entry>,
 }
 
 /// The machine of a shard. Its meaning is the state of the definitions, with its journal, and the gate of its log, while it has it.
@@ -59,6 +60,10 @@ pub trait Machine {
     /// is undecided, and each request is decided and acknowledged.
     fn is_settled(&self) -> bool
         ensures { result ≡ is_settled_in (shard self.now) };
+
+    /// Whether no part is active here. It goes through all parts of the epoch.
+    fn is_inactive(&self) -> bool
+        ensures { result ≡ are_inactive (shard self.now).local.parts };
 
     /// Whether another transaction's part here is active and has this birth. It goes through all parts of the epoch.
     fn has_equal_active_birth(&self, tx: TxId, birth: Birth) -> bool

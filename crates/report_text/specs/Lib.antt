@@ -1,8 +1,6 @@
 pub mod Lines
 pub mod Counts
 pub mod Report
-pub mod Sets
 pub mod Sinks
 pub mod Loads
-pub mod Fates
 pub mod Laws

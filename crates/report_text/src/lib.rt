@@ -1,8 +1,8 @@
-//! The texts that the program prints: the report of a history, and the pairs of a map.
+//! The texts that the program prints: the report of a run, and the pairs of a map.
 //!
-//! Each is exactly its definition, as compact JSON with a line feed after each line. A report is made whole before any of it is written, from a history or from
-//! the books of its sessions, of which `books_report` says that they make the same text. It stands on the definitions of `clv_base`, the books of
-//! `session_books`, the histories of `history_replay`, the sinks of `io_model` and the writer of `serde_json`.
+//! Each is exactly its definition, as compact JSON with a line feed after each line. A report is made whole before any of it is written, from the books that
+//! the sessions kept; `books_report` says that it is the report of the history. It stands on the definitions of `clv_base`, the books of `session_books`, the
+//! sinks of `io_model` and the writer of `serde_json`.
 #![tactic(auto)]
 
 mod books;
@@ -11,14 +11,12 @@ pub mod laws;
 mod lines;
 mod loads;
 mod pairs;
-mod sets;
 mod texts;
-mod told;
 
 pub use books::{report_of_books, report_of_books_into};
 pub use loads::load_text;
 pub use pairs::pairs_text;
-pub use texts::{ReportError, report, report_into};
+pub use texts::ReportError;
 
 /// Want of memory.
 pub type Memory = std::alloc::AllocError;

@@ -1,20 +1,17 @@
 // The line of a transaction.
 
-ghost use Rattle.std.specs.Prelude.{◌≡◌, ◌++◌, ◌∷◌, IfOk, OnOk, map, take, length, ◌≤◌, false};
+ghost use Rattle.std.specs.Prelude.{◌≡◌, ◌++◌, ◌∷◌, IfOk, OnOk, map, false};
 ghost use Rattle.serde_json.specs.Data.{string};
 ghost use Rattle.serde_json.specs.Written.{has_float};
 ghost use Rattle.clv_base.specs.declared.ops.Op.TheVariants.{Scan};
 ghost use Rattle.serde_json.specs.View.{view};
-ghost use Rattle.session_books.specs.Parts.{pairs_of as pairs_in, parts_of, upper as upper_end, upper_of as upper_end_of, all_pairs, goes_on as continues};
-ghost use Rattle.session_books.specs.Books.{whole, whole_ops};
+ghost use Rattle.session_books.specs.Parts.{pairs_of as pairs_in};
 ghost use Rattle.report_text.specs.Lines.{line as line_of, num, list as list_of, row as row_of, optional as optional_value, pair as pair_value, answer as answer_data, operation as operation_value, operations as operations_values, transaction as transaction_value};
 
 use crate::Memory;
-use clv_base::names::TxId;
 use clv_base::ops::{Answer, Op};
 use serde_json::{Value, json};
 use session_books::books::Row;
-use session_books::told::Told;
 use std::alloc::Global;
 
 // A value as compact JSON, with a line feed, is added to a text.
@@ -87,47 +84,6 @@ fn answer_value(alloc: Global, answer: &Answer) -> Result<Value, Memory>
     }
 }
 
-// How many of these follow with this number.
-fn count_parts(nth: u64, told: &[Told]) -> usize
-    ensures within { result ≤ length told.now }
-    ensures parts { take result told.now ≡ parts_of nth told.now }
-{
-    for place in 0..told.len() {
-        if nth != told[place].nth {
-            return place;
-        }
-    }
-    told.len()
-}
-
-fn upper(high: u64, op: Op) -> u64
-    ensures { result ≡ upper_end high op }
-{
-    match op {
-        Op::Scan(_, end) => end,
-        _ => high,
-    }
-}
-
-fn upper_of(high: u64, parts: &[Told]) -> u64
-    ensures { result ≡ upper_end_of high parts.now }
-{
-    let mut end = high;
-    for part in parts {
-        end = upper(end, part.op);
-    }
-    end
-}
-
-fn add_all_pairs(alloc: Global, values: &mut Vec<Value>, parts: &[Told]) -> Result<(), Memory>
-    ensures { OnOk result (map view values.new.items ≡ map view values.old.items ++ map pair_value (all_pairs parts.now)) }
-{
-    for part in parts {
-        add_pairs(alloc, values, pairs_of(&part.answer))?;
-    }
-    Ok(())
-}
-
 // What a row begins with.
 fn head(alloc: Global, word: &str, numbers: &[u64]) -> Result<Vec<Value>, Memory>
     ensures { IfOk result (λ values. map view values.items ≡ string word.now ∷ map num numbers.now) }
@@ -159,73 +115,32 @@ fn answered_row(
     row(alloc, word, numbers, answered)
 }
 
-// The pairs of a scan and of its further parts.
-fn scanned_pairs(alloc: Global, answer: &Answer, parts: &[Told]) -> Result<Value, Memory>
-    ensures { IfOk result (λ v. view v ≡ list_of (map pair_value (pairs_in answer.now ++ all_pairs parts.now))) }
+// The pairs that a scan was answered.
+fn scanned_pairs(alloc: Global, answer: &Answer) -> Result<Value, Memory>
+    ensures { IfOk result (λ v. view v ≡ list_of (map pair_value (pairs_in answer.now))) }
 {
     let mut values = Vec::new(alloc);
     add_pairs(alloc, &mut values, pairs_of(answer))?;
-    add_all_pairs(alloc, &mut values, parts)?;
     Ok(Value::Array(values))
 }
 
-fn scan_row(
-    alloc: Global,
-    low: u64,
-    high: u64,
-    answer: &Answer,
-    parts: &[Told],
-) -> Result<Value, Memory>
-    ensures { IfOk result (λ v. view v ≡ operation_value (whole (Scan low high) answer.now parts.now).0 (whole (Scan low high) answer.now parts.now).1) }
+fn scan_row(alloc: Global, low: u64, high: u64, answer: &Answer) -> Result<Value, Memory>
+    ensures { IfOk result (λ v. view v ≡ operation_value (Scan low high) answer.now) }
 {
-    let pairs = scanned_pairs(alloc, answer, parts)?;
-    row(alloc, "scan", &[low, upper_of(high, parts)], pairs)
+    let pairs = scanned_pairs(alloc, answer)?;
+    row(alloc, "scan", &[low, high], pairs)
 }
 
-// An operation with its answer, and the further parts of a scan.
-pub fn operation(alloc: Global, op: Op, answer: &Answer, parts: &[Told]) -> Result<Value, Memory>
-    ensures { IfOk result (λ v. view v ≡ operation_value (whole op answer.now parts.now).0 (whole op answer.now parts.now).1) }
+// An operation with its answer.
+fn operation(alloc: Global, op: Op, answer: &Answer) -> Result<Value, Memory>
+    ensures { IfOk result (λ v. view v ≡ operation_value op answer.now) }
 {
     match op {
         Op::Get(key) => answered_row(alloc, "get", &[key], answer),
         Op::Put(key, value) => answered_row(alloc, "put", &[key, value], answer),
         Op::Del(key) => answered_row(alloc, "del", &[key], answer),
-        Op::Scan(low, high) => scan_row(alloc, low, high, answer, parts),
+        Op::Scan(low, high) => scan_row(alloc, low, high, answer),
     }
-}
-
-fn goes_on(before: Option<u64>, nth: u64) -> bool
-    ensures { result ≡ continues before nth }
-{
-    match before {
-        None => false,
-        Some(number) => number == nth,
-    }
-}
-
-fn operations(alloc: Global, told: &[Told]) -> Result<Vec<Value>, Memory>
-    ensures { IfOk result (λ values. map view values.items ≡ operations_values (whole_ops told.now)) }
-{
-    let mut values = Vec::new(alloc);
-    let mut before = None;
-    for place in 0..told.len() {
-        let one = &told[place];
-        if !goes_on(before, one.nth) {
-            let later = &told[place + 1..];
-            let parts = &later[..count_parts(one.nth, later)];
-            values.push(operation(alloc, one.op, &one.answer, parts)?)?;
-        }
-        before = Some(one.nth);
-    }
-    Ok(values)
-}
-
-// The object of a transaction.
-pub fn transaction(alloc: Global, tx: TxId, told: &[Told]) -> Result<Value, Memory>
-    ensures { IfOk result (λ v. view v ≡ transaction_value tx (whole_ops told.now)) }
-{
-    let ops = operations(alloc, told)?;
-    json!(in alloc; {"ops": ops, "serial": tx.serial, "session": tx.session})
 }
 
 // The operations of a row.
@@ -234,7 +149,7 @@ fn row_operations(alloc: Global, ops: &[(Op, Answer)]) -> Result<Vec<Value>, Mem
 {
     let mut values = Vec::new(alloc);
     for one in ops {
-        values.push(operation(alloc, one.0, &one.1, &[])?)?;
+        values.push(operation(alloc, one.0, &one.1)?)?;
     }
     Ok(values)
 }

@@ -1,7 +1,7 @@
 //! Whether anything is left to do.
 ghost use Rattle.std.specs.Prelude.{◌≡◌, true};
 ghost use Rattle.std.specs.List.{list_all};
-ghost use Rattle.machine_calls.specs.Settled.{is_flushed as is_flushed_in, is_state_ended, is_request_settled, is_settled as is_settled_in};
+ghost use Rattle.machine_calls.specs.Settled.{is_flushed as is_flushed_in, is_state_ended, is_request_settled, are_inactive, is_settled as is_settled_in};
 
 use crate::shard::ShardCore;
 use clv_base::names::TxId;
@@ -47,5 +47,12 @@ impl<S: Store + Drop, L: Locks + Drop> ShardCore<S, L> {
             && self.first_message().is_none()
             && self.transactions.are_decided()
             && self.are_ended()
+    }
+
+    /// Whether no part is active here. It goes through all parts of the epoch.
+    pub fn is_inactive(&self) -> bool
+        ensures { result ≡ are_inactive ((self.now.shard).local).parts }
+    {
+        self.transactions.are_inactive()
     }
 }

@@ -38,6 +38,10 @@ impl<S: Store + Drop, L: Locks + Drop, G: Gate> Machine for ShardMachine<S, L, G
         ShardMachine::is_settled(self)
     }
 
+    fn is_inactive(&self) -> bool {
+        ShardMachine::is_inactive(self)
+    }
+
     fn has_equal_active_birth(&self, tx: TxId, birth: Birth) -> bool {
         ShardMachine::has_equal_active_birth(self, tx, birth)
     }

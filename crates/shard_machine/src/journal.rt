@@ -1,5 +1,5 @@
 //! The journal.
-ghost use Rattle.std.specs.Prelude.{◌≡◌, ◌<◌, ◌≤◌, ◌+◌, ◌++◌, ◌∷◌, [], ℕ, cond, None, OnOk, OnErr};
+ghost use Rattle.std.specs.Prelude.{◌≡◌, ◌<◌, ◌≤◌, ◌+◌, ◌++◌, ◌∷◌, [], ℕ, cond, None, OnOk, OnErr, length};
 ghost use Rattle.clv_base.specs.declared.names.TxId.{TxId as Tx};
 ghost use Rattle.clv_base.specs.Orders.{tx_same, tx_get};
 ghost use Rattle.clv_base.specs.Events.{epoch_in, request_epoch};
@@ -7,21 +7,23 @@ ghost use Rattle.shard_machine.specs.Journaled.{named_by, first_or};
 
 use clv_base::events::{Entry, Event, Outcome};
 use clv_base::names::TxId;
+use quiet_list::Told;
 use std::alloc::{AllocError, Global};
 use std::marker::Model;
 use tx_table::TxTable;
 
-/// The entries of a shard, the oldest first.
+/// The entries of a shard, the oldest first. They are kept in proofs alone; what is kept of them is how many they are, and the epoch of each request.
 #[derive(Drop)]
 pub struct Journal {
     shard: u32,
-    entries: Vec<Entry>,
+    entries: Told<Entry>,
+    count: usize,
     epochs: TxTable<u64>,
     reserved: usize,
 }
 
 impl Model for Journal {
-    ghost use Rattle.std.specs.Prelude.{◌≡◌, ◌+◌, ◌≤◌, vec_len, vec_capacity};
+    ghost use Rattle.std.specs.Prelude.{◌≡◌, ◌+◌, ◌≤◌, ◌<◌, ◌^◌, length};
     ghost use Rattle.clv_base.specs.declared.names.TxId.{TxId as Tx};
     ghost use Rattle.clv_base.specs.Orders.{tx_get};
     ghost use Rattle.clv_base.specs.Events.{request_epoch};
@@ -31,7 +33,7 @@ impl Model for Journal {
 
     ghost view = { λ j. record { shard = j.shard; entries = j.entries.items; room = j.reserved } };
 
-    ghost invariant = { λ j. (vec_len j.entries + j.reserved ≤ vec_capacity j.entries) × (j.reserved ≤ j.epochs.room) × ((t : Tx) → tx_get t j.epochs.rows ≡ request_epoch j.shard t j.entries.items) };
+    ghost invariant = { λ j. (j.count ≡ length j.entries.items) × (j.count + j.reserved < 2 ^ 64) × (j.reserved ≤ j.epochs.room) × ((t : Tx) → tx_get t j.epochs.rows ≡ request_epoch j.shard t j.entries.items) };
 }
 
 /// The epoch that is named for a shard, if one is.
@@ -88,7 +90,8 @@ impl Journal {
     {
         Journal {
             shard,
-            entries: Vec::new(alloc),
+            entries: Told::new(),
+            count: 0,
             epochs: TxTable::new(alloc),
             reserved: 0,
         }
@@ -104,7 +107,9 @@ impl Journal {
         if count <= self.reserved {
             return Ok(());
         }
-        self.entries.reserve(count)?;
+        if usize::MAX - self.count < count {
+            return Err(AllocError);
+        }
         self.epochs.reserve(count)?;
         self.reserved = count;
         Ok(())
@@ -118,7 +123,8 @@ impl Journal {
         ensures shard { self.new.shard ≡ self.old.shard }
     {
         note_entry(self.shard, &mut self.epochs, &entry);
-        self.entries.push_reserved(entry);
+        self.entries.push(&entry);
+        self.count += 1;
         self.reserved -= 1;
     }
 
@@ -130,19 +136,20 @@ impl Journal {
     }
 
     /// How many entries there are.
-    pub fn entries(&self) -> &[Entry]
-        ensures { result.now ≡ self.now.entries }
+    pub fn count(&self) -> usize
+        ensures { result ≡ length self.now.entries }
     {
-        &self.entries
+        self.count
     }
 
     /// The entries, given away. Takes no memory.
-    pub fn into_entries(self) -> Vec<Entry>
+    pub fn into_entries(self) -> Told<Entry>
         ensures { result.items ≡ self.entries }
     {
         let Journal {
             shard: _,
             entries,
+            count: _,
             epochs: _,
             reserved: _,
         } = self;

@@ -1,7 +1,7 @@
 //! The machine.
 ghost use Rattle.std.specs.Prelude.{◌≡◌, not, length};
 ghost use Rattle.clv_base.specs.Journals.{has_equal_active_birth as has_equal_birth_in};
-ghost use Rattle.machine_calls.specs.Settled.{is_settled as is_settled_in};
+ghost use Rattle.machine_calls.specs.Settled.{are_inactive, is_settled as is_settled_in};
 
 use crate::Journal;
 use clv_base::names::{Birth, TxId};
@@ -48,7 +48,7 @@ impl<S: Store + Drop, L: Locks + Drop, G: Gate> ShardMachine<S, L, G> {
     pub fn entries(&self) -> usize
         ensures { result ≡ length (self.now.shard).journal }
     {
-        self.journal.entries().len()
+        self.journal.count()
     }
 
     pub fn is_down(&self) -> bool
@@ -68,6 +68,13 @@ impl<S: Store + Drop, L: Locks + Drop, G: Gate> ShardMachine<S, L, G> {
         ensures { result ≡ is_settled_in self.now.shard }
     {
         self.is_up && self.core.is_settled()
+    }
+
+    /// Whether no part is active here. It goes through all parts of the epoch.
+    pub fn is_inactive(&self) -> bool
+        ensures { result ≡ are_inactive ((self.now.shard).local).parts }
+    {
+        self.core.is_inactive()
     }
 
     /// Whether another transaction's part here is active and has this birth. It goes through all parts of the epoch.

@@ -153,4 +153,13 @@ impl<S: Store + Drop, L: Locks + Drop> ShardTx<S, L> {
             .iter()
             .all(|(tx, part)| self.is_decided(*tx, *part))
     }
+
+    /// Whether no part is active. It goes through all parts of the epoch.
+    pub fn are_inactive(&self) -> bool
+        ensures { result ≡ list_all (λ p. not (is_active_stage p.1.stage)) (self.now.local).parts }
+    {
+        self.parts
+            .iter()
+            .all(|(_, part)| part.stage != Stage::Active)
+    }
 }

@@ -12,33 +12,33 @@ use Rattle.cluster_runs.proofs.draining.last_if_settled.Goals as goal
 pub loop-shard-init : goal.loop-shard-init
 loop-shard-init g c = record { walker = c.requires.walker; same = (refl, refl); rounds = no_turn; settled = λ n l. absurd (omega arith); seen = omega arith; clock = refl; sees = sees_same c.args.walker.now.passes.items }
 
-pub look-settled-requires-clause-shard : goal.look-settled-requires-clause-shard
-look-settled-requires-clause-shard g c = let h = c.loop-shard-test.true in let e = c.shards-shard-end.ensures.shards in let k = c.requires.walker.count in omega arith
+pub look-sight-requires-clause-shard : goal.look-sight-requires-clause-shard
+look-sight-requires-clause-shard g c = let h = c.loop-shard-test.true in let e = c.shards-shard-end.ensures.shards in let k = c.requires.walker.count in omega arith
 
 pub returns-then-not-settled-clause-looked : goal.returns-then-not-settled-clause-looked
-returns-then-not-settled-clause-looked g c = let w = c.args.walker.now in let u = c.loop-shard.walker in let v = c.look-settled.new.walker in let inv = c.loop-shard.invariant in let e = c.look-settled.ensures in let r = c.look-settled.result in
+returns-then-not-settled-clause-looked g c = let w = c.args.walker.now in let u = c.loop-shard.walker in let v = c.look-sight.new.walker in let inv = c.loop-shard.invariant in let e = c.look-sight.ensures in let r = c.look-sight.result in
     let low : c.loop-shard.shard < length c.args.shards.now.locks.items = (let h = c.loop-shard-test.true in let s = c.shards-shard-end.ensures.shards in let k = c.requires.walker.count in omega arith) in
-    let told = subst (λ n. Walked (LookTold r.0 r.1) c.loop-shard.shard n u.passes.items v.passes.items) inv.same.0 e.looked in
-    subst (λ clock. Rounds (length c.args.shards.now.locks.items) w.number w.clock w.passes.items clock v.passes.items) (sym e.walker.2) (looks c.loop-shard.shard r.0 v.passes.items inv.rounds low (as_look r.0 r.1 told))
+    let told = subst (λ n. Walked (LookTold r) c.loop-shard.shard n u.passes.items v.passes.items) inv.same.0 e.looked in
+    subst (λ clock. Rounds (length c.args.shards.now.locks.items) w.number w.clock w.passes.items clock v.passes.items) (sym e.walker.2) (looks c.loop-shard.shard r.settled v.passes.items inv.rounds low (as_look r told))
 
 pub loop-shard-preserved : goal.loop-shard-preserved
-loop-shard-preserved g c = let w = c.args.walker.now in let u = c.loop-shard.walker in let v = c.look-settled.new.walker in let inv = c.loop-shard.invariant in let e = c.look-settled.ensures in let r = c.look-settled.result in
+loop-shard-preserved g c = let w = c.args.walker.now in let u = c.loop-shard.walker in let v = c.look-sight.new.walker in let inv = c.loop-shard.invariant in let e = c.look-sight.ensures in let r = c.look-sight.result in
     let low : c.loop-shard.shard < length c.args.shards.now.locks.items = (let h = c.loop-shard-test.true in let s = c.shards-shard-end.ensures.shards in let k = c.requires.walker.count in omega arith) in
-    let told = subst (λ n. Walked (LookTold r.0 r.1) c.loop-shard.shard n u.passes.items v.passes.items) inv.same.0 e.looked in
-    let yes : r.0 ≡ true = c.if-not-settled.false in
+    let told = subst (λ n. Walked (LookTold r) c.loop-shard.shard n u.passes.items v.passes.items) inv.same.0 e.looked in
+    let yes : r.settled ≡ true = c.if-not-settled.false in
     let most = c.max-most.ensures in
     record {
       walker = e.walker.0;
       same = (e.walker.1.0 ∙ inv.same.0, e.walker.1.1 ∙ inv.same.1);
-      rounds = subst (λ clock. Rounds (length c.args.shards.now.locks.items) w.number w.clock w.passes.items clock v.passes.items) (sym e.walker.2) (looks c.loop-shard.shard r.0 v.passes.items inv.rounds low (as_look r.0 r.1 told));
+      rounds = subst (λ clock. Rounds (length c.args.shards.now.locks.items) w.number w.clock w.passes.items clock v.passes.items) (sym e.walker.2) (looks c.loop-shard.shard r.settled v.passes.items inv.rounds low (as_look r told));
       settled = λ n l. dite (ℕ_discrete n c.loop-shard.shard)
           (λ same. subst (λ (m : ℕ). SettledAt m v.passes.items × WasSettled m c.max-most.result v.passes.items) (sym same)
-          (settled_here r.0 (as_look r.0 r.1 told) (let k = inv.walker.walks.are_passes.count in omega arith) yes, seen_settled r.0 r.1 c.max-most.result told yes (omega arith)))
+          (settled_here r.settled (as_look r told) (let k = inv.walker.walks.are_passes.count in omega arith) yes, seen_settled r c.max-most.result told yes (omega arith)))
           (λ other. (let before = inv.settled n (omega arith) in
           (settled_still told n other before.0, settled_later n c.loop-shard.most c.max-most.result v.passes.items (omega arith) (walked_settled n c.loop-shard.most told before.1))));
-      seen = (let old = inv.seen in let up = (rounds_dated (looks {c = u.clock} c.loop-shard.shard r.0 v.passes.items no_turn low (as_look r.0 r.1 told))).0 in let here = looked_last r.0 r.1 told in omega arith);
+      seen = (let old = inv.seen in let up = (rounds_dated (looks {c = u.clock} c.loop-shard.shard r.settled v.passes.items no_turn low (as_look r told))).0 in let here = looked_last r told in omega arith);
       clock = e.walker.2 ∙ inv.clock;
-      sees = sees_then inv.sees (looked_on r.0 r.1 told);
+      sees = sees_then inv.sees (looked_on r told);
     }
 
 pub returns-clause-settled : goal.returns-clause-settled
@@ -48,12 +48,12 @@ pub returns-clause-seen : goal.returns-clause-seen
 returns-clause-seen g c = c.loop-shard.invariant.seen
 
 pub returns-then-not-settled-clause-clock : goal.returns-then-not-settled-clause-clock
-returns-then-not-settled-clause-clock g c = c.look-settled.ensures.walker.2 ∙ c.loop-shard.invariant.clock
+returns-then-not-settled-clause-clock g c = c.look-sight.ensures.walker.2 ∙ c.loop-shard.invariant.clock
 
 pub returns-then-not-settled-clause-sees : goal.returns-then-not-settled-clause-sees
-returns-then-not-settled-clause-sees g c = let inv = c.loop-shard.invariant in let r = c.look-settled.result in
-    let told = subst (λ n. Walked (LookTold r.0 r.1) c.loop-shard.shard n c.loop-shard.walker.passes.items c.look-settled.new.walker.passes.items) inv.same.0 c.look-settled.ensures.looked in
-    sees_then inv.sees (looked_on r.0 r.1 told)
+returns-then-not-settled-clause-sees g c = let inv = c.loop-shard.invariant in let r = c.look-sight.result in
+    let told = subst (λ n. Walked (LookTold r) c.loop-shard.shard n c.loop-shard.walker.passes.items c.look-sight.new.walker.passes.items) inv.same.0 c.look-sight.ensures.looked in
+    sees_then inv.sees (looked_on r told)
 
 pub returns-clause-clock : goal.returns-clause-clock
 returns-clause-clock g c = c.loop-shard.invariant.clock

@@ -22,7 +22,7 @@ returns g c = let w = c.args.walker.now in let sh = c.args.shards.now in let loc
     let t = is_walker.walks.are_passes.each n c.index_mut.result.now low in let is : c.take.result ≡ Some t.0 = c.take.ensures.value ∙ (c.index_mut.ensures.value ∙ t.1) in
     let same : t.0 ≡ c.unwrap-pass.result = ap (the t.0) (sym is ∙ c.unwrap-pass.ensures) in
     let long : n < length w.passes.items = (let h = is_walker.walks.are_passes.count in omega arith) in
-    let told = LookTold r.1 r.2 in
+    let told = LookTold r.1 in
     let turned : Turned told w.number t.0 r.0 = subst (λ p. Turned told w.number p r.0) (sym same) c.survey-pass.ensures.turned in
     let new = still_pass sh.splits (founds_of sh) locks w.number n told t.0 r.0 t.2 turned (λ l. subst (λ x. IsPassOf x r.0) (c.index.ensures ∙ get_or_default locks n c.index.result.now l low) c.survey-pass.ensures.pass) in
     let adds = subst (λ l. Adds sh.splits (run_after (founds_of sh)) w.number n w.clock w.clock (kept w.passes.items) (entries_in l)) (sym turned.told.settled.added_is) (none (omega arith)) in

@@ -93,11 +93,11 @@ returns-clause-went g c =
     )
 
 -- where no end is fine nothing is asked
-pub returns-then-is_err-clause-settled : goal.returns-then-is_err-clause-settled
-returns-then-is_err-clause-settled g c = not_well _ c.drain_all-first.result (sym c.if-is_err.true ∙ c.is_err.ensures.value)
+pub returns-then-is_err-clause-quiet : goal.returns-then-is_err-clause-quiet
+returns-then-is_err-clause-quiet g c = not_well _ c.drain_all-first.result (sym c.if-is_err.true ∙ c.is_err.ensures.value)
 
-pub returns-clause-settled : goal.returns-clause-settled
-returns-clause-settled g c = where_fine c.graver.result (λ ok. from_well c.drain_last-last.result (c.graver.ensures.fine ok).1 c.drain_last-last.ensures.settled)
+pub returns-clause-quiet : goal.returns-clause-quiet
+returns-clause-quiet g c = where_fine c.graver.result (λ ok. from_well c.drain_last-last.result (c.graver.ensures.fine ok).1 c.drain_last-last.ensures.quiet)
 
 pub returns-then-is_err-clause-alone : goal.returns-then-is_err-clause-alone
 returns-then-is_err-clause-alone g c = let sh = c.args.shards.now in let script = c.args.sessions.now in let ws = c.args.walkers.now.items in

@@ -5,7 +5,7 @@ use Rattle.cluster_runs.specs.Ends.{IsClosedRun}
 use Rattle.cluster_runs.proofs.Ending.{all_are_in}
 use Rattle.cluster_turns.specs.Walkers.{founds_of}
 use Rattle.cluster_closing.specs.Closing.{lists}
-use Rattle.clv_base.specs.Logs.{stands}
+use Rattle.history_replay.specs.Replayed.{replayed}
 use Rattle.history_replay.specs.Entries.{Kept}
 use Rattle.cluster_runs.specs.Ran.{RanAll}
 use Rattle.ordered_store.specs.InTurn.{live_in_turn}
@@ -42,7 +42,7 @@ returns-clause-ran g c =
     subst (λ f. RanAll (story h0) (story h1) (faults h0) (faults h1) c.args.most c.args.start c.args.sessions.now (record { journals = c.new.result.journals; found = f }) c.running_status.result) (sym (c.new.ensures.found ∙ c.in-Ok-open_all.ensures.founds))
     (subst (λ j. RanAll (story h0) (story h1) (faults h0) (faults h1) c.args.most c.args.start c.args.sessions.now (record { journals = j; found = founds_of sh }) c.running_status.result) (sym c.new.ensures.journals)
     (ran_all c.sessions_have_ended.ensures _ _ sh W.items r.ends.value.items (record { journals = lists r.journals.items; found = founds_of sh }) r.down (faults h0) (faults h1) (out h0) (out h1) (story h0) (story h1) c.args.most c.args.start c.args.sessions.now went.0 c.run_over-end.result c.running_status.result ended
-    (omega arith) went.1 went.2 (λ k d l. c.run_over-end.ensures.rest k d (omega arith)) (well c.run_over-end.result c.run_over-end.ensures.settled) c.run_over-end.ensures.alone c.run_over-end.ensures.counted c.run_over-end.ensures.worn c.running_status.ensures.is))
+    (omega arith) went.1 went.2 (λ k d l. c.run_over-end.ensures.rest k d (omega arith)) (well c.run_over-end.result c.run_over-end.ensures.quiet) c.run_over-end.ensures.alone c.run_over-end.ensures.counted c.run_over-end.ensures.worn c.running_status.ensures.is))
 
 pub returns-clause-back : goal.returns-clause-back
 returns-clause-back g c =
@@ -61,7 +61,7 @@ returns-clause-back g c =
     all_are_in {D = _} _ sh W.items r.ends.value.items (record { journals = lists r.journals.items; found = founds_of sh }) r.down (faults h0) (faults h1) (out h0) (out h1) (story h0) (story h1) ended c.requires.inside
 
 pub returns-clause-maps : goal.returns-clause-maps
-returns-clause-maps g c = λ empty fine. (
+returns-clause-maps g c = λ fine. (
     let sh = c.in-Ok-open_all.opened.shards in let W = c.run_over-end.new.walkers in let r = c.close_run-closed.result in let went = c.run_over-end.ensures.went in
     let story = g.H.House.story in let faults = g.H.House.faults in let out = g.H.House.is_out in let h0 = c.args.house.now in let h1 = c.close_run-closed.new.house in
     let many = c.run_over-end.ensures.len in let made = c.in-Ok-open_all.ensures.walkers.0 in let ok = W.ok in
@@ -75,10 +75,11 @@ returns-clause-maps g c = λ empty fine. (
       went_out = c.in-Ok-open_all.ensures.out;
       closed = c.close_run-closed.ensures.closed;
     } in
-    subst (λ f. live_in_turn (map g.S.Store.records r.maps.items) ≡ stands f) (sym (c.new.ensures.found ∙ c.in-Ok-open_all.ensures.founds))
-    (stores_hold c.active_were_answered.ensures c.sessions_have_ended.ensures _ _ sh W.items r.ends.value.items kept r.down (faults h0) (faults h1) (out h0) (out h1) (story h0) (story h1) c.args.most c.args.start c.args.sessions.now went.0 c.run_over-end.result c.running_status.result g.S.Store.records r.maps.items ended
-    (omega arith) went.1 went.2 (λ k d l. c.run_over-end.ensures.rest k d (omega arith)) (well c.run_over-end.result c.run_over-end.ensures.settled) c.run_over-end.ensures.alone c.run_over-end.ensures.counted c.run_over-end.ensures.worn c.running_status.ensures.is
-    (let maps = r.maps.ok in let l = c.close_run-closed.ensures.len.1 in omega arith) c.close_run-closed.ensures.maps empty fine))
+    let kept_is : kept ≡ c.new.result = cc in
+    subst (λ k. live_in_turn (map g.S.Store.records r.maps.items) ≡ replayed k) kept_is
+    (stores_hold c.sessions_have_ended.ensures _ _ sh W.items r.ends.value.items kept r.down (faults h0) (faults h1) (out h0) (out h1) (story h0) (story h1) c.args.most c.args.start c.args.sessions.now went.0 c.run_over-end.result c.running_status.result g.S.Store.records r.maps.items ended
+    (omega arith) went.1 went.2 (λ k d l. c.run_over-end.ensures.rest k d (omega arith)) (well c.run_over-end.result c.run_over-end.ensures.quiet) c.run_over-end.ensures.alone c.run_over-end.ensures.counted c.run_over-end.ensures.worn c.running_status.ensures.is
+    (let maps = r.maps.ok in let l = c.close_run-closed.ensures.len.1 in omega arith) c.close_run-closed.ensures.maps fine))
 
 pub returns-clause-books : goal.returns-clause-books
 returns-clause-books g c =
