@@ -15,10 +15,10 @@ use Rattle.history_replay.specs.Entries.{Kept}
 use Rattle.cluster_runs.specs.Ran.{RanAll}
 use Rattle.command_line.specs.declared.status.Status.TheVariants.{Fine}
 use Rattle.script_runs.specs.declared.threads.Start.TheVariants.{FirstAlone}
-use Rattle.history_replay.specs.Replayed.{replayed, replayed_from}
+use Rattle.history_replay.specs.Replayed.{replayed}
 use Rattle.cluster_runs.specs.Histories.{entries, members_by}
 use Rattle.cluster_runs.specs.Members.{IsOfScript, MembersAreOfScript}
-use Rattle.cluster_runs.specs.Replays.{MembersAreAcknowledged, RunsReplay}
+use Rattle.cluster_runs.specs.Replays.{RunsReplay}
 use Rattle.cluster_runs.specs.Completing.{HasEnded, acknowledged, empty, by_line, given_up, IsAcknowledged, TransactionEnded, SessionEnded}
 use Rattle.script_lang.specs.declared.actions.Ending.TheVariants.{Commit}
 use Rattle.script_lang.specs.declared.actions.Action.{Action}
@@ -29,8 +29,8 @@ use Rattle.script_lang.specs.Loads.{fill, transfer, session, load}
 use Rattle.script_runs.specs.Sessions.{Transaction}
 use Rattle.script_runs.specs.Tries.{Try}
 use Rattle.script_runs.specs.TriesLaws.{all_parts}
-use Rattle.workload_laws.specs.Sums.{accounts_sum, FillingsForget, Follows, Fills, Transfers, WorkloadsKeepTheirSum}
-use Rattle.clv_commands.specs.Sums.{LoadsKeepTheirSum, LoadsSumFromNothing}
+use Rattle.workload_laws.specs.Sums.{accounts_sum, Follows, Fills, Transfers, WorkloadsKeepTheirSum}
+use Rattle.clv_commands.specs.Sums.{LoadsKeepTheirSum}
 use Rattle.clv_commands.proofs.Lines.{IsLine, fills, transfers_by, in_load, lines_of_keys, AreWhole, parts_whole, parts_alone, fill_alike}
 
 -- ---- a member
@@ -148,12 +148,4 @@ loads_keep are replay keep seed sessions accounts count before now counts counts
     let sum = keep accounts kept.found f.front f.behind f.filling two (told are seed sessions accounts count before now counts counts_now kept some two r f) f.kinds f.fills in
     let map_is : replayed kept ≡ replay_map (stands kept.found) (serial_ops (f.front ++ f.filling ∷ f.behind)) =
     sym (replay r.splits before now counts counts_now None (load seed sessions accounts count) r.went kept r.opens r.promised r.told.1 all_kept) ∙ sym promised.map ∙ ap (λ l. replay_map (stands kept.found) (serial_ops l)) f.at in
-    ap (accounts_sum accounts) map_is ∙ sum
-
-pub loads_sum : MembersAreOfScript → MembersAreAcknowledged → FillingsForget → LoadsSumFromNothing
-loads_sum are done forget seed sessions accounts count before now counts counts_now kept some two r =
-    let f = has_filling are seed sessions accounts count before now counts counts_now kept some two r in
-    let sum = forget accounts kept.found f.front f.behind f.filling two (told are seed sessions accounts count before now counts counts_now kept some two r f) f.kinds f.fills in
-    let map_is : replayed_from [] kept ≡ replay_map [] (serial_ops (f.front ++ f.filling ∷ f.behind)) =
-    ap (replay_map []) (sym (done r.splits before now counts counts_now None (load seed sessions accounts count) r.went kept all_kept r.opens r.promised r.told.1)) ∙ ap (λ l. replay_map [] (serial_ops l)) f.at in
     ap (accounts_sum accounts) map_is ∙ sum

@@ -1,8 +1,8 @@
 -- What the accounts of a workload hold behind it.
-use Rattle.std.specs.Prelude.{◌≡◌, ℕ, ◌≤◌, ◌*◌, [], Option, None}
+use Rattle.std.specs.Prelude.{◌≡◌, ℕ, ◌≤◌, ◌*◌, Option, None}
 use Rattle.io_model.specs.Story.{Story}
 use Rattle.history_replay.specs.Entries.{Kept}
-use Rattle.history_replay.specs.Replayed.{replayed, replayed_from}
+use Rattle.history_replay.specs.Replayed.{replayed}
 use Rattle.cluster_runs.specs.Ran.{RanAll}
 use Rattle.script_lang.specs.Loads.{load}
 use Rattle.script_runs.specs.declared.threads.Start.TheVariants.{FirstAlone}
@@ -14,9 +14,3 @@ abbrev pub LoadsKeepTheirSum : Type 0
 LoadsKeepTheirSum =
     (seed sessions accounts transfers : ℕ) (before now : ℕ → Option Story) (counts counts_now : ℕ → ℕ) (kept : Kept) → 1 ≤ sessions → 2 ≤ accounts
     → RanAll before now counts counts_now None FirstAlone (load seed sessions accounts transfers) kept Fine → accounts_sum accounts (replayed kept) ≡ 1000 * accounts
-
--- and so they do where these transactions are done from the map of nothing
-abbrev pub LoadsSumFromNothing : Type 0
-LoadsSumFromNothing =
-    (seed sessions accounts transfers : ℕ) (before now : ℕ → Option Story) (counts counts_now : ℕ → ℕ) (kept : Kept) → 1 ≤ sessions → 2 ≤ accounts
-    → RanAll before now counts counts_now None FirstAlone (load seed sessions accounts transfers) kept Fine → accounts_sum accounts (replayed_from [] kept) ≡ 1000 * accounts

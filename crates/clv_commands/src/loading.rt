@@ -1,8 +1,10 @@
 // The command `load`.
 
-ghost use Rattle.std.specs.Prelude.{◌≡◌, ◌<◌, ◌≤◌, ◌+◌, ◌*◌, ◌^◌, ℕ, [], Some, None, false, true, length, IfSome, IfOk, IfErr};
+ghost use Rattle.std.specs.Prelude.{◌≡◌, ◌<◌, ◌≤◌, ◌+◌, ◌*◌, ◌^◌, ℕ, Some, None, false, true, length, map, IfSome, IfOk, IfErr};
 ghost use Rattle.std.specs.List.{list_all};
-ghost use Rattle.history_replay.specs.Replayed.{replayed_from};
+ghost use Rattle.clv_base.specs.Maps.{map_between};
+ghost use Rattle.history_replay.specs.Entries.{Kept};
+ghost use Rattle.ordered_store.specs.InTurn.{live_in_turn};
 ghost use Rattle.command_line.specs.declared.commands.Command.TheVariants as commands;
 ghost use Rattle.command_line.specs.declared.status.Status.TheVariants.{Fine};
 ghost use Rattle.report_text.specs.Loads.{values_sum};
@@ -17,19 +19,18 @@ ghost use Rattle.clv_commands.specs.Causes.{BreaksLogs, CountsSink, CountsDisks}
 ghost use Rattle.clv_commands.specs.Runs.{EndsAs, HasLoaded, Opened};
 
 use crate::ended::Ended;
-use crate::sums::{loads_keep_their_sum, loads_sum_from_nothing};
+use crate::sums::loads_keep_their_sum;
 use cluster_opening::OpenError;
 use cluster_runs::replay::runs_replay;
 use cluster_runs::{Ran, Start, run_script};
 use command_line::{Status, after_text};
-use history_replay::{History, KeyMap, Memory, replayed};
 use io_model::{House, Pace, Sink, write_all};
 use lock_index::HashedLocks;
-use ordered_store::BlockStore;
+use ordered_store::{BlockStore, Store};
 use report_text::{ReportError, load_text};
 use script_lang::workload_laws::{loads_are_narrow, loads_have_their_sessions};
 use script_lang::{Script, generate};
-use std::alloc::Global;
+use std::alloc::{AllocError, Global};
 use std::sync::Wait;
 use std::thread::Threads;
 
@@ -43,7 +44,7 @@ pub struct Work {
 }
 
 // Its script.
-fn script_of(alloc: Global, work: Work) -> Result<Script, Memory>
+fn script_of(alloc: Global, work: Work) -> Result<Script, AllocError>
     requires sessions { (1 ≤ work.sessions) × (work.sessions ≤ 64) }
     requires accounts { (2 ≤ work.accounts) × (work.accounts ≤ 10000) }
     requires transfers { work.transfers ≤ 1000 }
@@ -62,39 +63,39 @@ fn script_of(alloc: Global, work: Work) -> Result<Script, Memory>
     )
 }
 
-// The sum of the values, for which 64 bits are enough.
-fn total(pairs: &[(u64, u64)]) -> u64
-    requires room { values_sum pairs.now < 2 ^ 64 }
-    ensures { result ≡ values_sum pairs.now }
+// The sum of the values of all keys up to one, for which 64 bits are enough.
+fn total(pairs: &[(u64, u64)], last: u64) -> u64
+    requires room { values_sum (map_between 0 last pairs.now) < 2 ^ 64 }
+    ensures { result ≡ values_sum (map_between 0 last pairs.now) }
 {
     let mut sum: u64 = 0;
     for pair in pairs {
-        sum += pair.1;
+        if pair.0 <= last {
+            sum += pair.1;
+        }
     }
     sum
 }
 
-// What the accounts hold in all after the acknowledged transactions, from the map of nothing: the filling is one of them, and sets all accounts.
-fn accounts_sum(alloc: Global, history: &History, accounts: u64) -> Result<u64, Memory>
-    requires few { length history.now.journals < 2 ^ 32 }
+// What the accounts hold in all, by the stores.
+fn accounts_sum(alloc: Global, stores: &[BlockStore], accounts: u64) -> Result<u64, AllocError>
     requires some { 1 ≤ accounts }
-    requires room { sum_of accounts (replayed_from [] history.now) < 2 ^ 64 }
-    ensures { IfOk result (λ sum. sum ≡ sum_of accounts (replayed_from [] history.now)) }
+    requires room { sum_of accounts (live_in_turn (map (λ s. ⟦<BlockStore as Store>⟧.records s) stores.now)) < 2 ^ 64 }
+    ensures { IfOk result (λ sum. sum ≡ sum_of accounts (live_in_turn (map (λ s. ⟦<BlockStore as Store>⟧.records s) stores.now))) }
 {
-    let pairs = replayed(alloc, history, KeyMap::new(alloc))?.between(alloc, 0, accounts - 1)?;
-    Ok(total(&pairs))
+    let pairs = BlockStore::live_pairs(alloc, stores)?;
+    Ok(total(&pairs, accounts - 1))
 }
 
 // The line of a workload whose transactions were all acknowledged, as bytes.
-fn text_of(alloc: Global, history: &History, work: Work) -> Result<Vec<u8>, Memory>
-    requires few { length history.now.journals < 2 ^ 32 }
+fn text_of(alloc: Global, stores: &[BlockStore], work: Work) -> Result<Vec<u8>, AllocError>
     requires sessions { work.sessions ≤ 64 }
     requires accounts { (2 ≤ work.accounts) × (work.accounts ≤ 10000) }
     requires transfers { work.transfers ≤ 1000 }
-    requires sum { sum_of work.accounts (replayed_from [] history.now) ≡ 1000 * work.accounts }
+    requires sum { sum_of work.accounts (live_in_turn (map (λ s. ⟦<BlockStore as Store>⟧.records s) stores.now)) ≡ 1000 * work.accounts }
     ensures { IfOk result (λ text. text.items ≡ line_of work.sessions work.accounts work.transfers) }
 {
-    let sum = accounts_sum(alloc, history, work.accounts)?;
+    let sum = accounts_sum(alloc, stores, work.accounts)?;
     let acknowledged = 1 + work.sessions * work.transfers;
     load_text(alloc, work.accounts, acknowledged, sum)
 }
@@ -102,19 +103,18 @@ fn text_of(alloc: Global, history: &History, work: Work) -> Result<Vec<u8>, Memo
 // Writes it.
 fn line_into<K: Sink>(
     alloc: Global,
-    history: &History,
+    stores: &[BlockStore],
     work: Work,
     sink: &mut K,
 ) -> Result<(), ReportError>
-    requires few { length history.now.journals < 2 ^ 32 }
     requires sessions { work.sessions ≤ 64 }
     requires accounts { (2 ≤ work.accounts) × (work.accounts ≤ 10000) }
     requires transfers { work.transfers ≤ 1000 }
-    requires sum { sum_of work.accounts (replayed_from [] history.now) ≡ 1000 * work.accounts }
+    requires sum { sum_of work.accounts (live_in_turn (map (λ s. ⟦<BlockStore as Store>⟧.records s) stores.now)) ≡ 1000 * work.accounts }
     ensures took { TakesText (K.taken sink.old) (K.taken sink.new) (line_of work.sessions work.accounts work.transfers) result }
     ensures cause { Causes (K.faults sink.old) (K.faults sink.new) result }
 {
-    let Ok(text) = text_of(alloc, history, work) else {
+    let Ok(text) = text_of(alloc, stores, work) else {
         return Err(ReportError::Memory);
     };
     match write_all(sink, &text) {
@@ -126,29 +126,28 @@ fn line_into<K: Sink>(
 // Writes it where all was fine so far, and tells how the program ends.
 fn write_line<K: Sink>(
     alloc: Global,
-    history: &History,
+    stores: &[BlockStore],
     work: Work,
     running: Status,
     sink: &mut K,
 ) -> Status
-    requires few { length history.now.journals < 2 ^ 32 }
     requires sessions { work.sessions ≤ 64 }
     requires accounts { (2 ≤ work.accounts) × (work.accounts ≤ 10000) }
     requires transfers { work.transfers ≤ 1000 }
-    requires sum { running ≡ Fine → sum_of work.accounts (replayed_from [] history.now) ≡ 1000 * work.accounts }
+    requires sum { running ≡ Fine → sum_of work.accounts (live_in_turn (map (λ s. ⟦<BlockStore as Store>⟧.records s) stores.now)) ≡ 1000 * work.accounts }
     requires running { IsOfShards running }
     ensures ends { EndsAs running result }
     ensures took { TookPairs (line_of work.sessions work.accounts work.transfers) result (K.taken sink.old) (K.taken sink.new) }
-    ensures cause { CountsSink (Some history.now) (K.faults sink.old) (K.faults sink.new) result }
+    ensures cause { (kept : Kept) → CountsSink (Some kept) (K.faults sink.old) (K.faults sink.new) result }
 {
     match running {
-        Status::Fine => after_text(running, line_into(alloc, history, work, sink)),
+        Status::Fine => after_text(running, line_into(alloc, stores, work, sink)),
         other => other,
     }
 }
 
 /// Runs the script of a workload: the first session's first transaction fills the accounts, alone, and then all sessions run beside each other. Each
-/// transaction is tried until it is acknowledged. Where all was fine writes one line: the accounts hold 1000 each in all, whatever the logs stood for.
+/// transaction is tried until it is acknowledged. Where all was fine writes one line: the accounts hold 1000 each in all, by the stores, whatever the logs stood for.
 pub fn load<R: Threads + Wait + Sync, K: Sink, H: House, P: Pace + Sync>(
     rt: &R,
     alloc: Global,
@@ -175,7 +174,6 @@ where
 {
     runs_replay();
     loads_keep_their_sum();
-    loads_sum_from_nothing();
     let Ok(script) = script_of(alloc, work) else {
         return Ended {
             status: Status::Memory,
@@ -192,18 +190,10 @@ where
         Start::FirstAlone,
     );
     match ran {
-        Ok(ran) => {
-            let Ran {
-                history,
-                books: _,
-                maps: _,
-                status,
-            } = ran;
-            Ended {
-                status: write_line(alloc, &history, work, status, sink),
-                history: Some(history),
-            }
-        }
+        Ok(ran) => Ended {
+            status: write_line(alloc, &ran.maps, work, ran.status, sink),
+            history: Some(ran.history),
+        },
         Err(error) => Ended {
             status: error.into(),
             history: None,

@@ -15,6 +15,7 @@ ghost use Rattle.clv_commands.specs.Runs.{EndsAs, HasRun, Opened};
 
 use crate::ended::Ended;
 use cluster_opening::OpenError;
+use cluster_runs::replay::nothing_is_replayed;
 use cluster_runs::{Ran, Start, run_script};
 use command_line::{Status, after_text};
 use history_replay::History;
@@ -93,6 +94,7 @@ where
     ensures disks { CountsDisks result.history (H.faults house.old) (H.faults house.new) result.status }
     ensures back { (n : ℕ) → n < 16 → H.is_out house.new n ≡ false }
 {
+    nothing_is_replayed();
     let ran: Result<Ran<BlockStore>, OpenError> = run_script::<BlockStore, HashedLocks, R, H, P>(
         rt,
         alloc,

@@ -22,10 +22,6 @@ abbrev pub acknowledged_ops : History → History → List (List Op)
 acknowledged_ops h [] = []
 acknowledged_ops h (e ∷ es) = operations_at h (request_of (e.1).event (e.1).outcome) ++ acknowledged_ops h es
 
--- from a map, the map after all of them
-abbrev pub replayed_from : KeyMap → Kept → KeyMap
-replayed_from m kept = replay_map m (acknowledged_ops (entries_of kept.journals) (entries_of kept.journals))
-
--- from the map that the logs found stand for
+-- from the map that the logs found stand for, the map after all of them
 abbrev pub replayed : Kept → KeyMap
-replayed kept = replayed_from (stands kept.found) kept
+replayed kept = replay_map (stands kept.found) (acknowledged_ops (entries_of kept.journals) (entries_of kept.journals))

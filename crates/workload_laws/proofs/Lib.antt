@@ -1,4 +1,3 @@
 mod Held
 mod Moving
 mod Keeping
-mod Forgetting

@@ -32,11 +32,3 @@ WorkloadsKeepTheirSum =
     → replay_answers (stands logs) (serial_ops (front ++ filling ∷ behind)) ≡ serial_answers (front ++ filling ∷ behind)
     → AllByRecursion (λ m. Fills accounts m ⊎ Transfers accounts m) behind → Fills accounts filling
     → accounts_sum accounts (replay_map (stands logs) (serial_ops (front ++ filling ∷ behind))) ≡ 1000 * accounts
-
--- so they do where the same transactions are done from the map of nothing
-abbrev pub FillingsForget : Type 0
-FillingsForget =
-    (accounts : ℕ) (logs : List (List LogRecord)) (front behind : List Member) (filling : Member) → 2 ≤ accounts
-    → replay_answers (stands logs) (serial_ops (front ++ filling ∷ behind)) ≡ serial_answers (front ++ filling ∷ behind)
-    → AllByRecursion (λ m. Fills accounts m ⊎ Transfers accounts m) behind → Fills accounts filling
-    → accounts_sum accounts (replay_map [] (serial_ops (front ++ filling ∷ behind))) ≡ 1000 * accounts

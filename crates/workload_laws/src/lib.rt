@@ -3,20 +3,13 @@
 //! specs/. It stands on the workloads of `script_lang`.
 #![tactic(auto)]
 
-ghost use Rattle.workload_laws.specs.Sums.{FillingsForget, WorkloadsKeepTheirSum};
+ghost use Rattle.workload_laws.specs.Sums.{WorkloadsKeepTheirSum};
 
 use script_lang::workload_laws::transfers_keep_to_accounts;
 
 /// After a serial history of a filling and transfers the accounts hold 1000 each in all.
 pub fn workloads_keep_their_sum()
     ensures { WorkloadsKeepTheirSum }
-{
-    transfers_keep_to_accounts();
-}
-
-/// They do, too, where the same transactions are done from nothing, as the filling sets all accounts.
-pub fn fillings_forget()
-    ensures { FillingsForget }
 {
     transfers_keep_to_accounts();
 }

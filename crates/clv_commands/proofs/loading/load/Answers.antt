@@ -1,8 +1,9 @@
-use Rattle.std.proofs.Common.{rules, ◌≡◌, None, refl, sym, subst}
+use Rattle.std.proofs.Common.{rules, ◌≡◌, ◌∙◌, None, refl, sym, ap, subst}
 use Rattle.cluster_runs.specs.Ran.{RanAll}
 use Rattle.script_lang.specs.Loads.{load as script_by}
 use Rattle.script_runs.specs.declared.threads.Start.TheVariants.{FirstAlone}
 use Rattle.command_line.specs.declared.status.Status.{Status}
+use Rattle.workload_laws.specs.Sums.{accounts_sum}
 use Rattle.clv_commands.specs.Disks.{Closes}
 use Rattle.clv_commands.proofs.Endings.{ended_so, refusals_close}
 use Rattle.clv_commands.proofs.Loaded.{loaded}
@@ -13,7 +14,8 @@ write_line-requires-clause-sum g c = λ fine.
     let work = c.args.work in let script = script_by work.seed work.sessions work.accounts work.transfers in
     let story = g.H.House.story in let faults = g.H.House.faults in let h0 = c.args.house.now in let h1 = c.run_script-ran.new.house in
     let same : c.sessions.result.now ≡ script = search rules in
-    c.loads_sum_from_nothing.ensures work.seed work.sessions work.accounts work.transfers (story h0) (story h1) (faults h0) (faults h1) c.in-Ok-ran.ran.history c.requires.sessions.0 c.requires.accounts.0
+    ap (accounts_sum work.accounts) (c.in-Ok-ran.ensures.maps fine)
+    ∙ c.loads_keep_their_sum.ensures work.seed work.sessions work.accounts work.transfers (story h0) (story h1) (faults h0) (faults h1) c.in-Ok-ran.ran.history c.requires.sessions.0 c.requires.accounts.0
     (subst (RanAll (story h0) (story h1) (faults h0) (faults h1) None FirstAlone script c.in-Ok-ran.ran.history) fine
     (subst (λ s. RanAll (story h0) (story h1) (faults h0) (faults h1) None FirstAlone s c.in-Ok-ran.ran.history c.in-Ok-ran.ran.status) same c.in-Ok-ran.ensures.ran))
 
