@@ -204,7 +204,10 @@ pub(crate) fn drain_last<M: Flier, P: Pace, R: Wait>(
     ensures quiet { IsTrue well → IfOk result (λ u. SeeQuiet shards.now walkers.new.items) }
 {
     let drained = drain_all(rt, alloc, shards, &mut walkers[0], pace);
-    if !well || drained.is_err() {
+    if drained.is_err() {
+        return drained;
+    }
+    if !well {
         return drained;
     }
     all_see_quiet(rt, shards, walkers);

@@ -1,6 +1,6 @@
 use Rattle.std.proofs.Common.{arith, ◌≡◌, ◌∙◌, ap, ⊎_elim, suc, ◌+◌, ◌<◌, ◌≤◌, length, true, false, sym, subst, get_or, set, Ok, Err}
-use Rattle.std.specs.Prelude.{IfOk}
-use Rattle.std.specs.Result.{is_err}
+use Rattle.std.specs.Prelude.{IfOk, IsTrue}
+use Rattle.std.specs.Result.{is_err, is_ok}
 use Rattle.std.specs.List.{AllByRecursion}
 use Rattle.std.proofs.lemmas.Option.{slice_get_within}
 use Rattle.cluster_turns.specs.Walkers.{kept}
@@ -70,6 +70,10 @@ where_fine : {P : Type 0} (end : End) → (IsOk end → P) → IfOk end (λ u. P
 where_fine (Ok u) h = h tt
 where_fine (Err cause) h = tt
 
+went_well : (end : End) → IsOk end → IsTrue (is_ok end)
+went_well (Ok u) ok = tt
+went_well (Err cause) ok = absurd ok
+
 from_well : {P : Type 0} (end : End) → IsOk end → IfOk end (λ u. P) → P
 from_well (Ok u) ok h = h
 from_well (Err cause) ok h = absurd ok
@@ -97,7 +101,9 @@ pub returns-then-is_err-clause-quiet : goal.returns-then-is_err-clause-quiet
 returns-then-is_err-clause-quiet g c = not_well _ c.drain_all-first.result (sym c.if-is_err.true ∙ c.is_err.ensures.value)
 
 pub returns-clause-quiet : goal.returns-clause-quiet
-returns-clause-quiet g c = where_fine c.graver.result (λ ok. from_well c.drain_last-last.result (c.graver.ensures.fine ok).1 c.drain_last-last.ensures.quiet)
+returns-clause-quiet g c = where_fine c.graver.result
+    (λ ok. (let fine = c.graver.ensures.fine ok in
+    from_well c.drain_last-last.result fine.1 (c.drain_last-last.ensures.quiet (subst IsTrue (sym c.is_ok.ensures.value) (went_well c.run_sessions-ran.result fine.0)))))
 
 pub returns-then-is_err-clause-alone : goal.returns-then-is_err-clause-alone
 returns-then-is_err-clause-alone g c = let sh = c.args.shards.now in let script = c.args.plan.sessions.now in let ws = c.args.walkers.now.items in

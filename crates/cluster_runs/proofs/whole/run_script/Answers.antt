@@ -1,4 +1,6 @@
-use Rattle.std.proofs.Common.{arith, ◌≡◌, ◌∙◌, ◌+◌, length, map, sym, subst, Ok, Err}
+use Rattle.std.proofs.Common.{arith, ◌≡◌, ◌∙◌, ◌+◌, List, length, map, sym, subst, Ok, Err}
+use Rattle.clv_base.specs.declared.logs.LogRecord.{LogRecord}
+use Rattle.clv_base.specs.declared.events.Entry.{Entry}
 use Rattle.std.specs.Prelude.{IfOk}
 use Rattle.command_line.specs.Running.{End, IsOk}
 use Rattle.cluster_runs.specs.Ends.{IsClosedRun}
@@ -60,6 +62,10 @@ returns-clause-back g c =
     } in
     all_are_in {D = _} _ sh W.items r.ends.value.items (record { journals = lists r.journals.items; found = founds_of sh }) r.down (faults h0) (faults h1) (out h0) (out h1) (story h0) (story h1) ended c.requires.inside
 
+-- equal journals and logs found are kept as one
+one_kept : (js ks : List (List Entry)) (fs gs : List (List LogRecord)) → js ≡ ks → fs ≡ gs → ◌≡◌ {A = Kept} (record { journals = js; found = fs }) (record { journals = ks; found = gs })
+one_kept js ks fs gs same found = cc
+
 pub returns-clause-maps : goal.returns-clause-maps
 returns-clause-maps g c = λ fine. (
     let sh = c.in-Ok-open_all.opened.shards in let W = c.run_over-end.new.walkers in let r = c.close_run-closed.result in let went = c.run_over-end.ensures.went in
@@ -75,7 +81,7 @@ returns-clause-maps g c = λ fine. (
       went_out = c.in-Ok-open_all.ensures.out;
       closed = c.close_run-closed.ensures.closed;
     } in
-    let kept_is : kept ≡ c.new.result = cc in
+    let kept_is = one_kept (lists r.journals.items) c.new.result.journals (founds_of sh) c.new.result.found (sym c.new.ensures.journals) (sym (c.new.ensures.found ∙ c.in-Ok-open_all.ensures.founds)) in
     subst (λ k. live_in_turn (map g.S.Store.records r.maps.items) ≡ replayed k) kept_is
     (stores_hold c.sessions_have_ended.ensures _ _ sh W.items r.ends.value.items kept r.down (faults h0) (faults h1) (out h0) (out h1) (story h0) (story h1) c.args.plan.most c.args.plan.start c.args.plan.sessions.now went.0 c.run_over-end.result c.running_status.result g.S.Store.records r.maps.items ended
     (omega arith) went.1 went.2 (λ k d l. c.run_over-end.ensures.rest k d (omega arith)) (well c.run_over-end.result c.run_over-end.ensures.quiet) c.run_over-end.ensures.alone c.run_over-end.ensures.counted c.run_over-end.ensures.worn c.running_status.ensures.is
