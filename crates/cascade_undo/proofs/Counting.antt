@@ -218,7 +218,7 @@ preds_own tx q pairs =
     (λ t. preds_in (pair_insert (tx, q) pairs) tx t ∙ is_pair-insert (tx, q) pairs tx t ∙ ap (λ b. (b && tx_same t q) || is_pair pairs tx t) (tx_self tx)
     ∙ ap (λ b. b || is_pair pairs tx t) (same_flip t q) ∙ ap (λ b. tx_same q t || b) (sym (preds_in pairs tx t)) ∙ sym (tx_in-insert q t (predecessors_of pairs tx)))
 
-preds_gone : (set : List TxId) (t : TxId) (pairs : List (TxId × TxId)) → tx_in t set ≡ true → predecessors_of (pairs_without set pairs) t ≡ []
+pub preds_gone : (set : List TxId) (t : TxId) (pairs : List (TxId × TxId)) → tx_in t set ≡ true → predecessors_of (pairs_without set pairs) t ≡ []
 preds_gone set t [] i = refl
 preds_gone set t (p ∷ ps) i = at (tx_in p.0 set) refl (preds_gone set t ps i)
   where

@@ -16,11 +16,11 @@ use crate::marking::mark_from;
 use crate::pairs::{drop_all, drop_own};
 use crate::reserving::{reserve_lists, reserve_rows};
 use crate::room::with_places;
-use crate::sorted::contains;
 use crate::waiting::{Waiting, count_one, drop_rows, row_of, settle_rows};
 use clv_base::names::TxId;
 use std::alloc::{AllocError, Global};
 use std::marker::Model;
+use tx_table::sorted::contains;
 use tx_table::{TxLists, TxTable};
 
 /// Who depends on whom on a shard. A transaction is a successor of those that it violated. Each transaction has a list of its predecessors and one

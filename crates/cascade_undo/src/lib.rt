@@ -15,7 +15,6 @@ mod pairs;
 mod reserving;
 mod rolling;
 mod room;
-mod sorted;
 mod undoing;
 mod waiting;
 mod write;

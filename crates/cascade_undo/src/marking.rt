@@ -8,9 +8,9 @@ ghost use Rattle.cascade_undo.specs.Dependencies.{doomed};
 ghost use Rattle.cascade_undo.specs.Pairs.{AreTurned, pairs_in};
 ghost use Rattle.cascade_undo.specs.Marking.{marks_with, new_marks, unmarked};
 
-use crate::sorted::insert;
 use clv_base::names::TxId;
 use tx_table::TxLists;
+use tx_table::sorted::insert;
 
 /// Marks a transaction, and queues it where it is new.
 fn mark(tx: TxId, marks: &mut Vec<TxId>, queue: &mut Vec<TxId>)

@@ -1,5 +1,6 @@
 -- The books of a run's sessions, from their walkers to the history.
 use Rattle.std.proofs.Common.{◌≡◌, refl, sym, ap, ◌∙◌, subst, ◌⊎◌, inl, inr, ℕ, zero, suc, ◌+◌, ◌<◌, ◌≤◌, Bool, List, [], ◌∷◌, length, get_or, set, Option, Some, None, slice_get, arith}
+use Rattle.std.specs.List.{AllByRecursion}
 use Rattle.std.proofs.lemmas.List.{length-set}
 use Rattle.std.proofs.lemmas.Option.{slice_get_cases}
 use Rattle.clv_base.specs.State.{Shard}
@@ -49,6 +50,14 @@ module _ {M S G : Type 0} where
     each = λ k d e low. subst (λ es. IsBook (session_entries es) (get_or books k e)) (sym (looked.each (suc k) d).sees.kept_is) (b.each k d e low);
     others = λ k d past low. subst (λ es. session_entries es ≡ []) (sym (looked.each (suc k) d).sees.kept_is) (b.others k d past (let n = looked.count in omega arith));
   }
+
+-- each keeps its rows, or doesn't
+pub none_keep : (keeps : Bool) (books : List Book) → books ≡ [] → AllByRecursion (λ b. b.keeps ≡ keeps) books
+none_keep keeps books none = subst (AllByRecursion (λ b. b.keeps ≡ keeps)) (sym none) tt
+
+pub all_keep : (keeps : Bool) (books : List Book) → ((k : ℕ) (e : Book) → k < length books → (get_or books k e).keeps ≡ keeps) → AllByRecursion (λ b. b.keeps ≡ keeps) books
+all_keep keeps [] each = tt
+all_keep keeps (b ∷ bs) each = (each 0 b (omega arith), all_keep keeps bs (λ k e low. each (suc k) e (omega arith)))
 
 -- books one after another
 are_books : (h : History) (w : ℕ) (books : List Book) → ((k : ℕ) (e : Book) → k < length books → IsBook (session_part (w + k) h) (get_or books k e)) → AreBooks h w books

@@ -15,6 +15,7 @@ mod draining;
 mod locking;
 pub mod members;
 mod over;
+mod plan;
 pub mod promises;
 mod ran;
 pub mod replay;
@@ -28,6 +29,7 @@ mod whole;
 
 pub use beginning::{Opened, open_all};
 pub use over::run_over;
+pub use plan::Plan;
 pub use ran::Ran;
 pub use script_runs::Start;
 pub use standing::begun_logs_stand_for_the_same;

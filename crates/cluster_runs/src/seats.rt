@@ -6,16 +6,28 @@ ghost use Rattle.command_line.specs.Running.{IsOk};
 ghost use Rattle.cluster_runs.specs.Sessions.{IsSeated};
 ghost use Rattle.cluster_runs.specs.Books.{IsBlank};
 
+use crate::Plan;
 use cluster_turns::{Shards, Walker};
 use command_line::graver;
 use io_model::Pace;
 use machine_calls::Flier;
-use script_lang::Session;
 use script_runs::{Seat, StopCause};
 use session_api::ScriptSession;
 use session_books::books::Book;
 use std::alloc::Global;
 use std::sync::Wait;
+
+// A book in which nothing was written.
+fn blank_book(alloc: Global, keeps_rows: bool) -> Book
+    ensures blank { IsBlank result }
+    ensures keeps { result.keeps ≡ keeps_rows }
+{
+    if keeps_rows {
+        Book::new(alloc)
+    } else {
+        Book::of_counts(alloc)
+    }
+}
 
 // A seat for each session, with a blank book and its walker, which leaves the list of walkers, and has this clock from then on; walker 0 stays.
 pub(crate) fn take_seats<'a, M: Flier, P: Pace, R: Wait>(
@@ -24,26 +36,28 @@ pub(crate) fn take_seats<'a, M: Flier, P: Pace, R: Wait>(
     shards: &'a Shards<M>,
     pace: &'a P,
     walkers: &mut Vec<Walker<M>>,
-    sessions: &'a [Session],
+    plan: Plan<'a>,
     mut seats: Vec<Seat<'a, ScriptSession<'a, M, P, R>>>,
     clock: u64,
 ) -> Vec<Seat<'a, ScriptSession<'a, M, P, R>>>
-    requires count { vec_len walkers.old ≡ length sessions.now + 1 }
-    requires few { length sessions.now ≤ 64 }
+    requires count { vec_len walkers.old ≡ length plan.sessions.now + 1 }
+    requires few { length plan.sessions.now ≤ 64 }
     requires splits { are_splits shards.now.splits ≡ true }
-    requires new { (k : ℕ) (d : _) → k < length sessions.now → IsNewWalker shards.now (suc k) 0 (slice_index_or walkers.old.items (suc k) d) }
-    requires room { (vec_len seats ≡ 0) × (length sessions.now ≤ vec_capacity seats) }
-    ensures len { (vec_len walkers.new ≡ 1) × (vec_capacity walkers.new ≡ vec_capacity walkers.old) × (vec_len result ≡ length sessions.now) }
+    requires new { (k : ℕ) (d : _) → k < length plan.sessions.now → IsNewWalker shards.now (suc k) 0 (slice_index_or walkers.old.items (suc k) d) }
+    requires room { (vec_len seats ≡ 0) × (length plan.sessions.now ≤ vec_capacity seats) }
+    ensures len { (vec_len walkers.new ≡ 1) × (vec_capacity walkers.new ≡ vec_capacity walkers.old) × (vec_len result ≡ length plan.sessions.now) }
     ensures first { (d : _) → slice_index_or walkers.new.items 0 d ≡ slice_index_or walkers.old.items 0 d }
-    ensures seated { (k : ℕ) (d : _) → k < length sessions.now → IsSeated shards.now clock sessions.now k (slice_index_or result.items k d).session.session.shards.now (slice_index_or result.items k d).session.session.walker (slice_index_or result.items k d).session.session.progress (slice_index_or result.items k d).transactions.now }
-    ensures blank { (k : ℕ) (d : _) → k < length sessions.now → IsBlank (slice_index_or result.items k d).book }
+    ensures seated { (k : ℕ) (d : _) → k < length plan.sessions.now → IsSeated shards.now clock plan.sessions.now k (slice_index_or result.items k d).session.session.shards.now (slice_index_or result.items k d).session.session.walker (slice_index_or result.items k d).session.session.progress (slice_index_or result.items k d).transactions.now }
+    ensures blank { (k : ℕ) (d : _) → k < length plan.sessions.now → IsBlank (slice_index_or result.items k d).book }
+    ensures keeps { (k : ℕ) (d : _) → k < length plan.sessions.now → (slice_index_or result.items k d).book.keeps ≡ plan.keeps_rows }
 {
+    let sessions = plan.sessions;
     let count = sessions.len();
     for taken in 0..count {
         let place = count - 1 - taken;
         let mut walker = walkers.pop().unwrap();
         walker.clock = clock;
-        let book = Book::new(alloc);
+        let book = blank_book(alloc, plan.keeps_rows);
         seats.push_reserved(Seat {
             session: ScriptSession::new(rt, shards, pace, walker),
             transactions: sessions[place].transactions(),

@@ -1,6 +1,6 @@
 // A run, from the disks to the disks.
 ghost use Rattle.std.specs.Prelude.{◌≡◌, ◌<◌, ◌≤◌, ℕ, true, false, map, length, IfOk, IfErr};
-ghost use Rattle.std.specs.List.{list_all};
+ghost use Rattle.std.specs.List.{AllByRecursion, list_all};
 ghost use Rattle.history_replay.specs.Replayed.{replayed};
 ghost use Rattle.script_lang.specs.Laws.{is_narrow_body};
 ghost use Rattle.cluster_opening.specs.Opening.{Refuses, CountsOpen};
@@ -14,7 +14,7 @@ ghost use Rattle.ordered_store.specs.InTurn.{live_in_turn};
 use crate::closing::close_run;
 use crate::ran::Ran;
 use crate::shards_statements::sessions_have_ended;
-use crate::{Opened, open_all, run_over};
+use crate::{Opened, Plan, open_all, run_over};
 use cluster_closing::Closed;
 use cluster_opening::OpenError;
 use command_line::running_status;
@@ -23,8 +23,6 @@ use io_model::{House, Pace};
 use lock_table::Locks;
 use log_gate::LogGate;
 use ordered_store::Store;
-use script_lang::Session;
-use script_runs::Start;
 use shard_machine::ShardMachine;
 use std::alloc::Global;
 use std::sync::Wait;
@@ -37,7 +35,8 @@ use std::thread::Threads;
 /// through, and then each transaction has ended; a disk's fault is of the lowest shard whose flush failed; at worn stamps and at want of memory none failed.
 /// Before a session begins each shard was settled, with no entry of a session in its journal so far; and where the first session's first transaction is to run
 /// alone, all that other sessions make has stamps past those of its entries. Where the status is fine each shard is settled at the end of its journal, with no
-/// active part, and the live pairs of all stores are the map after the acknowledged transactions. The books that its sessions kept tell what the history tells of them.
+/// active part, and the live pairs of all stores are the map after the acknowledged transactions. The books that its sessions kept tell what the history tells of them, with
+/// their rows where the plan keeps them.
 /// An `Err` is the first refusal of the opening, as `open_all` tells it; then there is no history.
 pub fn run_script<
     S: Store + Drop + Send,
@@ -45,22 +44,15 @@ pub fn run_script<
     R: Threads + Wait + Sync,
     H: House,
     P: Pace + Sync,
->(
-    rt: &R,
-    alloc: Global,
-    house: &mut H,
-    pace: &P,
-    sessions: &[Session],
-    most: Option<u32>,
-    start: Start,
-) -> Result<Ran<S>, OpenError>
+>(rt: &R, alloc: Global, house: &mut H, pace: &P, plan: Plan<'_>) -> Result<Ran<S>, OpenError>
 where
     H::Disk: Send,
     requires inside { (n : ℕ) → n < 16 → H.is_out house.old n ≡ false }
-    requires few { length sessions.now ≤ 64 }
-    requires narrow { list_all (list_all is_narrow_body) sessions.now ≡ true }
-    ensures ran { IfOk result (λ r. RanAll (H.story house.old) (H.story house.new) (H.faults house.old) (H.faults house.new) most start sessions.now r.history r.status) }
+    requires few { length plan.sessions.now ≤ 64 }
+    requires narrow { list_all (list_all is_narrow_body) plan.sessions.now ≡ true }
+    ensures ran { IfOk result (λ r. RanAll (H.story house.old) (H.story house.new) (H.faults house.old) (H.faults house.new) plan.most plan.start plan.sessions.now r.history r.status) }
     ensures books { IfOk result (λ r. HasBooks (entries r.history) r.books.items) }
+    ensures keeps { IfOk result (λ r. AllByRecursion (λ b. b.keeps ≡ plan.keeps_rows) r.books.items) }
     ensures maps { IfOk result (λ r. r.status ≡ Fine → live_in_turn (map (λ m. S.records m) r.maps.items) ≡ replayed r.history) }
     ensures back { (n : ℕ) → n < 16 → H.is_out house.new n ≡ false }
     ensures refused { IfErr result (Refuses (H.story house.old)) }
@@ -68,10 +60,10 @@ where
     ensures left { IfErr result (LeavesDisks (H.story house.old) (H.story house.new)) }
 {
     sessions_have_ended();
-    let Ok(mut books) = Vec::with_capacity(alloc, sessions.len()) else {
+    let Ok(mut books) = Vec::with_capacity(alloc, plan.sessions.len()) else {
         return Err(OpenError::Memory);
     };
-    let opened = match open_all::<S, L, H>(alloc, house, sessions.len(), 0) {
+    let opened = match open_all::<S, L, H>(alloc, house, plan.sessions.len(), 0) {
         Ok(opened) => opened,
         Err(error) => return Err(error),
     };
@@ -81,17 +73,7 @@ where
         room,
         found,
     } = opened;
-    let end = run_over(
-        rt,
-        alloc,
-        &shards,
-        pace,
-        &mut walkers,
-        sessions,
-        most,
-        start,
-        &mut books,
-    );
+    let end = run_over(rt, alloc, &shards, pace, &mut walkers, plan, &mut books);
     let closed = close_run::<H, ShardMachine<S, L, LogGate<H::Disk>>>(
         alloc, house, shards, walkers, room,
     );

@@ -22,7 +22,7 @@ use crate::ended::Ended;
 use crate::sums::loads_keep_their_sum;
 use cluster_opening::OpenError;
 use cluster_runs::replay::runs_replay;
-use cluster_runs::{Ran, Start, run_script};
+use cluster_runs::{Plan, Ran, Start, run_script};
 use command_line::{Status, after_text};
 use io_model::{House, Pace, Sink, write_all};
 use lock_index::HashedLocks;
@@ -147,7 +147,7 @@ fn write_line<K: Sink>(
 }
 
 /// Runs the script of a workload: the first session's first transaction fills the accounts, alone, and then all sessions run beside each other. Each
-/// transaction is tried until it is acknowledged. Where all was fine writes one line: the accounts hold 1000 each in all, by the stores, whatever the logs stood for.
+/// transaction is tried until it is acknowledged, and no row is kept of it. Where all was fine writes one line: the accounts hold 1000 each in all, by the stores, whatever the logs stood for.
 pub fn load<R: Threads + Wait + Sync, K: Sink, H: House, P: Pace + Sync>(
     rt: &R,
     alloc: Global,
@@ -185,9 +185,12 @@ where
         alloc,
         house,
         pace,
-        script.sessions(),
-        None,
-        Start::FirstAlone,
+        Plan {
+            sessions: script.sessions(),
+            most: None,
+            start: Start::FirstAlone,
+            keeps_rows: false,
+        },
     );
     match ran {
         Ok(ran) => Ended {

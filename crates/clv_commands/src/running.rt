@@ -1,7 +1,7 @@
 // The command `run`.
 
 ghost use Rattle.std.specs.Prelude.{◌≡◌, ◌<◌, ◌≤◌, ℕ, List, Some, None, length, true, false, IfSome, IfErr, IfOk, OnOk};
-ghost use Rattle.std.specs.List.{list_all};
+ghost use Rattle.std.specs.List.{AllByRecursion, list_all};
 ghost use Rattle.command_line.specs.declared.commands.Command.TheVariants as commands;
 ghost use Rattle.clv_base.specs.declared.logs.LogRecord.{LogRecord};
 ghost use Rattle.clv_base.specs.Journals.{History};
@@ -18,7 +18,7 @@ ghost use Rattle.clv_commands.specs.Runs.{HasScript, EndsAs, PromisedBy, Opened}
 
 use crate::ended::Ended;
 use cluster_opening::OpenError;
-use cluster_runs::{Ran, Start, run_script};
+use cluster_runs::{Plan, Ran, Start, run_script};
 use command_line::{Status, after_text};
 use io_model::{House, Pace, Sink, Source, read_all};
 use lock_index::HashedLocks;
@@ -56,6 +56,7 @@ fn read_script<S: Source>(alloc: Global, source: &mut S) -> Result<Script, Statu
 // Writes the report of what a run's sessions kept, which came to a status, and tells how it ends.
 fn write_report<K: Sink>(alloc: Global, books: Vec<Book>, running: Status, sink: &mut K) -> Status
     requires running { IsOfShards running }
+    requires keeps { AllByRecursion (λ b. b.keeps ≡ true) books.items }
     ensures ends { EndsAs running result }
     ensures took { (splits : List ℕ) (before : List (List LogRecord)) (h : History) (after : List (List LogRecord)) → AreAllBooks splits before h after books.items → TookReport (report h) result (K.faults sink.old) (K.faults sink.new) (K.taken sink.old) (K.taken sink.new) }
     ensures cause { (kept : Kept) → CountsSink (Some kept) (K.faults sink.old) (K.faults sink.new) result }
@@ -110,9 +111,12 @@ where
         alloc,
         house,
         pace,
-        script.sessions(),
-        Some(most),
-        Start::Together,
+        Plan {
+            sessions: script.sessions(),
+            most: Some(most),
+            start: Start::Together,
+            keeps_rows: true,
+        },
     );
     match ran {
         Ok(ran) => Ended {

@@ -17,50 +17,9 @@ use Rattle.clv_base.proofs.SameNames.{or_left, or_right, tx_true, tx_flip, inser
 use Rattle.law_base.proofs.Sets.{Rise, union_right, union_rises}
 use Rattle.protocol_laws.specs.Candidates.{is_commit_due, is_vote_due, is_ruling_due, Cover}
 use Rattle.protocol_laws.proofs.Due.DueByFacts.{due_by_facts}
-use Rattle.protocol_laws.proofs.Due.LeastIsNext.{least_is_next, others_cover, none_is_nothing, at_rest_none}
+use Rattle.protocol_laws.proofs.Due.LeastIsNext.{due_are_known, least_is_next, others_cover, none_is_nothing, at_rest_none}
 use Rattle.protocol_laws.proofs.Due.DoingGoesOn.{nothing_to_do, doing_goes_on}
 use Rattle.history_cases.proofs.Stepping.{Due, due_next, KeptByDue}
-
--- who has something due is known to the shard
-union_left : (x : TxId) (xs ys : List TxId) → tx_in x xs ≡ true → tx_in x (tx_union xs ys) ≡ true
-union_left x [] ys i = absurd (both_ways false refl i)
-union_left x (u ∷ us) ys i =
-    ⊎_elim
-    (λ h. subst (λ z. tx_in z (tx_insert u (tx_union us ys)) ≡ true) (tx_true u x h) (insert_has u (tx_union us ys)))
-    (λ h. insert_keeps u x (tx_union us ys) (union_left x us ys h))
-    (or_cases (tx_same u x) (tx_in x us) i)
-
-key_in : {V : Type 0} (x : TxId) (t : Table V) → is_some (tx_get x t) ≡ true → tx_in x (keys_of t) ≡ true
-key_in x [] e = absurd (both_ways false refl e)
-key_in x (p ∷ ps) e = at (tx_same x p.0) refl e (key_in x ps)
-  where
-    at : (b : Bool) → tx_same x p.0 ≡ b → is_some (cond b (Some p.1) (tx_get x ps)) ≡ true → (is_some (tx_get x ps) ≡ true → tx_in x (keys_of ps) ≡ true) → tx_in x (keys_of (p ∷ ps)) ≡ true
-    at true s e more = or_left _ _ (tx_flip x p.0 s)
-    at false s e more = or_right (tx_same p.0 x) _ (more e)
-
-closed_some : (o : Option Held) → is_closed_state (state_by (elim o [ Some h ↦ Some h.stage | None ↦ None ])) ≡ true → is_some o ≡ true
-closed_some None e = absurd (both_ways false refl e)
-closed_some (Some h) e = refl
-
-vote_some : (f : PartFacts) (o : Option Voter) → is_vote_due f o ≡ true → is_some o ≡ true
-vote_some f None e = absurd (both_ways false refl e)
-vote_some f (Some v) e = refl
-
-ruling_some : (n : ℕ) (x : TxId) (f : PartFacts) (o : Option Request) → is_ruling_due n x f o ≡ true → is_some o ≡ true
-ruling_some n x f None e = absurd (both_ways false refl e)
-ruling_some n x f (Some q) e = refl
-
-all_known : (s : Shard) → Cover (known_txs s) s
-all_known s x e =
-    let others = tx_union (keys_of s.voters) (keys_of s.requests) in
-    ⊎_elim
-    (λ h. union_left x (keys_of s.local.parts) others (key_in x s.local.parts (closed_some (tx_get x s.local.parts) (and_parts _ _ h).0)))
-    (λ h. union_right x (keys_of s.local.parts) others
-    (⊎_elim
-    (λ v. union_left x (keys_of s.voters) (keys_of s.requests) (key_in x s.voters (vote_some (facts_of s x) (tx_get x s.voters) v)))
-    (λ r. union_right x (keys_of s.voters) (keys_of s.requests) (key_in x s.requests (ruling_some s.shard x (facts_of s x) (tx_get x s.requests) r)))
-    (or_cases (is_vote_due (facts_of s x) (tx_get x s.voters)) (is_ruling_due s.shard x (facts_of s x) (tx_get x s.requests)) h)))
-    (or_cases (is_commit_due (facts_of s x)) (is_vote_due (facts_of s x) (tx_get x s.voters) || is_ruling_due s.shard x (facts_of s x) (tx_get x s.requests)) (sym (due_by_facts s x) ∙ e))
 
 -- the first of them for whom something is due
 record First (s t : Shard) : Type 0 where
@@ -106,7 +65,7 @@ module _ (forget : Shard → Shard) (Fine : Shard → Type 0) where
         at : (x : Option Shard) → next_due s ≡ x → next_due (forget s) ≡ if_any x
         at None e = none_is_nothing (forget s) (same_cover s [] o (at_rest_none s e))
         at (Some t) e =
-            let g = first_of s t (known_txs s) (union_rises (keys_of s.local.parts) _ (union_rises (keys_of s.voters) _ (f.rise s o))) (all_known s) e in
+            let g = first_of s t (known_txs s) (union_rises (keys_of s.local.parts) _ (union_rises (keys_of s.voters) _ (f.rise s o))) (due_are_known s) e in
             least_is_next (forget s) (forget t) g.who g.rest (f.still_rise s o) g.rise (same_cover s (g.who ∷ g.rest) o g.cover) (f.due_same s g.who o ∙ ap if_any g.due)
 
     done_at : (n : ℕ) (s : Shard) (x : Option Shard) → next_due s ≡ x → Fine s → work s ≤ suc n → ((t : Shard) → Fine t → work t ≤ n → with_due_done (forget t) ≡ forget (with_due_done t))

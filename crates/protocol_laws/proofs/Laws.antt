@@ -1,6 +1,6 @@
 -- Lemmas that this crate offers to the proofs of the crates above it.
 pub use Rattle.protocol_laws.proofs.Due.WhoseFactsChange.{undone_none, closing_prepares, commits_change, ends_change, releases_change, roll_backs_change}
-pub use Rattle.protocol_laws.proofs.Due.LeastIsNext.{least_is_next, none_is_nothing, at_rest_none, others_cover}
+pub use Rattle.protocol_laws.proofs.Due.LeastIsNext.{due_are_known, least_is_next, none_is_nothing, at_rest_none, others_cover}
 pub use Rattle.protocol_laws.proofs.Due.DoingGoesOn.{nothing_to_do, doing_goes_on}
 pub use Rattle.protocol_laws.proofs.Due.DueByFacts.{cover_grows}
 pub use Rattle.protocol_laws.proofs.PurgesDontMatter.{purges_dont_matter}

@@ -1,6 +1,7 @@
 // The report of what sessions kept.
 
-ghost use Rattle.std.specs.Prelude.{◌≡◌, IfOk, IfSome};
+ghost use Rattle.std.specs.Prelude.{◌≡◌, true, IfOk, IfSome};
+ghost use Rattle.std.specs.List.{AllByRecursion};
 ghost use Rattle.std.specs.List.Sorted.{IsPermutation};
 ghost use Rattle.session_books.specs.Laws.{plus, all_rows, all_counts, AreByPlace};
 ghost use Rattle.report_text.specs.Report.{row_lines, IsReportOf};
@@ -34,11 +35,12 @@ struct Gathered {
 }
 
 impl Gathered {
-    ghost use Rattle.std.specs.Prelude.{◌≡◌, ◌++◌, OnOk};
+    ghost use Rattle.std.specs.Prelude.{◌≡◌, ◌++◌, true, OnOk};
     ghost use Rattle.session_books.specs.Laws.{plus};
 
     // What one more book tells.
     fn add(&mut self, book: Book) -> Result<(), Memory>
+        requires keeps { book.keeps ≡ true }
         ensures rows { OnOk result (self.new.rows.items ≡ self.old.rows.items ++ book.rows) }
         ensures counts { OnOk result (self.new.counts ≡ plus self.old.counts book.counts) }
     {
@@ -53,6 +55,7 @@ impl Gathered {
 
 // The rows and counts of all books.
 fn gather(alloc: Global, books: Vec<Book>) -> Result<Gathered, Memory>
+    requires keeps { AllByRecursion (λ b. b.keeps ≡ true) books.items }
     ensures rows { IfOk result (λ all. all.rows.items ≡ all_rows books.items) }
     ensures counts { IfOk result (λ all. all.counts ≡ all_counts books.items) }
 {
@@ -90,9 +93,10 @@ fn lines(alloc: Global, rows: &[Row]) -> Result<Vec<u8>, Memory>
     Ok(text)
 }
 
-/// The report of these books, as bytes: a line for each row of all of them, by the places of the requests, and then the sum of the counts. Takes time linear
+/// The report of these books, which keep their rows, as bytes: a line for each row of all of them, by the places of the requests, and then the sum of the counts. Takes time linear
 /// in what the rows hold, and for `n` rows n log n besides. Sums that no number of 64 bits can say are taken for want of memory.
 pub fn report_of_books(alloc: Global, books: Vec<Book>) -> Result<Vec<u8>, Memory>
+    requires keeps { AllByRecursion (λ b. b.keeps ≡ true) books.items }
     ensures { IfOk result (λ text. IsReportOf books.items text.items) }
 {
     let Gathered { mut rows, counts } = gather(alloc, books)?;
@@ -102,12 +106,13 @@ pub fn report_of_books(alloc: Global, books: Vec<Book>) -> Result<Vec<u8>, Memor
     Ok(text)
 }
 
-/// Writes the report of these books. The text is made whole before the first write. After `Failed` the sink took some of it, the first bytes first.
+/// Writes the report of these books, which keep their rows. The text is made whole before the first write. After `Failed` the sink took some of it, the first bytes first.
 pub fn report_of_books_into<K: Sink>(
     alloc: Global,
     books: Vec<Book>,
     sink: &mut K,
 ) -> Result<(), ReportError>
+    requires keeps { AllByRecursion (λ b. b.keeps ≡ true) books.items }
     ensures took { TakesReport (K.taken sink.old) (K.taken sink.new) books.items result }
     ensures cause { Causes (K.faults sink.old) (K.faults sink.new) result }
 {

@@ -72,6 +72,7 @@ module _ {S B : Type 0} (holds : S → Type 0) (base : S → B) (seen : S → Se
     pub transactions : new.transactions.now ≡ old.transactions.now
     pub follows : FollowsFrom from (missed new.session) old.transactions.now most (stop_in new.ended) (seen old.session) (seen new.session)
     pub stopped : IfErr new.ended (grounds new.session)
+    pub keeps : new.book.keeps ≡ old.book.keeps
 
   -- it ran its first transaction
   pub record Begun (old new : Seat S) : Type 0 where
@@ -80,6 +81,7 @@ module _ {S B : Type 0} (holds : S → Type 0) (base : S → B) (seen : S → Se
     pub misses : Keeps (missed old.session) (missed new.session)
     pub begun : HasBegun (missed new.session) old.transactions.now new.transactions.now most (stop_in new.ended) (seen old.session) (seen new.session)
     pub stopped : IfErr new.ended (grounds new.session)
+    pub keeps : new.book.keeps ≡ old.book.keeps
 
   abbrev given_back : Seat S → Seat S → Seat S
   given_back x y = record { session = y.session; transactions = x.transactions; ended = y.ended; book = y.book }
@@ -105,6 +107,7 @@ module _ {S B : Type 0} (holds : S → Type 0) (base : S → B) (seen : S → Se
             (subst (λ c. Follows (missed s.session) (b.begun).front most c (seen x.session) (seen s.session)) (fine s.ended ok) (b.begun).follows)
             (subst (λ k. FollowsFrom k (missed y.session) s.transactions.now most (stop_in y.ended) (seen s.session) (seen y.session)) (own_clock clock (seen s.session).clock is) r.follows));
         stopped = r.stopped;
+        keeps = r.keeps ∙ b.keeps;
       }
 
   pub all_joined : SessionsGoOn missed → (clock : ℕ) (xs : List (Seat S)) (s : Seat S) (ys : List (Seat S)) (p q r : Seat S) → clock ≡ (seen s.session).clock → length ys ≡ length (slice_set xs 0 s) → Begun (slice_index_or xs 0 p) s → is_ok s.ended ≡ true
@@ -153,7 +156,7 @@ module _ {S B : Type 0} (holds : S → Type 0) (base : S → B) (seen : S → Se
       (stop s.session (b.begun).front s.transactions.now most cause (seen x.session) (seen s.session) (subst (λ e. Follows (missed s.session) (b.begun).front most (stop_in e) (seen x.session) (seen s.session)) is (b.begun).follows))
 
   stopped_at : SessionsStop missed → (x s : Seat S) → is_ok s.ended ≡ false → Begun x s → Sat (seen x.session).clock x (given_back x s)
-  stopped_at stop x s off b = record { session = b.session; base_is = b.base_is; misses = b.misses; transactions = refl; follows = ended_so stop x s s.ended refl off b; stopped = b.stopped }
+  stopped_at stop x s off b = record { session = b.session; base_is = b.base_is; misses = b.misses; transactions = refl; follows = ended_so stop x s s.ended refl off b; stopped = b.stopped; keeps = b.keeps }
 
   -- the others ran, and the first was stopped
   behind : SessionsStop missed → (clock : ℕ) (x s : Seat S) (xs ys rest : List (Seat S)) (r : Seat S) → length ys ≡ length xs → Begun x s → is_ok s.ended ≡ false

@@ -233,7 +233,7 @@ kept_part missed body tx birth end fate old new some u w x v d op next t g touch
 -- ---- books
 
 pub adds_none : (b : Book) → AddsRows [] b b
-adds_none b = record { rows_are = sym (append-nil b.rows); counts_are = refl }
+adds_none b = record { rows_are = sym (append-nil b.rows); counts_are = refl; keeps_same = refl }
 
 -- ---- ends
 

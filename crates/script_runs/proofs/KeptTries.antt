@@ -48,6 +48,7 @@ adds_on ts t old mid new a b =
     record {
       rows_are = b.rows_are ∙ ap (λ l. l ++ rows t.entries) a.rows_are ∙ append_assoc old.rows (rows_by ts) (rows t.entries) ∙ ap (λ l. old.rows ++ l) (sym (rows_more ts t));
       counts_are = b.counts_are ∙ a.counts_are;
+      keeps_same = b.keeps_same ∙ a.keeps_same;
     }
 
 pub fate_on : (ts : List Try) (t : Try) (now last before : Option Fate) → now ≡ else_fate last before → last ≡ fate_of t.tx t.end t.entries → before ≡ fate_in ts → now ≡ fate_in (ts ++ t ∷ [])

@@ -45,10 +45,11 @@ row_told Asked tx point ops = []
 row_told (Aborted cause) tx point ops = []
 row_told (Stopped cause) tx point ops = []
 
--- the book has these rows more
+-- the book has these rows more, and keeps them or not as before
 pub record AddsRows (more : List Row) (old new : Book) : Type 0 where
   pub rows_are : new.rows ≡ old.rows ++ more
   pub counts_are : new.counts ≡ old.counts
+  pub keeps_same : new.keeps ≡ old.keeps
 
 -- a commit, what is given up behind it, and its row
 pub record CommitKept (missed : Misses) (tx : TxId) (birth : Birth) (nth : ℕ) (touched : ℕ → Bool) (ops : List (Op × Answer)) (end : TryEnd) (asked : Bool) (old new : Book) (u v : Seen) : Type 0 where

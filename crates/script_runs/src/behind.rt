@@ -33,6 +33,7 @@ fn run_first<R: Wait, C: SessionCalls>(
     ensures idle { IdleAfter seat.new.ended (C.seen seat.new.session) }
     ensures grounds { IfErr seat.new.ended (C.grounds seat.new.session) }
     ensures kept { IsKept (C.seen seat.new.session) seat.new.book }
+    ensures keeps { seat.new.book.keeps ≡ seat.old.book.keeps }
 {
     let first = seat.transactions.len().min(1);
     let (front, behind) = seat.transactions.split_at(first);
@@ -60,6 +61,7 @@ pub(crate) fn run_behind_first<R: Threads + Wait + Sync, C: SessionCalls + Send>
     ensures grounds { (k : ℕ) (d : _) → k < length seats.old → IfErr (slice_index_or seats.new k d).ended (C.grounds (slice_index_or seats.new k d).session) }
     ensures alone { BeganAlone C.seen most seats.old seats.new }
     ensures kept { (k : ℕ) (d : _) → k < length seats.old → IsKept (C.seen (slice_index_or seats.new k d).session) (slice_index_or seats.new k d).book }
+    ensures keeps { (k : ℕ) (d : _) → k < length seats.old → (slice_index_or seats.new k d).book.keeps ≡ (slice_index_or seats.old k d).book.keeps }
 {
     sessions_go_on::<C>();
     sessions_stop::<C>();

@@ -62,6 +62,7 @@ pub(crate) fn count(book: &mut Book, fate: Option<Fate>, clock: u64)
     requires { total book.old.counts < clock }
     ensures rows { book.new.rows ≡ book.old.rows }
     ensures counts { book.new.counts ≡ count_as fate book.old.counts }
+    ensures keeps { book.new.keeps ≡ book.old.keeps }
 {
     match fate {
         None => {}

@@ -154,6 +154,7 @@ pub(crate) fn run_transaction<R: Wait, C: SessionCalls>(
     ensures idle { IdleAfter result (C.seen session.new) }
     ensures grounds { IfErr result (C.grounds session.new) }
     ensures kept { IsKept (C.seen session.new) book.new }
+    ensures keeps { book.new.keeps ≡ book.old.keeps }
 {
     match session.begin() {
         Ok(()) => {

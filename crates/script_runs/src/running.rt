@@ -16,7 +16,7 @@ use std::sync::Wait;
 
 /// Runs the transactions in order, each in its tries, at most so many, or without a number until it is done; an `Err` is what stopped the session, and no
 /// transaction after that is begun. The entries that it adds to the session's are exactly those, what stopped it has its grounds, and the book tells what the
-/// session's entries tell.
+/// session's entries tell; it keeps its rows or not as before.
 pub fn run_session<R: Wait, C: SessionCalls>(
     rt: &R,
     alloc: Global,
@@ -36,6 +36,7 @@ pub fn run_session<R: Wait, C: SessionCalls>(
     ensures idle { IdleAfter result (C.seen session.new) }
     ensures grounds { IfErr result (C.grounds session.new) }
     ensures kept { IsKept (C.seen session.new) book.new }
+    ensures keeps { book.new.keeps ≡ book.old.keeps }
 {
     for transaction in transactions {
         match run_transaction(rt, alloc, session, transaction, most, book) {

@@ -44,6 +44,7 @@ fn run_one<R: Wait, C: SessionCalls>(
     ensures grounds { IfErr seat.new.ended (C.grounds seat.new.session) }
     ensures past { BeginsPast clock (C.seen seat.old.session) (C.seen seat.new.session) }
     ensures kept { IsKept (C.seen seat.new.session) seat.new.book }
+    ensures keeps { seat.new.book.keeps ≡ seat.old.book.keeps }
 {
     seat.session.raise(clock);
     seat.ended = run_session(
@@ -76,6 +77,7 @@ pub(crate) fn run_together<R: Threads + Wait + Sync, C: SessionCalls + Send>(
     ensures grounds { (k : ℕ) (d : _) → k < length seats.old → IfErr (slice_index_or seats.new k d).ended (C.grounds (slice_index_or seats.new k d).session) }
     ensures past { (k : ℕ) (d : _) → k < length seats.old → BeginsPast clock (C.seen (slice_index_or seats.old k d).session) (C.seen (slice_index_or seats.new k d).session) }
     ensures kept { (k : ℕ) (d : _) → k < length seats.old → IsKept (C.seen (slice_index_or seats.new k d).session) (slice_index_or seats.new k d).book }
+    ensures keeps { (k : ℕ) (d : _) → k < length seats.old → (slice_index_or seats.new k d).book.keeps ≡ (slice_index_or seats.old k d).book.keeps }
 {
     if seats.is_empty() {
         return;
@@ -94,6 +96,7 @@ pub(crate) fn run_together<R: Threads + Wait + Sync, C: SessionCalls + Send>(
         ensures grounds { IfErr seat.exit.now.ended (C.grounds seat.exit.now.session) }
         ensures past { BeginsPast clock (C.seen seat.entry.now.session) (C.seen seat.exit.now.session) }
         ensures kept { IsKept (C.seen seat.exit.now.session) seat.exit.now.book }
+        ensures keeps { seat.exit.now.book.keeps ≡ seat.entry.now.book.keeps }
     { run_one(rt, alloc, seat, most, clock) };
     thread::for_each_mut(rt, seats, count, &body);
 }

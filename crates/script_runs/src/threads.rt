@@ -26,7 +26,7 @@ pub enum Start {
 
 /// Runs the session of each seat on a thread of its own, each transaction in at most so many tries, or without a number until it is
 /// done. What a session adds to its entries is as if it ran alone, and what stopped it has its grounds. Where the first transaction is to run alone, each
-/// entry of another session has a stamp past all of its. Each book tells what its session's entries tell. Where no thread can be made a session runs behind another one.
+/// entry of another session has a stamp past all of its. Each book tells what its session's entries tell, and keeps its rows or not as before. Where no thread can be made a session runs behind another one.
 pub fn run_all<R: Threads + Wait + Sync, C: SessionCalls + Send>(
     rt: &R,
     alloc: Global,
@@ -46,6 +46,7 @@ pub fn run_all<R: Threads + Wait + Sync, C: SessionCalls + Send>(
     ensures grounds { (k : ℕ) (d : _) → k < length seats.old → IfErr (slice_index_or seats.new k d).ended (C.grounds (slice_index_or seats.new k d).session) }
     ensures alone { start ≡ FirstAlone → BeganAlone C.seen most seats.old seats.new }
     ensures kept { (k : ℕ) (d : _) → k < length seats.old → IsKept (C.seen (slice_index_or seats.new k d).session) (slice_index_or seats.new k d).book }
+    ensures keeps { (k : ℕ) (d : _) → k < length seats.old → (slice_index_or seats.new k d).book.keeps ≡ (slice_index_or seats.old k d).book.keeps }
 {
     match start {
         Start::Together => run_together(rt, alloc, seats, most, 0),

@@ -1,5 +1,5 @@
 -- What a history's report is made of, and what of it a session keeps.
-use Rattle.std.specs.Prelude.{◌≡◌, ℕ, cond, List, [], ◌∷◌, ◌++◌, Option, Some, None}
+use Rattle.std.specs.Prelude.{◌≡◌, ℕ, Bool, cond, List, [], ◌∷◌, ◌++◌, Option, Some, None}
 use Rattle.clv_base.specs.declared.names.TxId.{TxId}
 use Rattle.clv_base.specs.declared.ops.Op.{Op}
 use Rattle.clv_base.specs.declared.ops.Op.TheVariants.{Get, Put, Del, Scan}
@@ -48,11 +48,12 @@ rows_in h (e ∷ es) = row_at h e (request_of (e.1).event (e.1).outcome) ++ rows
 abbrev pub rows : History → List Row
 rows h = rows_in h h
 
--- a session's rows and counts, and for how many rows more there is room
+-- a session's rows and counts, for how many rows more there is room, and whether the rows are kept as data, beside proofs
 pub record Book : Type 0 where
   pub rows : List Row
   pub counts : Counts
   pub room : ℕ
+  pub keeps : Bool
 
 -- the book tells what these entries tell
 pub record IsBook (es : History) (book : Book) : Type 0 where

@@ -1,12 +1,13 @@
 // Books.
 
-ghost use Rattle.std.specs.Prelude.{◌≡◌, ◌<◌, ◌≤◌, ◌+◌, ◌++◌, ◌∷◌, [], OnOk, OnErr};
+ghost use Rattle.std.specs.Prelude.{◌≡◌, ◌<◌, ◌≤◌, ◌+◌, ◌++◌, ◌∷◌, [], true, false, OnOk, OnErr};
 ghost use Rattle.session_books.specs.Counts.{nothing_counted};
 
 use crate::Memory;
 use crate::counts::Counts;
 use clv_base::names::{Point, TxId};
 use clv_base::ops::{Answer, Op};
+use quiet_list::Told;
 use std::alloc::Global;
 use std::marker::Model;
 
@@ -50,42 +51,70 @@ pub struct Row {
     pub ops: Operations,
 }
 
-/// What a session keeps of its transactions: a row for each that was acknowledged, in the order of their requests, and what became of all.
+/// What a session tells of its transactions: a row for each that was acknowledged, in the order of their requests, and what became of all. A book that doesn't
+/// keep its rows has them in proofs alone, and takes no memory for them.
 #[derive(Drop)]
 pub struct Book {
+    keeps: bool,
     rows: Vec<Row>,
+    told: Told<Row>,
     counts: Counts,
     reserved: usize,
 }
 
 impl Model for Book {
-    ghost use Rattle.std.specs.Prelude.{◌+◌, ◌≤◌, vec_len, vec_capacity};
+    ghost use Rattle.std.specs.Prelude.{◌≡◌, ◌+◌, ◌≤◌, true, vec_len, vec_capacity};
     ghost use Rattle.session_books.specs.Books.{Book};
 
     ghost Value = { Book };
 
-    ghost view = { λ b. record { rows = b.rows.items; counts = b.counts; room = b.reserved } };
+    ghost view = { λ b. record { rows = b.told.items; counts = b.counts; room = b.reserved; keeps = b.keeps } };
 
-    ghost invariant = { λ b. vec_len b.rows + b.reserved ≤ vec_capacity b.rows };
+    ghost invariant = { λ b. b.keeps ≡ true → (b.rows.items ≡ b.told.items) × (vec_len b.rows + b.reserved ≤ vec_capacity b.rows) };
+}
+
+// What became of no transaction.
+fn none_counted() -> Counts
+    ensures { result ≡ nothing_counted }
+{
+    Counts {
+        acknowledged: 0,
+        unsettled: 0,
+        aborted: 0,
+    }
 }
 
 impl Book {
-    /// A book with no row, and no room. Takes no memory.
+    /// A book with no row, and no room, which keeps its rows. Takes no memory.
     pub fn new(alloc: Global) -> Self
-        ensures { (result.rows ≡ []) × (result.counts ≡ nothing_counted) × (result.room ≡ 0) }
+        ensures blank { (result.rows ≡ []) × (result.counts ≡ nothing_counted) × (result.room ≡ 0) }
+        ensures keeps { result.keeps ≡ true }
     {
         Book {
+            keeps: true,
             rows: Vec::new(alloc),
-            counts: Counts {
-                acknowledged: 0,
-                unsettled: 0,
-                aborted: 0,
-            },
+            told: Told::new(),
+            counts: none_counted(),
             reserved: 0,
         }
     }
 
-    /// Makes room for so many rows beyond those that are in, where there is less. Where there is no memory all stays.
+    /// A book with no row, and no room, which keeps its counts alone. It never takes memory.
+    pub fn of_counts(alloc: Global) -> Self
+        ensures blank { (result.rows ≡ []) × (result.counts ≡ nothing_counted) × (result.room ≡ 0) }
+        ensures keeps { result.keeps ≡ false }
+    {
+        Book {
+            keeps: false,
+            rows: Vec::new(alloc),
+            told: Told::new(),
+            counts: none_counted(),
+            reserved: 0,
+        }
+    }
+
+    /// Makes room for so many rows beyond those that are in, where there is less. Where there is no memory all stays; a book that doesn't keep its rows needs
+    /// none.
     pub fn reserve(&mut self, count: usize) -> Result<(), Memory>
         ensures ok { OnOk result (count ≤ self.new.room) }
         ensures room { self.old.room ≤ self.new.room }
@@ -95,7 +124,9 @@ impl Book {
         if count <= self.reserved {
             return Ok(());
         }
-        self.rows.reserve(count)?;
+        if self.keeps {
+            self.rows.reserve(count)?;
+        }
         self.reserved = count;
         Ok(())
     }
@@ -106,9 +137,13 @@ impl Book {
         ensures rows { self.new.rows ≡ self.old.rows ++ row ∷ [] }
         ensures counts { self.new.counts ≡ self.old.counts }
         ensures room { self.old.room ≡ self.new.room + 1 }
+        ensures keeps { self.new.keeps ≡ self.old.keeps }
     {
-        self.rows.push_reserved(row);
+        self.told.push(&row);
         self.reserved -= 1;
+        if self.keeps {
+            self.rows.push_reserved(row);
+        }
     }
 
     /// What became of the transactions.
@@ -125,23 +160,21 @@ impl Book {
         self.counts = counts;
     }
 
-    /// The rows, in order.
+    /// The rows, in order, where they are kept.
     pub fn rows(&self) -> &[Row]
+        requires { self.now.keeps ≡ true }
         ensures { result.now ≡ self.now.rows }
     {
         self.rows.as_slice()
     }
 
-    /// The rows and the counts, given away. Takes no memory.
+    /// The rows and the counts, given away, where the rows are kept. Takes no memory.
     pub fn into_parts(self) -> (Vec<Row>, Counts)
+        requires { self.keeps ≡ true }
         ensures rows { result.0.items ≡ self.rows }
         ensures counts { result.1 ≡ self.counts }
     {
-        let Book {
-            rows,
-            counts,
-            reserved: _,
-        } = self;
+        let Book { rows, counts, .. } = self;
         (rows, counts)
     }
 }

@@ -9,7 +9,7 @@ ghost use Rattle.machine_calls.specs.Steps.{Tells};
 ghost use Rattle.shard_core.specs.Requesting.{requested};
 
 use crate::machine::ShardMachine;
-use crate::stamps::{enter, place};
+use crate::stamps::{enter, place_request};
 use clv_base::events::{Event, Outcome};
 use clv_base::lists::Touched;
 use clv_base::names::TxId;
@@ -58,7 +58,7 @@ impl<S: Store + Drop, L: Locks + Drop, G: Gate> ShardMachine<S, L, G> {
         if !self.is_up {
             return Ok(Outcome::Down);
         }
-        let stamp = match place(&mut self.journal, self.last, clock, 0, self.owed, 1) {
+        let stamp = match place_request(&mut self.journal, self.last, clock, self.owed) {
             Ok(stamp) => stamp,
             Err(error) => return Err(error),
         };

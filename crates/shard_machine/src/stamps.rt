@@ -2,6 +2,7 @@
 ghost use Rattle.std.specs.Prelude.{◌≡◌, ◌<◌, ◌≤◌, ◌+◌, ◌^◌, ◌++◌, ◌∷◌, [], true, Some, IfOk, IfErr, OnOk};
 ghost use Rattle.machine_calls.specs.Steps.{entry as entry_of};
 ghost use Rattle.shard_machine.specs.Answers.{Refuses};
+ghost use Rattle.shard_machine.specs.Journaled.{is_request};
 ghost use Rattle.shard_machine.specs.Stamps.{newest, stamp_by};
 
 use crate::Journal;
@@ -25,7 +26,8 @@ pub(crate) fn next_stamp(last: u64, clock: u64, message: u64) -> Option<u64>
 
 /// The entry goes behind the others. Takes no memory.
 pub(crate) fn enter(journal: &mut Journal, stamp: u64, walker: u32, event: Event, outcome: Outcome)
-    requires { 0 < journal.old.room }
+    requires room { 0 < journal.old.room }
+    requires place { is_request event ≡ true → 0 < journal.old.places }
     ensures entries { journal.new.entries ≡ journal.old.entries ++ entry_of stamp walker event outcome ∷ [] }
     ensures room { journal.old.room ≡ journal.new.room + 1 }
     ensures shard { journal.new.shard ≡ journal.old.shard }
@@ -38,7 +40,7 @@ pub(crate) fn enter(journal: &mut Journal, stamp: u64, walker: u32, event: Event
     });
 }
 
-/// Room for more entries than there must be room for. Where there is no memory all stays.
+/// Room for more entries than there must be room for. Where there is none all stays.
 pub(crate) fn has_room(journal: &mut Journal, owed: usize, more: usize) -> bool
     ensures ok { result ≡ true → owed + more ≤ journal.new.room }
     ensures fits { result ≡ true → owed + more < 2 ^ 64 }
@@ -75,6 +77,27 @@ pub(crate) fn place(
         Ok(stamp)
     } else {
         Err(StepError::Memory)
+    }
+}
+
+/// The stamp of a request's entry, where there is, too, room for its epoch.
+pub(crate) fn place_request(
+    journal: &mut Journal,
+    last: u64,
+    clock: u64,
+    owed: usize,
+) -> Result<u64, StepError>
+    ensures ok { IfOk result (λ n. stamp_by (newest last clock 0) ≡ Some n) }
+    ensures room { OnOk result (owed + 1 ≤ journal.new.room) }
+    ensures place { OnOk result (0 < journal.new.places) }
+    ensures grown { journal.old.room ≤ journal.new.room }
+    ensures same { journal.new ≡ record journal.old { room = journal.new.room; places = journal.new.places } }
+    ensures err { IfErr result (λ e. Refuses (stamp_by (newest last clock 0)) e) }
+{
+    let stamp = place(journal, last, clock, 0, owed, 1)?;
+    match journal.reserve_request() {
+        Ok(()) => Ok(stamp),
+        Err(_) => Err(StepError::Memory),
     }
 }
 

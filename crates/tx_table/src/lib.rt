@@ -13,7 +13,7 @@ mod key;
 mod listing;
 mod lists;
 mod part_table;
-mod sorted;
+pub mod sorted;
 mod table;
 
 pub use candidates::Candidates;

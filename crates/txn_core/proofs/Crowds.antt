@@ -16,7 +16,7 @@ use Rattle.clv_base.specs.OneShard.{add_pairs}
 use Rattle.clv_base.proofs.SameNames.{tx_true, tx_self}
 use Rattle.protocol_laws.specs.UndoLaws.{is_pair}
 use Rattle.law_base.proofs.Tables.{pair_in, in_pair, add_keeps, add_has, insert_from}
-use Rattle.cascade_undo.proofs.Laws.{same_list}
+use Rattle.cascade_undo.proofs.Laws.{preds_gone, same_list}
 use Rattle.shard_ops.proofs.Laws.{predecessors_rise, union_rises, in_union}
 use Rattle.txn_core.specs.Sound.{FewUndecided}
 use Rattle.txn_core.proofs.Counting.{count-fewer}
@@ -38,16 +38,6 @@ few_grows log more pairs few t =
     open_before p h = not_or (committed_in log p) (committed_in more p) (ap not (sym (list_any-append (is_commit_of p) log more)) ∙ h)
 
 -- ---- fewer pairs
-
-preds_gone : (set : List TxId) (x : TxId) (pairs : List (TxId × TxId)) → tx_in x set ≡ true → predecessors_of (pairs_without set pairs) x ≡ []
-preds_gone set x [] i = refl
-preds_gone set x (p ∷ ps) i = at (tx_in p.0 set) refl (preds_gone set x ps i)
-  where
-    at : (b : Bool) → tx_in p.0 set ≡ b → predecessors_of (pairs_without set ps) x ≡ [] → predecessors_of (cond (not b) (p ∷ pairs_without set ps) (pairs_without set ps)) x ≡ []
-    at true e more = more
-    at false e more =
-        let other : tx_same x p.0 ≡ false = false_from_ne_true _ (λ s. both_ways _ e (subst (λ z. tx_in z set ≡ true) (tx_true x p.0 s) i)) in
-        ap (λ b. elim b [ true ↦ tx_insert p.1 (predecessors_of (pairs_without set ps) x) | false ↦ predecessors_of (pairs_without set ps) x ]) other ∙ more
 
 pub few_without : (set : List TxId) (log : List LogRecord) (pairs : List (TxId × TxId)) → FewUndecided log pairs → FewUndecided log (pairs_without set pairs)
 few_without set log pairs few t =

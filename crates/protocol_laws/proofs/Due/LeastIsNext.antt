@@ -52,8 +52,8 @@ ruling_some : (n : ℕ) (x : TxId) (f : PartFacts) (o : Option Request) → is_r
 ruling_some n x f None e = absurd (both_ways false refl e)
 ruling_some n x f (Some q) e = refl
 
-known : (s : Shard) (x : TxId) → is_due s x ≡ true → tx_in x (known_txs s) ≡ true
-known s x e =
+pub due_are_known : (s : Shard) → Cover (known_txs s) s
+due_are_known s x e =
     let others = tx_union (keys_of s.voters) (keys_of s.requests) in
     ⊎_elim
     (λ h. union_left x (keys_of s.local.parts) others (key_in x s.local.parts (closed_some (tx_get x s.local.parts) (and_parts _ _ h).0)))
@@ -91,7 +91,7 @@ first_least s t c (k ∷ ks) r i e least = at (due_of s k) refl (λ j. first_lea
 pub least_is_next : LeastIsNext
 unfolding IsStrictlySortedBy
 least_is_next s t c cs requests rise cover e =
-    first_least s t c (known_txs s) (known_rise s requests) (known s c (ap is_some e)) e
+    first_least s t c (known_txs s) (known_rise s requests) (due_are_known s c (ap is_some e)) e
     (λ x due. ⊎_elim (λ h. inl (sym (tx_true c x h))) (λ h. inr (above_in c x cs rise.0 h)) (or_cases (tx_same c x) (tx_in x cs) (cover x due)))
 
 pub others_cover : OthersCover
@@ -118,4 +118,4 @@ none_in s x (k ∷ ks) e i = at (due_of s k) refl e (none_in s x ks)
     at None f e more = ⊎_elim (λ h. ap is_some (ap (due_of s) (sym (tx_true k x h)) ∙ f)) (λ h. more e h) (or_cases (tx_same k x) (tx_in x ks) i)
 
 pub at_rest_none : AtRestNone
-at_rest_none s e x due = absurd (both_ways _ (none_in s x (known_txs s) e (known s x due)) due)
+at_rest_none s e x due = absurd (both_ways _ (none_in s x (known_txs s) e (due_are_known s x due)) due)

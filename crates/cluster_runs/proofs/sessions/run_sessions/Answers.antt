@@ -1,4 +1,4 @@
-use Rattle.std.proofs.Common.{arith, ◌∙◌, suc, ◌+◌, ◌-◌, ◌^◌, ◌<◌, ◌≤◌, max, get_or, length, map, sym, ap, subst, IfErr}
+use Rattle.std.proofs.Common.{arith, ◌≡◌, ◌∙◌, suc, ◌+◌, ◌-◌, ◌^◌, ◌<◌, ◌≤◌, max, get_or, length, map, sym, ap, subst, IfErr}
 use Rattle.std.specs.List.{AllByRecursion}
 use Rattle.std.proofs.lemmas.List.{get_or-map, length-map}
 use Rattle.std.proofs.lemmas.Option.{slice_get_within}
@@ -17,15 +17,15 @@ use Rattle.cluster_runs.proofs.Alone.{none_alone}
 use Rattle.cluster_runs.proofs.Wearing.{session_worn, one_worn}
 use Rattle.cluster_runs.proofs.Gone.{gone, none_gone, new_rest}
 use Rattle.session_books.specs.Books.{IsBook}
-use Rattle.cluster_runs.proofs.Books.{no_books}
+use Rattle.cluster_runs.proofs.Books.{no_books, none_keep, all_keep}
 use Rattle.cluster_runs.proofs.sessions.run_sessions.Goals as goal
 use Rattle.law_base.proofs.Lists.{elem_at as some_elem}
 
 pub returns-in_default-clause-rest : goal.returns-in_default-clause-rest
-returns-in_default-clause-rest g c = λ k d l. new_rest c.args.shards.now c.args.most c.args.sessions.now (suc k) _ (c.requires.new k d l)
+returns-in_default-clause-rest g c = λ k d l. new_rest c.args.shards.now c.args.plan.most c.args.plan.sessions.now (suc k) _ (c.requires.new k d l)
 
 pub returns-in_default-clause-went : goal.returns-in_default-clause-went
-returns-in_default-clause-went g c = (λ k. NotBegun, none_gone c.args.shards.now c.args.most c.args.sessions.now c.args.walkers.now.items Memory c.requires.new)
+returns-in_default-clause-went g c = (λ k. NotBegun, none_gone c.args.shards.now c.args.plan.most c.args.plan.sessions.now c.args.walkers.now.items Memory c.requires.new)
 
 pub returns-clause-rest : goal.returns-clause-rest
 returns-clause-rest g c =
@@ -37,10 +37,10 @@ returns-clause-went g c =
     let S = c.run_seats.new.seats in let okS = S.ok in let many = c.run_seats.ensures.len in let took = c.take_seats-seats.ensures.len.2 in
     let ends = map (λ s. s.ended) S.items in (
       went_by ends,
-      gone c.args.shards.now c.args.most c.args.sessions.now c.args.clock c.run_seats.ensures.sat.base c.leave_seats.new.walkers.items ends c.gravest-end.result (length-map S.items (λ s. s.ended) ∙ (omega arith))
+      gone c.args.shards.now c.args.plan.most c.args.plan.sessions.now c.args.clock c.run_seats.ensures.sat.base c.leave_seats.new.walkers.items ends c.gravest-end.result (length-map S.items (λ s. s.ended) ∙ (omega arith))
           (λ k d e l. (let x = some_elem S.items k (omega arith) in
-          subst (λ w. HasSat c.args.shards.now c.args.clock (base_from c.args.clock c.run_seats.ensures.sat.base k) c.args.most c.args.sessions.now k w (get_or ends k e)) (sym (c.leave_seats.ensures.walkers k d x (omega arith)))
-          (subst (λ z. HasSat c.args.shards.now c.args.clock (base_from c.args.clock c.run_seats.ensures.sat.base k) c.args.most c.args.sessions.now k (get_or S.items k x).session.session.walker z) (sym (get_or-map (λ s. s.ended) S.items k x e (omega arith))) (c.run_seats.ensures.sat.each k x l))))
+          subst (λ w. HasSat c.args.shards.now c.args.clock (base_from c.args.clock c.run_seats.ensures.sat.base k) c.args.plan.most c.args.plan.sessions.now k w (get_or ends k e)) (sym (c.leave_seats.ensures.walkers k d x (omega arith)))
+          (subst (λ z. HasSat c.args.shards.now c.args.clock (base_from c.args.clock c.run_seats.ensures.sat.base k) c.args.plan.most c.args.plan.sessions.now k (get_or S.items k x).session.session.walker z) (sym (get_or-map (λ s. s.ended) S.items k x e (omega arith))) (c.run_seats.ensures.sat.each k x l))))
           (λ ok k e l. (let x = some_elem S.items k (omega arith) in subst IsOk (sym (get_or-map (λ s. s.ended) S.items k x e (omega arith))) (subst (λ z. IsOk (get_or z k x).ended) c.as_slice.ensures.value (c.gravest-end.ensures.fine ok k x (let a = c.as_slice.ensures.len in omega arith))))),
     )
 
@@ -54,15 +54,15 @@ returns-clause-later g c =
     subst (λ w. AllByRecursion (λ e. c.args.clock < (e.1).stamp) (session_entries (kept w.passes.items))) (sym (c.leave_seats.ensures.walkers k d e (omega arith))) (c.run_seats.ensures.sat.each k e l).later)
 
 pub returns-in_default-clause-alone : goal.returns-in_default-clause-alone
-returns-in_default-clause-alone g c = λ is. none_alone c.args.shards.now c.args.most c.args.sessions.now (λ k d. get_or c.args.walkers.now.items (suc k) d) c.requires.new
+returns-in_default-clause-alone g c = λ is. none_alone c.args.shards.now c.args.plan.most c.args.plan.sessions.now (λ k d. get_or c.args.walkers.now.items (suc k) d) c.requires.new
 
 pub returns-clause-alone : goal.returns-clause-alone
 returns-clause-alone g c =
     let S = c.run_seats.new.seats in let okS = S.ok in let many = c.run_seats.ensures.len in let took = c.take_seats-seats.ensures.len.2 in let sh = c.args.shards.now in
     λ is. (let a = c.run_seats.ensures.alone is in record {
       clock = a.clock;
-      first = λ bodies d at. (let some = slice_get_within c.args.sessions.now 0 bodies at in let e = some_elem S.items 0 (omega arith) in
-          subst (λ w. BeginsWith sh.splits sh.run c.args.most bodies a.clock (session_entries (kept w.passes.items))) (sym (c.leave_seats.ensures.walkers 0 d e (omega arith))) (a.first bodies e at));
+      first = λ bodies d at. (let some = slice_get_within c.args.plan.sessions.now 0 bodies at in let e = some_elem S.items 0 (omega arith) in
+          subst (λ w. BeginsWith sh.splits sh.run c.args.plan.most bodies a.clock (session_entries (kept w.passes.items))) (sym (c.leave_seats.ensures.walkers 0 d e (omega arith))) (a.first bodies e at));
       others = λ k d pos l. (let e = some_elem S.items k (omega arith) in
           subst (λ w. AllByRecursion (λ x. a.clock < (x.1).stamp) (session_entries (kept w.passes.items))) (sym (c.leave_seats.ensures.walkers k d e (omega arith))) (a.others k e pos l));
     })
@@ -70,7 +70,7 @@ returns-clause-alone g c =
 -- ---- tries, and stamps that came to their end
 
 pub returns-in_default-clause-counted : goal.returns-in_default-clause-counted
-returns-in_default-clause-counted g c k bodies d at = let none = (c.requires.new k d (slice_get_within c.args.sessions.now k bodies at)).none_begun in omega arith
+returns-in_default-clause-counted g c k bodies d at = let none = (c.requires.new k d (slice_get_within c.args.plan.sessions.now k bodies at)).none_begun in omega arith
 
 pub returns-in_default-clause-worn : goal.returns-in_default-clause-worn
 returns-in_default-clause-worn g c d start at is = absurd cc
@@ -78,7 +78,7 @@ returns-in_default-clause-worn g c d start at is = absurd cc
 pub returns-clause-counted : goal.returns-clause-counted
 returns-clause-counted g c =
     let S = c.run_seats.new.seats in let okS = S.ok in let many = c.run_seats.ensures.len in let took = c.take_seats-seats.ensures.len.2 in
-    λ k bodies d at. (let l = slice_get_within c.args.sessions.now k bodies at in let e = some_elem S.items k (omega arith) in
+    λ k bodies d at. (let l = slice_get_within c.args.plan.sessions.now k bodies at in let e = some_elem S.items k (omega arith) in
     subst (λ w. w.serial ≤ length bodies + length (session_entries (kept w.passes.items))) (sym (c.leave_seats.ensures.walkers k d e (omega arith))) ((c.run_seats.ensures.sat.each k e l).few bodies at))
 
 pub returns-clause-worn : goal.returns-clause-worn
@@ -106,7 +106,7 @@ leave_seats-requires-clause-none g c = (c.requires.none, (let ok = c.args.books.
 
 pub returns-in_default-clause-books : goal.returns-in_default-clause-books
 returns-in_default-clause-books g c =
-    let count = c.requires.count in let ok = c.args.walkers.now.ok in no_books c.args.shards.now (length c.args.sessions.now) c.args.walkers.now.items c.args.books.now.items (omega arith) c.requires.none c.requires.new
+    let count = c.requires.count in let ok = c.args.walkers.now.ok in no_books c.args.shards.now (length c.args.plan.sessions.now) c.args.walkers.now.items c.args.books.now.items (omega arith) c.requires.none c.requires.new
 
 pub returns-clause-books : goal.returns-clause-books
 returns-clause-books g c =
@@ -119,3 +119,14 @@ returns-clause-books g c =
           (subst (λ b. IsBook (session_entries (kept (get_or S.items k x).session.session.walker.passes.items)) b) (sym (c.leave_seats.ensures.books k e x (omega arith))) (c.run_seats.ensures.books k x (omega arith))));
       others = λ k d past low. absurd (omega arith);
     }
+
+pub returns-in_default-clause-keeps : goal.returns-in_default-clause-keeps
+returns-in_default-clause-keeps g c = none_keep c.args.plan.keeps_rows c.args.books.now.items c.requires.none
+
+pub returns-clause-keeps : goal.returns-clause-keeps
+returns-clause-keeps g c =
+    let S = c.run_seats.new.seats in let okS = S.ok in let many = c.run_seats.ensures.len in let took = c.take_seats-seats.ensures.len.2 in
+    let out = c.leave_seats.ensures.many in let B = c.leave_seats.new.books in let okB = B.ok in
+    all_keep c.args.plan.keeps_rows B.items
+    (λ k e low. (let x = some_elem S.items k (omega arith) in
+    subst (λ b. b.keeps ≡ c.args.plan.keeps_rows) (sym (c.leave_seats.ensures.books k e x (omega arith))) (c.run_seats.ensures.keeps k x (omega arith))))

@@ -39,7 +39,7 @@ returns g c =
     let some : 0 < length c.args.seats.now = let e = c.if-is_empty.ensures in let f = c.if-is_empty.false in grind arith in
     let one = first_is c.args.seats.now c.run_first.new.seat c.index-seats-0-4.result some in
     let begun : Begun g.C.SessionCalls.holds g.C.SessionCalls.base g.C.SessionCalls.seen g.C.SessionCalls.grounds g.C.SessionCalls.missed c.args.most (slice_index_or c.args.seats.now 0 c.index-seats-0-2.result) c.run_first.new.seat =
-    record { session = c.run_first.ensures.session; base_is = c.run_first.ensures.base; misses = c.run_first.ensures.misses; begun = c.run_first.ensures.begun; stopped = c.run_first.ensures.grounds } in
+    record { session = c.run_first.ensures.session; base_is = c.run_first.ensures.base; misses = c.run_first.ensures.misses; begun = c.run_first.ensures.begun; stopped = c.run_first.ensures.grounds; keeps = c.run_first.ensures.keeps } in
     let clock : c.clock-clock.result ≡ (g.C.SessionCalls.seen c.run_first.new.seat.session).clock = c.clock-clock.ensures ∙ ap (λ z. (g.C.SessionCalls.seen z.session).clock) (first_is c.args.seats.now c.run_first.new.seat c.index-seats-0-3.result some) in
     let all : (k : ℕ) (d : _) → k < length c.args.seats.now → Sat g.C.SessionCalls.holds g.C.SessionCalls.base g.C.SessionCalls.seen g.C.SessionCalls.grounds g.C.SessionCalls.missed c.args.most (base_of c.clock-clock.result k (g.C.SessionCalls.seen (slice_index_or c.args.seats.now k d).session)) (slice_index_or c.args.seats.now k d) (slice_index_or (slice_set c.if-is_ok.seats 0 (record { session = (slice_index_or c.if-is_ok.seats 0 c.index-seats-0-5.result).session; transactions = (slice_index_or c.args.seats.now 0 c.index-seats-0.result).transactions; ended = (slice_index_or c.if-is_ok.seats 0 c.index-seats-0-5.result).ended; book = (slice_index_or c.if-is_ok.seats 0 c.index-seats-0-5.result).book })) k d) =
     elim c.if-is_ok.branch [
@@ -52,13 +52,13 @@ returns g c =
           subst
           (λ z. Sat g.C.SessionCalls.holds g.C.SessionCalls.base g.C.SessionCalls.seen g.C.SessionCalls.grounds g.C.SessionCalls.missed c.args.most (max (g.C.SessionCalls.seen (slice_index_or (slice_set c.args.seats.now 0 c.run_first.new.seat) k d).session).clock c.clock-clock.result) (slice_index_or (slice_set c.args.seats.now 0 c.run_first.new.seat) k d) (slice_index_or z k d))
           (sym w.seats-is)
-          (record { session = e.session k d l; base_is = e.base k d l; misses = e.misses k d l; transactions = e.transactions k d l; follows = e.follows k d l; stopped = e.grounds k d l }))
+          (record { session = e.session k d l; base_is = e.base k d l; misses = e.misses k d l; transactions = e.transactions k d l; follows = e.follows k d l; stopped = e.grounds k d l; keeps = e.keeps k d l }))
       | else-is_ok w ↦
           let off : is_ok c.run_first.new.seat.ended ≡ false = subst (λ s. is_ok s.ended ≡ false) one (sym c.is_ok.ensures.value ∙ w.if-is_ok.false) in
           let e = w.run_together-else-is_ok.ensures in
           all_behind g.C.SessionCalls.holds g.C.SessionCalls.base g.C.SessionCalls.seen g.C.SessionCalls.grounds g.C.SessionCalls.missed c.args.most c.sessions_stop.ensures c.clock-clock.result c.args.seats.now c.run_first.new.seat w.run_together-else-is_ok.new.seats
           c.if-is_ok.seats c.index-seats-0-2.result c.index-seats-0.result c.index-seats-0-5.result w.seats-is w.run_together-else-is_ok.auto.seats begun off
-          (λ k d l. record { session = e.session k d l; base_is = e.base k d l; misses = e.misses k d l; transactions = e.transactions k d l; follows = e.follows k d l; stopped = e.grounds k d l })
+          (λ k d l. record { session = e.session k d l; base_is = e.base k d l; misses = e.misses k d l; transactions = e.transactions k d l; follows = e.follows k d l; stopped = e.grounds k d l; keeps = e.keeps k d l })
     ] in
     let reached : (d : _) → 0 < length c.args.seats.now → IsReached c.clock-clock.result (g.C.SessionCalls.seen (slice_index_or c.args.seats.now 0 d).session) (g.C.SessionCalls.seen (slice_index_or (slice_set c.if-is_ok.seats 0 (record { session = (slice_index_or c.if-is_ok.seats 0 c.index-seats-0-5.result).session; transactions = (slice_index_or c.args.seats.now 0 c.index-seats-0.result).transactions; ended = (slice_index_or c.if-is_ok.seats 0 c.index-seats-0-5.result).ended; book = (slice_index_or c.if-is_ok.seats 0 c.index-seats-0-5.result).book })) 0 d).session) =
     elim c.if-is_ok.branch [
@@ -69,7 +69,7 @@ returns g c =
           subst
           (λ z. Sat g.C.SessionCalls.holds g.C.SessionCalls.base g.C.SessionCalls.seen g.C.SessionCalls.grounds g.C.SessionCalls.missed c.args.most (max (g.C.SessionCalls.seen (slice_index_or (slice_set c.args.seats.now 0 c.run_first.new.seat) k d).session).clock c.clock-clock.result) (slice_index_or (slice_set c.args.seats.now 0 c.run_first.new.seat) k d) (slice_index_or z k d))
           (sym w.seats-is)
-          (record { session = e.session k d l; base_is = e.base k d l; misses = e.misses k d l; transactions = e.transactions k d l; follows = e.follows k d l; stopped = e.grounds k d l }))
+          (record { session = e.session k d l; base_is = e.base k d l; misses = e.misses k d l; transactions = e.transactions k d l; follows = e.follows k d l; stopped = e.grounds k d l; keeps = e.keeps k d l }))
       | else-is_ok w ↦
           reached_behind g.C.SessionCalls.holds g.C.SessionCalls.base g.C.SessionCalls.seen g.C.SessionCalls.grounds g.C.SessionCalls.missed c.args.most c.clock-clock.result c.args.seats.now c.run_first.new.seat w.run_together-else-is_ok.new.seats c.if-is_ok.seats c.index-seats-0-2.result c.index-seats-0.result c.index-seats-0-5.result clock w.seats-is begun
     ] in
@@ -101,4 +101,5 @@ returns g c =
       grounds = λ k d l. (all k d l).stopped;
       alone = alone;
       kept = kept;
+      keeps = λ k d l. (all k d l).keeps;
     }

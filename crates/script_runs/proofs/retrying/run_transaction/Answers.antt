@@ -32,5 +32,11 @@ returns-in-Ok-clause-kept g c =
     c.args.book.now c.run_tries-tries.new.book c.count.new.book t.1 t.2 t.3 b
     (c.run_tries-tries.ensures.kept b.tx t.0 b.active b.serial_is (b.run_is ∙ sym (b.grows).run_is) (b.session_is ∙ sym (b.grows).walker_is)) c.requires.kept c.count.ensures.rows c.count.ensures.counts
 
+pub returns-in-Ok-clause-keeps : goal.returns-in-Ok-clause-keeps
+returns-in-Ok-clause-keeps g c =
+    let t = c.in-Ok.ensures.told in
+    let b = t.4 in
+    c.count.ensures.keeps ∙ ((c.run_tries-tries.ensures.kept b.tx t.0 b.active b.serial_is (b.run_is ∙ sym (b.grows).run_is) (b.session_is ∙ sym (b.grows).walker_is)).adds).keeps_same
+
 pub returns-in-Err-clause-kept : goal.returns-in-Err-clause-kept
 returns-in-Err-clause-kept g c = kept_unbegun (g.C.SessionCalls.seen c.args.session.now) (g.C.SessionCalls.seen c.begin.new.self) c.in-Err.cause c.args.book.now c.in-Err.ensures.told c.requires.kept

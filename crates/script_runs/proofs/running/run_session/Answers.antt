@@ -18,6 +18,7 @@ loop-transaction-preserved g c =
       base = c.in-Ok.ensures.base ∙ c.loop-transaction.invariant.base;
       misses = λ tx n es h. c.in-Ok.ensures.misses tx n es (c.loop-transaction.invariant.misses tx n es h);
       kept = c.in-Ok.ensures.kept;
+      keeps = c.in-Ok.ensures.keeps ∙ c.loop-transaction.invariant.keeps;
       idle = c.in-Ok.ensures.idle;
       done =
           goes_on_at (g.C.SessionCalls.missed c.run_transaction.new.session) c.args.transactions.now c.loop-transaction.transaction-index c.transaction-item.result c.args.most (g.C.SessionCalls.seen c.args.session.now) (g.C.SessionCalls.seen c.loop-transaction.session)

@@ -12,6 +12,7 @@ invariant-loop-transaction g l =
       session : g.C.SessionCalls.holds l.session;
       base : g.C.SessionCalls.base l.session ≡ g.C.SessionCalls.base l.fn.session;
       kept : IsKept (g.C.SessionCalls.seen l.session) l.book;
+      keeps : l.book.keeps ≡ l.fn.book.keeps;
       idle : IsIdle (g.C.SessionCalls.seen l.session);
       misses : Keeps (g.C.SessionCalls.missed l.fn.session) (g.C.SessionCalls.missed l.session);
       done : Running (g.C.SessionCalls.missed l.session) (take l.transaction-index l.transactions) l.most (g.C.SessionCalls.seen l.fn.session) (g.C.SessionCalls.seen l.session);

@@ -58,4 +58,11 @@ pub returns-clause-kept : goal.returns-clause-kept
 returns-clause-kept g c =
     λ k d l.
     let e = (c.for_each_mut.ensures k d l).1 in
-    subst (λ y. IsKept (g.C.SessionCalls.seen y.session) y.book) e.left e.call.1.1.1.1.1.1.1
+    subst (λ y. IsKept (g.C.SessionCalls.seen y.session) y.book) e.left e.call.1.1.1.1.1.1.1.0
+
+pub returns-clause-keeps : goal.returns-clause-keeps
+returns-clause-keeps g c =
+    λ k d l.
+    let e = (c.for_each_mut.ensures k d l).1 in
+    subst (λ y. y.book.keeps ≡ (slice_index_or c.args.seats.now k d).book.keeps) e.left
+    (subst (λ x. e.after_call.now.book.keeps ≡ x.book.keeps) e.argument_is e.call.1.1.1.1.1.1.1.1)

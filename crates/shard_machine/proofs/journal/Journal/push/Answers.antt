@@ -7,10 +7,9 @@ use Rattle.shard_machine.proofs.journal.Journal.push.Goals as goal
 
 pub invariant_of-self : goal.invariant_of-self
 invariant_of-self c =
-    let i = c.self.inside in let room = c.note_entry.ensures.room in (
+    let i = c.self.inside in (
       omega (arith, c.self.invariant.0, ap length c.push.ensures, length-append i.entries.items (c.args.entry ∷ [])),
-      (let r : 0 < i.reserved = subst (λ v. 0 < v.room) (sym c.self.view_is) c.requires in omega (arith, c.self.invariant.1, r)),
-      omega (arith, c.self.invariant.2, room),
-      λ t. c.note_entry.ensures.rows t ∙ ap (λ o. first_or o (named_by i.shard t c.args.entry)) (c.self.invariant.3 t) ∙ sym (one_more i.shard t i.entries.items c.args.entry)
+      (let r : 0 < i.reserved = subst (λ v. 0 < v.room) (sym c.self.view_is) c.requires.room in omega (arith, c.self.invariant.1, r)),
+      λ t. c.note_entry.ensures t ∙ ap (λ o. first_or o (named_by i.shard t c.args.entry)) (c.self.invariant.2 t) ∙ sym (one_more i.shard t i.entries.items c.args.entry)
           ∙ ap (request_epoch i.shard t) (sym c.push.ensures),
     )

@@ -17,7 +17,8 @@ enter-requires g c =
     let i = c.self.inside in let s : Shard = i.core.shard in let d = c.drop_part.new.self in let tx = c.args.tx in
     let part : IsPart s tx false = subst (λ (v : Machined _). IsPart v.shard tx false) (sym c.self.view_is) c.requires.first in
     let does : happen_up s (Drop tx) ≡ Does Dropped d.shard = dropped s d.shard tx false part (c.drop_part.ensures.dropped (c.drop_part.ensures.known ∙ is_known s tx false part)) in
-    let one = owes_one i.core d i.is_up i.journal i.owed (is_some i.gate) tx (subst (λ (v : Machined _). (v.shard).is_up ≡ true) (sym c.self.view_is) c.requires.up) part does c.self.invariant in let room = c.self.invariant.room in omega (arith, one, room)
+    let one = owes_one i.core d i.is_up i.journal i.owed (is_some i.gate) tx (subst (λ (v : Machined _). (v.shard).is_up ≡ true) (sym c.self.view_is) c.requires.up) part does c.self.invariant in let room = c.self.invariant.room in
+    record { room = omega (arith, one, room); place = λ e. absurd cc }
 
 pub overflow_sub-self : goal.overflow_sub-self
 overflow_sub-self g c =

@@ -36,7 +36,7 @@ invariant_of-self-in-Ok-request g c =
     let does : happen_up s e ≡ Does (requested c.in-Ok-request.answer) d.shard = c.in-Ok-request.ensures.ok in
     let has = c.in-Ok.ensures.room in let less = c.enter.ensures.room in let room : i.owed ≤ k.room = omega (arith, has, less) in
     kept i.core d i.is_up i.journal k i.owed (is_some i.gate) e (requested c.in-Ok-request.answer) refl refl refl does c.request.ensures.still (and_from _ _ c.requires.spelled fit) refl c.few_undecided.ensures
-    c.log_end-before.ensures.short c.log_end-after.ensures.short (c.enter.ensures.shard ∙ ap (λ (x : Journaled). x.shard) c.place.ensures.same) room c.self.invariant
+    c.log_end-before.ensures.short c.log_end-after.ensures.short (c.enter.ensures.shard ∙ ap (λ (x : Journaled). x.shard) c.place_request.ensures.same) room c.self.invariant
 
 pub returns-in-Ok-request-clause-told : goal.returns-in-Ok-request-clause-told
 returns-in-Ok-request-clause-told g c =
@@ -44,7 +44,7 @@ returns-in-Ok-request-clause-told g c =
     let k = c.enter.new.journal.entries in let n = c.in-Ok.stamp in let o = c.outcome_of-outcome.result in let p = c.outcome_of-copy.result in
     let does : happen_up s e ≡ Does (requested c.in-Ok-request.answer) d = c.in-Ok-request.ensures.ok in
     let grown : k ≡ j ++ entry n c.args.walker e p ∷ [] =
-    c.enter.ensures.entries ∙ ap (λ (x : Journaled). x.entries ++ entry n c.args.walker (Request c.args.tx c.in-Some.parts) p ∷ []) c.place.ensures.same
+    c.enter.ensures.entries ∙ ap (λ (x : Journaled). x.entries ++ entry n c.args.walker (Request c.args.tx c.in-Some.parts) p ∷ []) c.place_request.ensures.same
     ∙ ap (λ t. j ++ entry n c.args.walker (Request c.args.tx t) p ∷ []) c.in-Some.ensures in
     subst (λ (v : Machined _). Told v.shard c.args.clock c.args.walker e o (stamped_as i.is_up n k d)) c.self.view_is
     (on_up i.is_up (λ b. Told (stamped_as b i.last j s) c.args.clock c.args.walker e o (stamped_as b n k d)) c.if-not-self.false
@@ -54,15 +54,15 @@ returns-in-Ok-request-clause-told g c =
 -- where there is no memory there is only more room in the journal
 pub invariant_of-self : goal.invariant_of-self
 invariant_of-self g c =
-    let i = c.self.inside in let k = c.place.new.journal in let more = c.place.ensures.grown in let has = c.self.invariant.room in
-    stays i.core i.core i.is_up i.journal k i.owed (is_some i.gate) c.self.invariant.rest refl (ap (λ (x : Journaled). x.shard) c.place.ensures.same) (omega (arith, more, has)) c.self.invariant
+    let i = c.self.inside in let k = c.place_request.new.journal in let more = c.place_request.ensures.grown in let has = c.self.invariant.room in
+    stays i.core i.core i.is_up i.journal k i.owed (is_some i.gate) c.self.invariant.rest refl (ap (λ (x : Journaled). x.shard) c.place_request.ensures.same) (omega (arith, more, has)) c.self.invariant
 
 pub invariant_of-self-in_default : goal.invariant_of-self-in_default
 invariant_of-self-in_default g c =
-    let i = c.self.inside in let k = c.place.new.journal in let more = c.place.ensures.grown in let has = c.self.invariant.room in
-    stays i.core i.core i.is_up i.journal k i.owed (is_some i.gate) c.self.invariant.rest refl (ap (λ (x : Journaled). x.shard) c.place.ensures.same) (omega (arith, more, has)) c.self.invariant
+    let i = c.self.inside in let k = c.place_request.new.journal in let more = c.place_request.ensures.grown in let has = c.self.invariant.room in
+    stays i.core i.core i.is_up i.journal k i.owed (is_some i.gate) c.self.invariant.rest refl (ap (λ (x : Journaled). x.shard) c.place_request.ensures.same) (omega (arith, more, has)) c.self.invariant
 
 pub invariant_of-self-in-Err-request : goal.invariant_of-self-in-Err-request
 invariant_of-self-in-Err-request g c =
-    let i = c.self.inside in let k = c.place.new.journal in let more = c.place.ensures.grown in let has = c.self.invariant.room in
-    stays i.core c.request.new.self i.is_up i.journal k i.owed (is_some i.gate) c.request.ensures.still c.in-Err-request.ensures.err (ap (λ (x : Journaled). x.shard) c.place.ensures.same) (omega (arith, more, has)) c.self.invariant
+    let i = c.self.inside in let k = c.place_request.new.journal in let more = c.place_request.ensures.grown in let has = c.self.invariant.room in
+    stays i.core c.request.new.self i.is_up i.journal k i.owed (is_some i.gate) c.request.ensures.still c.in-Err-request.ensures.err (ap (λ (x : Journaled). x.shard) c.place_request.ensures.same) (omega (arith, more, has)) c.self.invariant
