@@ -51,14 +51,14 @@ where
     requires none { books.old.items ≡ [] }
     requires wide { length plan.sessions.now ≤ vec_capacity books.old }
     ensures len { vec_len walkers.new ≡ vec_len walkers.old }
-    ensures rest { (k : ℕ) (d : _) → k < length plan.sessions.now + 1 → IsAtRest shards.now k (slice_index_or walkers.new.items k d) }
-    ensures went { (went : ℕ → Went) × SessionsGone shards.now plan.most plan.sessions.now walkers.new.items went result × AreDrained shards.now (length plan.sessions.now) walkers.new.items went }
+    ensures rest { (k : ℕ) (d : _) → k < length plan.entry.sessions.now + 1 → IsAtRest shards.now k (slice_index_or walkers.new.items k d) }
+    ensures went { (went : ℕ → Went) × SessionsGone shards.now plan.entry.most plan.entry.sessions.now walkers.new.items went result × AreDrained shards.now (length plan.entry.sessions.now) walkers.new.items went }
     ensures quiet { IfOk result (λ u. SeeQuiet shards.now walkers.new.items) }
-    ensures alone { plan.start ≡ FirstAlone → AreAlone shards.now plan.most plan.sessions.now (λ k d. slice_index_or walkers.new.items (suc k) d) }
-    ensures counted { AreCounted plan.sessions.now walkers.new.items }
+    ensures alone { plan.entry.start ≡ FirstAlone → AreAlone shards.now plan.entry.most plan.entry.sessions.now (λ k d. slice_index_or walkers.new.items (suc k) d) }
+    ensures counted { AreCounted plan.entry.sessions.now walkers.new.items }
     ensures worn { HasWornLast walkers.new.items result }
     ensures books { WalkersHaveBooks walkers.new.items books.new.items }
-    ensures keeps { AllByRecursion (λ b. b.keeps ≡ plan.keeps_rows) books.new.items }
+    ensures keeps { AllByRecursion (λ b. b.keeps ≡ plan.entry.keeps_rows) books.new.items }
 {
     let first = drain_all(rt, alloc, shards, &mut walkers[0], pace);
     if first.is_err() {

@@ -45,11 +45,11 @@ pub(crate) fn take_seats<'a, M: Flier, P: Pace, R: Wait>(
     requires splits { are_splits shards.now.splits ≡ true }
     requires new { (k : ℕ) (d : _) → k < length plan.sessions.now → IsNewWalker shards.now (suc k) 0 (slice_index_or walkers.old.items (suc k) d) }
     requires room { (vec_len seats ≡ 0) × (length plan.sessions.now ≤ vec_capacity seats) }
-    ensures len { (vec_len walkers.new ≡ 1) × (vec_capacity walkers.new ≡ vec_capacity walkers.old) × (vec_len result ≡ length plan.sessions.now) }
+    ensures len { (vec_len walkers.new ≡ 1) × (vec_capacity walkers.new ≡ vec_capacity walkers.old) × (vec_len result ≡ length plan.entry.sessions.now) }
     ensures first { (d : _) → slice_index_or walkers.new.items 0 d ≡ slice_index_or walkers.old.items 0 d }
-    ensures seated { (k : ℕ) (d : _) → k < length plan.sessions.now → IsSeated shards.now clock plan.sessions.now k (slice_index_or result.items k d).session.session.shards.now (slice_index_or result.items k d).session.session.walker (slice_index_or result.items k d).session.session.progress (slice_index_or result.items k d).transactions.now }
-    ensures blank { (k : ℕ) (d : _) → k < length plan.sessions.now → IsBlank (slice_index_or result.items k d).book }
-    ensures keeps { (k : ℕ) (d : _) → k < length plan.sessions.now → (slice_index_or result.items k d).book.keeps ≡ plan.keeps_rows }
+    ensures seated { (k : ℕ) (d : _) → k < length plan.entry.sessions.now → IsSeated shards.now clock plan.entry.sessions.now k (slice_index_or result.items k d).session.session.shards.now (slice_index_or result.items k d).session.session.walker (slice_index_or result.items k d).session.session.progress (slice_index_or result.items k d).transactions.now }
+    ensures blank { (k : ℕ) (d : _) → k < length plan.entry.sessions.now → IsBlank (slice_index_or result.items k d).book }
+    ensures keeps { (k : ℕ) (d : _) → k < length plan.entry.sessions.now → (slice_index_or result.items k d).book.keeps ≡ plan.entry.keeps_rows }
 {
     let sessions = plan.sessions;
     let count = sessions.len();

@@ -46,10 +46,10 @@ where
     requires blank { (k : ℕ) (d : _) → k < length plan.sessions.now → IsBlank (slice_index_or seats.old.items k d).book }
     requires keeps { (k : ℕ) (d : _) → k < length plan.sessions.now → (slice_index_or seats.old.items k d).book.keeps ≡ plan.keeps_rows }
     ensures len { vec_len seats.new ≡ vec_len seats.old }
-    ensures alone { plan.start ≡ FirstAlone → AreAlone shards.now plan.most plan.sessions.now (λ k d. (slice_index_or seats.new.items k d).session.session.walker) }
-    ensures sat { HaveSat shards.now clock plan.most plan.sessions.now (λ k d. (slice_index_or seats.new.items k d).session.session.walker) (λ k d. (slice_index_or seats.new.items k d).ended) }
-    ensures books { (k : ℕ) (d : _) → k < length plan.sessions.now → IsBook (session_entries (kept (slice_index_or seats.new.items k d).session.session.walker.passes.items)) (slice_index_or seats.new.items k d).book }
-    ensures keeps { (k : ℕ) (d : _) → k < length plan.sessions.now → (slice_index_or seats.new.items k d).book.keeps ≡ plan.keeps_rows }
+    ensures alone { plan.entry.start ≡ FirstAlone → AreAlone shards.now plan.entry.most plan.entry.sessions.now (λ k d. (slice_index_or seats.new.items k d).session.session.walker) }
+    ensures sat { HaveSat shards.now clock plan.entry.most plan.entry.sessions.now (λ k d. (slice_index_or seats.new.items k d).session.session.walker) (λ k d. (slice_index_or seats.new.items k d).ended) }
+    ensures books { (k : ℕ) (d : _) → k < length plan.entry.sessions.now → IsBook (session_entries (kept (slice_index_or seats.new.items k d).session.session.walker.passes.items)) (slice_index_or seats.new.items k d).book }
+    ensures keeps { (k : ℕ) (d : _) → k < length plan.entry.sessions.now → (slice_index_or seats.new.items k d).book.keeps ≡ plan.entry.keeps_rows }
 {
     run_all(rt, alloc, seats.as_mut_slice(), plan.most, plan.start);
 }
@@ -85,14 +85,14 @@ where
     requires wide { length plan.sessions.now ≤ vec_capacity books.old }
     ensures len { vec_len walkers.new ≡ vec_len walkers.old }
     ensures first { (d : _) → slice_index_or walkers.new.items 0 d ≡ slice_index_or walkers.old.items 0 d }
-    ensures rest { (k : ℕ) (d : _) → k < length plan.sessions.now → IsAtRest shards.now (suc k) (slice_index_or walkers.new.items (suc k) d) }
-    ensures went { (went : ℕ → Went) × SessionsGone shards.now plan.most plan.sessions.now walkers.new.items went result }
-    ensures later { (k : ℕ) (d : _) → k < length plan.sessions.now → AllByRecursion (λ e. clock < (e.1).stamp) (session_entries (kept (slice_index_or walkers.new.items (suc k) d).passes.items)) }
-    ensures alone { plan.start ≡ FirstAlone → AreAlone shards.now plan.most plan.sessions.now (λ k d. slice_index_or walkers.new.items (suc k) d) }
-    ensures counted { (k : ℕ) (bodies : List Body) (d : _) → slice_get plan.sessions.now k ≡ Some bodies → (slice_index_or walkers.new.items (suc k) d).serial ≤ length bodies + length (session_entries (kept (slice_index_or walkers.new.items (suc k) d).passes.items)) }
+    ensures rest { (k : ℕ) (d : _) → k < length plan.entry.sessions.now → IsAtRest shards.now (suc k) (slice_index_or walkers.new.items (suc k) d) }
+    ensures went { (went : ℕ → Went) × SessionsGone shards.now plan.entry.most plan.entry.sessions.now walkers.new.items went result }
+    ensures later { (k : ℕ) (d : _) → k < length plan.entry.sessions.now → AllByRecursion (λ e. clock < (e.1).stamp) (session_entries (kept (slice_index_or walkers.new.items (suc k) d).passes.items)) }
+    ensures alone { plan.entry.start ≡ FirstAlone → AreAlone shards.now plan.entry.most plan.entry.sessions.now (λ k d. slice_index_or walkers.new.items (suc k) d) }
+    ensures counted { (k : ℕ) (bodies : List Body) (d : _) → slice_get plan.entry.sessions.now k ≡ Some bodies → (slice_index_or walkers.new.items (suc k) d).serial ≤ length bodies + length (session_entries (kept (slice_index_or walkers.new.items (suc k) d).passes.items)) }
     ensures worn { (d : _) → clock ≤ last_seen (slice_index_or walkers.new.items 0 d).passes.items → HasWornLast walkers.new.items result }
     ensures books { WalkersHaveBooks walkers.new.items books.new.items }
-    ensures keeps { AllByRecursion (λ b. b.keeps ≡ plan.keeps_rows) books.new.items }
+    ensures keeps { AllByRecursion (λ b. b.keeps ≡ plan.entry.keeps_rows) books.new.items }
 {
     let Ok(room) = Vec::with_capacity(alloc, plan.sessions.len()) else {
         return Err(StopCause::Memory);

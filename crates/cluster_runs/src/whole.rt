@@ -50,9 +50,9 @@ where
     requires inside { (n : ℕ) → n < 16 → H.is_out house.old n ≡ false }
     requires few { length plan.sessions.now ≤ 64 }
     requires narrow { list_all (list_all is_narrow_body) plan.sessions.now ≡ true }
-    ensures ran { IfOk result (λ r. RanAll (H.story house.old) (H.story house.new) (H.faults house.old) (H.faults house.new) plan.most plan.start plan.sessions.now r.history r.status) }
+    ensures ran { IfOk result (λ r. RanAll (H.story house.old) (H.story house.new) (H.faults house.old) (H.faults house.new) plan.entry.most plan.entry.start plan.entry.sessions.now r.history r.status) }
     ensures books { IfOk result (λ r. HasBooks (entries r.history) r.books.items) }
-    ensures keeps { IfOk result (λ r. AllByRecursion (λ b. b.keeps ≡ plan.keeps_rows) r.books.items) }
+    ensures keeps { IfOk result (λ r. AllByRecursion (λ b. b.keeps ≡ plan.entry.keeps_rows) r.books.items) }
     ensures maps { IfOk result (λ r. r.status ≡ Fine → live_in_turn (map (λ m. S.records m) r.maps.items) ≡ replayed r.history) }
     ensures back { (n : ℕ) → n < 16 → H.is_out house.new n ≡ false }
     ensures refused { IfErr result (Refuses (H.story house.old)) }
