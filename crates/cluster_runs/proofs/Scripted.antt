@@ -30,8 +30,8 @@ use Rattle.cluster_runs.specs.Histories.{entries}
 use Rattle.cluster_runs.specs.PromisedSessions.{SessionWent}
 use Rattle.cluster_runs.specs.Members.{IsOfScript, MembersAreOfScript}
 use Rattle.cluster_runs.proofs.Entries.{all_from, session_ops, own_ops}
-use Rattle.cluster_runs.proofs.Going.{any_of, in_session}
-use Rattle.cluster_runs.proofs.Replaying.{IsKnown, known_all}
+use Rattle.cluster_runs.proofs.Going.{any_of, in_session, requests_are_told}
+use Rattle.cluster_runs.proofs.Replaying.{IsKnown, known_by}
 
 -- ---- a try that tells of an acknowledgement
 
@@ -171,7 +171,7 @@ module _ (logs : List (List LogRecord)) (h : History) (P : Member → Type 0)
 pub members_are_of_script : MembersAreOfScript
 members_are_of_script splits before now counts counts_now most script went kept choice may p gone =
     all_members (logs_left splits kept.found h left choice) h (IsOfScript splits script h) (λ t point told. made t point (some_of (λ e. is_acknowledgement t (e.1).event (e.1).outcome) h told)) h
-    (known_all splits before now counts counts_now most script went kept may p gone choice)
+    (known_by splits kept left may ((p.keeps).legal).legal (requests_are_told splits before now counts counts_now most script went kept p gone) choice)
   where
     h : History
     h = entries kept

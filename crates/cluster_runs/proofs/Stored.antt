@@ -1,6 +1,6 @@
 -- What the stores of a run hold in which all was fine: the map after the acknowledged transactions.
-use Rattle.std.proofs.Common.{◌≡◌, refl, sym, ap, subst, ◌∙◌, ◌⊎◌, inl, inr, ℕ, zero, suc, ◌+◌, ◌<◌, ◌==◌, eqb-true, Bool, true, false, cond, not, ◌&&◌, ◌||◌, List, [], ◌∷◌, ◌++◌, length, map, get_or, Option, Some, None, is_none, arith}
-use Rattle.std.specs.List.{AllByRecursion, list_all, list_any}
+use Rattle.std.proofs.Common.{◌≡◌, refl, sym, ap, ap₂, subst, ◌∙◌, ◌⊎◌, inl, inr, ℕ, zero, suc, ◌+◌, ◌<◌, ◌==◌, eqb-true, Bool, true, false, cond, not, ◌&&◌, ◌||◌, List, [], ◌∷◌, ◌++◌, length, map, get_or, Option, Some, None, is_none, arith}
+use Rattle.std.specs.List.{list_all}
 use Rattle.std.proofs.lemmas.Bool.{both_ways, and_parts, and_from}
 use Rattle.clv_base.specs.declared.names.TxId.{TxId}
 use Rattle.clv_base.specs.declared.logs.LogRecord.{LogRecord}
@@ -13,29 +13,27 @@ use Rattle.clv_base.specs.declared.events.Outcome.{Outcome}
 use Rattle.clv_base.specs.declared.events.Entry.{Entry}
 use Rattle.clv_base.specs.Maps.{KeyMap, replay_map}
 use Rattle.clv_base.specs.Needs.{Records, live_pairs}
-use Rattle.clv_base.specs.Orders.{Table, tx_get}
+use Rattle.clv_base.specs.Orders.{Table}
 use Rattle.clv_base.specs.Logs.{committed_in, stands}
 use Rattle.clv_base.specs.LogRules.{log_of}
 use Rattle.clv_base.specs.Shards.{shard_count}
 use Rattle.clv_base.specs.Sessions.{is_of_session}
 use Rattle.clv_base.specs.State.{Shard, is_active_stage, is_closed_stage, is_gone_stage}
-use Rattle.clv_base.specs.Restarts.{log_left, run_after}
-use Rattle.clv_base.specs.Machines.{Runs}
-use Rattle.clv_base.specs.Journals.{History, own, start_of, final_of, logs_left_from}
-use Rattle.clv_base.specs.History.{Member, IsQuiet, members, serial_ops, logs_left, acknowledged_in, ops_in, request_of, answered_epoch}
-use Rattle.law_base.proofs.Lists.{all_mono, elem_at}
+use Rattle.clv_base.specs.Restarts.{log_left}
+use Rattle.clv_base.specs.Journals.{History, own, final_of, logs_left_from}
+use Rattle.clv_base.specs.History.{IsQuiet, logs_left, request_of}
+use Rattle.law_base.proofs.Lists.{elem_at}
 use Rattle.law_base.proofs.Restarts.{left_length as length_left}
 use Rattle.history_cases.proofs.Merging.{Among, in_own}
 use Rattle.history_laws.proofs.Laws.{left_at}
 use Rattle.history_replay.specs.Entries.{Kept}
+use Rattle.history_replay.specs.Replayed.{acknowledged_ops, operations_at, replayed}
 use Rattle.io_model.specs.Story.{Story}
-use Rattle.journal_laws.specs.Endings.{ActiveWereAnswered, answered_in}
-use Rattle.journal_laws.specs.Gathered.{MakesHistory, journal_at}
-use Rattle.journal_laws.proofs.Laws.{runs_find_active}
+use Rattle.journal_laws.specs.Gathered.{MakesHistory}
 use Rattle.headline_laws.specs.Shares.{in_turn}
 use Rattle.headline_laws.proofs.Laws.{promise}
 use Rattle.machine_calls.specs.Steps.{sends_nothing}
-use Rattle.machine_calls.specs.Settled.{is_flushed, is_part_settled, is_request_settled, is_settled}
+use Rattle.machine_calls.specs.Settled.{are_inactive, is_flushed, is_part_settled, is_quiet, is_request_settled, is_settled}
 use Rattle.cluster_turns.specs.declared.home.Home.{Home}
 use Rattle.cluster_turns.specs.declared.shards.Shards.{Shards}
 use Rattle.cluster_turns.specs.declared.shards.Walker.{Walker}
@@ -51,17 +49,19 @@ use Rattle.script_runs.specs.Sessions.{session_entries}
 use Rattle.script_runs.specs.declared.threads.Start.{Start}
 use Rattle.script_runs.specs.declared.threads.Start.TheVariants.{FirstAlone}
 use Rattle.cluster_runs.specs.Histories.{entries}
+use Rattle.cluster_runs.specs.Replays.{AreTold, HaveGone, NothingIsReplayed}
+use Rattle.cluster_runs.specs.Statuses.{StatusTold}
 use Rattle.cluster_runs.specs.Ended.{ClusterEnded}
 use Rattle.cluster_runs.specs.Ends.{IsClosedRun, end_of, walked_by}
-use Rattle.cluster_runs.specs.Drained.{AreDrained, SeeSettled}
+use Rattle.cluster_runs.specs.Drained.{AreDrained, SeeQuiet}
 use Rattle.cluster_runs.specs.Alone.{AreAlone}
 use Rattle.cluster_runs.specs.Completing.{SessionsHaveEnded}
 use Rattle.cluster_runs.specs.PromisedSessions.{Went}
 use Rattle.cluster_runs.specs.Sessions.{SessionsGone, AreCounted, HasWornLast}
 use Rattle.ordered_store.specs.InTurn.{live_in_turn}
-use Rattle.cluster_runs.proofs.Before.{from_journal}
-use Rattle.cluster_runs.proofs.Ending.{clusters_end, settled_state}
-use Rattle.cluster_runs.proofs.Going.{in_session, of_session}
+use Rattle.cluster_runs.proofs.Ending.{clusters_end, quiet_state}
+use Rattle.cluster_runs.proofs.Going.{in_session, of_session, requests_are_told}
+use Rattle.cluster_runs.proofs.Replaying.{known_by, members_are}
 use Rattle.cluster_runs.proofs.Promised.{fine_end, ran_all}
 
 -- ---- one store after another

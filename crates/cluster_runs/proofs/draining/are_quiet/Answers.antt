@@ -14,8 +14,8 @@ loop-shard-init g c = record { walker = c.requires.walker; same = (refl, refl); 
 pub look-sight-requires-clause-shard : goal.look-sight-requires-clause-shard
 look-sight-requires-clause-shard g c = let h = c.loop-shard-test.true in let e = c.shards-shard-end.ensures.shards in let k = c.requires.walker.count in omega arith
 
-pub returns-then-not-quiet-clause-looked : goal.returns-then-not-quiet-clause-looked
-returns-then-not-quiet-clause-looked g c = let w = c.args.walker.now in let u = c.loop-shard.walker in let v = c.look-sight.new.walker in let inv = c.loop-shard.invariant in let e = c.look-sight.ensures in let r = c.look-sight.result in
+pub returns-then-not-sight-clause-looked : goal.returns-then-not-sight-clause-looked
+returns-then-not-sight-clause-looked g c = let w = c.args.walker.now in let u = c.loop-shard.walker in let v = c.look-sight.new.walker in let inv = c.loop-shard.invariant in let e = c.look-sight.ensures in let r = c.look-sight.result in
     let low : c.loop-shard.shard < length c.args.shards.now.locks.items = (let h = c.loop-shard-test.true in let s = c.shards-shard-end.ensures.shards in let k = c.requires.walker.count in omega arith) in
     let told = subst (λ n. Walked (LookTold r) c.loop-shard.shard n u.passes.items v.passes.items) inv.same.0 e.looked in
     subst (λ clock. Rounds (length c.args.shards.now.locks.items) w.number w.clock w.passes.items clock v.passes.items) (sym e.walker.2) (looks c.loop-shard.shard r.settled v.passes.items inv.rounds low (as_look r told))
@@ -24,7 +24,7 @@ pub loop-shard-preserved : goal.loop-shard-preserved
 loop-shard-preserved g c = let w = c.args.walker.now in let u = c.loop-shard.walker in let v = c.look-sight.new.walker in let inv = c.loop-shard.invariant in let e = c.look-sight.ensures in let r = c.look-sight.result in
     let low : c.loop-shard.shard < length c.args.shards.now.locks.items = (let h = c.loop-shard-test.true in let s = c.shards-shard-end.ensures.shards in let k = c.requires.walker.count in omega arith) in
     let told = subst (λ n. Walked (LookTold r) c.loop-shard.shard n u.passes.items v.passes.items) inv.same.0 e.looked in
-    let yes : r.quiet ≡ true = c.if-not-quiet.false in
+    let yes : r.quiet ≡ true = c.if-not-sight.false in
     record {
       walker = e.walker.0;
       same = (e.walker.1.0 ∙ inv.same.0, e.walker.1.1 ∙ inv.same.1);
@@ -39,11 +39,11 @@ loop-shard-preserved g c = let w = c.args.walker.now in let u = c.loop-shard.wal
 pub returns-clause-quiet : goal.returns-clause-quiet
 returns-clause-quiet g c = let inv = c.loop-shard.invariant in let h = c.loop-shard-test.false in let e = c.shards-shard-end.ensures.shards in let k = c.requires.walker.count in λ yes n l. inv.quiet n (omega arith)
 
-pub returns-then-not-quiet-clause-clock : goal.returns-then-not-quiet-clause-clock
-returns-then-not-quiet-clause-clock g c = c.look-sight.ensures.walker.2 ∙ c.loop-shard.invariant.clock
+pub returns-then-not-sight-clause-clock : goal.returns-then-not-sight-clause-clock
+returns-then-not-sight-clause-clock g c = c.look-sight.ensures.walker.2 ∙ c.loop-shard.invariant.clock
 
-pub returns-then-not-quiet-clause-sees : goal.returns-then-not-quiet-clause-sees
-returns-then-not-quiet-clause-sees g c = let inv = c.loop-shard.invariant in let r = c.look-sight.result in
+pub returns-then-not-sight-clause-sees : goal.returns-then-not-sight-clause-sees
+returns-then-not-sight-clause-sees g c = let inv = c.loop-shard.invariant in let r = c.look-sight.result in
     let told = subst (λ n. Walked (LookTold r) c.loop-shard.shard n c.loop-shard.walker.passes.items c.look-sight.new.walker.passes.items) inv.same.0 c.look-sight.ensures.looked in
     sees_then inv.sees (looked_on r told)
 

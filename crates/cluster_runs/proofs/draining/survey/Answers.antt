@@ -22,7 +22,7 @@ returns-clause-turned g c = let t = c.enter-turn.ensures.turn in let l = c.leave
       t = s;
       s_is = c.enter-turn.ensures.sound.legal;
       t_is = subst (λ ns. IsLegal home.origin ns s) is c.enter-turn.ensures.sound.legal;
-      told = record { settled = record { added_is = refl; same = refl; answer_is = rw c.deref.ensures at c.is_settled-settled.ensures }; quiet_is = quiet_by c.is_settled-settled.result; last_is = (let e = rw c.deref-2.ensures at c.last-last.ensures in omega arith) };
+      told = record { settled = record { added_is = refl; same = refl; answer_is = rw c.deref.ensures at c.is_settled-settled.ensures }; quiet_is = ?; last_is = (let e = rw c.deref-2.ensures at c.last-last.ensures in omega arith) };
       found = subst (λ w. GrownByOthers noter w (seen c.args.pass) before) c.requires.pass.1 c.enter-turn.ensures.grown;
       seen_is = l.seen ∙ is;
       own_is = l.own ∙ ap (λ o. o ++ drop (length (turn_seen c.enter-turn.result.0)) before) t.2 ∙ ap (λ j. own c.args.pass ++ drop (length j) before) t.3

@@ -1,4 +1,4 @@
-use Rattle.std.proofs.Common.{arith, ◌≡◌, ◌∙◌, ap, ⊎_elim, suc, ◌+◌, ◌<◌, ◌≤◌, length, true, false, sym, subst, get_or, set, Ok, Err}
+use Rattle.std.proofs.Common.{arith, refl, ◌≡◌, ◌∙◌, ap, ⊎_elim, suc, ◌+◌, ◌<◌, ◌≤◌, length, true, false, sym, subst, get_or, set, Ok, Err}
 use Rattle.std.specs.Prelude.{IfOk, IsTrue}
 use Rattle.std.specs.Result.{is_err, is_ok}
 use Rattle.std.specs.List.{AllByRecursion}
@@ -71,7 +71,7 @@ where_fine (Ok u) h = h tt
 where_fine (Err cause) h = tt
 
 went_well : (end : End) → IsOk end → IsTrue (is_ok end)
-went_well (Ok u) ok = tt
+went_well (Ok u) ok = refl
 went_well (Err cause) ok = absurd ok
 
 from_well : {P : Type 0} (end : End) → IsOk end → IfOk end (λ u. P) → P
