@@ -16,7 +16,7 @@ ghost use Rattle.clv_commands.specs.Runs.{EndsAs, HasRun, Opened};
 use crate::ended::Ended;
 use cluster_opening::OpenError;
 use cluster_runs::replay::nothing_is_replayed;
-use cluster_runs::{Ran, Start, run_script};
+use cluster_runs::{Plan, Ran, Start, run_script};
 use command_line::{Status, after_text};
 use history_replay::History;
 use io_model::{House, Pace, Sink, write_all};
@@ -100,9 +100,12 @@ where
         alloc,
         house,
         pace,
-        &[],
-        None,
-        Start::Together,
+        Plan {
+            sessions: &[],
+            most: None,
+            start: Start::Together,
+            keeps_rows: false,
+        },
     );
     match ran {
         Ok(ran) => Ended {
