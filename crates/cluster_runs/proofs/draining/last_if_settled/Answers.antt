@@ -1,4 +1,5 @@
 use Rattle.std.proofs.Common.{◌≡◌, ◌∙◌, ◌<◌, ℕ, true, length, sym, subst, refl, arith}
+use Rattle.law_base.proofs.Bools.{was_true}
 use mathlib.Core.Logic.{dite}
 use native.Mathlib.Decide.{ℕ_discrete}
 use Rattle.cluster_turns.specs.Walkers.{Walked}
@@ -25,7 +26,7 @@ pub loop-shard-preserved : goal.loop-shard-preserved
 loop-shard-preserved g c = let w = c.args.walker.now in let u = c.loop-shard.walker in let v = c.look-sight.new.walker in let inv = c.loop-shard.invariant in let e = c.look-sight.ensures in let r = c.look-sight.result in
     let low : c.loop-shard.shard < length c.args.shards.now.locks.items = (let h = c.loop-shard-test.true in let s = c.shards-shard-end.ensures.shards in let k = c.requires.walker.count in omega arith) in
     let told = subst (λ n. Walked (LookTold r) c.loop-shard.shard n u.passes.items v.passes.items) inv.same.0 e.looked in
-    let yes : r.settled ≡ true = c.if-not-sight.false in
+    let yes : r.settled ≡ true = was_true r.settled c.if-not-sight.false in
     let most = c.max-most.ensures in
     record {
       walker = e.walker.0;
