@@ -27,10 +27,12 @@ use std::thread::Threads;
 
 /// Runs the sessions of a script, each with a new walker of its own and each transaction in at most so many tries, between two drains by walker 0.
 ///
-/// What its walker kept of a session is its transactions in order, each in its tries, or nothing where it wasn't begun. The end is fine only where each session
-/// went through, and worn only where the walkers came to the last stamp. Where one was begun, walker 0 has seen each shard settled before it, and what the sessions made has stamps
-/// past those that it had seen. Where the end is fine, each walker has seen each shard settled in the end, with no active part. Where the first transaction is to run alone, what other sessions made has stamps past all of its. The books of the
-/// sessions that were begun go into the list, each of what its walker kept, with its rows where the plan keeps them. No clause says that sessions run beside each other.
+/// What its walker kept of a session is its transactions in order, each in its tries, or nothing where it wasn't begun. The end is fine only where
+/// each session went through, and worn only where the walkers came to the last stamp. Where one was begun, walker 0 has seen each shard settled
+/// before it, and what the sessions made has stamps past those that it had seen. Where the end is fine, each walker has seen each shard settled in
+/// the end, with no active part. Where the first transaction is to run alone, what other sessions made has stamps past all of its. The books of the
+/// sessions that were begun go into the list, each of what its walker kept, with its rows where the plan keeps them. No clause says that sessions
+/// run beside each other.
 pub fn run_over<M: Flier + Send, P: Pace + Sync, R: Threads + Wait + Sync>(
     rt: &R,
     alloc: Global,

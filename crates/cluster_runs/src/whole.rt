@@ -31,13 +31,13 @@ use std::thread::Threads;
 /// Runs the sessions of a script, each on a thread of its own, over all shards of a house: opens, drains, runs them, drains, and closes. Each transaction is
 /// tried at most so many times, or without a number until it is done. Every disk is in the house again after it.
 ///
-/// What all shards did is a legal history that keeps the promise of a run. The status is fine only where no shard's flush failed and each session went
-/// through, and then each transaction has ended; a disk's fault is of the lowest shard whose flush failed; at worn stamps and at want of memory none failed.
-/// Before a session begins each shard was settled, with no entry of a session in its journal so far; and where the first session's first transaction is to run
-/// alone, all that other sessions make has stamps past those of its entries. Where the status is fine each shard is settled at the end of its journal, with no
-/// active part, and the live pairs of all stores are the map after the acknowledged transactions. The books that its sessions kept tell what the history tells of them, with
-/// their rows where the plan keeps them.
-/// An `Err` is the first refusal of the opening, as `open_all` tells it; then there is no history.
+/// What all shards did is a legal history that keeps the promise of a run. The status is fine only where no shard's flush failed and each session
+/// went through, and then each transaction has ended; a disk's fault is of the lowest shard whose flush failed; at worn stamps and at want of memory
+/// none failed. Before a session begins each shard was settled, with no entry of a session in its journal so far; and where the first session's
+/// first transaction is to run alone, all that other sessions make has stamps past those of its entries. Where the status is fine each shard is
+/// settled at the end of its journal, with no active part, and the live pairs of all stores are the map after the acknowledged transactions. The
+/// books that its sessions kept tell what the history tells of them, with their rows where the plan keeps them. An `Err` is the first refusal of the
+/// opening, as `open_all` tells it; then there is no history.
 pub fn run_script<
     S: Store + Drop + Send,
     L: Locks + Drop + Send,

@@ -147,7 +147,8 @@ fn write_line<K: Sink>(
 }
 
 /// Runs the script of a workload: the first session's first transaction fills the accounts, alone, and then all sessions run beside each other. Each
-/// transaction is tried until it is acknowledged, and no row is kept of it. Where all was fine writes one line: the accounts hold 1000 each in all, by the stores, whatever the logs stood for.
+/// transaction is tried until it is acknowledged, and no row is kept of it. Where all was fine writes one line: the accounts hold 1000 each in all,
+/// by the stores, whatever the logs stood for.
 pub fn load<R: Threads + Wait + Sync, K: Sink, H: House, P: Pace + Sync>(
     rt: &R,
     alloc: Global,

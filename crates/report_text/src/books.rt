@@ -93,8 +93,9 @@ fn lines(alloc: Global, rows: &[Row]) -> Result<Vec<u8>, Memory>
     Ok(text)
 }
 
-/// The report of these books, which keep their rows, as bytes: a line for each row of all of them, by the places of the requests, and then the sum of the counts. Takes time linear
-/// in what the rows hold, and for `n` rows n log n besides. Sums that no number of 64 bits can say are taken for want of memory.
+/// The report of these books, which keep their rows, as bytes: a line for each row of all of them, by the places of the requests, and then the sum
+/// of the counts. Takes time linear in what the rows hold, and for `n` rows n log n besides. Sums that no number of 64 bits can say are taken for
+/// want of memory.
 pub fn report_of_books(alloc: Global, books: Vec<Book>) -> Result<Vec<u8>, Memory>
     requires keeps { AllByRecursion (λ b. b.keeps ≡ true) books.items }
     ensures { IfOk result (λ text. IsReportOf books.items text.items) }
@@ -106,7 +107,8 @@ pub fn report_of_books(alloc: Global, books: Vec<Book>) -> Result<Vec<u8>, Memor
     Ok(text)
 }
 
-/// Writes the report of these books, which keep their rows. The text is made whole before the first write. After `Failed` the sink took some of it, the first bytes first.
+/// Writes the report of these books, which keep their rows. The text is made whole before the first write. After `Failed` the sink took some of it,
+/// the first bytes first.
 pub fn report_of_books_into<K: Sink>(
     alloc: Global,
     books: Vec<Book>,

@@ -24,9 +24,10 @@ pub enum Start {
     FirstAlone,
 }
 
-/// Runs the session of each seat on a thread of its own, each transaction in at most so many tries, or without a number until it is
-/// done. What a session adds to its entries is as if it ran alone, and what stopped it has its grounds. Where the first transaction is to run alone, each
-/// entry of another session has a stamp past all of its. Each book tells what its session's entries tell, and keeps its rows or not as before. Where no thread can be made a session runs behind another one.
+/// Runs the session of each seat on a thread of its own, each transaction in at most so many tries, or without a number until it is done. What a
+/// session adds to its entries is as if it ran alone, and what stopped it has its grounds. Where the first transaction is to run alone, each entry
+/// of another session has a stamp past all of its. Each book tells what its session's entries tell, and keeps its rows or not as before. Where no
+/// thread can be made a session runs behind another one.
 pub fn run_all<R: Threads + Wait + Sync, C: SessionCalls + Send>(
     rt: &R,
     alloc: Global,

@@ -18,7 +18,7 @@ returns-clause-turned g c = let t = c.enter-turn.ensures.turn in let l = c.leave
     let also : Bool → Bool = λ b. b && are_inactive s.local.parts in
     let quiet : c.if-settled.quiet ≡ is_quiet s =
     elim c.if-settled.branch [
-      then-settled w ↦ w.quiet-is ∙ (rw w.deref-then-settled.ensures at w.is_inactive-quiet.ensures) ∙ ap also (sym w.if-settled.true ∙ settled)
+      | then-settled w ↦ w.quiet-is ∙ (rw w.deref-then-settled.ensures at w.is_inactive-quiet.ensures) ∙ ap also (sym w.if-settled.true ∙ settled)
       | else-settled w ↦ w.quiet-is ∙ w.if-settled.false ∙ ap also (sym w.if-settled.false ∙ settled)
     ] in
     let before = notes_of s.journal home.marks.items in let is : before ≡ before ++ [] = sym (append-nil before) in
