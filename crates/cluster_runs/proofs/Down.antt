@@ -1,5 +1,5 @@
 -- A shard that is neither stopped nor restarted is down exactly where a flush has failed.
-use Rattle.std.proofs.Common.{◌≡◌, ◌≢◌, refl, sym, ap, ◌∙◌, subst, ℕ, ◌<◌, Bool, true, false, List, [], ◌∷◌, ◌||◌, ◌&&◌, Option, Some, None, arith}
+use Rattle.std.proofs.Common.{◌≡◌, refl, sym, ap, ◌∙◌, subst, ℕ, ◌<◌, Bool, true, false, List, [], ◌∷◌, ◌||◌, ◌&&◌, Option, Some, None, arith}
 use Rattle.std.specs.Prelude.{not}
 use Rattle.std.proofs.lemmas.Bool.{both_ways, and_parts}
 use Rattle.clv_base.specs.declared.events.Event.{Event}
@@ -11,7 +11,7 @@ use Rattle.clv_base.specs.Shards.{shard_count}
 use Rattle.clv_base.specs.State.{Shard}
 use Rattle.clv_base.specs.Events.{with_durable}
 use Rattle.clv_base.specs.Journals.{History, FlushMay, flush_state, start_of}
-use Rattle.clv_base.specs.Machines.{BecomesBy, Makes, Runs}
+use Rattle.clv_base.specs.Machines.{BecomesBy, Runs}
 use Rattle.io_model.specs.Story.{Story}
 use Rattle.io_model.specs.Disk.{Rose}
 use Rattle.history_replay.specs.Entries.{Kept}

@@ -16,12 +16,8 @@ use Rattle.history_cases.proofs.Worlds.{in_a_shard}
 use Rattle.fate_laws.proofs.Laws.{aborted_are_committed_nowhere}
 use Rattle.history_replay.specs.Replayed.{operations_at, acknowledged_ops}
 use Rattle.cluster_runs.specs.Histories.{entries}
-use Rattle.cluster_runs.specs.PromisedSessions.{Went}
-use Rattle.cluster_runs.specs.Promises.{RunPromised}
 use Rattle.cluster_runs.specs.Replays.{AreTold, MembersAreAcknowledged, RunsReplay}
 use Rattle.history_replay.specs.Entries.{Kept}
-use Rattle.io_model.specs.Story.{Story}
-use Rattle.script_lang.specs.Bodies.{Body}
 use Rattle.cluster_runs.proofs.Going.{requests_are_told}
 
 -- where a COMMIT at the entry's shard tells that its transaction is acknowledged

@@ -1,5 +1,5 @@
 -- What a session of a seat leaves.
-use Rattle.std.proofs.Common.{◌≡◌, refl, ◌∙◌, sym, ap, subst, arith, true, ℕ, zero, suc, max, ◌+◌, ◌<◌, ◌≤◌, List, [], ◌∷◌, ◌++◌, length, Option, Some, IfErr, slice_get}
+use Rattle.std.proofs.Common.{◌≡◌, refl, ◌∙◌, sym, ap, subst, arith, true, ℕ, zero, suc, max, ◌<◌, ◌≤◌, List, [], ◌∷◌, ◌++◌, length, Option, Some, IfErr, slice_get}
 use Rattle.std.specs.List.{AllByRecursion, list_all}
 use Rattle.clv_base.specs.declared.names.Point.{Point}
 use Rattle.cluster_turns.specs.declared.shards.Shards.{Shards}

@@ -1,5 +1,5 @@
 -- What the drains before and behind a run's sessions leave.
-use Rattle.std.specs.Prelude.{◌≡◌, ℕ, suc, ◌<◌, ◌≤◌, ◌^◌, ◌-◌, Bool, true, not, List, ◌++◌, Option, Some, Err, length, slice_index_or}
+use Rattle.std.specs.Prelude.{◌≡◌, ℕ, suc, ◌<◌, ◌≤◌, ◌^◌, ◌-◌, true, not, List, ◌++◌, Option, Some, Err, length, slice_index_or}
 use Rattle.std.specs.List.{AllByRecursion, list_all}
 use Rattle.clv_base.specs.declared.events.Entry.{Entry}
 use Rattle.clv_base.specs.State.{Shard}

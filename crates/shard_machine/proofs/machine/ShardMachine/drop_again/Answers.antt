@@ -1,5 +1,5 @@
 -- A drop of a part that was dropped before, and its entry.
-use Rattle.std.proofs.Common.{◌≡◌, refl, sym, ◌∙◌, ap, subst, ◌++◌, ◌∷◌, [], ◌+◌, ◌-◌, ◌≤◌, true, Some, is_some, arith}
+use Rattle.std.proofs.Common.{◌≡◌, refl, sym, ◌∙◌, ap, subst, ◌++◌, ◌∷◌, [], ◌+◌, ◌≤◌, true, Some, is_some, arith}
 use Rattle.clv_base.specs.declared.events.Event.TheVariants.{Drop}
 use Rattle.clv_base.specs.declared.events.Outcome.TheVariants.{Dropped}
 use Rattle.clv_base.specs.State.{Shard}

@@ -1,5 +1,5 @@
 -- A first drop, and its entry in the place that was kept for it.
-use Rattle.std.proofs.Common.{◌≡◌, refl, sym, ◌∙◌, subst, [], ◌-◌, true, false, Some, is_some, arith}
+use Rattle.std.proofs.Common.{◌≡◌, refl, sym, ◌∙◌, subst, ◌-◌, true, false, Some, is_some, arith}
 use Rattle.clv_base.specs.declared.events.Event.TheVariants.{Drop}
 use Rattle.clv_base.specs.declared.events.Outcome.TheVariants.{Dropped}
 use Rattle.clv_base.specs.State.{Shard}

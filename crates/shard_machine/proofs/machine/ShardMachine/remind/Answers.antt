@@ -1,5 +1,5 @@
 -- What is missing is sent again, and the entry is made.
-use Rattle.std.proofs.Common.{◌≡◌, refl, sym, ◌∙◌, ap, subst, ◌++◌, ◌∷◌, [], ◌+◌, ◌≤◌, true, false, length, None, is_some, arith}
+use Rattle.std.proofs.Common.{◌≡◌, refl, sym, ◌∙◌, ap, subst, ◌++◌, ◌∷◌, [], ◌≤◌, length, None, is_some, arith}
 use Rattle.clv_base.specs.declared.events.Event.TheVariants.{Remind}
 use Rattle.clv_base.specs.declared.events.Outcome.TheVariants.{Reminded, Nothing}
 use Rattle.clv_base.specs.State.{Shard}
