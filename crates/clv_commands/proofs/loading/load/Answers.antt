@@ -37,3 +37,6 @@ pub returns-clause-closed : goal.returns-clause-closed
 returns-clause-closed g c = λ none.
     let story = g.H.House.story in let h0 = c.args.house.now in let h1 = c.run_script-ran.new.house in
     subst (λ (s : Status). Closes s (story h0) (story h1)) (sym c.into.ensures) (refusals_close c.in-Err.error (story h0) (story h1) c.in-Err.ensures.left)
+
+pub returns-in-Ok-ran-clause-sink : goal.returns-in-Ok-ran-clause-sink
+returns-in-Ok-ran-clause-sink g c = c.write_line.ensures.cause c.in-Ok-ran.ran.history
