@@ -95,8 +95,8 @@ fn last_if_settled<M: Machine, R: Wait>(
     Some(most)
 }
 
-// Drains all shards by walker 0, until it has seen each settled; what it makes from then on has stamps past those that it has seen, as its clock tells.
-pub(crate) fn drain_all<M: Flier, P: Pace, R: Wait>(
+/// Drains all shards by walker 0, until it has seen each settled; what it makes from then on has stamps past those that it has seen, as its clock tells.
+pub fn drain_all<M: Flier, P: Pace, R: Wait>(
     rt: &R,
     alloc: Global,
     shards: &Shards<M>,
@@ -155,8 +155,8 @@ fn all_see_settled<M: Flier, R: Wait>(rt: &R, shards: &Shards<M>, walkers: &mut 
     }
 }
 
-// Drains all shards by walker 0, behind all that the other walkers do: then each walker has seen each shard settled, so that nothing came behind it.
-pub(crate) fn drain_last<M: Flier, P: Pace, R: Wait>(
+/// Drains all shards by walker 0, behind all that the other walkers do: then each walker has seen each shard settled, so that nothing came behind it.
+pub fn drain_last<M: Flier, P: Pace, R: Wait>(
     rt: &R,
     alloc: Global,
     shards: &Shards<M>,

@@ -14,6 +14,7 @@ use crate::ended::Ended;
 use crate::loading::{Work, load};
 use crate::making::make_logs;
 use crate::running;
+use crate::serving::serve;
 use crate::showing::show;
 use cluster_opening::opening_laws::good_logs_are_not_refused;
 use command_line::{Command, Status, command_of};
@@ -24,7 +25,7 @@ use std::sync::Wait;
 use std::thread::Threads;
 
 // Does a command.
-fn obey<R: Threads + Wait + Sync, S: Source, K: Sink, H: House, P: Pace + Sync>(
+fn obey<R: Threads + Wait + Sync, S: Source, K: Sink + Send, H: House, P: Pace + Sync>(
     rt: &R,
     alloc: Global,
     command: Command,
@@ -73,6 +74,7 @@ where
             };
             load(rt, alloc, sink, house, pace, work)
         }
+        Command::Serve { sessions } => serve(rt, alloc, source, sink, house, pace, sessions),
     }
 }
 
@@ -80,7 +82,7 @@ where
 ///
 /// A clause on content says nothing of a source, a sink or a disk that doesn't tell it (standard input, standard output, a file). Want of
 /// memory may come at any time; what was done until then keeps every clause.
-pub fn run<R: Threads + Wait + Sync, S: Source, K: Sink, H: House, P: Pace + Sync>(
+pub fn run<R: Threads + Wait + Sync, S: Source, K: Sink + Send, H: House, P: Pace + Sync>(
     rt: &R,
     alloc: Global,
     words: &[&str],

@@ -81,6 +81,7 @@ refusal_text refusal.Active = codes "a transaction is active"
 refusal_text refusal.NoTx = codes "no transaction is active"
 refusal_text refusal.NoRetry = codes "nothing to try again"
 refusal_text refusal.Ended = codes "the session has ended"
+refusal_text refusal.TooLong = codes "the line is too long"
 
 -- what a session's reply tells
 abbrev pub told : ℕ → Reply → List Data

@@ -36,6 +36,8 @@ pub enum Refusal {
     NoRetry,
     /// The session has ended.
     Ended,
+    /// The line is too long.
+    TooLong,
 }
 
 /// What a session answers.

@@ -175,6 +175,7 @@ fn refusal_text(refusal: Refusal) -> &'static str
         Refusal::NoTx => "no transaction is active",
         Refusal::NoRetry => "nothing to try again",
         Refusal::Ended => "the session has ended",
+        Refusal::TooLong => "the line is too long",
     }
 }
 

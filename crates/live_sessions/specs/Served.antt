@@ -30,6 +30,9 @@ listed (Some a) = a ∷ []
 abbrev pub InTx : Seen → (TxId → Birth → ℕ → (ℕ → Bool) → Type 0) → Type 0
 InTx u P = (tx : TxId) × (birth : Birth) × (nth : ℕ) × (touched : ℕ → Bool) × (u.standing ≡ Active tx birth nth touched) × P tx birth nth touched
 
+abbrev pub IsActive : Seen → Type 0
+IsActive u = (tx : TxId) × (birth : Birth) × (nth : ℕ) × (touched : ℕ → Bool) × (u.standing ≡ Active tx birth nth touched)
+
 -- the last one ended by an abort
 abbrev pub IsLast : Seen → Type 0
 IsLast u = (birth : Birth) × (u.standing ≡ Idle (Some birth))
@@ -113,7 +116,7 @@ pub record HasServed (missed : Misses) (taken taken' : List Asked) (told told' :
 
 abbrev pub IsOtherEnd : TryEnd → Seen → Type 0
 IsOtherEnd (end.Aborted why) u = IsLast u
-IsOtherEnd (end.Stopped (Down n)) u = InTx u (λ tx birth nth touched. ⊤)
+IsOtherEnd (end.Stopped (Down n)) u = IsActive u
 IsOtherEnd (end.Stopped why) u = ⊤
 IsOtherEnd e u = ⊥
 

@@ -1,14 +1,12 @@
 // One line of a session.
-ghost use Rattle.std.specs.Prelude.{◌≡◌, ◌⊎◌, ◌×◌, ℕ, Bool, true, Some, IfErr};
-ghost use Rattle.clv_base.specs.declared.names.TxId.{TxId as TxIs};
-ghost use Rattle.clv_base.specs.declared.names.Birth.{Birth as BirthIs};
-ghost use Rattle.clv_base.specs.declared.ops.Op.{Op as OpIs};
+ghost use Rattle.std.specs.Prelude.{◌≡◌, true, Some, None};
 ghost use Rattle.live_lines.specs.declared.calls.Call.TheVariants as calls;
 ghost use Rattle.live_lines.specs.declared.calls.Asked.TheVariants as asks;
-ghost use Rattle.script_runs.specs.Seen.{Active, Keeps};
-ghost use Rattle.script_runs.specs.Told.{has_range as ranges, OperateTold, CommitTold};
+ghost use Rattle.script_runs.specs.Seen.{Keeps};
+ghost use Rattle.script_runs.specs.Told.{has_range as ranges};
+ghost use Rattle.script_runs.specs.Tried.{OnStop};
 ghost use Rattle.script_runs.specs.Ran.{IsIdle};
-ghost use Rattle.live_sessions.specs.Served.{InTx, IsLast, Goes, Did, EndTold};
+ghost use Rattle.live_sessions.specs.Served.{IsActive, IsLast, Goes, Did, Drops, EndTold, IsOtherEnd, reply_by};
 
 use clv_base::causes::AbortCause;
 use clv_base::ops::Op;
@@ -115,7 +113,7 @@ fn retry<C: SessionCalls>(alloc: Global, session: &mut C) -> Step
 // Where a shard was down the active transaction is dropped, and the session goes on.
 fn drop_down<C: SessionCalls>(alloc: Global, session: &mut C, shard: u32) -> Step
     requires session { C.holds session.old }
-    requires active { InTx (C.seen session.old) (λ tx birth nth touched. ⊤) }
+    requires active { IsActive (C.seen session.old) }
     ensures session { C.holds session.new }
     ensures base { C.base session.new ≡ C.base session.old }
     ensures misses { Keeps (C.missed session.old) (C.missed session.new) }
@@ -150,7 +148,7 @@ fn end_by<C: SessionCalls>(alloc: Global, session: &mut C, end: TryEnd) -> Step
 
 fn operate<C: SessionCalls>(alloc: Global, session: &mut C, op: Op) -> Step
     requires session { C.holds session.old }
-    requires active { InTx (C.seen session.old) (λ tx birth nth touched. ⊤) }
+    requires active { IsActive (C.seen session.old) }
     requires range { ranges op ≡ true }
     ensures session { C.holds session.new }
     ensures base { C.base session.new ≡ C.base session.old }
@@ -166,7 +164,7 @@ fn operate<C: SessionCalls>(alloc: Global, session: &mut C, op: Op) -> Step
 
 fn commit<C: SessionCalls>(alloc: Global, session: &mut C) -> Step
     requires session { C.holds session.old }
-    requires active { InTx (C.seen session.old) (λ tx birth nth touched. ⊤) }
+    requires active { IsActive (C.seen session.old) }
     ensures session { C.holds session.new }
     ensures base { C.base session.new ≡ C.base session.old }
     ensures misses { Keeps (C.missed session.old) (C.missed session.new) }
@@ -183,7 +181,7 @@ fn commit<C: SessionCalls>(alloc: Global, session: &mut C) -> Step
 
 fn abort<C: SessionCalls>(alloc: Global, session: &mut C) -> Step
     requires session { C.holds session.old }
-    requires active { InTx (C.seen session.old) (λ tx birth nth touched. ⊤) }
+    requires active { IsActive (C.seen session.old) }
     ensures session { C.holds session.new }
     ensures base { C.base session.new ≡ C.base session.old }
     ensures misses { Keeps (C.missed session.old) (C.missed session.new) }
@@ -243,7 +241,7 @@ fn has_range(op: Op) -> bool
 // Where one is.
 fn call_in_tx<C: SessionCalls>(alloc: Global, session: &mut C, course: Course, call: Call) -> Step
     requires session { C.holds session.old }
-    requires active { InTx (C.seen session.old) (λ tx birth nth touched. ⊤) }
+    requires active { IsActive (C.seen session.old) }
     requires course { Goes (C.grounds session.old) course (C.seen session.old) }
     ensures session { C.holds session.new }
     ensures base { C.base session.new ≡ C.base session.old }

@@ -1,0 +1,106 @@
+// The inbox and the outbox of a session: its ends of two rings.
+ghost use Rattle.rtrb.specs.Ring.{sent, received};
+
+use crate::signals::Signals;
+use live_lines::{Asked, Reply};
+use live_sessions::{Gone, Inbox, Outbox};
+use rtrb::{Consumer, Producer, PushError};
+use std::sync::Wait;
+
+/// Lines that the reader hands to a session.
+#[derive(Drop)]
+pub struct RingInbox<'a, R: Wait> {
+    pub rt: &'a R,
+    pub signals: &'a Signals,
+    pub lane: usize,
+    pub lines: Consumer<Asked>,
+}
+
+/// Answers that go to the writer.
+#[derive(Drop)]
+pub struct RingOutbox<'a, R: Wait> {
+    pub rt: &'a R,
+    pub signals: &'a Signals,
+    pub lane: usize,
+    pub answers: Producer<Reply>,
+}
+
+impl<'a, R: Wait> RingInbox<'a, R> {
+    // A line that has come; or none, and whether none will come.
+    fn look(&mut self) -> Result<Asked, bool> {
+        if self.signals.is_gone() {
+            return Err(true);
+        }
+        let is_closed = self.signals.lanes[self.lane].is_closed();
+        match self.lines.pop() {
+            Ok(asked) => {
+                self.signals.lanes[0].bell.ring();
+                Ok(asked)
+            }
+            Err(_) => Err(is_closed),
+        }
+    }
+}
+
+impl<'a, R: Wait> Inbox for RingInbox<'a, R> {
+    ghost taken = { λ s. received s.lines };
+
+    fn take(&mut self) -> Option<Asked> {
+        let bell = &self.signals.lanes[self.lane].bell;
+        let mut lies = false;
+        for _ in self.rt.forever() {
+            let heard = bell.heard();
+            match self.look() {
+                Ok(asked) => {
+                    if lies {
+                        bell.rise();
+                    }
+                    return Some(asked);
+                }
+                Err(true) => return None,
+                Err(false) => {
+                    if lies {
+                        bell.sleep(self.rt, heard);
+                    } else {
+                        bell.lie_down();
+                        lies = true;
+                    }
+                }
+            }
+        }
+        unreachable!()
+    }
+}
+
+impl<'a, R: Wait> Outbox for RingOutbox<'a, R> {
+    ghost told = { λ s. sent s.answers };
+
+    fn tell(&mut self, reply: Reply) -> Result<(), Gone> {
+        let bell = &self.signals.lanes[self.lane].bell;
+        let mut reply = reply;
+        let mut lies = false;
+        for _ in self.rt.forever() {
+            let heard = bell.heard();
+            if self.signals.is_gone() {
+                return Err(Gone);
+            }
+            match self.answers.push(reply) {
+                Ok(()) => {
+                    if lies {
+                        bell.rise();
+                    }
+                    self.signals.writer.ring();
+                    return Ok(());
+                }
+                Err(PushError::Full(back)) => reply = back,
+            }
+            if lies {
+                bell.sleep(self.rt, heard);
+            } else {
+                bell.lie_down();
+                lies = true;
+            }
+        }
+        unreachable!()
+    }
+}

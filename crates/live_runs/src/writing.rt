@@ -1,0 +1,109 @@
+// The thread that writes all answers.
+use crate::signals::Signals;
+use io_model::{Sink, write_all};
+use live_lines::{Reply, add_reply};
+use report_text::ReportError;
+use rtrb::Consumer;
+use std::alloc::Global;
+use std::sync::Wait;
+
+// So many bytes are written at once, and the lines that came with them.
+const PIECE: usize = 65536;
+
+// The lines of the answers of one session that have come are added to a text.
+fn take_of(
+    alloc: Global,
+    lane: usize,
+    answers: &mut Consumer<Reply>,
+    text: &mut Vec<u8>,
+) -> Result<(), ReportError> {
+    for _ in 0..answers.capacity() {
+        if text.len() >= PIECE {
+            return Ok(());
+        }
+        let Ok(reply) = answers.pop() else {
+            return Ok(());
+        };
+        if add_reply(alloc, text, lane as u64, &reply).is_err() {
+            return Err(ReportError::Memory);
+        }
+    }
+    Ok(())
+}
+
+// Those of all sessions.
+fn take_all(
+    alloc: Global,
+    signals: &Signals,
+    all: &mut Vec<Consumer<Reply>>,
+    text: &mut Vec<u8>,
+) -> Result<(), ReportError> {
+    for lane in 0..all.len() {
+        let before = text.len();
+        take_of(alloc, lane, &mut all[lane], text)?;
+        if before < text.len() {
+            signals.lanes[lane].bell.ring();
+        }
+    }
+    Ok(())
+}
+
+fn write_text<K: Sink>(sink: &mut K, text: &mut Vec<u8>) -> Result<(), ReportError> {
+    match write_all(sink, text) {
+        Ok(()) => {
+            text.clear();
+            Ok(())
+        }
+        Err(_) => Err(ReportError::Failed),
+    }
+}
+
+fn write_until_over<R: Wait, K: Sink>(
+    rt: &R,
+    alloc: Global,
+    signals: &Signals,
+    all: &mut Vec<Consumer<Reply>>,
+    sink: &mut K,
+) -> Result<(), ReportError> {
+    let mut text = Vec::new(alloc);
+    let mut lies = false;
+    for _ in rt.forever() {
+        let heard = signals.writer.heard();
+        let is_over = signals.is_over();
+        take_all(alloc, signals, all, &mut text)?;
+        if !text.is_empty() {
+            if lies {
+                signals.writer.rise();
+                lies = false;
+            }
+            write_text(sink, &mut text)?;
+        } else if signals.is_gone() {
+            return Err(ReportError::Memory);
+        } else if is_over {
+            return Ok(());
+        } else if lies {
+            signals.writer.sleep(rt, heard);
+        } else {
+            signals.writer.lie_down();
+            lies = true;
+        }
+    }
+    unreachable!()
+}
+
+/// Writes the lines of all answers, each whole, as they come, until all sessions and the reader have ended and there are no more. Where the sink fails, or there is no
+/// memory for a line, it tells that nobody takes answers any more.
+pub fn write_answers<R: Wait, K: Sink>(
+    rt: &R,
+    alloc: Global,
+    signals: &Signals,
+    all: &mut Vec<Consumer<Reply>>,
+    sink: &mut K,
+) -> Result<(), ReportError> {
+    signals.begin();
+    let written = write_until_over(rt, alloc, signals, all, sink);
+    if written.is_err() {
+        signals.tell_gone();
+    }
+    written
+}
