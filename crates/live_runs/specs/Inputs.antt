@@ -1,5 +1,5 @@
 -- What an input asks of each session.
-use Rattle.std.specs.Prelude.{◌<◌, ◌==◌, if◌then◌else◌, ℕ, List, [], ◌∷◌, ◌++◌, length, Option, Some, None}
+use Rattle.std.specs.Prelude.{◌≡◌, ◌<◌, ◌==◌, if◌then◌else◌, ℕ, List, [], ◌∷◌, ◌++◌, length, Option, Some, None}
 use Rattle.script_lang.specs.Grammar.{lines_of}
 use Rattle.live_lines.specs.Cutting.{most_bytes}
 use Rattle.live_lines.specs.Requests.{Reads}
@@ -32,6 +32,9 @@ abbrev pub of_session : ℕ → List (ℕ × Asked) → List Asked
 of_session k [] = []
 of_session k ((j, asked) ∷ handed) = if j == k then asked ∷ of_session k handed else of_session k handed
 
--- the lines of all the bytes that were read, in their order
+-- the first lines of the bytes that were read, in their order; or all of them
 abbrev pub TookInput : ℕ → List ℕ → List (ℕ × Asked) → List Refusal → Type 0
-TookInput sessions bytes handed refused = AreTaken sessions (lines_of bytes) handed refused
+TookInput sessions bytes handed refused = (front rest : List (List ℕ)) × (lines_of bytes ≡ front ++ rest) × AreTaken sessions front handed refused
+
+abbrev pub TookAllInput : ℕ → List ℕ → List (ℕ × Asked) → List Refusal → Type 0
+TookAllInput sessions bytes handed refused = AreTaken sessions (lines_of bytes) handed refused

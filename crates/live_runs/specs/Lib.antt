@@ -1,3 +1,7 @@
+pub mod Rings
 pub mod Inputs
+pub mod Handed
 pub mod Outputs
+pub mod Written
 pub mod Lived
+pub mod Walked

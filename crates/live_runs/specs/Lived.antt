@@ -27,7 +27,7 @@ use Rattle.live_lines.specs.declared.calls.Refusal.{Refusal}
 use Rattle.script_runs.specs.Seen.{Idle, Seen, Misses}
 use Rattle.script_runs.specs.Sessions.{session_entries}
 use Rattle.live_sessions.specs.Served.{Served, Closes}
-use Rattle.live_runs.specs.Inputs.{TookInput, of_session}
+use Rattle.live_runs.specs.Inputs.{TookInput, TookAllInput, of_session}
 use Rattle.live_runs.specs.Outputs.{TookReplies}
 
 -- what a session did: the lines that it took, its replies, and its entries
@@ -77,7 +77,7 @@ pub record TookRequests (sessions : ℕ) (lives : ℕ → Life) (bytes : List �
   pub fronts : (k : ℕ) → k < sessions → (rest : List Asked) × (of_session (suc k) handed ≡ (lives (suc k)).asked ++ rest)
 
 abbrev pub TookAllRequests : ℕ → (ℕ → Life) → List ℕ → List Refusal → Type 0
-TookAllRequests sessions lives bytes refused = (handed : List (ℕ × Asked)) × TookInput sessions bytes handed refused × ((k : ℕ) → k < sessions → of_session (suc k) handed ≡ (lives (suc k)).asked)
+TookAllRequests sessions lives bytes refused = (handed : List (ℕ × Asked)) × TookAllInput sessions bytes handed refused × ((k : ℕ) → k < sessions → of_session (suc k) handed ≡ (lives (suc k)).asked)
 
 -- the replies of each session, and at 0 the reader's
 abbrev pub replies_in : (ℕ → Life) → List Refusal → ℕ → List Reply

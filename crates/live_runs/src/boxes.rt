@@ -1,5 +1,6 @@
 // The inbox and the outbox of a session: its ends of two rings.
-ghost use Rattle.rtrb.specs.Ring.{sent, received};
+ghost use Rattle.std.specs.Prelude.{◌≡◌, ◌++◌, ◌∷◌, [], IfOk, OnErr};
+ghost use Rattle.rtrb.specs.Ring.{sent, received, SameProducer, SameConsumer};
 
 use crate::signals::Signals;
 use live_lines::{Asked, Reply};
@@ -27,7 +28,11 @@ pub struct RingOutbox<'a, R: Wait> {
 
 impl<'a, R: Wait> RingInbox<'a, R> {
     // A line that has come; or none, and whether none will come.
-    fn look(&mut self) -> Result<Asked, bool> {
+    fn look(&mut self) -> Result<Asked, bool>
+        ensures same { SameConsumer self.old.lines self.new.lines }
+        ensures ok { IfOk result (λ asked. received self.new.lines ≡ received self.old.lines ++ asked ∷ []) }
+        ensures none { OnErr result (received self.new.lines ≡ received self.old.lines) }
+    {
         if self.signals.is_gone() {
             return Err(true);
         }
@@ -44,6 +49,12 @@ impl<'a, R: Wait> RingInbox<'a, R> {
 
 impl<'a, R: Wait> Inbox for RingInbox<'a, R> {
     ghost taken = { λ s. received s.lines };
+
+    ghost same = { λ a b. SameConsumer a.lines b.lines };
+
+    ghost itself = { λ a. search };
+
+    ghost still = { λ a b c one other. search };
 
     fn take(&mut self) -> Option<Asked> {
         let bell = &self.signals.lanes[self.lane].bell;
@@ -74,6 +85,12 @@ impl<'a, R: Wait> Inbox for RingInbox<'a, R> {
 
 impl<'a, R: Wait> Outbox for RingOutbox<'a, R> {
     ghost told = { λ s. sent s.answers };
+
+    ghost same = { λ a b. SameProducer a.answers b.answers };
+
+    ghost itself = { λ a. search };
+
+    ghost still = { λ a b c one other. search };
 
     fn tell(&mut self, reply: Reply) -> Result<(), Gone> {
         let bell = &self.signals.lanes[self.lane].bell;

@@ -1,4 +1,7 @@
 // The rings of all sessions.
+ghost use Rattle.std.specs.Prelude.{◌≡◌, ◌+◌, ◌<◌, ℕ, IfOk, slice_index_or, vec_len};
+ghost use Rattle.live_runs.specs.Rings.{AreNew};
+
 use live_lines::{Asked, Reply};
 use rtrb::{Consumer, Producer, RingBuffer};
 use std::alloc::{AllocError, Global};
@@ -19,7 +22,11 @@ pub struct Ends {
 }
 
 impl Ends {
-    pub fn new(alloc: Global, sessions: usize) -> Result<Ends, AllocError> {
+    /// Rings for so many sessions, through which nothing went so far.
+    pub fn new(alloc: Global, sessions: usize) -> Result<Ends, AllocError>
+        ensures lines { IfOk result (λ e. AreNew sessions e.line_makers.items e.line_takers.items) }
+        ensures answers { IfOk result (λ e. AreNew (sessions + 1) e.answer_makers.items e.answer_takers.items) }
+    {
         let mut line_makers = Vec::new(alloc);
         let mut line_takers = Vec::new(alloc);
         let mut answer_makers = Vec::new(alloc);

@@ -1,4 +1,12 @@
 // Live sessions on a cluster that was opened.
+ghost use Rattle.std.specs.Prelude.{◌≡◌, ◌<◌, ◌≤◌, ◌+◌, ℕ, true, length, slice_index_or, vec_len, IfOk};
+ghost use Rattle.clv_base.specs.Shards.{are_splits};
+ghost use Rattle.cluster_opening.specs.Made.{IsNewWalker};
+ghost use Rattle.session_api.specs.Standing.{IsAtRest};
+ghost use Rattle.cluster_runs.specs.Drained.{SeeSettled};
+ghost use Rattle.cluster_runs.specs.Sessions.{HasWornLast};
+ghost use Rattle.live_runs.specs.Walked.{HaveLived, AreDrained};
+
 use crate::boxes::RingOutbox;
 use crate::lanes::Ends;
 use crate::reading::Reader;
@@ -142,6 +150,9 @@ where
 }
 
 /// Live sessions, each with a new walker of its own, between two drains by walker 0. Where the first drain doesn't go well, nothing is read.
+///
+/// What its walker kept of a session is what the lines that it took ask for, in order, each with its reply, and its end. The lines are those that were read, and the
+/// replies those that the sink took, as far as it took them. No clause says that sessions run beside each other, or when an answer is written.
 pub fn serve_over<
     M: Flier + Send,
     P: Pace + Sync,
@@ -161,6 +172,16 @@ pub fn serve_over<
 where
     M::Store: Send,
     M::Gate: Send,
+    requires count { vec_len walkers.old ≡ sessions + 1 }
+    requires few { sessions ≤ 64 }
+    requires splits { are_splits shards.now.splits ≡ true }
+    requires new { (k : ℕ) (d : _) → k < sessions + 1 → IsNewWalker shards.now k 0 (slice_index_or walkers.old.items k d) }
+    ensures len { vec_len walkers.new ≡ vec_len walkers.old }
+    ensures rest { (k : ℕ) (d : _) → k < sessions + 1 → IsAtRest shards.now k (slice_index_or walkers.new.items k d) }
+    ensures lived { HaveLived shards.now sessions walkers.new.items (S.left source.old) (S.left source.new) (K.taken sink.old) (K.taken sink.new) result.read result.written result.end }
+    ensures drained { AreDrained shards.now sessions walkers.new.items }
+    ensures settled { IfOk result.end (λ u. SeeSettled shards.now walkers.new.items) }
+    ensures worn { HasWornLast walkers.new.items result.end }
 {
     if let Err(cause) = drain_all(rt, alloc, shards, &mut walkers[0], pace) {
         return served_nothing(cause);

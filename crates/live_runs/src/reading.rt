@@ -1,4 +1,8 @@
 // The thread that reads the input.
+ghost use Rattle.std.specs.Prelude.{◌≡◌, ◌≤◌, ◌<◌, ℕ, List, Some, None, length, vec_len, option_map, IfOk};
+ghost use Rattle.io_model.specs.Streams.{CountsReading};
+ghost use Rattle.live_runs.specs.Handed.{Hands, HandsLine, HandsBytes, ReadsLines};
+
 use crate::boxes::RingOutbox;
 use crate::signals::Signals;
 use io_model::{ReadError, Source};
@@ -23,7 +27,10 @@ fn zeros(alloc: Global, count: usize) -> Result<Vec<u8>, AllocError> {
 
 impl<'a, R: Wait> Reader<'a, R> {
     // Hands a line to a session, once there is room.
-    fn hand(&mut self, session: u64, asked: Asked) -> Result<(), Gone> {
+    fn hand(&mut self, session: u64, asked: Asked) -> Result<(), Gone>
+        requires there { (1 ≤ session) × (session ≤ vec_len self.old.lines) }
+        ensures { Hands session asked self.old.lines.items self.new.lines.items self.old.own.answers self.new.own.answers result }
+    {
         let signals = self.own.signals;
         let rt = self.own.rt;
         let bell = &signals.lanes[0].bell;
@@ -56,7 +63,9 @@ impl<'a, R: Wait> Reader<'a, R> {
     }
 
     // A line of the input; none where it is too long.
-    fn take_line(&mut self, line: Option<&[u8]>) -> Result<(), Gone> {
+    fn take_line(&mut self, line: Option<&[u8]>) -> Result<(), Gone>
+        ensures { HandsLine (option_map (λ l. l.now) line) self.old.lines.items self.new.lines.items self.old.own.answers self.new.own.answers result }
+    {
         let Some(bytes) = line else {
             return self.refuse(Refusal::TooLong);
         };
@@ -91,7 +100,14 @@ impl<'a, R: Wait> Reader<'a, R> {
         }
     }
 
-    fn read_until_over<S: Source>(&mut self, alloc: Global, source: &mut S) -> Result<(), ReadError> {
+    fn read_until_over<S: Source>(
+        &mut self,
+        alloc: Global,
+        source: &mut S,
+    ) -> Result<(), ReadError>
+        ensures read { ReadsLines (S.left source.old) (S.left source.new) self.old.lines.items self.new.lines.items self.old.own.answers self.new.own.answers result }
+        ensures cause { CountsReading (S.faults source.old) (S.faults source.new) result }
+    {
         let mut piece = zeros(alloc, PIECE)?;
         let mut cutter = Cutter::new(alloc)?;
         for _ in self.own.rt.forever() {
@@ -113,7 +129,10 @@ impl<'a, R: Wait> Reader<'a, R> {
         &mut self,
         alloc: Global,
         source: &mut S,
-    ) -> Result<(), ReadError> {
+    ) -> Result<(), ReadError>
+        ensures read { ReadsLines (S.left source.old) (S.left source.new) self.old.lines.items self.new.lines.items self.old.own.answers self.new.own.answers result }
+        ensures cause { CountsReading (S.faults source.old) (S.faults source.new) result }
+    {
         let signals = self.own.signals;
         let read = if signals.all_begun(self.own.rt) {
             self.read_until_over(alloc, source)

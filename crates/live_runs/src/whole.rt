@@ -1,4 +1,10 @@
 // Live sessions, from the disks to the disks.
+ghost use Rattle.std.specs.Prelude.{◌≡◌, ◌<◌, ◌≤◌, ℕ, false, IfOk, IfErr};
+ghost use Rattle.cluster_opening.specs.Opening.{Refuses, CountsOpen};
+ghost use Rattle.cluster_runs.specs.Begun.{LeavesDisks};
+ghost use Rattle.report_text.specs.Sinks.{Causes};
+ghost use Rattle.live_runs.specs.Lived.{ServedAll};
+
 use crate::over::{Served, serve_over};
 use cluster_closing::Closed;
 use cluster_opening::OpenError;
@@ -47,6 +53,15 @@ pub fn serve_all<
 ) -> Result<LiveRan, OpenError>
 where
     H::Disk: Send,
+    requires inside { (n : ℕ) → n < 16 → H.is_out house.old n ≡ false }
+    requires few { sessions ≤ 64 }
+    ensures served { IfOk result (λ r. ServedAll (H.story house.old) (H.story house.new) (H.faults house.old) (H.faults house.new) sessions (I.left source.old) (I.left source.new) (K.taken sink.old) (K.taken sink.new) r.read r.written r.history r.status) }
+    ensures sink { IfOk result (λ r. Causes (K.faults sink.old) (K.faults sink.new) r.written) }
+    ensures back { (n : ℕ) → n < 16 → H.is_out house.new n ≡ false }
+    ensures refused { IfErr result (Refuses (H.story house.old)) }
+    ensures counts { IfErr result (CountsOpen (H.faults house.old) (H.faults house.new)) }
+    ensures left { IfErr result (LeavesDisks (H.story house.old) (H.story house.new)) }
+    ensures nothing { IfErr result (λ e. (source.new ≡ source.old) × (sink.new ≡ sink.old)) }
 {
     let opened = match open_all::<S, L, H>(alloc, house, sessions, 0) {
         Ok(opened) => opened,

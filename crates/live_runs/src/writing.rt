@@ -1,4 +1,10 @@
 // The thread that writes all answers.
+ghost use Rattle.std.specs.Prelude.{◌≡◌, ◌++◌, ℕ, List, length, OnOk, OnErr, vec_len};
+ghost use Rattle.live_lines.specs.declared.calls.Reply.{Reply as ReplyIs};
+ghost use Rattle.io_model.specs.Disk.{HasCause};
+ghost use Rattle.report_text.specs.Sinks.{Causes};
+ghost use Rattle.live_runs.specs.Written.{AddsLines, AddsOf, Writes};
+
 use crate::signals::Signals;
 use io_model::{Sink, write_all};
 use live_lines::{Reply, add_reply};
@@ -16,7 +22,9 @@ fn take_of(
     lane: usize,
     answers: &mut Consumer<Reply>,
     text: &mut Vec<u8>,
-) -> Result<(), ReportError> {
+) -> Result<(), ReportError>
+    ensures { AddsOf lane answers.old answers.new text.old.items text.new.items result }
+{
     for _ in 0..answers.capacity() {
         if text.len() >= PIECE {
             return Ok(());
@@ -37,7 +45,9 @@ fn take_all(
     signals: &Signals,
     all: &mut Vec<Consumer<Reply>>,
     text: &mut Vec<u8>,
-) -> Result<(), ReportError> {
+) -> Result<(), ReportError>
+    ensures { AddsLines all.old.items all.new.items text.old.items text.new.items result }
+{
     for lane in 0..all.len() {
         let before = text.len();
         take_of(alloc, lane, &mut all[lane], text)?;
@@ -64,7 +74,10 @@ fn write_until_over<R: Wait, K: Sink>(
     signals: &Signals,
     all: &mut Vec<Consumer<Reply>>,
     sink: &mut K,
-) -> Result<(), ReportError> {
+) -> Result<(), ReportError>
+    ensures took { Writes all.old.items all.new.items (K.taken sink.old) (K.taken sink.new) result }
+    ensures cause { Causes (K.faults sink.old) (K.faults sink.new) result }
+{
     let mut text = Vec::new(alloc);
     let mut lies = false;
     for _ in rt.forever() {
@@ -99,7 +112,10 @@ pub fn write_answers<R: Wait, K: Sink>(
     signals: &Signals,
     all: &mut Vec<Consumer<Reply>>,
     sink: &mut K,
-) -> Result<(), ReportError> {
+) -> Result<(), ReportError>
+    ensures took { Writes all.old.items all.new.items (K.taken sink.old) (K.taken sink.new) result }
+    ensures cause { Causes (K.faults sink.old) (K.faults sink.new) result }
+{
     signals.begin();
     let written = write_until_over(rt, alloc, signals, all, sink);
     if written.is_err() {

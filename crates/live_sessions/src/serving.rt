@@ -47,6 +47,8 @@ pub fn serve_session<R: Wait, C: SessionCalls, I: Inbox, O: Outbox>(
     ensures misses { Keeps (C.missed session.old) (C.missed session.new) }
     ensures served { HasServed (C.missed session.new) (I.taken inbox.old) (I.taken inbox.new) (O.told outbox.old) (O.told outbox.new) (C.seen session.old) (C.seen session.new) }
     ensures grounds { IfErr result (C.grounds session.new) }
+    ensures inbox { I.same inbox.old inbox.new }
+    ensures outbox { O.same outbox.old outbox.new }
 {
     let mut course = Course {
         may_retry: false,
