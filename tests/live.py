@@ -198,20 +198,23 @@ def peers(checks, program):
     """Whoever takes the answers goes away; whoever gives the lines is ended; a second program comes."""
     with Folder(program) as folder:
         folder.run("make", "10")
-        live = Live(folder)
-        live.ask("1 begin")
-        live.ask("1 put 1 1")
+        # Its answers are read by nobody but this thread, so that it can go away.
+        process = folder.start("serve", stdin=subprocess.PIPE, stdout=subprocess.PIPE, stderr=subprocess.PIPE, bufsize=0)
+        process.stdin.write(b"1 begin\n1 put 1 1\n")
+        got = b""
+        while got.count(b"\n") < 2:
+            got += process.stdout.read(1000)
         other = folder.run("show")
         checks.check("a second program", other.is_refused(6, "disk fault on shard 0"), other)
-        live.process.stdout.close()
+        process.stdout.close()
         with contextlib.suppress(OSError):
-            live.send("2 begin\n")
-            time.sleep(0.3)
-            live.send("2 begin\n" * 10)
+            for _ in range(10):
+                process.stdin.write(b"2 begin\n")
+                time.sleep(0.05)
         with contextlib.suppress(OSError):
-            live.process.stdin.close()
-        status = live.process.wait(LIMIT)
-        err = live.process.stderr.read().decode()
+            process.stdin.close()
+        status = process.wait(LIMIT)
+        err = process.stderr.read().decode()
         checks.check("nobody takes answers", (status, err) == (5, "write fault\n"), (status, err))
         shown = folder.run("show")
         checks.check("its transactions are aborted", shown.is_fine() and shown.out == "", shown)

@@ -100,7 +100,7 @@ pub record ServedAll (before now : ℕ → Option Story) (counts counts_now : �
   pub took : (bytes : List ℕ) × Consumes left left' bytes × TookRequests sessions lives bytes refused
   pub told : TookReplies sessions (replies_in lives refused) taken taken' written
   -- where all was fine, and nothing failed, the input was read to its end, and each line of a session was done and has its reply
-  pub all : status ≡ Fine → read ≡ Ok tt → written ≡ Ok tt → (bytes : List ℕ) × Ends left left' bytes × TookAllRequests sessions lives bytes refused
+  pub all : status ≡ Fine → read ≡ Ok (tt {0}) → written ≡ Ok (tt {0}) → (bytes : List ℕ) × Ends left left' bytes × TookAllRequests sessions lives bytes refused
   -- what the status tells of flushes; settled before and behind the sessions
   pub flushes : FlushesTold (shard_count splits) (λ n. has_failed (journal_of n (entries kept))) status
   pub drained : (k : ℕ) → k < sessions → (lives (suc k)).asked ≡ [] ⊎ ((n : ℕ) → n < shard_count splits → WasDrained n kept)

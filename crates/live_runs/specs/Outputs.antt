@@ -30,4 +30,4 @@ pub record TookReplies (sessions : ℕ) (told : ℕ → List Reply) (old new : O
   pub written : List (ℕ × Reply)
   pub takes : TakesLines old new written result
   pub fronts : (k : ℕ) → k ≤ sessions → IsFront (of_lane k written) (told k)
-  pub whole : result ≡ Ok tt → (k : ℕ) → k ≤ sessions → of_lane k written ≡ told k
+  pub whole : result ≡ Ok (tt {0}) → (k : ℕ) → k ≤ sessions → of_lane k written ≡ told k

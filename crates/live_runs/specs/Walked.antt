@@ -21,7 +21,7 @@ module _ {M S G : Type 0} where
     pub each : (k : ℕ) (d : Walker M S G) → k < sessions → Lived sh.splits sh.run (suc k) (lives (suc k)) (session_entries (kept (slice_index_or walkers (suc k) d).passes.items))
     pub took : (bytes : List ℕ) × Consumes left left' bytes × TookRequests sessions lives bytes refused
     pub told : TookReplies sessions (replies_in lives refused) taken taken' written
-    pub all : IsOk end → read ≡ Ok tt → written ≡ Ok tt → (bytes : List ℕ) × Ends left left' bytes × TookAllRequests sessions lives bytes refused
+    pub all : IsOk end → read ≡ Ok (tt {0}) → written ≡ Ok (tt {0}) → (bytes : List ℕ) × Ends left left' bytes × TookAllRequests sessions lives bytes refused
 
   -- where a session has made something, walker 0 had seen each shard settled, and all of it has stamps past that
   pub record AreDrained (sh : Shards M S G) (sessions : ℕ) (walkers : List (Walker M S G)) : Type 0 where

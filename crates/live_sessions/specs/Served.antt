@@ -62,11 +62,11 @@ Drops missed u v = InTx u (λ tx birth nth touched. (result : Result (Unit {0}) 
 -- a line came to this reply, and the session from the one to the other
 abbrev pub Did : Misses → Asked → Reply → Seen → Seen → Type 0
 Did missed asked (Refused why) u v = v ≡ u
-Did missed (asks.Call Begin) (Begun n) u v = BeginTold (Ok tt) u v × (n ≡ v.serial)
-Did missed (asks.Call Begin) (tells.Worn at) u v = BeginTold {Unit {0}} (Err (Worn at)) u v
-Did missed (asks.Call Retry) (Begun n) u v = (birth : Birth) × (u.standing ≡ Idle (Some birth)) × RetryTold birth (Ok tt) u v × (n ≡ v.serial)
-Did missed (asks.Call Retry) (tells.Down n) u v = (birth : Birth) × (u.standing ≡ Idle (Some birth)) × RetryTold {Unit {0}} birth (Err (Down n)) u v
-Did missed (asks.Call Retry) (tells.Worn at) u v = (birth : Birth) × (u.standing ≡ Idle (Some birth)) × RetryTold {Unit {0}} birth (Err (Worn at)) u v
+Did missed (asks.Call Begin) (Begun n) u v = BeginTold (Ok (tt {0})) u v × (n ≡ v.serial)
+Did missed (asks.Call Begin) (tells.Worn at) u v = BeginTold {A = Unit {0}} (Err (Worn at)) u v
+Did missed (asks.Call Retry) (Begun n) u v = (birth : Birth) × (u.standing ≡ Idle (Some birth)) × RetryTold birth (Ok (tt {0})) u v × (n ≡ v.serial)
+Did missed (asks.Call Retry) (tells.Down n) u v = (birth : Birth) × (u.standing ≡ Idle (Some birth)) × RetryTold {A = Unit {0}} birth (Err (Down n)) u v
+Did missed (asks.Call Retry) (tells.Worn at) u v = (birth : Birth) × (u.standing ≡ Idle (Some birth)) × RetryTold {A = Unit {0}} birth (Err (Worn at)) u v
 Did missed (asks.Call (Operate op)) (Answered of a) u v = (of ≡ op) × InTx u (λ tx birth nth touched. OperateTold tx birth nth touched op (Ok a) u v)
 Did missed (asks.Call (Operate op)) (Aborted why) u v = InTx u (λ tx birth nth touched. OperateTold tx birth nth touched op (Err (end.Aborted why)) u v)
 Did missed (asks.Call (Operate op)) (tells.Down n) u v =
@@ -81,8 +81,8 @@ Did missed (asks.Call Commit) (tells.Down n) u v =
 Did missed (asks.Call Commit) (tells.Unsettled n) u v = InTx u (λ tx birth nth touched. CommitTold tx birth nth touched (end.Stopped (Unsettled n)) u v)
 Did missed (asks.Call Commit) (tells.Worn at) u v = InTx u (λ tx birth nth touched. CommitTold tx birth nth touched (end.Stopped (Worn at)) u v)
 Did missed (asks.Call Commit) tells.Memory u v = InTx u (λ tx birth nth touched. CommitTold tx birth nth touched (end.Stopped Memory) u v)
-Did missed (asks.Call Abort) (Aborted cause.Asked) u v = InTx u (λ tx birth nth touched. AbortTold missed tx birth touched (Ok tt) u v)
-Did missed (asks.Call Abort) (tells.Worn at) u v = InTx u (λ tx birth nth touched. AbortTold {Unit {0}} missed tx birth touched (Err (Worn at)) u v)
+Did missed (asks.Call Abort) (Aborted cause.Asked) u v = InTx u (λ tx birth nth touched. AbortTold missed tx birth touched (Ok (tt {0})) u v)
+Did missed (asks.Call Abort) (tells.Worn at) u v = InTx u (λ tx birth nth touched. AbortTold {A = Unit {0}} missed tx birth touched (Err (Worn at)) u v)
 Did missed asked reply u v = ⊥
 
 -- ---- all lines
