@@ -24,7 +24,7 @@ use Rattle.live_lines.specs.declared.calls.Asked.{Asked}
 use Rattle.live_lines.specs.declared.calls.Reply.{Reply}
 use Rattle.live_lines.specs.declared.calls.Reply.TheVariants.{Committed, Refused}
 use Rattle.live_lines.specs.declared.calls.Refusal.{Refusal}
-use Rattle.script_runs.specs.Seen.{Idle, Seen, Misses}
+use Rattle.script_runs.specs.Seen.{Idle, Seen}
 use Rattle.script_runs.specs.Sessions.{session_entries}
 use Rattle.live_sessions.specs.Served.{Served, Closes}
 use Rattle.live_runs.specs.Inputs.{TookInput, TookAllInput, of_session}
@@ -46,13 +46,12 @@ pub record IsNew (splits : List ℕ) (run walker : ℕ) (u : Seen) : Type 0 wher
 
 -- the entries that a session's walker made are those of the calls that its lines ask for, in order, and of its end; each reply is that of its call
 pub record Lived (splits : List ℕ) (run walker : ℕ) (life : Life) (es : History) : Type 0 where
-  pub missed : Misses
   pub first : Seen
   pub last : Seen
   pub closed : Seen
   pub new : IsNew splits run walker first
-  pub served : Served missed life.asked life.replies first last
-  pub closes : Closes missed last closed
+  pub served : Served life.asked life.replies first last
+  pub closes : Closes last closed
   pub entries_are : closed.entries ≡ es
 
 -- the promise of a run, with what its sessions did in the place of a script

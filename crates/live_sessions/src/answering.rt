@@ -78,7 +78,7 @@ fn begin<C: SessionCalls>(session: &mut C) -> Step
     ensures session { C.holds session.new }
     ensures base { C.base session.new ≡ C.base session.old }
     ensures misses { Keeps (C.missed session.old) (C.missed session.new) }
-    ensures did { Did (C.missed session.new) (asks.Call calls.Begin) result.reply (C.seen session.old) (C.seen session.new) }
+    ensures did { Did (asks.Call calls.Begin) result.reply (C.seen session.old) (C.seen session.new) }
     ensures course { Goes (C.grounds session.new) result.course (C.seen session.new) }
 {
     match session.begin() {
@@ -97,7 +97,7 @@ fn retry<C: SessionCalls>(alloc: Global, session: &mut C) -> Step
     ensures session { C.holds session.new }
     ensures base { C.base session.new ≡ C.base session.old }
     ensures misses { Keeps (C.missed session.old) (C.missed session.new) }
-    ensures did { Did (C.missed session.new) (asks.Call calls.Retry) result.reply (C.seen session.old) (C.seen session.new) }
+    ensures did { Did (asks.Call calls.Retry) result.reply (C.seen session.old) (C.seen session.new) }
     ensures course { Goes (C.grounds session.new) result.course (C.seen session.new) }
 {
     match session.retry(alloc) {
@@ -118,7 +118,7 @@ fn drop_down<C: SessionCalls>(alloc: Global, session: &mut C, shard: u32) -> Ste
     ensures base { C.base session.new ≡ C.base session.old }
     ensures misses { Keeps (C.missed session.old) (C.missed session.new) }
     ensures reply { result.reply ≡ Reply.Down shard }
-    ensures dropped { Drops (C.missed session.new) (C.seen session.old) (C.seen session.new) }
+    ensures dropped { Drops (C.seen session.old) (C.seen session.new) }
     ensures course { Goes (C.grounds session.new) result.course (C.seen session.new) }
 {
     match session.abort(alloc) {
@@ -135,7 +135,7 @@ fn end_by<C: SessionCalls>(alloc: Global, session: &mut C, end: TryEnd) -> Step
     ensures session { C.holds session.new }
     ensures base { C.base session.new ≡ C.base session.old }
     ensures misses { Keeps (C.missed session.old) (C.missed session.new) }
-    ensures ended { EndTold (C.missed session.new) end result.reply (C.seen session.old) (C.seen session.new) }
+    ensures ended { EndTold end result.reply (C.seen session.old) (C.seen session.new) }
     ensures course { Goes (C.grounds session.new) result.course (C.seen session.new) }
 {
     match end {
@@ -153,7 +153,7 @@ fn operate<C: SessionCalls>(alloc: Global, session: &mut C, op: Op) -> Step
     ensures session { C.holds session.new }
     ensures base { C.base session.new ≡ C.base session.old }
     ensures misses { Keeps (C.missed session.old) (C.missed session.new) }
-    ensures did { Did (C.missed session.new) (asks.Call (calls.Operate op)) result.reply (C.seen session.old) (C.seen session.new) }
+    ensures did { Did (asks.Call (calls.Operate op)) result.reply (C.seen session.old) (C.seen session.new) }
     ensures course { Goes (C.grounds session.new) result.course (C.seen session.new) }
 {
     match session.operate(alloc, op) {
@@ -168,7 +168,7 @@ fn commit<C: SessionCalls>(alloc: Global, session: &mut C) -> Step
     ensures session { C.holds session.new }
     ensures base { C.base session.new ≡ C.base session.old }
     ensures misses { Keeps (C.missed session.old) (C.missed session.new) }
-    ensures did { Did (C.missed session.new) (asks.Call calls.Commit) result.reply (C.seen session.old) (C.seen session.new) }
+    ensures did { Did (asks.Call calls.Commit) result.reply (C.seen session.old) (C.seen session.new) }
     ensures course { Goes (C.grounds session.new) result.course (C.seen session.new) }
 {
     let serial = session.name().serial;
@@ -185,7 +185,7 @@ fn abort<C: SessionCalls>(alloc: Global, session: &mut C) -> Step
     ensures session { C.holds session.new }
     ensures base { C.base session.new ≡ C.base session.old }
     ensures misses { Keeps (C.missed session.old) (C.missed session.new) }
-    ensures did { Did (C.missed session.new) (asks.Call calls.Abort) result.reply (C.seen session.old) (C.seen session.new) }
+    ensures did { Did (asks.Call calls.Abort) result.reply (C.seen session.old) (C.seen session.new) }
     ensures course { Goes (C.grounds session.new) result.course (C.seen session.new) }
 {
     match session.abort(alloc) {
@@ -208,11 +208,12 @@ fn refuse(refusal: Refusal, course: Course) -> Step
 fn call_at_rest<C: SessionCalls>(alloc: Global, session: &mut C, course: Course, call: Call) -> Step
     requires session { C.holds session.old }
     requires idle { IsIdle (C.seen session.old) }
+    requires live { course.ended ≡ None }
     requires course { Goes (C.grounds session.old) course (C.seen session.old) }
     ensures session { C.holds session.new }
     ensures base { C.base session.new ≡ C.base session.old }
     ensures misses { Keeps (C.missed session.old) (C.missed session.new) }
-    ensures did { Did (C.missed session.new) (asks.Call call) result.reply (C.seen session.old) (C.seen session.new) }
+    ensures did { Did (asks.Call call) result.reply (C.seen session.old) (C.seen session.new) }
     ensures course { Goes (C.grounds session.new) result.course (C.seen session.new) }
 {
     match call {
@@ -242,11 +243,12 @@ fn has_range(op: Op) -> bool
 fn call_in_tx<C: SessionCalls>(alloc: Global, session: &mut C, course: Course, call: Call) -> Step
     requires session { C.holds session.old }
     requires active { IsActive (C.seen session.old) }
+    requires live { course.ended ≡ None }
     requires course { Goes (C.grounds session.old) course (C.seen session.old) }
     ensures session { C.holds session.new }
     ensures base { C.base session.new ≡ C.base session.old }
     ensures misses { Keeps (C.missed session.old) (C.missed session.new) }
-    ensures did { Did (C.missed session.new) (asks.Call call) result.reply (C.seen session.old) (C.seen session.new) }
+    ensures did { Did (asks.Call call) result.reply (C.seen session.old) (C.seen session.new) }
     ensures course { Goes (C.grounds session.new) result.course (C.seen session.new) }
 {
     match call {
@@ -266,11 +268,12 @@ fn call_in_tx<C: SessionCalls>(alloc: Global, session: &mut C, course: Course, c
 // A call of a session that hasn't ended.
 fn call_of<C: SessionCalls>(alloc: Global, session: &mut C, course: Course, call: Call) -> Step
     requires session { C.holds session.old }
+    requires live { course.ended ≡ None }
     requires course { Goes (C.grounds session.old) course (C.seen session.old) }
     ensures session { C.holds session.new }
     ensures base { C.base session.new ≡ C.base session.old }
     ensures misses { Keeps (C.missed session.old) (C.missed session.new) }
-    ensures did { Did (C.missed session.new) (asks.Call call) result.reply (C.seen session.old) (C.seen session.new) }
+    ensures did { Did (asks.Call call) result.reply (C.seen session.old) (C.seen session.new) }
     ensures course { Goes (C.grounds session.new) result.course (C.seen session.new) }
 {
     match session.stage() {
@@ -292,7 +295,7 @@ pub(crate) fn answer<C: SessionCalls>(
     ensures session { C.holds session.new }
     ensures base { C.base session.new ≡ C.base session.old }
     ensures misses { Keeps (C.missed session.old) (C.missed session.new) }
-    ensures did { Did (C.missed session.new) asked result.reply (C.seen session.old) (C.seen session.new) }
+    ensures did { Did asked result.reply (C.seen session.old) (C.seen session.new) }
     ensures course { Goes (C.grounds session.new) result.course (C.seen session.new) }
 {
     if course.ended.is_some() {

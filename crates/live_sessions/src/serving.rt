@@ -17,7 +17,7 @@ fn close<C: SessionCalls>(alloc: Global, session: &mut C, course: Course) -> Res
     ensures session { C.holds session.new }
     ensures base { C.base session.new ≡ C.base session.old }
     ensures misses { Keeps (C.missed session.old) (C.missed session.new) }
-    ensures closes { Closes (C.missed session.new) (C.seen session.old) (C.seen session.new) }
+    ensures closes { Closes (C.seen session.old) (C.seen session.new) }
     ensures grounds { IfErr result (C.grounds session.new) }
 {
     if let Some(cause) = course.ended {
@@ -45,7 +45,7 @@ pub fn serve_session<R: Wait, C: SessionCalls, I: Inbox, O: Outbox>(
     ensures session { C.holds session.new }
     ensures base { C.base session.new ≡ C.base session.old }
     ensures misses { Keeps (C.missed session.old) (C.missed session.new) }
-    ensures served { HasServed (C.missed session.new) (I.taken inbox.old) (I.taken inbox.new) (O.told outbox.old) (O.told outbox.new) (C.seen session.old) (C.seen session.new) }
+    ensures served { HasServed (I.taken inbox.old) (I.taken inbox.new) (O.told outbox.old) (O.told outbox.new) (C.seen session.old) (C.seen session.new) }
     ensures grounds { IfErr result (C.grounds session.new) }
     ensures inbox { I.same inbox.old inbox.new }
     ensures outbox { O.same outbox.old outbox.new }
