@@ -11,7 +11,9 @@ use Rattle.script_runs.specs.declared.ends.StopCause.{StopCause}
 use Rattle.script_runs.specs.declared.ends.StopCause.TheVariants.{Down, Unsettled, Worn, Memory}
 use Rattle.script_runs.specs.declared.ends.TryEnd.{TryEnd}
 use Rattle.script_runs.specs.declared.ends.TryEnd.TheVariants as end
-use Rattle.script_runs.specs.Seen.{Standing, Idle, Active, Seen, Misses}
+use Rattle.script_runs.specs.declared.calls.Stage.{Stage}
+use Rattle.script_runs.specs.declared.calls.Stage.TheVariants as stage
+use Rattle.script_runs.specs.Seen.{Standing, Idle, Active, Asked, Seen, Misses, IsStage}
 use Rattle.script_runs.specs.Told.{OperateTold, CommitTold, AbortTold}
 use Rattle.live_sessions.specs.Served.{InTx, IsActive, Leaves, Drops, Did, EndTold, IsOtherEnd, reply_by}
 
@@ -25,7 +27,7 @@ leaves missed tx birth touched (Err (Down n)) u v told = told
 leaves missed tx birth touched (Err (Unsettled n)) u v told = told
 
 pub drops : (missed : Misses) (r : Result (Unit {0}) StopCause) (u v : Seen) → IsActive u → ((tx : TxId) (birth : Birth) (nth : ℕ) (touched : ℕ → Bool) → u.standing ≡ Active tx birth nth touched → AbortTold missed tx birth touched r u v) → Drops u v
-drops missed r u v (tx, birth, nth, touched, is) told = (tx, birth, nth, touched, is, r, leaves missed tx birth touched r u v (told tx birth nth touched is))
+drops missed r u v (tx, birth, nth, touched, is) told = (tx, birth, nth, touched, is, (r, leaves missed tx birth touched r u v (told tx birth nth touched is)))
 
 -- an abort that was stopped
 pub abort_stopped :
@@ -40,7 +42,7 @@ abort_stopped missed (Unsettled n) u v (tx, birth, nth, touched, is) told = absu
 
 pub operate_other : (tx : TxId) (birth : Birth) (nth : ℕ) (touched : ℕ → Bool) (op : Op) (e : TryEnd) (u v : Seen) → OperateTold tx birth nth touched op (Err e) u v → IsOtherEnd e v
 operate_other tx birth nth touched op (end.Aborted why) u v (here, gone, n, after, death, touches, are, grows, standing) = (birth, standing)
-operate_other tx birth nth touched op (end.Stopped (Down n)) u v (here, after, begun, touches, grows, m, standing) = (tx, birth, m, after, standing)
+operate_other tx birth nth touched op (end.Stopped (Down n)) u v (here, after, begun, touches, grows, (m, standing)) = (tx, birth, m, after, standing)
 operate_other tx birth nth touched op (end.Stopped (Worn at)) u v told = tt
 operate_other tx birth nth touched op (end.Stopped Memory) u v told = tt
 operate_other tx birth nth touched op (end.Stopped (Unsettled n)) u v told = tt
@@ -69,7 +71,7 @@ operate_did tx birth nth touched op end.Asked r u m v is told ended = absurd tol
 
 pub commit_other : (tx : TxId) (birth : Birth) (nth : ℕ) (touched : ℕ → Bool) (e : TryEnd) (u v : Seen) → (e ≡ end.Acknowledged → ⊥) → (e ≡ end.Empty → ⊥) → CommitTold tx birth nth touched e u v → IsOtherEnd e v
 commit_other tx birth nth touched (end.Aborted why) u v other also (by, standing) = (birth, standing)
-commit_other tx birth nth touched (end.Stopped (Down n)) u v other also (grows, m, standing) = (tx, birth, m, touched, standing)
+commit_other tx birth nth touched (end.Stopped (Down n)) u v other also (grows, (m, standing)) = (tx, birth, m, touched, standing)
 commit_other tx birth nth touched (end.Stopped (Worn at)) u v other also told = tt
 commit_other tx birth nth touched (end.Stopped Memory) u v other also told = tt
 commit_other tx birth nth touched (end.Stopped (Unsettled n)) u v other also told = tt
@@ -92,3 +94,22 @@ commit_did tx birth nth touched (end.Stopped (Unsettled n)) r u m v is told (rep
 commit_did tx birth nth touched end.Acknowledged r u m v is told ended = absurd ended
 commit_did tx birth nth touched end.Empty r u m v is told ended = absurd ended
 commit_did tx birth nth touched end.Asked r u m v is told ended = absurd ended
+
+-- ---- stages
+
+active_at : (st : Standing) (s : Stage) (b : Bool) → IsStage st s → s ≡ stage.Active b → (tx : TxId) × (birth : Birth) × (nth : ℕ) × (touched : ℕ → Bool) × (st ≡ Active tx birth nth touched)
+active_at (Idle again) s b is e = absurd (let x : stage.Idle ≡ stage.Active b = sym is ∙ e in cc)
+active_at (Active tx birth nth touched) s b is e = (tx, birth, nth, touched, refl)
+active_at Asked s b is e = absurd (let x : stage.Asked ≡ stage.Active b = sym is ∙ e in cc)
+
+pub active_by : (u : Seen) (s : Stage) (b : Bool) → IsStage u.standing s → s ≡ stage.Active b → IsActive u
+active_by u s b is e = active_at u.standing s b is e
+
+-- ---- one more
+
+assoc : {A : Type 0} (a b c : List A) → (a ++ b) ++ c ≡ a ++ (b ++ c)
+assoc [] b c = refl
+assoc (x ∷ a) b c = ap (λ l. x ∷ l) (assoc a b c)
+
+pub more : {A : Type 0} (first now all : List A) (a : A) (later : List A) → now ≡ first ++ all → later ≡ now ++ a ∷ [] → later ≡ first ++ (all ++ a ∷ [])
+more first now all a later is grown = grown ∙ (ap (λ l. l ++ a ∷ []) is ∙ assoc first all (a ∷ []))

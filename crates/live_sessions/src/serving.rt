@@ -5,7 +5,7 @@ ghost use Rattle.script_runs.specs.Seen.{Keeps};
 ghost use Rattle.live_sessions.specs.Served.{Goes, Closes, HasServed};
 
 use crate::answering::{Course, Step, answer};
-use crate::boxes::{Inbox, Outbox};
+use crate::boxes::{Gone, Inbox, Outbox};
 use script_runs::{SessionCalls, Stage, StopCause};
 use std::alloc::Global;
 use std::sync::Wait;
@@ -60,8 +60,9 @@ pub fn serve_session<R: Wait, C: SessionCalls, I: Inbox, O: Outbox>(
         };
         let Step { reply, course: next } = answer(alloc, session, course, asked);
         course = next;
-        if outbox.tell(reply).is_err() {
-            return close(alloc, session, course);
+        match outbox.tell(reply) {
+            Ok(()) => {}
+            Err(Gone) => return close(alloc, session, course),
         }
     }
     unreachable!()
