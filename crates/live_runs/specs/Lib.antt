@@ -1,7 +1,2 @@
-pub mod Rings
-pub mod Inputs
-pub mod Handed
-pub mod Outputs
-pub mod Written
 pub mod Lived
 pub mod Walked

@@ -27,8 +27,8 @@ use Rattle.live_lines.specs.declared.calls.Refusal.{Refusal}
 use Rattle.script_runs.specs.Seen.{Idle, Seen}
 use Rattle.script_runs.specs.Sessions.{session_entries}
 use Rattle.live_sessions.specs.Served.{Served, Closes}
-use Rattle.live_runs.specs.Inputs.{TookInput, TookAllInput, of_session}
-use Rattle.live_runs.specs.Outputs.{TookReplies}
+use Rattle.live_streams.specs.Inputs.{TookInput, TookAllInput, of_session}
+use Rattle.live_streams.specs.Outputs.{TookReplies}
 
 -- what a session did: the lines that it took, its replies, and its entries
 pub record Life : Type 0 where

@@ -12,7 +12,7 @@ use Rattle.script_runs.specs.Sessions.{session_entries}
 use Rattle.cluster_runs.specs.Drained.{WasSettled}
 use Rattle.live_lines.specs.declared.calls.Refusal.{Refusal}
 use Rattle.live_runs.specs.Lived.{Life, Lived, TookRequests, TookAllRequests, replies_in}
-use Rattle.live_runs.specs.Outputs.{TookReplies}
+use Rattle.live_streams.specs.Outputs.{TookReplies}
 
 module _ {M S G : Type 0} where
   pub record HaveLived (sh : Shards M S G) (sessions : ℕ) (walkers : List (Walker M S G)) (left left' taken taken' : Option (List ℕ)) (read : Result (Unit {0}) ReadError) (written : Result (Unit {0}) ReportError) (end : End) : Type 0 where

@@ -1,11 +1,10 @@
 // The threads of the sessions.
-use crate::boxes::{RingInbox, RingOutbox};
-use crate::signals::Signals;
 use cluster_turns::{Shards, Walker};
 use command_line::graver;
 use io_model::Pace;
 use live_lines::{Asked, Reply};
 use live_sessions::serve_session;
+use live_streams::{RingInbox, RingOutbox, Signals};
 use machine_calls::Flier;
 use rtrb::{Consumer, Producer};
 use script_runs::StopCause;

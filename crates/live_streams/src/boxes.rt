@@ -1,6 +1,7 @@
 // The inbox and the outbox of a session: its ends of two rings.
 ghost use Rattle.std.specs.Prelude.{◌≡◌, ◌++◌, ◌∷◌, [], IfOk, OnErr};
 ghost use Rattle.rtrb.specs.Ring.{sent, received, SameProducer, SameConsumer};
+ghost use Rattle.live_streams.proofs.Same.{same_consumer, same_consumers, same_producer, same_producers};
 
 use crate::signals::Signals;
 use live_lines::{Asked, Reply};
@@ -36,10 +37,10 @@ impl<'a, R: Wait> RingInbox<'a, R> {
         if self.signals.is_gone() {
             return Err(true);
         }
-        let is_closed = self.signals.lanes[self.lane].is_closed();
+        let is_closed = self.signals.is_closed(self.lane);
         match self.lines.pop() {
             Ok(asked) => {
-                self.signals.lanes[0].bell.ring();
+                self.signals.bell_of(0).ring();
                 Ok(asked)
             }
             Err(_) => Err(is_closed),
@@ -52,12 +53,12 @@ impl<'a, R: Wait> Inbox for RingInbox<'a, R> {
 
     ghost same = { λ a b. SameConsumer a.lines b.lines };
 
-    ghost itself = { λ a. search };
+    ghost itself = { λ a. same_consumer a.lines };
 
-    ghost still = { λ a b c one other. search };
+    ghost still = { λ a b c one other. same_consumers a.lines b.lines c.lines one other };
 
     fn take(&mut self) -> Option<Asked> {
-        let bell = &self.signals.lanes[self.lane].bell;
+        let bell = self.signals.bell_of(self.lane);
         let mut lies = false;
         for _ in self.rt.forever() {
             let heard = bell.heard();
@@ -88,12 +89,12 @@ impl<'a, R: Wait> Outbox for RingOutbox<'a, R> {
 
     ghost same = { λ a b. SameProducer a.answers b.answers };
 
-    ghost itself = { λ a. search };
+    ghost itself = { λ a. same_producer a.answers };
 
-    ghost still = { λ a b c one other. search };
+    ghost still = { λ a b c one other. same_producers a.answers b.answers c.answers one other };
 
     fn tell(&mut self, reply: Reply) -> Result<(), Gone> {
-        let bell = &self.signals.lanes[self.lane].bell;
+        let bell = self.signals.bell_of(self.lane);
         let mut reply = reply;
         let mut lies = false;
         for _ in self.rt.forever() {

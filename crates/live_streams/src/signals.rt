@@ -1,4 +1,6 @@
 // What the threads of live sessions tell each other beside their lines.
+ghost use Rattle.std.specs.Prelude.{◌≤◌};
+
 use crate::bells::Bell;
 use std::alloc::{AllocError, Global};
 use std::sync::Wait;
@@ -32,7 +34,7 @@ pub struct Signals {
     missing: AtomicU64,
 }
 
-fn lane() -> Lane {
+fn new_lane() -> Lane {
     Lane {
         bell: Bell::new(),
         closed: AtomicU64::new(0),
@@ -51,10 +53,12 @@ impl Lane {
 }
 
 impl Signals {
-    pub fn new(alloc: Global, sessions: usize) -> Result<Signals, AllocError> {
+    pub fn new(alloc: Global, sessions: usize) -> Result<Signals, AllocError>
+        requires few { sessions ≤ 64 }
+    {
         let mut lanes = Vec::with_capacity(alloc, sessions + 1)?;
         for _ in 0..sessions + 1 {
-            lanes.push_reserved(lane());
+            lanes.push_reserved(new_lane());
         }
         Ok(Signals {
             lanes,
@@ -63,6 +67,22 @@ impl Signals {
             open: AtomicU64::new(sessions as u64 + 1),
             missing: AtomicU64::new(sessions as u64 + 1),
         })
+    }
+
+    /// The bell of a session, or at 0 of the reader.
+    pub fn bell_of(&self, lane: usize) -> &Bell {
+        match self.lanes.get(lane) {
+            Some(lane) => &lane.bell,
+            None => &self.writer,
+        }
+    }
+
+    /// Whether no more lines come to a session.
+    pub fn is_closed(&self, lane: usize) -> bool {
+        match self.lanes.get(lane) {
+            Some(lane) => lane.is_closed(),
+            None => true,
+        }
     }
 
     /// From now on nobody takes answers.
@@ -81,7 +101,7 @@ impl Signals {
     /// A session or the writer has begun.
     pub fn begin(&self) {
         self.missing.fetch_sub(1, Ordering::SeqCst);
-        self.lanes[0].bell.ring();
+        self.bell_of(0).ring();
     }
 
     /// A session or the reader has ended.
@@ -97,7 +117,7 @@ impl Signals {
 
     /// Waits until all have begun; false where some thread doesn't come.
     pub fn all_begun<R: Wait>(&self, rt: &R) -> bool {
-        let bell = &self.lanes[0].bell;
+        let bell = self.bell_of(0);
         bell.lie_down();
         for _ in 0..NAPS {
             let heard = bell.heard();

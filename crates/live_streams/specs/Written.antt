@@ -6,7 +6,7 @@ use Rattle.rtrb.specs.declared.consumer.Consumer.{Consumer}
 use Rattle.live_lines.specs.declared.calls.Reply.{Reply}
 use Rattle.report_text.specs.declared.texts.ReportError.{ReportError}
 use Rattle.report_text.specs.declared.texts.ReportError.TheVariants.{Failed, Memory}
-use Rattle.live_runs.specs.Outputs.{of_lane, lines_of}
+use Rattle.live_streams.specs.Outputs.{of_lane, lines_of}
 
 module _ {A P : Type 0} where
   -- from a lane's ring these replies were taken

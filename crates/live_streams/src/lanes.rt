@@ -1,6 +1,6 @@
 // The rings of all sessions.
-ghost use Rattle.std.specs.Prelude.{◌≡◌, ◌+◌, ◌<◌, ℕ, IfOk, slice_index_or, vec_len};
-ghost use Rattle.live_runs.specs.Rings.{AreNew};
+ghost use Rattle.std.specs.Prelude.{◌+◌, ◌≤◌, IfOk};
+ghost use Rattle.live_streams.specs.Rings.{AreNew};
 
 use live_lines::{Asked, Reply};
 use rtrb::{Consumer, Producer, RingBuffer};
@@ -24,6 +24,7 @@ pub struct Ends {
 impl Ends {
     /// Rings for so many sessions, through which nothing went so far.
     pub fn new(alloc: Global, sessions: usize) -> Result<Ends, AllocError>
+        requires few { sessions ≤ 64 }
         ensures lines { IfOk result (λ e. AreNew sessions e.line_makers.items e.line_takers.items) }
         ensures answers { IfOk result (λ e. AreNew (sessions + 1) e.answer_makers.items e.answer_takers.items) }
     {

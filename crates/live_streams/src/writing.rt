@@ -3,7 +3,7 @@ ghost use Rattle.std.specs.Prelude.{◌≡◌, ◌++◌, ℕ, List, length, OnOk
 ghost use Rattle.live_lines.specs.declared.calls.Reply.{Reply as ReplyIs};
 ghost use Rattle.io_model.specs.Disk.{HasCause};
 ghost use Rattle.report_text.specs.Sinks.{Causes};
-ghost use Rattle.live_runs.specs.Written.{AddsLines, AddsOf, Writes};
+ghost use Rattle.live_streams.specs.Written.{AddsLines, AddsOf, Writes};
 
 use crate::signals::Signals;
 use io_model::{Sink, write_all};
@@ -52,7 +52,7 @@ fn take_all(
         let before = text.len();
         take_of(alloc, lane, &mut all[lane], text)?;
         if before < text.len() {
-            signals.lanes[lane].bell.ring();
+            signals.bell_of(lane).ring();
         }
     }
     Ok(())

@@ -8,7 +8,7 @@ use Rattle.live_lines.specs.declared.calls.Asked.{Asked}
 use Rattle.live_lines.specs.declared.calls.Reply.{Reply}
 use Rattle.live_lines.specs.declared.calls.Reply.TheVariants.{Refused}
 use Rattle.live_lines.specs.declared.calls.Refusal.{Refusal}
-use Rattle.live_runs.specs.Inputs.{TookInput, of_session}
+use Rattle.live_streams.specs.Inputs.{TookInput, TakenAs, of_session, plus}
 
 module _ {A P B Q : Type 0} where
   -- these lines were handed out, to whom they name, and these refused
@@ -18,6 +18,16 @@ module _ {A P B Q : Type 0} where
     pub sends : (k : ℕ) (d : Producer Asked A P) → k < length old → sent (slice_index_or new k d) ≡ sent (slice_index_or old k d) ++ of_session (suc k) handed
     pub same_own : SameProducer own own'
     pub refuses : sent own' ≡ sent own ++ map Refused refused
+
+  -- one line was handed to the session that it names, unless nobody takes answers any more
+  abbrev pub Hands : {E : Type 0} → ℕ → Asked → List (Producer Asked A P) → List (Producer Asked A P) → Producer Reply B Q → Producer Reply B Q → Result (Unit {0}) E → Type 0
+  Hands session asked old new own own' (Ok u) = HandsAll ((session, asked) ∷ []) [] old new own own'
+  Hands session asked old new own own' (Err e) = HandsAll [] [] old new own own'
+
+  -- so was what a line of the input asks for; none is a line that is too long
+  abbrev pub HandsLine : {E : Type 0} → Option (List ℕ) → List (Producer Asked A P) → List (Producer Asked A P) → Producer Reply B Q → Producer Reply B Q → Result (Unit {0}) E → Type 0
+  HandsLine line old new own own' (Ok u) = (one : Option (ℕ × Asked)) × (other : Option Refusal) × TakenAs (length old) line one other × HandsAll (plus [] one) (plus [] other) old new own own'
+  HandsLine line old new own own' (Err e) = HandsAll [] [] old new own own'
 
   -- what was read up to some line, or to the end
   abbrev pub ReadsLines : Option (List ℕ) → Option (List ℕ) → List (Producer Asked A P) → List (Producer Asked A P) → Producer Reply B Q → Producer Reply B Q → Result (Unit {0}) ReadError → Type 0

@@ -1,7 +1,7 @@
 // The thread that reads the input.
 ghost use Rattle.std.specs.Prelude.{◌≡◌, ◌≤◌, ◌<◌, ℕ, List, Some, None, length, vec_len, option_map, IfOk};
 ghost use Rattle.io_model.specs.Streams.{CountsReading};
-ghost use Rattle.live_runs.specs.Handed.{Hands, HandsLine, HandsBytes, ReadsLines};
+ghost use Rattle.live_streams.specs.Handed.{Hands, HandsLine, ReadsLines};
 
 use crate::boxes::RingOutbox;
 use crate::signals::Signals;
@@ -33,7 +33,7 @@ impl<'a, R: Wait> Reader<'a, R> {
     {
         let signals = self.own.signals;
         let rt = self.own.rt;
-        let bell = &signals.lanes[0].bell;
+        let bell = signals.bell_of(0);
         let place = session as usize;
         let mut lies = false;
         for _ in rt.forever() {
@@ -45,7 +45,7 @@ impl<'a, R: Wait> Reader<'a, R> {
                 if lies {
                     bell.rise();
                 }
-                signals.lanes[place].bell.ring();
+                signals.bell_of(place).ring();
                 return Ok(());
             }
             if lies {

@@ -15,17 +15,22 @@ pub data IsTaken (sessions : ℕ) : List ℕ → Option (ℕ × Asked) → Optio
   of_none : (line : List ℕ) → Reads sessions line NoSession → IsTaken sessions line None (Some refusal.NoSession)
   too_long : (line : List ℕ) → most_bytes < length line → IsTaken sessions line None (Some refusal.TooLong)
 
+-- the same of a line, of which none is left where it is too long
+abbrev pub TakenAs : ℕ → Option (List ℕ) → Option (ℕ × Asked) → Option Refusal → Type 0
+TakenAs sessions None one other = (one ≡ None) × (other ≡ Some refusal.TooLong)
+TakenAs sessions (Some line) one other = IsTaken sessions line one other
+
 -- what stands for one more
-abbrev pub with : {A : Type 0} → List A → Option A → List A
-with as None = as
-with as (Some a) = as ++ a ∷ []
+abbrev pub plus : {A : Type 0} → List A → Option A → List A
+plus xs None = xs
+plus xs (Some x) = xs ++ x ∷ []
 
 -- lines, one after another: what was handed out, to whom, and what the reader refused
 pub data AreTaken (sessions : ℕ) : List (List ℕ) → List (ℕ × Asked) → List Refusal → Type 0 where
   no_line : AreTaken sessions [] [] []
   line :
       (lines : List (List ℕ)) (line : List ℕ) (handed : List (ℕ × Asked)) (one : Option (ℕ × Asked)) (refused : List Refusal) (other : Option Refusal)
-      → AreTaken sessions lines handed refused → IsTaken sessions line one other → AreTaken sessions (lines ++ line ∷ []) (with handed one) (with refused other)
+      → AreTaken sessions lines handed refused → IsTaken sessions line one other → AreTaken sessions (lines ++ line ∷ []) (plus handed one) (plus refused other)
 
 -- of these, the lines of session k
 abbrev pub of_session : ℕ → List (ℕ × Asked) → List Asked

@@ -1,0 +1,5 @@
+pub mod Rings
+pub mod Inputs
+pub mod Handed
+pub mod Outputs
+pub mod Written
