@@ -11,7 +11,7 @@ use Rattle.live_lines.specs.declared.requests.Request.TheVariants.{Blank, Of, No
 -- what one line is to the sessions, of which there are so many: nothing; a line of a session; or refused by the reader
 pub data IsTaken (sessions : ℕ) : List ℕ → Option (ℕ × Asked) → Option Refusal → Type 0 where
   passed_over : (line : List ℕ) → Reads sessions line Blank → IsTaken sessions line None None
-  handed : (line : List ℕ) (k : ℕ) (asked : Asked) → Reads sessions line (Of k asked) → IsTaken sessions line (Some (k, asked)) None
+  handed_to : (line : List ℕ) (k : ℕ) (asked : Asked) → Reads sessions line (Of k asked) → IsTaken sessions line (Some (k, asked)) None
   of_none : (line : List ℕ) → Reads sessions line NoSession → IsTaken sessions line None (Some refusal.NoSession)
   too_long : (line : List ℕ) → most_bytes < length line → IsTaken sessions line None (Some refusal.TooLong)
 

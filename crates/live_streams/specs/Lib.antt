@@ -3,3 +3,4 @@ pub mod Inputs
 pub mod Handed
 pub mod Outputs
 pub mod Written
+pub mod Same

@@ -1,7 +1,7 @@
 // The inbox and the outbox of a session: its ends of two rings.
 ghost use Rattle.std.specs.Prelude.{◌≡◌, ◌++◌, ◌∷◌, [], IfOk, OnErr};
 ghost use Rattle.rtrb.specs.Ring.{sent, received, SameProducer, SameConsumer};
-ghost use Rattle.live_streams.proofs.Same.{same_consumer, same_consumers, same_producer, same_producers};
+ghost use Rattle.live_streams.specs.Same.{same_consumer, same_consumers, same_producer, same_producers};
 
 use crate::signals::Signals;
 use live_lines::{Asked, Reply};

@@ -64,7 +64,7 @@ impl<'a, R: Wait> Reader<'a, R> {
 
     // A line of the input; none where it is too long.
     fn take_line(&mut self, line: Option<&[u8]>) -> Result<(), Gone>
-        ensures { HandsLine (option_map (λ l. l.now) line) self.old.lines.items self.new.lines.items self.old.own.answers self.new.own.answers result }
+        ensures { HandsLine (option_map (λ l. l.now) line.entry) self.old.lines.items self.new.lines.items self.old.own.answers self.new.own.answers result }
     {
         let Some(bytes) = line else {
             return self.refuse(Refusal::TooLong);

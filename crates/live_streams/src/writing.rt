@@ -3,7 +3,7 @@ ghost use Rattle.std.specs.Prelude.{◌≡◌, ◌++◌, ℕ, List, length, OnOk
 ghost use Rattle.live_lines.specs.declared.calls.Reply.{Reply as ReplyIs};
 ghost use Rattle.io_model.specs.Disk.{HasCause};
 ghost use Rattle.report_text.specs.Sinks.{Causes};
-ghost use Rattle.live_streams.specs.Written.{AddsLines, AddsOf, Writes};
+ghost use Rattle.live_streams.specs.Written.{AddsOne, AddsLines, AddsOf, Writes};
 
 use crate::signals::Signals;
 use io_model::{Sink, write_all};
@@ -15,6 +15,24 @@ use std::sync::Wait;
 
 // So many bytes are written at once, and the lines that came with them.
 const PIECE: usize = 65536;
+
+// The line of the next answer of one session, if one has come, is added to a text.
+fn take_one(
+    alloc: Global,
+    lane: usize,
+    answers: &mut Consumer<Reply>,
+    text: &mut Vec<u8>,
+) -> Result<bool, ReportError>
+    ensures { AddsOne lane answers.old answers.new text.old.items text.new.items result }
+{
+    let Ok(reply) = answers.pop() else {
+        return Ok(false);
+    };
+    match add_reply(alloc, text, lane as u64, &reply) {
+        Ok(()) => Ok(true),
+        Err(_) => Err(ReportError::Memory),
+    }
+}
 
 // The lines of the answers of one session that have come are added to a text.
 fn take_of(
@@ -29,11 +47,10 @@ fn take_of(
         if text.len() >= PIECE {
             return Ok(());
         }
-        let Ok(reply) = answers.pop() else {
-            return Ok(());
-        };
-        if add_reply(alloc, text, lane as u64, &reply).is_err() {
-            return Err(ReportError::Memory);
+        match take_one(alloc, lane, answers, text) {
+            Ok(true) => {}
+            Ok(false) => return Ok(()),
+            Err(error) => return Err(error),
         }
     }
     Ok(())

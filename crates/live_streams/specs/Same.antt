@@ -1,5 +1,5 @@
 -- An end of a ring is itself, and what is still itself.
-use Rattle.std.proofs.Common.{◌≡◌, refl, ◌∙◌}
+use mathlib.Core.Path.{refl, ◌∙◌}
 use Rattle.rtrb.specs.Ring.{SameProducer, SameConsumer}
 use Rattle.rtrb.specs.declared.producer.Producer.{Producer}
 use Rattle.rtrb.specs.declared.consumer.Consumer.{Consumer}
