@@ -32,9 +32,9 @@ words_of words (script.End ending.Abort) call is e = let same : Abort ≡ call =
 -- words that aren't `retry`, and that are no line which spells a call, are no call
 pub no_call : (words : List ℕ) → (words ≡ codes "retry" → ⊥) → ((line : Line) (call : Call) → IsLine words line → call_in line ≡ Some call → ⊥) → (call : Call) → IsCall words call → ⊥
 no_call words other none call is = elim (line_for words call is) as (λ d. ⊥) [
-    | inl same ↦ other same
-    | inr found ↦ none found.0 call found.1 found.2
-  ]
+  | inl same ↦ other same
+  | inr found ↦ none found.0 call found.1 found.2
+]
 
 -- a line that spells none leaves none
 pub spells_none : (words : List ℕ) (line : Line) → IsLine words line → call_in line ≡ None → (other : Line) (call : Call) → IsLine words other → call_in other ≡ Some call → ⊥

@@ -58,7 +58,10 @@ pub fn serve_session<R: Wait, C: SessionCalls, I: Inbox, O: Outbox>(
         let Some(asked) = inbox.take() else {
             return close(alloc, session, course);
         };
-        let Step { reply, course: next } = answer(alloc, session, course, asked);
+        let Step {
+            reply,
+            course: next,
+        } = answer(alloc, session, course, asked);
         course = next;
         match outbox.tell(reply) {
             Ok(()) => {}

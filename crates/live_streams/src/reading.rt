@@ -100,11 +100,7 @@ impl<'a, R: Wait> Reader<'a, R> {
         }
     }
 
-    fn read_until_over<S: Source>(
-        &mut self,
-        alloc: Global,
-        source: &mut S,
-    ) -> Result<(), ReadError>
+    fn read_until_over<S: Source>(&mut self, alloc: Global, source: &mut S) -> Result<(), ReadError>
         ensures read { ReadsLines (S.left source.old) (S.left source.new) self.old.lines.items self.new.lines.items self.old.own.answers self.new.own.answers result }
         ensures cause { CountsReading (S.faults source.old) (S.faults source.new) result }
     {
@@ -125,11 +121,7 @@ impl<'a, R: Wait> Reader<'a, R> {
 
     /// Reads the input to its end, or until nobody takes answers any more, and hands each line to its session; then no session gets any more. Where a thread of
     /// the others doesn't begin, nothing is read.
-    pub fn read_all<S: Source>(
-        &mut self,
-        alloc: Global,
-        source: &mut S,
-    ) -> Result<(), ReadError>
+    pub fn read_all<S: Source>(&mut self, alloc: Global, source: &mut S) -> Result<(), ReadError>
         ensures read { ReadsLines (S.left source.old) (S.left source.new) self.old.lines.items self.new.lines.items self.old.own.answers self.new.own.answers result }
         ensures cause { CountsReading (S.faults source.old) (S.faults source.new) result }
     {
