@@ -1,5 +1,6 @@
 pub mod Arrays
 pub mod Orders
+pub mod Values
 pub mod Maps
 pub mod Folding
 pub mod Shards

@@ -15,4 +15,6 @@ pub mod parts;
 mod shard_lists;
 pub mod splits;
 pub mod state;
+pub mod texts;
+pub mod values;
 mod votes;

@@ -1,8 +1,12 @@
 -- An Option that is none, and Options of numbers that are the same.
 use Rattle.std.proofs.Common.{◌≡◌, refl, false, Option, Some, None, is_none, true, ℕ, ap, eqb-true, eq-eqb, ◌∙◌, sym, Result, Ok, Err, ◌≤◌, arith, subst}
-use Rattle.std.proofs.lemmas.Bool.{both_ways}
+use Rattle.std.proofs.lemmas.Bool.{both_ways, and_parts, leb-true}
+use Rattle.clv_base.specs.declared.values.Value.{Value as ValueType}
 use Rattle.clv_base.specs.LogRules.{same_option}
-use Rattle.std.specs.Prelude.{OnOk, is_some}
+use Rattle.std.specs.Prelude.{OnOk, is_some, ⊤, length, nat_le, nat_lt}
+use Rattle.std.specs.List.{list_all}
+use Rattle.clv_base.specs.declared.values.Value.TheVariants.{Num, Bytes}
+use Rattle.clv_base.specs.Values.{fits_value}
 use Rattle.clv_base.specs.Logs.{optional_size}
 use Rattle.clv_base.specs.declared.modes.Found.TheVariants.{Absent}
 use Rattle.clv_base.specs.Needs.{found_by}
@@ -42,9 +46,14 @@ pub some_of : {A : Type 0} (o : Option A) → is_some o ≡ true → (x : A) × 
 some_of None h = absurd (both_ways false refl h)
 some_of (Some x) h = (x, refl)
 
-pub option_small : (v : Option ℕ) → optional_size v ≤ 9
-option_small None = omega arith
-option_small (Some n) = omega arith
+abbrev pub FitsOptional : Option ValueType → Type 0
+FitsOptional None = ⊤
+FitsOptional (Some v) = fits_value v ≡ true
+
+pub option_small : (v : Option ValueType) → FitsOptional v → optional_size v ≤ 202
+option_small None h = omega arith
+option_small (Some (Num n)) h = omega arith
+option_small (Some (Bytes b)) h = let few : length b ≤ 200 = leb-true (length b) 200 ((and_parts (nat_le (length b) 200) (list_all (λ x. nat_lt x 256) b) h).0) in omega (few, arith)
 
 pub if_ok : {A E : Type 0} (P : A → Type 0) (r : Result A E) → Rattle.std.specs.Prelude.IfOk r P → (a : A) → r ≡ Ok a → P a
 if_ok P (Ok b) h a is = subst P (let same : b ≡ a = cc in same) h
@@ -54,7 +63,7 @@ pub found_none : (held : Option ℕ) → is_some held ≡ false → held ≡ Non
 found_none None h = refl
 found_none (Some w) h = absurd (both_ways true h refl)
 
-pub absent_is : (o : Option (Option ℕ)) → found_by o ≡ Absent → o ≡ None
+pub absent_is : (o : Option (Option ValueType)) → found_by o ≡ Absent → o ≡ None
 absent_is None e = refl
 absent_is (Some None) e = absurd cc
 absent_is (Some (Some v)) e = absurd cc
