@@ -15,6 +15,7 @@ pub mod Facts
 pub mod Participant
 pub mod Coordinator
 pub mod Needs
+pub mod Kept
 pub mod OneShard
 pub mod Due
 pub mod Settling

@@ -5,6 +5,7 @@
 
 pub mod causes;
 pub mod events;
+pub mod kept;
 pub mod lists;
 pub mod logs;
 pub mod messages;

@@ -31,6 +31,13 @@ impl Pairs {
         Pairs { items }
     }
 
+    /// The vector of the list's pairs, given back. Takes no memory.
+    pub fn into_vec(self) -> Vec<(u64, Value)>
+        ensures { result.items ≡ self }
+    {
+        self.items
+    }
+
     /// The pairs, in order.
     pub fn as_slice(&self) -> &[(u64, Value)]
         ensures { result.now ≡ self.now }

@@ -1,7 +1,7 @@
 // What a key may hold: a number, or a short text of bytes.
 
-ghost use Rattle.std.specs.Prelude.{◌≡◌, ◌==◌, ⊤};
-ghost use Rattle.clv_base.specs.Values.{same_list, same_value, same_optional_value};
+ghost use Rattle.std.specs.Prelude.{◌≡◌, ◌==◌, true, ⊤};
+ghost use Rattle.clv_base.specs.Values.{same_list, same_value, same_optional_value, fits_value};
 
 use crate::texts::ByteText;
 use std::alloc::AllocError;
@@ -23,6 +23,18 @@ impl Value {
         match self {
             Value::Num(number) => Value::Num(*number),
             Value::Bytes(text) => Value::Bytes(text.copy()),
+        }
+    }
+
+    /// A law: a number has 64 bits, and a text at most 200 bytes.
+    pub fn fits(&self)
+        ensures { fits_value self.now ≡ true }
+    {
+        match self {
+            Value::Num(_) => {}
+            Value::Bytes(text) => {
+                let _bytes = text.as_slice();
+            }
         }
     }
 

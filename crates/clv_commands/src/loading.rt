@@ -5,7 +5,7 @@ ghost use Rattle.std.specs.List.{list_all};
 ghost use Rattle.history_replay.specs.Replayed.{replayed_from};
 ghost use Rattle.command_line.specs.declared.commands.Command.TheVariants as commands;
 ghost use Rattle.command_line.specs.declared.status.Status.TheVariants.{Fine};
-ghost use Rattle.report_text.specs.Loads.{values_sum};
+ghost use Rattle.report_text.specs.Loads.{number_in as number_by, values_sum};
 ghost use Rattle.report_text.specs.Sinks.{TakesText, Causes};
 ghost use Rattle.workload_laws.specs.Sums.{accounts_sum as sum_of};
 ghost use Rattle.script_lang.specs.Laws.{is_narrow_body};
@@ -16,6 +16,7 @@ ghost use Rattle.clv_commands.specs.Sinks.{line_of, Took, TookPairs};
 ghost use Rattle.clv_commands.specs.Causes.{BreaksLogs, CountsSink, CountsDisks};
 ghost use Rattle.clv_commands.specs.Runs.{EndsAs, HasLoaded, Opened};
 
+use clv_base::values::Value;
 use crate::ended::Ended;
 use crate::sums::{loads_keep_their_sum, loads_sum_from_nothing};
 use cluster_opening::OpenError;
@@ -62,14 +63,24 @@ fn script_of(alloc: Global, work: Work) -> Result<Script, Memory>
     )
 }
 
-// The sum of the values, for which 64 bits are enough.
-fn total(pairs: &[(u64, u64)]) -> u64
+// The number that a value is; a text counts nothing.
+fn number_in(value: &Value) -> u64
+    ensures { result ≡ number_by value.now }
+{
+    match value {
+        Value::Num(number) => *number,
+        Value::Bytes(_) => 0,
+    }
+}
+
+// The sum of the numbers, for which 64 bits are enough.
+fn total(pairs: &[(u64, Value)]) -> u64
     requires room { values_sum pairs.now < 2 ^ 64 }
     ensures { result ≡ values_sum pairs.now }
 {
     let mut sum: u64 = 0;
     for pair in pairs {
-        sum += pair.1;
+        sum += number_in(&pair.1);
     }
     sum
 }

@@ -20,7 +20,7 @@ fn run_one(alloc: Global, pairs: &mut KeyMap, operations: &[Op]) -> Result<(), M
     ensures { OnOk result (pairs.new ≡ ops_after operations.now pairs.old) }
 {
     for operation in operations {
-        pairs.apply(alloc, *operation)?;
+        pairs.apply(alloc, operation)?;
     }
     Ok(())
 }

@@ -7,6 +7,7 @@ ghost use Rattle.clv_base.specs.Needs.{found_at, is_there, value_at, record_set}
 ghost use Rattle.ordered_store.specs.Records.{Begins, Starts};
 
 use crate::rows::{self, Row};
+use clv_base::values::Value;
 
 /// How many records a block may have. It has room for one more.
 pub(crate) const MOST: usize = 64;
@@ -30,7 +31,7 @@ fn least(rows: &[Row]) -> u64
 }
 
 /// Puts a value or a ghost at a key, and gives the live value before.
-pub(crate) fn put_in(block: &mut Block, key: u64, value: Option<u64>) -> Option<u64>
+pub(crate) fn put_in(block: &mut Block, key: u64, value: Option<Value>) -> Option<Value>
     requires rising { is_sorted nat_cmp block.old.rows.items ≡ true }
     requires room { vec_len block.old.rows < vec_capacity block.old.rows }
     ensures before { result ≡ value_at key block.old.rows.items }

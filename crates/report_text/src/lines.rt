@@ -3,15 +3,17 @@
 ghost use Rattle.std.specs.Prelude.{◌≡◌, ◌++◌, ◌∷◌, IfOk, OnOk, map, take, length, ◌≤◌, false};
 ghost use Rattle.serde_json.specs.Data.{string};
 ghost use Rattle.serde_json.specs.Written.{has_float};
-ghost use Rattle.clv_base.specs.declared.ops.Op.TheVariants.{Scan};
+ghost use Rattle.clv_base.specs.declared.ops.Op.TheVariants.{Put, Scan};
 ghost use Rattle.serde_json.specs.View.{view};
 ghost use Rattle.session_books.specs.Parts.{pairs_of as pairs_in, parts_of, upper as upper_end, upper_of as upper_end_of, all_pairs, goes_on as continues};
 ghost use Rattle.session_books.specs.Books.{whole, whole_ops};
-ghost use Rattle.report_text.specs.Lines.{line as line_of, num, list as list_of, row as row_of, optional as optional_value, pair as pair_value, answer as answer_data, operation as operation_value, operations as operations_values, transaction as transaction_value};
+ghost use Rattle.report_text.specs.Lines.{line as line_of, num, list as list_of, row as row_of, optional as optional_value, value_data, pair as pair_value, answer as answer_data, operation as operation_value, operations as operations_values, transaction as transaction_value};
 
 use crate::Memory;
 use clv_base::names::TxId;
 use clv_base::ops::{Answer, Op};
+use clv_base::values::Value as Stored;
+use hex::encode;
 use serde_json::{Value, json};
 use session_books::books::Row;
 use session_books::told::Told;
@@ -28,12 +30,22 @@ pub fn add_line(alloc: Global, text: &mut Vec<u8>, value: Value) -> Result<(), M
     Ok(())
 }
 
-fn optional(value: Option<u64>) -> Value
-    ensures { view result ≡ optional_value value }
+// A number, or the text's bytes as two digits each.
+fn stored(alloc: Global, value: &Stored) -> Result<Value, Memory>
+    ensures { IfOk result (λ v. view v ≡ value_data value.now) }
 {
     match value {
-        Some(number) => Value::from(number),
-        None => Value::Null,
+        Stored::Num(number) => Ok(Value::from(*number)),
+        Stored::Bytes(text) => Ok(Value::String(encode(alloc, text.as_slice())?)),
+    }
+}
+
+fn optional(alloc: Global, value: &Option<Stored>) -> Result<Value, Memory>
+    ensures { IfOk result (λ v. view v ≡ optional_value value.now) }
+{
+    match value {
+        Some(value) => stored(alloc, value),
+        None => Ok(Value::Null),
     }
 }
 
@@ -47,25 +59,27 @@ fn add_numbers(values: &mut Vec<Value>, numbers: &[u64]) -> Result<(), Memory>
     Ok(())
 }
 
-pub fn pair(alloc: Global, key: u64, value: u64) -> Result<Value, Memory>
-    ensures { IfOk result (λ v. view v ≡ pair_value (key, value)) }
+pub fn pair(alloc: Global, key: u64, value: &Stored) -> Result<Value, Memory>
+    ensures { IfOk result (λ v. view v ≡ pair_value (key, value.now)) }
 {
+    let told = stored(alloc, value)?;
     let mut values = Vec::new(alloc);
-    add_numbers(&mut values, &[key, value])?;
+    values.push(Value::from(key))?;
+    values.push(told)?;
     Ok(Value::Array(values))
 }
 
 // The pairs are added to a list of values.
-fn add_pairs(alloc: Global, values: &mut Vec<Value>, pairs: &[(u64, u64)]) -> Result<(), Memory>
+fn add_pairs(alloc: Global, values: &mut Vec<Value>, pairs: &[(u64, Stored)]) -> Result<(), Memory>
     ensures { OnOk result (map view values.new.items ≡ map view values.old.items ++ map pair_value pairs.now) }
 {
     for entry in pairs {
-        values.push(pair(alloc, entry.0, entry.1)?)?;
+        values.push(pair(alloc, entry.0, &entry.1)?)?;
     }
     Ok(())
 }
 
-fn pairs_of(answer: &Answer) -> &[(u64, u64)]
+fn pairs_of(answer: &Answer) -> &[(u64, Stored)]
     ensures { result.now ≡ pairs_in answer.now }
 {
     match answer {
@@ -78,7 +92,7 @@ fn answer_value(alloc: Global, answer: &Answer) -> Result<Value, Memory>
     ensures { IfOk result (λ v. view v ≡ answer_data answer.now) }
 {
     match answer {
-        Answer::Value(value) => Ok(optional(*value)),
+        Answer::Value(value) => optional(alloc, value),
         Answer::Pairs(pairs) => {
             let mut values = Vec::new(alloc);
             add_pairs(alloc, &mut values, pairs.as_slice())?;
@@ -100,11 +114,11 @@ fn count_parts(nth: u64, told: &[Told]) -> usize
     told.len()
 }
 
-fn upper(high: u64, op: Op) -> u64
-    ensures { result ≡ upper_end high op }
+fn upper(high: u64, op: &Op) -> u64
+    ensures { result ≡ upper_end high op.now }
 {
     match op {
-        Op::Scan(_, end) => end,
+        Op::Scan(_, end) => *end,
         _ => high,
     }
 }
@@ -114,7 +128,7 @@ fn upper_of(high: u64, parts: &[Told]) -> u64
 {
     let mut end = high;
     for part in parts {
-        end = upper(end, part.op);
+        end = upper(end, &part.op);
     }
     end
 }
@@ -182,15 +196,27 @@ fn scan_row(
     row(alloc, "scan", &[low, upper_of(high, parts)], pairs)
 }
 
+// What a Put put, and what was answered.
+fn put_row(alloc: Global, key: u64, value: &Stored, answer: &Answer) -> Result<Value, Memory>
+    ensures { IfOk result (λ v. view v ≡ operation_value (Put key value.now) answer.now) }
+{
+    let put = stored(alloc, value)?;
+    let answered = answer_value(alloc, answer)?;
+    let mut values = head(alloc, "put", &[key])?;
+    values.push(put)?;
+    values.push(answered)?;
+    Ok(Value::Array(values))
+}
+
 // An operation with its answer, and the further parts of a scan.
-pub fn operation(alloc: Global, op: Op, answer: &Answer, parts: &[Told]) -> Result<Value, Memory>
-    ensures { IfOk result (λ v. view v ≡ operation_value (whole op answer.now parts.now).0 (whole op answer.now parts.now).1) }
+pub fn operation(alloc: Global, op: &Op, answer: &Answer, parts: &[Told]) -> Result<Value, Memory>
+    ensures { IfOk result (λ v. view v ≡ operation_value (whole op.now answer.now parts.now).0 (whole op.now answer.now parts.now).1) }
 {
     match op {
-        Op::Get(key) => answered_row(alloc, "get", &[key], answer),
-        Op::Put(key, value) => answered_row(alloc, "put", &[key, value], answer),
-        Op::Del(key) => answered_row(alloc, "del", &[key], answer),
-        Op::Scan(low, high) => scan_row(alloc, low, high, answer, parts),
+        Op::Get(key) => answered_row(alloc, "get", &[*key], answer),
+        Op::Put(key, value) => put_row(alloc, *key, value, answer),
+        Op::Del(key) => answered_row(alloc, "del", &[*key], answer),
+        Op::Scan(low, high) => scan_row(alloc, *low, *high, answer, parts),
     }
 }
 
@@ -213,7 +239,7 @@ fn operations(alloc: Global, told: &[Told]) -> Result<Vec<Value>, Memory>
         if !goes_on(before, one.nth) {
             let later = &told[place + 1..];
             let parts = &later[..count_parts(one.nth, later)];
-            values.push(operation(alloc, one.op, &one.answer, parts)?)?;
+            values.push(operation(alloc, &one.op, &one.answer, parts)?)?;
         }
         before = Some(one.nth);
     }
@@ -234,7 +260,7 @@ fn row_operations(alloc: Global, ops: &[(Op, Answer)]) -> Result<Vec<Value>, Mem
 {
     let mut values = Vec::new(alloc);
     for one in ops {
-        values.push(operation(alloc, one.0, &one.1, &[])?)?;
+        values.push(operation(alloc, &one.0, &one.1, &[])?)?;
     }
     Ok(values)
 }

@@ -10,7 +10,6 @@ ghost use Rattle.report_text.specs.Sets.{has_tx, told_at};
 use crate::Memory;
 use crate::sets::TxSet;
 use clv_base::events::{Entry, Event, Outcome};
-use clv_base::lists::Pairs;
 use clv_base::names::{Birth, TxId};
 use clv_base::ops::Answer;
 use session_books::told::Told;
@@ -59,24 +58,21 @@ impl ToldTable {
     }
 }
 
-fn copy_of(alloc: Global, answer: &Answer) -> Result<Answer, Memory>
+fn copy_of(answer: &Answer) -> Result<Answer, Memory>
     ensures { IfOk result (λ copy. copy ≡ answer.now) }
 {
-    match answer {
-        Answer::Value(value) => Ok(Answer::Value(*value)),
-        Answer::Pairs(pairs) => Ok(Answer::Pairs(Pairs::new(pairs.as_slice().to_vec(alloc)?))),
-    }
+    answer.clone()
 }
 
-fn told_of(alloc: Global, entry: &Entry) -> Result<Option<(TxId, Told)>, Memory>
+fn told_of(entry: &Entry) -> Result<Option<(TxId, Told)>, Memory>
     ensures { IfOk result (λ told. told ≡ told_by entry.now.event entry.now.outcome) }
 {
     match (&entry.event, &entry.outcome) {
         (Event::Op { tx, nth, op, .. }, Outcome::Answered { answer, .. }) => {
             let told = Told {
                 nth: *nth,
-                op: *op,
-                answer: copy_of(alloc, answer)?,
+                op: op.copy(),
+                answer: copy_of(answer)?,
             };
             Ok(Some((*tx, told)))
         }
@@ -129,7 +125,7 @@ pub fn all_told(alloc: Global, list: &[(u32, &Entry)]) -> Result<ToldTable, Memo
     let mut table = ToldTable::new(alloc);
     for one in list {
         let entry = one.1;
-        if let Some((tx, told)) = told_of(alloc, entry)? {
+        if let Some((tx, told)) = told_of(entry)? {
             table.add(alloc, tx, told)?;
         }
     }

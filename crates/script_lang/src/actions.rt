@@ -3,7 +3,7 @@
 use clv_base::ops::Op;
 
 /// A line of a transaction: an operation, or an amount that moves from one key to another where both have values and there is room.
-#[derive(Clone, Copy, PartialEq, Eq)]
+#[derive(Drop)]
 pub enum Action {
     Do(Op),
     Move { from: u64, to: u64, amount: u64 },

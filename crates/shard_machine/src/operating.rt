@@ -58,10 +58,10 @@ impl<S: Store + Drop, L: Locks + Drop, G: Gate> ShardMachine<S, L, G> {
             Ok(stamp) => stamp,
             Err(error) => return Err(error),
         };
-        fits(op);
+        fits(&op);
         self.core.few_undecided();
         let _before = self.core.log_end();
-        match operate(&mut self.core, alloc, tx, birth, nth, seen, op) {
+        match operate(&mut self.core, alloc, tx, birth, nth, seen, &op) {
             Ok(Happened::Quiet(outcome)) => Ok(outcome),
             Ok(Happened::Done { outcome, copy }) => {
                 let _after = self.core.log_end();

@@ -3,6 +3,7 @@ use Rattle.std.proofs.Common.{◌≡◌, refl, sym, ap, subst, ◌∙◌, ⊎_el
 use Rattle.std.proofs.lemmas.Bool.{both_ways, cond_both, cond-true, false_from_ne_true, or_cases}
 use Rattle.std.specs.List.{AllByRecursion, filter, list_any}
 use Rattle.std.specs.Map.{lookup}
+use Rattle.clv_base.specs.declared.values.Value.{Value as ValueType}
 use Rattle.clv_base.specs.declared.names.TxId.{TxId}
 use Rattle.clv_base.specs.declared.modes.Anchor.{Anchor}
 use Rattle.clv_base.specs.declared.modes.Anchor.TheVariants.{Low, At}
@@ -136,15 +137,15 @@ found_each k (r ∷ rs) h = (
     here : (k == r.0) ≡ true → found_at k (r ∷ rs) ≡ found_by (Some r.1)
     here e = ap (λ b. found_by (cond b (Some r.1) (lookup (◌==◌ k) rs))) e
 
-    later : (q : ℕ × Option ℕ) → (k == r.0) ≡ false → found_at k rs ≡ found_by (Some q.1) → found_at k (r ∷ rs) ≡ found_by (Some q.1)
+    later : (q : ℕ × Option ValueType) → (k == r.0) ≡ false → found_at k rs ≡ found_by (Some q.1) → found_at k (r ∷ rs) ≡ found_by (Some q.1)
     later q e f = ap (λ b. found_by (cond b (Some r.1) (lookup (◌==◌ k) rs))) e ∙ f
 
-    both : (P Q R : ℕ × Option ℕ → Type 0) → ((x : ℕ × Option ℕ) → P x → Q x → R x) → (xs : Records) → AllByRecursion P xs → AllByRecursion Q xs → AllByRecursion R xs
+    both : (P Q R : ℕ × Option ValueType → Type 0) → ((x : ℕ × Option ValueType) → P x → Q x → R x) → (xs : Records) → AllByRecursion P xs → AllByRecursion Q xs → AllByRecursion R xs
     both P Q R g [] a b = tt
     both P Q R g (x ∷ xs) a b = (g x a.0 b.0, both P Q R g xs a.1 b.1)
 
 -- whether a record stays, where the ghost on the anchor goes if it bears no lock
-abbrev stays : Anchor → Locks → ℕ × Option ℕ → Bool
+abbrev stays : Anchor → Locks → ℕ × Option ValueType → Bool
 stays a locks r = not (anchor_same a (At r.0)) || is_locked_or_live locks r
 
 -- below the first record there is no ghost

@@ -9,6 +9,7 @@ use Rattle.std.specs.FinMap.{put}
 use Rattle.std.specs.FinMap.Entries.{by_order}
 use Rattle.std.proofs.lemmas.Bool.{ne_eqb}
 use Rattle.std.proofs.lemmas.Bool.Decides.{nat_tests}
+use Rattle.clv_base.specs.declared.values.Value.{Value as ValueType}
 use Rattle.clv_base.specs.declared.names.TxId.{TxId}
 use Rattle.clv_base.specs.declared.logs.LogRecord.{LogRecord}
 use Rattle.clv_base.specs.declared.logs.LogRecord.TheVariants.{Update, Clr, Prepare, Commit, Abort, End, Restart}
@@ -28,7 +29,7 @@ use Rattle.law_base.proofs.Names.{set_by}
 
 -- ---- a record taken away
 
-abbrev is_other : ℕ → ℕ × Option ℕ → Bool
+abbrev is_other : ℕ → ℕ × Option ValueType → Bool
 is_other k r = not (r.0 == k)
 
 some_found : (v : Option ℕ) → found_by (Some v) ≡ Absent → ⊥

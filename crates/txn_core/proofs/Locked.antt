@@ -5,6 +5,7 @@ use Rattle.std.specs.List.{AllByRecursion}
 use Rattle.std.specs.declared.cmp.Ordering.{Ordering}
 use Rattle.std.specs.declared.cmp.Ordering.TheVariants.{Less, Equal, Greater}
 use Rattle.std.specs.Ordering.{nat_cmp, is_eq, match_ordering}
+use Rattle.clv_base.specs.declared.values.Value.{Value as ValueType}
 use Rattle.clv_base.specs.declared.names.TxId.{TxId}
 use Rattle.clv_base.specs.declared.names.Birth.{Birth}
 use Rattle.clv_base.specs.declared.modes.Anchor.TheVariants.{At}
@@ -98,7 +99,7 @@ before_held set k locks (w ∷ ws) a v e = at (value_before set k ws) e (before_
     here true t e = let p = and_parts (tx_in w.tx set) (k == w.key) t in subst (λ j. is_held_at j locks ≡ true) (sym (eqb-true k w.key p.1)) (a.0 p.0)
     here false t e = absurd cc
 
-    at : (o : Option (Option ℕ)) → elim o [ Some b ↦ Some b | None ↦ cond (tx_in w.tx set && (k == w.key)) (Some w.before) None ] ≡ Some v
+    at : (o : Option (Option ValueType)) → elim o [ Some b ↦ Some b | None ↦ cond (tx_in w.tx set && (k == w.key)) (Some w.before) None ] ≡ Some v
         → ((u : Option ℕ) → o ≡ Some u → is_held_at k locks ≡ true) → is_held_at k locks ≡ true
     at (Some b) e more = more b refl
     at None e more = here (tx_in w.tx set && (k == w.key)) refl e
@@ -108,7 +109,7 @@ undone_all : (set : List TxId) (ws : List StandingUpdate) (locks : Locks) (rs : 
 undone_all set ws locks [] held a = tt
 undone_all set ws locks (r ∷ rs) held a = (at (value_before set r.0 ws) (before_held set r.0 locks ws held), undone_all set ws locks rs held a.1)
   where
-    at : (o : Option (Option ℕ)) → ((v : Option ℕ) → o ≡ Some v → is_held_at r.0 locks ≡ true) → is_locked_or_live locks (r.0, unwrap_or o r.1) ≡ true
+    at : (o : Option (Option ValueType)) → ((v : Option ℕ) → o ≡ Some v → is_held_at r.0 locks ≡ true) → is_locked_or_live locks (r.0, unwrap_or o r.1) ≡ true
     at None h = a.0
     at (Some v) h = held_stays locks r.0 (h v refl) v
 

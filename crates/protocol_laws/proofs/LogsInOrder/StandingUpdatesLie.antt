@@ -3,6 +3,7 @@ use Rattle.std.proofs.Common.{◌≡◌, ⊎_elim, refl, sym, ap, subst, ◌∙�
 use Rattle.std.specs.List.{AllByRecursion, filter, list_any}
 use Rattle.std.proofs.lemmas.Bool.{cases_Bool, both_ways, cond_both, cond-true, cond-false, not-true, false_from_ne_true, and_from, lt-ltb}
 use Rattle.std.proofs.lemmas.Option.{same_Some}
+use Rattle.clv_base.specs.declared.values.Value.{Value as ValueType}
 use Rattle.clv_base.specs.declared.names.TxId.{TxId}
 use Rattle.clv_base.specs.declared.logs.LogRecord.{LogRecord}
 use Rattle.clv_base.specs.declared.logs.LogRecord.TheVariants.{Update, Clr, Prepare, Commit, Abort, End, Restart}
@@ -99,7 +100,7 @@ newest_by : (u : StandingUpdate) (key : ℕ) (o : Option StandingUpdate) → eli
 newest_by u key None e = absurd (both_ways false refl e)
 newest_by u key (Some v) e = (v, refl, eqb-true v.lsn u.lsn e)
 
-compensated : (log : List LogRecord) (tx : TxId) (next : Option ℕ) (key : ℕ) (after : Option ℕ) (o : Option StandingUpdate) → newest_of tx (standing log) ≡ o → compensates log tx next key after o ≡ true → Falling (standing log) → Chain (standing log)
+compensated : (log : List LogRecord) (tx : TxId) (next : Option ℕ) (key : ℕ) (after : Option ValueType) (o : Option StandingUpdate) → newest_of tx (standing log) ≡ o → compensates log tx next key after o ≡ true → Falling (standing log) → Chain (standing log)
     → Chain (without_newest tx (standing log))
 compensated log tx next key after None e c f k = absurd (both_ways false refl c)
 compensated log tx next key after (Some u) e c f k =
