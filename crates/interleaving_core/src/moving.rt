@@ -30,7 +30,7 @@ fn copy_event(event: &Event) -> Result<Event, AllocError>
             birth: *birth,
             nth: *nth,
             seen: *seen,
-            op: *op,
+            op: op.copy(),
         },
         Event::Request { tx, parts } => Event::Request {
             tx: *tx,

@@ -42,7 +42,7 @@ fn do_lines<R: Wait, C: SessionCalls>(
         let Some(op) = following.next() else {
             return Ok(Operations::new(done));
         };
-        match session.operate(alloc, op) {
+        match session.operate(alloc, &op) {
             Ok(answer) => {
                 following.answered(&answer);
                 if done.push((op, answer)).is_err() {

@@ -6,6 +6,7 @@ ghost use Rattle.session_examples.specs.Calls.{Called};
 
 use clv_base::lists::Pairs;
 use clv_base::names::TxId;
+use clv_base::values::Value;
 use io_model::Pace;
 use machine_calls::Flier;
 use session_api::{AbortError, BeginError, CommitError, OpError, RetryError, Session, Settled};
@@ -13,12 +14,12 @@ use std::alloc::Global;
 use std::sync::Wait;
 
 /// A call of a session.
-#[derive(Clone, Copy, PartialEq, Eq)]
+#[derive(Drop)]
 pub enum Call {
     Begin,
     Retry,
     Get { key: u64 },
-    Put { key: u64, value: u64 },
+    Put { key: u64, value: Value },
     Del { key: u64 },
     Scan { lo: u64, hi: u64 },
     Commit,
@@ -30,7 +31,7 @@ pub enum Call {
 pub enum Said {
     Begun(Result<TxId, BeginError>),
     Retried(Result<TxId, RetryError>),
-    Value(Result<Option<u64>, OpError>),
+    Value(Result<Option<Value>, OpError>),
     Pairs(Result<Pairs, OpError>),
     Settled(Result<Settled, CommitError>),
     Aborted(Result<(), AbortError>),
