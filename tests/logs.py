@@ -8,6 +8,7 @@ import struct
 
 BEYOND = 1 << 64
 LONGEST_BATCH = 1048576
+LONGEST_TEXT = 200
 MOST_SHARDS, MOST_PARTS, MOST_PREDECESSORS, MOST_SESSIONS = 16, 15, 1024, 64
 LAST_RUN = (1 << 32) - 1
 NO_UNDO = BEYOND - 1
@@ -38,6 +39,9 @@ def spell_transaction(transaction):
 
 
 def spell_value(value):
+    """None, a number, or a text as bytes."""
+    if isinstance(value, bytes):
+        return bytes([2, len(value)]) + value
     return b"\0" if value is None else b"\1" + struct.pack("<Q", value)
 
 
@@ -103,10 +107,19 @@ class Cursor:
         return run, session, serial
 
     def value(self):
-        is_there = self.number(1)
-        if is_there > 1:
+        kind = self.number(1)
+        if kind == 2:
+            return self.text(self.number(1))
+        if kind > 1:
             raise ValueError
-        return self.number(8) if is_there else None
+        return self.number(8) if kind else None
+
+    def text(self, size):
+        if size > LONGEST_TEXT or self.end - self.place < size:
+            raise ValueError
+        found = self.data[self.place : self.place + size]
+        self.place += size
+        return bytes(found)
 
     def shard(self):
         found = self.number(4)

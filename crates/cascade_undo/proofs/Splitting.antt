@@ -54,7 +54,7 @@ module _ (set : List TxId) where
   abbrev before_with : Option (Option ValueType) → Bool → Option ℕ → Option (Option ValueType)
   before_with o b v = elim o [ Some x ↦ Some x | None ↦ cond b (Some v) None ]
 
-  before_none : (o : Option (Option ValueType)) (v : Option ℕ) → before_with o false v ≡ o
+  before_none : (o : Option (Option ValueType)) (v : Option ValueType) → before_with o false v ≡ o
   before_none None v = refl
   before_none (Some x) v = refl
 
@@ -98,7 +98,7 @@ module _ (set : List TxId) where
     writes_with_it = ap length (writes_above above (w ∷ rest) h ∙ cond-true _ _ _ i) ∙ ap (λ l. suc (length l)) (sym (writes_above above rest h))
 
     -- the value before at a key, from what was set back at its own key
-    pub before_with_it : (k : ℕ) (v : Option ℕ) → unwrap_or (value_before set k (above ++ rest)) (cond (k == w.key) w.before v) ≡ unwrap_or (value_before set k (above ++ w ∷ rest)) v
+    pub before_with_it : (k : ℕ) (v : Option ValueType) → unwrap_or (value_before set k (above ++ rest)) (cond (k == w.key) w.before v) ≡ unwrap_or (value_before set k (above ++ w ∷ rest)) v
     before_with_it k v =
         ap (λ o. unwrap_or o (cond (k == w.key) w.before v)) (before_above k above rest h)
         ∙ at (value_before set k rest) (k == w.key)

@@ -1,5 +1,6 @@
 -- What accounts hold behind a filling, whatever they held before.
 use Rattle.std.proofs.Common.{◌≡◌, sym, ap, subst, ◌∙◌, ℕ, ◌<◌, ◌==◌, cond, List, [], ◌∷◌, ◌++◌, Option, Some, None, arith}
+use Rattle.clv_base.specs.declared.values.Value.{Value as ValueType}
 use Rattle.clv_base.specs.declared.ops.Op.{Op}
 use Rattle.clv_base.specs.declared.ops.Op.TheVariants.{Get, Put, Del, Scan}
 use Rattle.clv_base.specs.declared.ops.Answer.{Answer}
@@ -19,7 +20,7 @@ use Rattle.workload_laws.proofs.Keeping.{did, told, replay_rises, gets_balanced}
 abbrev AreAlike : ℕ → KeyMap → KeyMap → Type 0
 AreAlike n m m' = (q : ℕ) → q < n → map_get q m ≡ map_get q m'
 
-alike_set : (n k : ℕ) (x : Option ℕ) (m m' : KeyMap) → AreAlike n m m' → AreAlike n (map_set k x m) (map_set k x m')
+alike_set : (n k : ℕ) (x : Option ValueType) (m m' : KeyMap) → AreAlike n m m' → AreAlike n (map_set k x m) (map_set k x m')
 alike_set n k x m m' same q l = get_set q k x m ∙ ap (λ o. cond (q == k) x o) (same q l) ∙ sym (get_set q k x m')
 
 alike_op : (n : ℕ) (o : Op) (m m' : KeyMap) → AreAlike n m m' → AreAlike n (op_after o m) (op_after o m')

@@ -96,7 +96,7 @@ new_pair tx (q ∷ qs) pairs t p e =
     ⊎_elim (λ a. ⊎_elim (λ b. inl b) (λ b. let c = and_parts (tx_same t tx) (tx_same p q) b in inr (or_left (tx_same q p) (tx_in p qs) (tx_flip p q c.1))) (insert_from pairs (tx, q) t p a))
     (λ a. inr (or_right (tx_same q p) (tx_in p qs) a)) (new_pair tx qs (pair_insert (tx, q) pairs) t p e)
 
-inserting : (op : Op) (rs : Records) (b : Option ℕ) (k : ℕ) → inserts op (found_at (key_of op) rs) ≡ Some k → (w : ℕ × Option ValueType × Option ValueType) × (writes_of op b ≡ Some w)
+inserting : (op : Op) (rs : Records) (b : Option ValueType) (k : ℕ) → inserts op (found_at (key_of op) rs) ≡ Some k → (w : ℕ × Option ValueType × Option ValueType) × (writes_of op b ≡ Some w)
 inserting (Put j v) rs b k e = ((j, b, Some v), refl)
 inserting (Get j) rs b k e = absurd (none_some k e)
 inserting (Del j) rs b k e = absurd (none_some k e)

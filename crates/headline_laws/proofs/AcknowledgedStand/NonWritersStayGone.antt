@@ -111,7 +111,7 @@ quiet_more l m more t e f o k = record {
 foreign_none : (t : TxId) → Foreign [] t
 foreign_none t = record { writes = refl; prepares = refl; commits = refl }
 
-foreign_update : (t u : TxId) (key : ℕ) (b a : Option ℕ) → tx_same t u ≡ false → Foreign (Update u key b a ∷ []) t
+foreign_update : (t u : TxId) (key : ℕ) (b a : Option ValueType) → tx_same t u ≡ false → Foreign (Update u key b a ∷ []) t
 foreign_update t u key b a n = record { writes = or_from _ _ n refl; prepares = refl; commits = refl }
 
 foreign_prepare : (t u : TxId) (home : ℕ) (us : List TxId) → tx_same t u ≡ false → Foreign (PrepareRecord u home us ∷ []) t

@@ -14,7 +14,7 @@ use Rattle.clv_base.proofs.SameNames.{or_left, or_right, tx_true, tx_self}
 use Rattle.law_base.proofs.Lists.{all_mono, all_both, filter_passes}
 use Rattle.law_base.proofs.Running.{top_value, after_of, value_top}
 use Rattle.law_base.proofs.Undoing.{Chain}
-use Rattle.law_base.proofs.Options.{option_true}
+use Rattle.law_base.proofs.Options.{optional_value_true}
 use Rattle.protocol_laws.specs.Order.{LieOnThese}
 use Rattle.protocol_laws.proofs.LogsInOrder.OneRecordMore.{push_cases, push_right, push_same}
 use Rattle.law_base.proofs.Bools.{and_first as front, and_second as last}
@@ -158,7 +158,7 @@ writes_step shard log (Update tx key before after) m k =
     let r = Update tx key before after in
     let q = quiet log r (standing log) (λ t. refl) k in
     record {
-      chain = (option_true before (value_in log key) (last _ _ (front _ _ (front _ _ m))) ∙ value_top (newest_at key (standing log)), k.chain);
+      chain = (optional_value_true before (value_in log key) (last _ _ (front _ _ (front _ _ m))) ∙ value_top (newest_at key (standing log)), k.chain);
       falls = (k.low, k.falls);
       low = (omega arith, q.low);
       lie = ((λ c. absurd (both_ways _ (sym (push_same (is_commit_of tx) log r refl) ∙ not-true _ (last _ _ (front _ _ (front _ _ (front _ _ (front _ _ (front _ _ m))))))) c)), q.lie);

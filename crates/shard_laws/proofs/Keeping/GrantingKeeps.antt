@@ -85,9 +85,9 @@ log_by tx (Some w) log = log ++ Update tx w.0 w.1 w.2 ∷ []
 pub data Writing (rs : Records) : Change → Option ℕ → Type 0 where
   nothing : Writing rs None None
   there : (k : ℕ) (b a x : Option ℕ) → record_at k rs ≡ Some x → Writing rs (Some (k, b, a)) None
-  fresh : (k : ℕ) (b a : Option ℕ) → record_at k rs ≡ None → Writing rs (Some (k, b, a)) (Some k)
+  fresh : (k : ℕ) (b a : Option ValueType) → record_at k rs ≡ None → Writing rs (Some (k, b, a)) (Some k)
 
-put_writing : (k v : ℕ) (b : Option ℕ) (rs : Records) (o : Option (Option ValueType)) → record_at k rs ≡ o → Writing rs (writes_of (Put k v) b) (inserts (Put k v) (found_by o))
+put_writing : (k : ℕ) (v : ValueType) (b : Option ValueType) (rs : Records) (o : Option (Option ValueType)) → record_at k rs ≡ o → Writing rs (writes_of (Put k v) b) (inserts (Put k v) (found_by o))
 put_writing k v b rs None e = fresh k b (Some v) e
 put_writing k v b rs (Some None) e = there k b (Some v) None e
 put_writing k v b rs (Some (Some x)) e = there k b (Some v) (Some x) e
@@ -112,14 +112,14 @@ insert_writes rs _ _ q nothing e = absurd (none-some q e)
 insert_writes rs _ _ q (there k b a x h) e = absurd (none-some q e)
 insert_writes rs _ _ q (fresh k b a h) e = eq-eqb q k (some_key k q e)
 
-set_some : (q k : ℕ) (a : Option ℕ) (rs : Records) → (q == k) ≡ true → record_at q (record_set k a rs) ≡ Some a
+set_some : (q k : ℕ) (a : Option ValueType) (rs : Records) → (q == k) ≡ true → record_at q (record_set k a rs) ≡ Some a
 set_some q k a rs e = record_at_set q k a rs ∙ cond-true (q == k) (Some a) (record_at q rs) e
 
-set_same : (q k : ℕ) (a : Option ℕ) (rs : Records) → (q == k) ≡ false → record_at q (record_set k a rs) ≡ record_at q rs
+set_same : (q k : ℕ) (a : Option ValueType) (rs : Records) → (q == k) ≡ false → record_at q (record_set k a rs) ≡ record_at q rs
 set_same q k a rs e = record_at_set q k a rs ∙ cond-false (q == k) (Some a) (record_at q rs) e
 
 -- where it was written, a record stands
-written_record : (rs : Records) (w : Change) (ins : Option ℕ) (q : ℕ) → Writing rs w ins → is_write_at w q ≡ true → (x : Option ℕ) × (record_at q (records_by w rs) ≡ Some x)
+written_record : (rs : Records) (w : Change) (ins : Option ℕ) (q : ℕ) → Writing rs w ins → is_write_at w q ≡ true → (x : Option ValueType) × (record_at q (records_by w rs) ≡ Some x)
 written_record rs _ _ q nothing e = absurd (both_ways false refl e)
 written_record rs _ _ q (there k b a x h) e = (a, set_some q k a rs e)
 written_record rs _ _ q (fresh k b a h) e = (a, set_some q k a rs e)
@@ -128,11 +128,11 @@ still_record : (rs : Records) (w : Change) (ins : Option ℕ) (q : ℕ) → Writ
 still_record rs _ _ q nothing e = e
 still_record rs _ _ q (there k b a x h) e = ⊎_elim (λ t. absurd (some_none a (sym (set_some q k a rs t) ∙ e))) (λ f. sym (set_same q k a rs f) ∙ e) (cases_Bool (q == k))
   where
-    some_none : (a : Option ℕ) → Some a ≡ None → ⊥
+    some_none : (a : Option ValueType) → Some a ≡ None → ⊥
     some_none a e = absurd cc
 still_record rs _ _ q (fresh k b a h) e = ⊎_elim (λ t. absurd (some_none a (sym (set_some q k a rs t) ∙ e))) (λ f. sym (set_same q k a rs f) ∙ e) (cases_Bool (q == k))
   where
-    some_none : (a : Option ℕ) → Some a ≡ None → ⊥
+    some_none : (a : Option ValueType) → Some a ≡ None → ⊥
     some_none a e = absurd cc
 
 rising_by : (rs : Records) (w : Change) → Rising rs → Rising (records_by w rs)
@@ -151,7 +151,7 @@ same_by : (p : Part) (locks more : Locks) (rs ts : Records) (u : TxId) (q : ℕ)
 same_by p locks more rs ts u q (Some x) e f key gap h = subst (λ o. holds_by p more ts u q o ≡ true) (sym f) (key (subst (λ o. holds_by p locks rs u q o ≡ true) e h))
 same_by p locks more rs ts u q None e f key gap h = subst (λ o. holds_by p more ts u q o ≡ true) (sym f) (gap refl (subst (λ o. holds_by p locks rs u q o ≡ true) e h))
 
-moved_there : (k : ℕ) (a x : Option ℕ) (p : Part) (locks : Locks) (rs : Records) (u : TxId) (q : ℕ) → Rising rs → record_at k rs ≡ Some x → holds_at p locks rs u q ≡ true → holds_at p locks (record_set k a rs) u q ≡ true
+moved_there : (k : ℕ) (a x : Option ValueType) (p : Part) (locks : Locks) (rs : Records) (u : TxId) (q : ℕ) → Rising rs → record_at k rs ≡ Some x → holds_at p locks rs u q ≡ true → holds_at p locks (record_set k a rs) u q ≡ true
 moved_there k a x p locks rs u q h e held =
     ⊎_elim
     (λ t. let same : q ≡ k = eqb-true q k t in
@@ -159,7 +159,7 @@ moved_there k a x p locks rs u q h e held =
     (λ f. same_by p locks locks rs (record_set k a rs) u q (record_at q rs) refl (set_same q k a rs f) (λ i. i) (λ none i. subst (λ b. holds false p b u locks ≡ true) (sym (anchor_present q k a x Low rs h e)) i) held)
     (cases_Bool (q == k))
 
-moved_fresh : (tx : TxId) (birth : Birth) (k : ℕ) (a : Option ℕ) (p : Part) (locks : Locks) (rs : Records) (u : TxId) (q : ℕ) → Rising rs → record_at k rs ≡ None → least S p ≡ true → (Some k ≡ Some q → u ≡ tx)
+moved_fresh : (tx : TxId) (birth : Birth) (k : ℕ) (a : Option ValueType) (p : Part) (locks : Locks) (rs : Records) (u : TxId) (q : ℕ) → Rising rs → record_at k rs ≡ None → least S p ≡ true → (Some k ≡ Some q → u ≡ tx)
     → holds_at p locks rs u q ≡ true → holds_at p (inserted_locks tx birth rs (Some k) locks) (record_set k a rs) u q ≡ true
 moved_fresh tx birth k a p locks rs u q h none least_p own held =
     ⊎_elim
@@ -483,7 +483,7 @@ module _ (g : Past) (v : View) (tx : TxId) (birth : Birth) (op : Op) (k : Kept g
         λ none. c.1 (still_record v.records change ins w.key (writing op v.records) none),
       )) (standing v.log) k.wrote
 
-      some_none : (a : Option ℕ) → Some a ≡ None → ⊥
+      some_none : (a : Option ValueType) → Some a ≡ None → ⊥
       some_none a e = absurd cc
 
       here : (q : ℕ) → is_write_at change q ≡ true → (holds true X (At q) tx locks_after ≡ true) × (record_at q (records_by change v.records) ≡ None → ⊥)

@@ -231,7 +231,7 @@ keeps_flight g v n k le =
 
 -- ---- a purge
 
-kept_live : (locks : Locks) (k : ℕ) → is_free (At k) locks ≡ false → (v : Option ℕ) → is_locked_or_live locks (k, v) ≡ true
+kept_live : (locks : Locks) (k : ℕ) → is_free (At k) locks ≡ false → (v : Option ValueType) → is_locked_or_live locks (k, v) ≡ true
 kept_live locks k e (Some v) = refl
 kept_live locks k e None = ap not e
 
@@ -247,7 +247,7 @@ value_purged locks k (r ∷ rs) h =
     same true e = refl
     same false e = e
 
-    dropped : (x : Option ℕ) → is_locked_or_live locks (r.0, x) ≡ false → (b : Bool) → (b ≡ true → record_at k rs ≡ None) → live_by (record_at k rs) ≡ live_by (cond b (Some x) (record_at k rs))
+    dropped : (x : Option ValueType) → is_locked_or_live locks (r.0, x) ≡ false → (b : Bool) → (b ≡ true → record_at k rs ≡ None) → live_by (record_at k rs) ≡ live_by (cond b (Some x) (record_at k rs))
     dropped (Some v) e b none = absurd (both_ways true e refl)
     dropped None e true none = ap live_by (none refl)
     dropped None e false none = refl

@@ -46,7 +46,7 @@ get_asks k rs (Some None) = one_asks true S (need (At k) (on_key S)) refl
 get_asks k rs (Some (Some v)) = one_asks true S (need (At k) (on_key S)) refl
 get_asks k rs None = one_asks false S (need (lower_anchor k rs) (on_gap S)) refl
 
-put_asks : (p : Part) (k v : ℕ) (rs : Records) (o : Option (Option ValueType)) → least p X ≡ true → asks_by p (needs_by (Put k v) rs (found_by o)) rs k o ≡ true
+put_asks : (p : Part) (k : ℕ) (v : ValueType) (rs : Records) (o : Option (Option ValueType)) → least p X ≡ true → asks_by p (needs_by (Put k v) rs (found_by o)) rs k o ≡ true
 put_asks p k v rs (Some None) h = one_asks true p (need (At k) (on_key X)) h
 put_asks p k v rs (Some (Some w)) h = one_asks true p (need (At k) (on_key X)) h
 put_asks p k v rs None h = one_asks false p (need (lower_anchor k rs) (on_gap X)) h
@@ -69,10 +69,10 @@ both_part : (f : Bool) → least S (part_of f (on_both S)) ≡ true
 both_part true = refl
 both_part false = refl
 
-absent_some : (v : Option ℕ) → ◌≡◌ {A = Option (Option ValueType)} None (Some v) → ⊥
+absent_some : (v : Option ValueType) → ◌≡◌ {A = Option (Option ValueType)} None (Some v) → ⊥
 absent_some v e = absurd cc
 
-scan_record : (f : Bool) (lo hi k : ℕ) (v : Option ℕ) (rs : Records) → (nat_le lo k && nat_le k hi) ≡ true → record_at k rs ≡ Some v → asks f S (At k) (map (λ r. need (At r.0) (on_both S)) (records_between lo hi rs)) ≡ true
+scan_record : (f : Bool) (lo hi k : ℕ) (v : Option ValueType) (rs : Records) → (nat_le lo k && nat_le k hi) ≡ true → record_at k rs ≡ Some v → asks f S (At k) (map (λ r. need (At r.0) (on_both S)) (records_between lo hi rs)) ≡ true
 scan_record f lo hi k v [] within e = absurd (absent_some v e)
 scan_record f lo hi k v (r ∷ rs) within e =
     ⊎_elim
@@ -111,7 +111,7 @@ del_writes j rs (Some (Some v)) e = one_asks true X (need (At j) (on_key X)) ref
 del_writes j rs (Some None) e = absurd (both_ways false refl e)
 del_writes j rs None e = absurd (both_ways false refl e)
 
-written_key : (o : Op) (b : Option ℕ) (k : ℕ) → is_write_at (writes_of o b) k ≡ true → k ≡ key_of o
+written_key : (o : Op) (b : Option ValueType) (k : ℕ) → is_write_at (writes_of o b) k ≡ true → k ≡ key_of o
 written_key (Get j) b k e = absurd (both_ways false refl e)
 written_key (Put j v) b k e = eqb-true k j e
 written_key (Del j) (Some v) k e = eqb-true k j e

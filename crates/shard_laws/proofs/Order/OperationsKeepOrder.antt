@@ -21,7 +21,9 @@ use Rattle.clv_base.specs.Orders.{Table, tx_same, tx_in, tx_get}
 use Rattle.clv_base.specs.State.{is_present}
 use Rattle.clv_base.specs.Locks.{Locks, decide, violated, take_all}
 use Rattle.clv_base.specs.Logs.{StandingUpdate, standing, committed_in, prepared_in, aborted_in, wrote_in, newest_at, value_in, is_update_of, is_abort_of}
-use Rattle.clv_base.specs.LogRules.{may_follow, same_option, may_cover, before_restart}
+use Rattle.clv_base.specs.Values.{same_optional_value}
+use Rattle.clv_base.specs.LogRules.{may_follow, may_cover, before_restart}
+use Rattle.law_base.proofs.Options.{optional_value_self}
 use Rattle.clv_base.specs.Needs.{needs_of, found_at, value_at, key_of, inserts, writes_of}
 use Rattle.clv_base.specs.OneShard.{new_part, add_pairs, inserted_locks}
 use Rattle.clv_base.proofs.SameNames.{or_left, or_right, tx_true, tx_self, tx_eq, tx_ne, cases_tx}
@@ -49,7 +51,7 @@ use Rattle.law_base.proofs.Names.{MayStand}
 
 -- ---- an UPDATE of an active part
 
-pub ordered_update : (shard run : ℕ) (parts : Table Held) (pairs : List (TxId × TxId)) (log : List LogRecord) (t : TxId) (key : ℕ) (before after : Option ℕ) → Ordered shard run parts pairs log → may_follow shard log (Update t key before after) ≡ true
+pub ordered_update : (shard run : ℕ) (parts : Table Held) (pairs : List (TxId × TxId)) (log : List LogRecord) (t : TxId) (key : ℕ) (before after : Option ValueType) → Ordered shard run parts pairs log → may_follow shard log (Update t key before after) ≡ true
     → stage_in parts t ≡ Some Active → Ordered shard run parts pairs (log ++ Update t key before after ∷ [])
 ordered_update shard run parts pairs log t key before after o m act = record {
   follows = follows_append shard [] log (Update t key before after ∷ []) o.follows (m, tt);
@@ -101,7 +103,7 @@ ordered_new shard run parts parts2 pairs log t vs o own same was run_is unwritte
 
 -- ---- what an operation writes
 
-change_is : (op : Op) (b : Option ℕ) (w : ℕ × Option ValueType × Option ValueType) → writes_of op b ≡ Some w → (w.0 ≡ key_of op) × (w.1 ≡ b) × ((is_some w.1 || is_some w.2) ≡ true)
+change_is : (op : Op) (b : Option ValueType) (w : ℕ × Option ValueType × Option ValueType) → writes_of op b ≡ Some w → (w.0 ≡ key_of op) × (w.1 ≡ b) × ((is_some w.1 || is_some w.2) ≡ true)
 change_is (Get k) b w e = absurd cc
 change_is (Put k v) b w e = subst (λ z. (z.0 ≡ k) × (z.1 ≡ b) × ((is_some z.1 || is_some z.2) ≡ true)) (same (k, b, Some v) w e) (refl, refl, or_right (is_some b) _ refl)
   where
@@ -114,9 +116,8 @@ change_is (Del k) (Some x) w e = subst (λ z. (z.0 ≡ k) × (z.1 ≡ Some x) ×
     same x w e = cc
 change_is (Scan lo hi) b w e = absurd cc
 
-same_self : (a b : Option ℕ) → a ≡ b → same_option a b ≡ true
-same_self None b e = subst (λ z. same_option None z ≡ true) e refl
-same_self (Some n) b e = subst (λ z. same_option (Some n) z ≡ true) e (eq-eqb n n refl)
+same_self : (a b : Option ValueType) → a ≡ b → same_optional_value a b ≡ true
+same_self a b e = subst (λ z. same_optional_value a z ≡ true) e (optional_value_self a)
 
 -- the newest write at a key
 newest_holds : (P : StandingUpdate → Type 0) (k : ℕ) (ws : List StandingUpdate) (w : StandingUpdate) → AllByRecursion P ws → newest_at k ws ≡ Some w → P w × (k ≡ w.key)
