@@ -9,6 +9,7 @@ ghost use Rattle.clv_base.specs.Sessions.{SessionState, begun as begun_after, to
 ghost use Rattle.cluster_turns.specs.Stages.{phase_of};
 
 use clv_base::events::Event;
+use clv_base::kept::KeptOp;
 use clv_base::lists::Touched;
 use clv_base::names::{Birth, TxId};
 use clv_base::ops::Op;
@@ -115,7 +116,7 @@ impl Place {
             birth: self.birth,
             nth,
             seen: self.seen(shard),
-            op: op.copy(),
+            op: KeptOp::new(op.copy()),
         }
     }
 

@@ -1,8 +1,9 @@
-// A value that may be none, at rest.
+// Values and operations at rest.
 ghost use Rattle.std.specs.Prelude.{◌≡◌, ⊤, Some};
 ghost use Rattle.clv_base.specs.Needs.{found_by};
 
 use crate::modes::Found;
+use crate::ops::Op;
 use crate::texts::ByteText;
 use crate::values::Value;
 use std::alloc::AllocError;
@@ -77,3 +78,62 @@ impl Clone for Kept {
         Ok(Kept::new(self.value()))
     }
 }
+
+// The kind of what a Put puts is told by the word that tells the operation.
+#[derive(Drop)]
+enum HeldOp {
+    Get(u64),
+    PutNum(u64, u64),
+    PutBytes(u64, ByteText),
+    Del(u64),
+    Scan(u64, u64),
+}
+
+/// An operation, in the room of two numbers and its kind.
+#[derive(Drop)]
+pub struct KeptOp {
+    held: HeldOp,
+}
+
+impl Model for KeptOp {
+    ghost use Rattle.clv_base.specs.declared.ops.Op.{Op as OpType};
+
+    ghost Value = { OpType };
+
+    ghost use Rattle.clv_base.specs.Kept.{op_of};
+
+    ghost view = { λ k. op_of k.held };
+}
+
+impl KeptOp {
+    /// What keeps it. Takes no memory.
+    pub fn new(op: Op) -> KeptOp
+        ensures { result ≡ op }
+    {
+        let held = match op {
+            Op::Get(key) => HeldOp::Get(key),
+            Op::Put(key, Value::Num(number)) => HeldOp::PutNum(key, number),
+            Op::Put(key, Value::Bytes(text)) => HeldOp::PutBytes(key, text),
+            Op::Del(key) => HeldOp::Del(key),
+            Op::Scan(low, high) => HeldOp::Scan(low, high),
+        };
+        KeptOp { held }
+    }
+
+    /// The operation, once more. Takes no memory.
+    pub fn op(&self) -> Op
+        ensures { result ≡ self.now }
+    {
+        match &self.held {
+            HeldOp::Get(key) => Op::Get(*key),
+            HeldOp::PutNum(key, number) => Op::Put(*key, Value::Num(*number)),
+            HeldOp::PutBytes(key, text) => Op::Put(*key, Value::Bytes(text.copy())),
+            HeldOp::Del(key) => Op::Del(*key),
+            HeldOp::Scan(low, high) => Op::Scan(*low, *high),
+        }
+    }
+}
+
+const _: () = prove!(size_of::<Kept>() == 16);
+
+const _: () = prove!(size_of::<KeptOp>() == 24);

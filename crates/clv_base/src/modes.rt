@@ -55,7 +55,7 @@ pub enum Decision {
 }
 
 /// What stands at a key.
-#[derive(Drop)]
+#[derive(PartialEq, Eq, Drop)]
 pub enum Found {
     /// A record with this value.
     Live(Value),

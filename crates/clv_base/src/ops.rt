@@ -7,7 +7,7 @@ use crate::values::Value;
 use std::alloc::AllocError;
 
 /// An operation: read a key; put a value at a key; delete a key; read all pairs between two keys, both in.
-#[derive(Drop)]
+#[derive(PartialEq, Eq, Drop)]
 pub enum Op {
     Get(u64),
     Put(u64, Value),

@@ -1,13 +1,23 @@
 // What a key may hold: a number, or a short text of bytes.
 
-ghost use Rattle.std.specs.Prelude.{◌≡◌, ◌==◌, true, ⊤};
+ghost use Rattle.std.specs.Prelude.{◌≡◌, ◌==◌, ◌≤◌, true, ⊤, length};
+ghost use Rattle.clv_base.specs.declared.values.Value.{Value as ValueType};
 ghost use Rattle.clv_base.specs.Values.{same_list, same_value, same_optional_value, fits_value};
 
 use crate::texts::ByteText;
 use std::alloc::AllocError;
 
+fn number_fits(number: u64)
+    ensures { fits_value (ValueType.Num number) ≡ true }
+{}
+
+fn bytes_fit(bytes: &[u8])
+    requires { length bytes.now ≤ 200 }
+    ensures { fits_value (ValueType.Bytes bytes.now) ≡ true }
+{}
+
 /// A value of the store.
-#[derive(Drop)]
+#[derive(PartialEq, Eq, Drop)]
 pub enum Value {
     /// A number.
     Num(u64),
@@ -31,10 +41,8 @@ impl Value {
         ensures { fits_value self.now ≡ true }
     {
         match self {
-            Value::Num(_) => {}
-            Value::Bytes(text) => {
-                let _bytes = text.as_slice();
-            }
+            Value::Num(number) => number_fits(*number),
+            Value::Bytes(text) => bytes_fit(text.as_slice()),
         }
     }
 

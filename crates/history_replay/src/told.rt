@@ -18,7 +18,7 @@ fn op_by(entry: &Entry) -> Option<(TxId, Op)>
     ensures { result ≡ which_op entry.now.event entry.now.outcome }
 {
     match (&entry.event, &entry.outcome) {
-        (Event::Op { tx, op, .. }, Outcome::Answered { .. }) => Some((*tx, op.copy())),
+        (Event::Op { tx, op, .. }, Outcome::Answered { .. }) => Some((*tx, op.op())),
         _ => None,
     }
 }

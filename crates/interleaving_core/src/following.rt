@@ -90,7 +90,7 @@ impl Session {
                 nth,
                 seen: _,
                 op,
-            } => self.follow_op(shard, *tx, *birth, *nth, op, outcome),
+            } => self.follow_op(shard, *tx, *birth, *nth, &op.op(), outcome),
             Event::Request { .. } if last.serial != 0 => self.follow_request(shard, outcome),
             Event::Look { .. } if last.serial != 0 => self.follow_look(outcome),
             Event::Drop { .. } => self.follow_drop(),

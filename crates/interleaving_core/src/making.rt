@@ -193,7 +193,7 @@ impl Session {
                 nth,
                 seen,
                 op,
-            } => Ok(self.may_op(splits, shard, *tx, *birth, *nth, *seen, op)),
+            } => Ok(self.may_op(splits, shard, *tx, *birth, *nth, *seen, &op.op())),
             Event::Request { tx, parts } => self.may_request(alloc, shard, *tx, parts),
             Event::Look { tx } => Ok(self.may_look(shard, *tx)),
             Event::Drop { tx } => Ok(self.may_be_dropped(*tx)),

@@ -10,6 +10,7 @@ ghost use Rattle.crash_laws.specs.Fronts.{FrontsFit, LandsBy};
 ghost use Rattle.crash_laws.specs.Moves.{Moves};
 ghost use Rattle.interleaving_core.specs.Making.{MakesEntry};
 
+use clv_base::kept::KeptOp;
 use crate::{ListGate, Seat, flush_in, flush_out, restart, step};
 use clv_base::events::{CoreStep, Entry, Event, Outcome};
 use machine_calls::{Flier, Machine, Restarter};
@@ -30,7 +31,7 @@ fn copy_event(event: &Event) -> Result<Event, AllocError>
             birth: *birth,
             nth: *nth,
             seen: *seen,
-            op: op.copy(),
+            op: KeptOp::new(op.op()),
         },
         Event::Request { tx, parts } => Event::Request {
             tx: *tx,

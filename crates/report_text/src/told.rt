@@ -71,7 +71,7 @@ fn told_of(entry: &Entry) -> Result<Option<(TxId, Told)>, Memory>
         (Event::Op { tx, nth, op, .. }, Outcome::Answered { answer, .. }) => {
             let told = Told {
                 nth: *nth,
-                op: op.copy(),
+                op: op.op(),
                 answer: copy_of(answer)?,
             };
             Ok(Some((*tx, told)))

@@ -77,7 +77,7 @@ fn first_op(stage: &Stage, left: &[Action]) -> Option<Op>
 {
     match stage {
         Stage::AtLine => match left.split_first() {
-            Some((Action::Do(op), _)) => Some(op.copy()),
+            Some((Action::Do(op), _)) => Some(op.op()),
             Some((Action::Move { from, .. }, _)) => Some(Op::Get(*from)),
             None => None,
         },

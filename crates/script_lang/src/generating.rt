@@ -5,6 +5,7 @@ ghost use Rattle.script_lang.specs.Grammar.{body};
 ghost use Rattle.script_lang.specs.declared.actions.Ending.TheVariants as endings;
 ghost use Rattle.script_lang.specs.Loads.{fill, next_state, transfer, transfers as transfers_from, session as session_of, load};
 
+use clv_base::kept::KeptOp;
 use clv_base::values::Value;
 use crate::numbers::Numbers;
 use crate::{Action, Ending, Memory, Script, Session, Transaction};
@@ -19,7 +20,7 @@ fn filling(alloc: Global, accounts: u64) -> Result<Transaction, Memory>
 {
     let mut actions = Vec::new(alloc);
     for account in 0..accounts {
-        actions.push(Action::Do(Op::Put(account, Value::Num(FIRST_VALUE))))?;
+        actions.push(Action::Do(KeptOp::new(Op::Put(account, Value::Num(FIRST_VALUE)))))?;
     }
     Ok(Transaction::new(actions, Ending::Commit))
 }

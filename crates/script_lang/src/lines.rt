@@ -7,6 +7,7 @@ ghost use Rattle.script_lang.specs.declared.lines.Verb.{Verb as AVerb};
 ghost use Rattle.script_lang.specs.Reading.{Lacks, verb_text};
 ghost use Rattle.script_lang.specs.Grammar.{IsNumber, IsComment, AreTwo, AreThree, HasOperands, IsText, AreKeyAndText, has_no_upper, IsAction, IsEnding, IsLine, name_of, is_ascii};
 
+use clv_base::kept::KeptOp;
 use crate::actions::{Action, Ending};
 use clv_base::ops::Op;
 use clv_base::texts::ByteText;
@@ -209,19 +210,19 @@ fn with_numbers(verb: Verb, words: &[u8]) -> Option<Action>
 {
     match verb {
         Verb::Get => match number_of(words) {
-            Some(key) => Some(Action::Do(Op::Get(key))),
+            Some(key) => Some(Action::Do(KeptOp::new(Op::Get(key)))),
             None => None,
         },
         Verb::Put => match two_numbers(words) {
-            Some((key, value)) => Some(Action::Do(Op::Put(key, Value::Num(value)))),
+            Some((key, value)) => Some(Action::Do(KeptOp::new(Op::Put(key, Value::Num(value))))),
             None => None,
         },
         Verb::Del => match number_of(words) {
-            Some(key) => Some(Action::Do(Op::Del(key))),
+            Some(key) => Some(Action::Do(KeptOp::new(Op::Del(key)))),
             None => None,
         },
         Verb::Scan => match scan_of(words) {
-            Some(op) => Some(Action::Do(op)),
+            Some(op) => Some(Action::Do(KeptOp::new(op))),
             None => None,
         },
         Verb::Move => move_of(words),
@@ -235,7 +236,7 @@ fn with_operands(alloc: Global, verb: Verb, words: &[u8]) -> Result<Option<Actio
 {
     match verb {
         Verb::Bytes => match bytes_of(alloc, words)? {
-            Some(op) => Ok(Some(Action::Do(op))),
+            Some(op) => Ok(Some(Action::Do(KeptOp::new(op)))),
             None => Ok(None),
         },
         other => Ok(with_numbers(other, words)),

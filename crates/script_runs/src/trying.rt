@@ -11,6 +11,7 @@ ghost use Rattle.script_runs.specs.Tried.{OnStop, OnRefusal};
 ghost use Rattle.script_runs.specs.Lines.{LinesTold};
 ghost use Rattle.script_runs.specs.Keeping.{TouchedBy, is_asked as is_asked_in, AddsRows, row_told, CommitKept, EndMade, TriedKept};
 
+use clv_base::kept::KeptOp;
 use crate::calls::{SessionCalls, Stage};
 use crate::fates::{Fate, fate_of};
 use crate::{StopCause, TryEnd};
@@ -45,7 +46,7 @@ fn do_lines<R: Wait, C: SessionCalls>(
         match session.operate(alloc, &op) {
             Ok(answer) => {
                 following.answered(&answer);
-                if done.push((op, answer)).is_err() {
+                if done.push((KeptOp::new(op), answer)).is_err() {
                     session.tell_lack();
                     return Err(TryEnd::Stopped(StopCause::Memory));
                 }

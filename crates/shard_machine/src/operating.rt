@@ -8,6 +8,7 @@ ghost use Rattle.clv_base.specs.Undo.{stage_of};
 ghost use Rattle.machine_calls.specs.Steps.{Tells};
 ghost use Rattle.machine_laws.specs.Undropped.{new_part_by};
 
+use clv_base::kept::KeptOp;
 use crate::machine::ShardMachine;
 use crate::stamps::{enter, place};
 use crate::{Happened, operate};
@@ -70,7 +71,7 @@ impl<S: Store + Drop, L: Locks + Drop, G: Gate> ShardMachine<S, L, G> {
                     birth,
                     nth,
                     seen,
-                    op,
+                    op: KeptOp::new(op),
                 };
                 enter(&mut self.journal, stamp, walker, event, copy);
                 self.last = stamp;

@@ -31,7 +31,7 @@ pub length-optional : (o : Option Value) → length (optional o) ≡ optional_si
 unfolding optional
 length-optional None = refl
 length-optional (Some (Num n)) = omega (arith, length-number 8 n)
-length-optional (Some (Bytes bytes)) = refl
+length-optional (Some (Bytes bytes)) = omega arith
 
 pub length-undo_next : (o : Option ℕ) → length (undo_next o) ≡ 8
 unfolding undo_next
