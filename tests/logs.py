@@ -4,6 +4,7 @@ Written from docs/FORMAT.md and the rules of logs in docs/PROTOCOL.md, it shares
 A record is a tuple of its kind and its fields, as docs/FORMAT.md has them, with None for none; a transaction is (run, session, serial).
 """
 
+import json
 import struct
 
 BEYOND = 1 << 64
@@ -404,6 +405,11 @@ def last_run(logs):
     return max([run for facts in logs for run, _ in facts.restarts], default=0)
 
 
+def told(value):
+    """A value as reports tell it: a text as its digits."""
+    return value.hex() if isinstance(value, bytes) else value
+
+
 def stands(logs):
     """The map that logs stand for: what the committed transactions wrote."""
     done, pairs = {it for facts in logs for it in facts.committed}, {}
@@ -411,7 +417,7 @@ def stands(logs):
         for record in facts.records:
             if record[0] == "UPDATE" and record[1] in done:
                 pairs[record[2]] = record[4]
-    return {key: value for key, value in pairs.items() if value is not None}
+    return {key: told(value) for key, value in pairs.items() if value is not None}
 
 
 def map_of(files):
@@ -420,4 +426,4 @@ def map_of(files):
 
 def shown(pairs):
     """What `show` writes of a map."""
-    return "".join(f"[{key},{pairs[key]}]\n" for key in sorted(pairs))
+    return "".join(f"[{key},{json.dumps(pairs[key])}]\n" for key in sorted(pairs))

@@ -1,8 +1,8 @@
 -- The grammar of scripts: lines, what each means, and where it may stand.
-use Rattle.std.specs.Prelude.{◌≡◌, ◌≢◌, ◌⊎◌, ℕ, suc, ◌<◌, ◌≤◌, ◌^◌, Bool, true, ◌||◌, ◌==◌, nat_lt, cond, List, [], ◌∷◌, ◌++◌, length, codes, slice_index, Option, Some, None}
+use Rattle.std.specs.Prelude.{◌≡◌, ◌≢◌, ◌⊎◌, ℕ, suc, ◌<◌, ◌≤◌, ◌^◌, Bool, true, ◌||◌, ◌==◌, nat_lt, cond, List, [], ◌∷◌, ◌++◌, length, codes, slice_index, Option, Some, None, Ok}
 use Rattle.std.specs.List.{list_all}
 use Rattle.std.specs.Str.Parse.{IsNumeral, digits_value}
-use Rattle.hex.specs.Hex.{encode_lower}
+use Rattle.hex.specs.Hex.{decode_of}
 use Rattle.clv_base.specs.declared.values.Value.TheVariants.{Num, Bytes}
 use Rattle.clv_base.specs.declared.ops.Op.TheVariants.{Get, Put, Del, Scan}
 use Rattle.script_lang.specs.Bodies.{Action, Ending, Body}
@@ -48,9 +48,14 @@ AreThree text k m n = (first others : List ℕ) × (text ≡ first ++ 32 ∷ oth
 abbrev pub has_no_upper : List ℕ → Bool
 has_no_upper word = list_all (λ b. nat_lt b 65 || nat_lt 70 b) word
 
+pub record AreDigits (word bytes : List ℕ) : Type 0 where
+  pub some : 0 < length word
+  pub few : length word ≤ 400
+  pub lower : has_no_upper word ≡ true
+  pub decodes : decode_of word ≡ Ok bytes
+
 abbrev pub IsText : List ℕ → List ℕ → Type 0
-IsText word [] = word ≡ codes "-"
-IsText word (b ∷ bytes) = (word ≡ encode_lower (b ∷ bytes)) × (length bytes < 200) × (list_all (λ c. nat_lt c 256) (b ∷ bytes) ≡ true)
+IsText word bytes = ((word ≡ codes "-") × (bytes ≡ [])) ⊎ AreDigits word bytes
 
 abbrev pub AreKeyAndText : List ℕ → ℕ → List ℕ → Type 0
 AreKeyAndText text k bytes = (first second : List ℕ) × (text ≡ first ++ 32 ∷ second) × IsNumber first k × IsText second bytes
