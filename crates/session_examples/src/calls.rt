@@ -26,6 +26,27 @@ pub enum Call {
     Abort,
 }
 
+impl Call {
+    /// The same call once more. Takes no memory.
+    pub fn copy(&self) -> Call
+        ensures { result ≡ self.now }
+    {
+        match self {
+            Call::Begin => Call::Begin,
+            Call::Retry => Call::Retry,
+            Call::Get { key } => Call::Get { key: *key },
+            Call::Put { key, value } => Call::Put {
+                key: *key,
+                value: value.copy(),
+            },
+            Call::Del { key } => Call::Del { key: *key },
+            Call::Scan { lo, hi } => Call::Scan { lo: *lo, hi: *hi },
+            Call::Commit => Call::Commit,
+            Call::Abort => Call::Abort,
+        }
+    }
+}
+
 /// What a call was answered.
 #[derive(Drop)]
 pub enum Said {

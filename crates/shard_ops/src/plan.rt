@@ -23,7 +23,7 @@ pub struct Insert {
 }
 
 /// A key that is written, with its value before and after.
-#[derive(Drop)]
+#[derive(PartialEq, Eq, Drop)]
 pub struct Write {
     pub key: u64,
     pub before: Option<Value>,
