@@ -76,9 +76,7 @@ pub(crate) fn cut_off(block: &mut Block, mut spare: Vec<Row>) -> Block
     ensures sizes { (vec_len block.new.rows ≡ 33) × (vec_len result.rows ≡ 32) }
     ensures room { (vec_capacity block.new.rows ≡ vec_capacity block.old.rows) × (65 ≤ vec_capacity result.rows) }
 {
-    let Ok(()) = spare.extend_from_slice(&block.rows[LOWER..]) else {
-        unreachable!()
-    };
+    rows::copy_to(&mut spare, &block.rows[LOWER..]);
     block.rows.truncate(LOWER);
     Block {
         fence: least(&spare),
