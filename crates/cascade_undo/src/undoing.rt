@@ -8,11 +8,11 @@ ghost use Rattle.clv_base.specs.Undo.{records_without, clrs_of, newest_lsn};
 ghost use Rattle.clv_base.specs.Needs.{found_at, is_there, record_set};
 ghost use Rattle.cascade_undo.specs.Writes.{writes_of, HaveRecords};
 
-use clv_base::values::{Value, copy_of};
 use crate::compensating::append_clr;
 use crate::write::{Write, newest_write};
 use clv_base::logs::LogRecord;
 use clv_base::names::TxId;
+use clv_base::values::{Value, copy_of};
 use log_buffer::LogBuffer;
 use ordered_store::Store;
 

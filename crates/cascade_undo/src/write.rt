@@ -5,10 +5,10 @@ ghost use Rattle.clv_base.specs.Orders.{tx_cmp};
 ghost use Rattle.clv_base.specs.Logs.{standing};
 ghost use Rattle.cascade_undo.specs.Steps.{newest_in, AreBelow, IsNewestIn, write_in};
 
-use clv_base::values::{Value, copy_of};
 use crate::marks::{contains, greatest_lsn};
 use clv_base::logs::LogRecord;
 use clv_base::names::TxId;
+use clv_base::values::{Value, copy_of};
 use log_buffer::LogBuffer;
 
 /// An UPDATE at its LSN: the transaction, the key, and its value before.

@@ -16,12 +16,12 @@ ghost use Rattle.clv_commands.specs.Sinks.{line_of, Took, TookPairs};
 ghost use Rattle.clv_commands.specs.Causes.{BreaksLogs, CountsSink, CountsDisks};
 ghost use Rattle.clv_commands.specs.Runs.{EndsAs, HasLoaded, Opened};
 
-use clv_base::values::Value;
 use crate::ended::Ended;
 use crate::sums::{loads_keep_their_sum, loads_sum_from_nothing};
 use cluster_opening::OpenError;
 use cluster_runs::replay::runs_replay;
 use cluster_runs::{Ran, Start, run_script};
+use clv_base::values::Value;
 use command_line::{Status, after_text};
 use history_replay::{History, KeyMap, Memory, replayed};
 use io_model::{House, Pace, Sink, write_all};

@@ -19,7 +19,11 @@ fn value_at(pairs: &BTreeMap<u64, Value>, key: u64) -> Option<Value>
     pairs.get(&key).map(|value| value.copy())
 }
 
-fn put_at(pairs: &mut BTreeMap<u64, Value>, key: u64, value: Value) -> Result<Option<Value>, AllocError>
+fn put_at(
+    pairs: &mut BTreeMap<u64, Value>,
+    key: u64,
+    value: Value,
+) -> Result<Option<Value>, AllocError>
     ensures before { IfOk result (λ before. before ≡ map_get key pairs.old.entries) }
     ensures set { OnOk result (pairs.new.entries ≡ map_set key (Some value) pairs.old.entries) }
     ensures err { OnErr result (pairs.new.entries ≡ pairs.old.entries) }
@@ -122,7 +126,12 @@ impl KeyMap {
     }
 
     /// The pairs from a key to another, both in, by rising keys.
-    pub fn between(&self, alloc: Global, low: u64, high: u64) -> Result<Vec<(u64, Value)>, AllocError>
+    pub fn between(
+        &self,
+        alloc: Global,
+        low: u64,
+        high: u64,
+    ) -> Result<Vec<(u64, Value)>, AllocError>
         ensures { IfOk result (λ pairs. pairs.items ≡ map_between low high self.now) }
     {
         pairs_between(alloc, &self.pairs, low, high)

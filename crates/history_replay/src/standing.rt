@@ -6,10 +6,10 @@ ghost use Rattle.clv_base.specs.Logs.{committed_in, committed_somewhere, fold_up
 ghost use Rattle.clv_base.specs.Maps.{map_set};
 ghost use Rattle.history_replay.specs.Transactions.{has_member};
 
-use clv_base::values::Value;
 use crate::transactions::TxSet;
 use crate::{KeyMap, Memory};
 use clv_base::logs::LogRecord;
+use clv_base::values::Value;
 use std::alloc::Global;
 
 // The transactions with a COMMIT in this log join the set.

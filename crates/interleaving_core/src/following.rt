@@ -38,7 +38,15 @@ impl Session {
         }
     }
 
-    fn follow_op(&mut self, shard: u32, tx: TxId, birth: Birth, nth: u64, op: &Op, outcome: &Outcome)
+    fn follow_op(
+        &mut self,
+        shard: u32,
+        tx: TxId,
+        birth: Birth,
+        nth: u64,
+        op: &Op,
+        outcome: &Outcome,
+    )
         requires { shard < 16 }
         ensures { (splits : List ℕ) (seen : _) (t : SessionState) → op_in_session splits shard nth seen op.now outcome.now (session_for self.old tx birth) ≡ Some t → self.new ≡ t }
     {

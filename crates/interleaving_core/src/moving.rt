@@ -10,9 +10,9 @@ ghost use Rattle.crash_laws.specs.Fronts.{FrontsFit, LandsBy};
 ghost use Rattle.crash_laws.specs.Moves.{Moves};
 ghost use Rattle.interleaving_core.specs.Making.{MakesEntry};
 
-use clv_base::kept::KeptOp;
 use crate::{ListGate, Seat, flush_in, flush_out, restart, step};
 use clv_base::events::{CoreStep, Entry, Event, Outcome};
+use clv_base::kept::KeptOp;
 use machine_calls::{Flier, Machine, Restarter};
 use std::alloc::{AllocError, Global};
 

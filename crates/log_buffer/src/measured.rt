@@ -54,9 +54,7 @@ impl Measured for LogRecord {
 
     fn size(&self) -> usize {
         match self {
-            LogRecord::Update { before, after, .. } => 25
-                + value_size(before)
-                + value_size(after),
+            LogRecord::Update { before, after, .. } => 25 + value_size(before) + value_size(after),
             LogRecord::Clr { after, .. } => 33 + value_size(after),
             LogRecord::Prepare { predecessors, .. } => 25 + 16 * predecessors.as_slice().len(),
             LogRecord::Commit { parts, .. } => 21 + 4 * parts.as_slice().len(),

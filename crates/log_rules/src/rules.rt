@@ -4,12 +4,12 @@ ghost use Rattle.std.specs.Prelude.{◌≡◌};
 ghost use Rattle.clv_base.specs.Orders.{nat_in};
 ghost use Rattle.log_rules.specs.Rules.{is_above as is_above_last, is_last_run as is_of_last_run, is_before as comes_before, is_since as comes_since, value_of as value_left, is_own_or_one_of};
 
-use clv_base::values::{Value, are_same, copy_of};
 use crate::Memory;
 use crate::index::Index;
 use crate::writes::Write;
 use clv_base::logs::LogRecord;
 use clv_base::names::TxId;
+use clv_base::values::{Value, are_same, copy_of};
 use log_analysis::TxSet;
 use log_analysis::facts::TxFacts;
 use log_analysis::lists::{home_at, listed_at, parts_at};
@@ -177,7 +177,13 @@ impl<'a> Index<'a> {
         is_above(run, epoch, self.last) && self.barring.is_empty()
     }
 
-    fn takes_update(&self, tx: TxId, key: u64, before: &Option<Value>, after: &Option<Value>) -> bool
+    fn takes_update(
+        &self,
+        tx: TxId,
+        key: u64,
+        before: &Option<Value>,
+        after: &Option<Value>,
+    ) -> bool
         ensures { result ≡ update_fits self.now tx key before.now after.now }
     {
         let top = self.writes.at(self.writes.top(key));

@@ -9,8 +9,8 @@ ghost use Rattle.session_books.specs.Parts.{pairs_of as pairs_in, parts_of, uppe
 ghost use Rattle.session_books.specs.Books.{whole, whole_ops};
 ghost use Rattle.report_text.specs.Lines.{line as line_of, num, list as list_of, row as row_of, optional as optional_value, value_data, pair as pair_value, answer as answer_data, operation as operation_value, operations as operations_values, transaction as transaction_value};
 
-use clv_base::kept::KeptOp;
 use crate::Memory;
+use clv_base::kept::KeptOp;
 use clv_base::names::TxId;
 use clv_base::ops::{Answer, Op};
 use clv_base::values::Value as Stored;

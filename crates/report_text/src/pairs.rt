@@ -3,9 +3,9 @@
 ghost use Rattle.std.specs.Prelude.{◌≡◌, IfOk};
 ghost use Rattle.report_text.specs.Report.{pairs_text as text_of_pairs};
 
-use clv_base::values::Value;
 use crate::Memory;
 use crate::lines::{add_line, pair};
+use clv_base::values::Value;
 use std::alloc::Global;
 
 /// A line `[K,V]` for each pair of a map, which come by rising keys, as bytes. Takes time linear in the map.

@@ -6,9 +6,9 @@ ghost use Rattle.script_lang.specs.Bodies.{Action as AnAction};
 ghost use Rattle.script_lang.specs.Following.{all_ops, next_op, puts, value_of as value_in};
 ghost use Rattle.script_lang.specs.Places.{StandsAt, StepsTo, rest_from, after_looks};
 
-use clv_base::values::{Value, copy_of};
 use crate::actions::Action;
 use clv_base::ops::{Answer, Op};
+use clv_base::values::{Value, copy_of};
 
 // What of a move is still to be done.
 #[derive(Drop)]

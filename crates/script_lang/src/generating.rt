@@ -5,11 +5,11 @@ ghost use Rattle.script_lang.specs.Grammar.{body};
 ghost use Rattle.script_lang.specs.declared.actions.Ending.TheVariants as endings;
 ghost use Rattle.script_lang.specs.Loads.{fill, next_state, transfer, transfers as transfers_from, session as session_of, load};
 
-use clv_base::kept::KeptOp;
-use clv_base::values::Value;
 use crate::numbers::Numbers;
 use crate::{Action, Ending, Memory, Script, Session, Transaction};
+use clv_base::kept::KeptOp;
 use clv_base::ops::Op;
+use clv_base::values::Value;
 use std::alloc::Global;
 
 const FIRST_VALUE: u64 = 1000;

@@ -7,8 +7,8 @@ ghost use Rattle.script_lang.specs.declared.lines.Verb.{Verb as AVerb};
 ghost use Rattle.script_lang.specs.Reading.{Lacks, verb_text};
 ghost use Rattle.script_lang.specs.Grammar.{IsNumber, IsComment, AreTwo, AreThree, HasOperands, IsText, AreKeyAndText, has_no_upper, IsAction, IsEnding, IsLine, name_of, is_ascii};
 
-use clv_base::kept::KeptOp;
 use crate::actions::{Action, Ending};
+use clv_base::kept::KeptOp;
 use clv_base::ops::Op;
 use clv_base::texts::ByteText;
 use clv_base::values::Value;

@@ -11,10 +11,10 @@ ghost use Rattle.script_runs.specs.Tried.{OnStop, OnRefusal};
 ghost use Rattle.script_runs.specs.Lines.{LinesTold};
 ghost use Rattle.script_runs.specs.Keeping.{TouchedBy, is_asked as is_asked_in, AddsRows, row_told, CommitKept, EndMade, TriedKept};
 
-use clv_base::kept::KeptOp;
 use crate::calls::{SessionCalls, Stage};
 use crate::fates::{Fate, fate_of};
 use crate::{StopCause, TryEnd};
+use clv_base::kept::KeptOp;
 use clv_base::names::TxId;
 use script_lang::{Action, Ending, Following, Transaction};
 use session_books::books::{Book, Operations, Row};

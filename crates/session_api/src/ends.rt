@@ -10,12 +10,12 @@ ghost use Rattle.session_api.specs.Progresses.{failure_told, answer_told, commit
 ghost use Rattle.session_api.specs.Seeing.{asked_after, op_end, value_end, pairs_end, commit_end, abort_end};
 ghost use Rattle.session_api.specs.Ends.{BeginEnds, RetryEnds};
 
-use clv_base::values::Value;
 use crate::{AbortError, BeginError, CommitError, OpError, RetryError, Settled};
 use cluster_turns::Shards;
 use clv_base::lists::Pairs;
 use clv_base::names::{Point, TxId};
 use clv_base::ops::Answer;
+use clv_base::values::Value;
 use machine_calls::Machine;
 use script_runs::{StopCause, TryEnd};
 

@@ -8,13 +8,13 @@ ghost use Rattle.session_api.specs.declared.progress.Progress.TheVariants.{Activ
 ghost use Rattle.session_api.specs.Progresses.{refusal_of, failure_told, answer_told, after_op};
 ghost use Rattle.session_api.specs.Sessions.{IsSession, PointCalled, PointMade, ScanCalled, RangeCalled, ScanMade};
 
-use clv_base::values::Value;
 use crate::progress::{Progress, after_operation};
 use crate::session::Session;
 use cluster_turns::Place;
 use clv_base::causes::AbortCause;
 use clv_base::lists::Pairs;
 use clv_base::ops::Op;
+use clv_base::values::Value;
 use io_model::{Pace, Step};
 use machine_calls::Flier;
 use session_ops::{OpError as Failure, at_key, scan};

@@ -3,9 +3,9 @@
 ghost use Rattle.std.specs.Prelude.{◌≡◌, ◌<◌, ◌≤◌, ◌+◌, ◌++◌, ◌∷◌, [], OnOk, OnErr};
 ghost use Rattle.session_books.specs.Counts.{nothing_counted};
 
-use clv_base::kept::KeptOp;
 use crate::Memory;
 use crate::counts::Counts;
+use clv_base::kept::KeptOp;
 use clv_base::names::{Point, TxId};
 use clv_base::ops::Answer;
 use std::alloc::Global;

@@ -7,12 +7,12 @@ ghost use Rattle.cluster_turns.specs.Walkers.{IsSameWalker};
 ghost use Rattle.session_ops.specs.Standing.{IsActive};
 ghost use Rattle.session_ops.specs.Parts.{PointTold, StandsUnless, has_died, value_in};
 
-use clv_base::values::Value;
 use crate::OpError;
 use crate::scanned_parts::perform;
 use cluster_turns::{Place, Shards, Walker};
 use clv_base::ops::{Answer, Op};
 use clv_base::splits::Splits;
+use clv_base::values::Value;
 use io_model::Pace;
 use machine_calls::Flier;
 use std::alloc::Global;

@@ -7,13 +7,13 @@ ghost use Rattle.session_ops.specs.Parts.{StandsUnless, has_died};
 ghost use Rattle.session_ops.specs.Scanned.{part_on, IsUnder, IsSameTx, TakesPairs, Stepping, Scanning};
 ghost use Rattle.session_ops.specs.Stepped.{PartTold, PartsTold};
 
-use clv_base::values::Value;
 use crate::OpError;
 use crate::scanned_parts::perform;
 use cluster_turns::{Place, Shards, Walker};
 use clv_base::lists::Pairs;
 use clv_base::ops::{Answer, Op};
 use clv_base::splits::Splits;
+use clv_base::values::Value;
 use io_model::Pace;
 use machine_calls::Flier;
 use std::alloc::Global;

@@ -8,11 +8,11 @@ ghost use Rattle.clv_base.specs.Undo.{stage_of};
 ghost use Rattle.machine_calls.specs.Steps.{Tells};
 ghost use Rattle.machine_laws.specs.Undropped.{new_part_by};
 
-use clv_base::kept::KeptOp;
 use crate::machine::ShardMachine;
 use crate::stamps::{enter, place};
 use crate::{Happened, operate};
 use clv_base::events::{Event, Outcome};
+use clv_base::kept::KeptOp;
 use clv_base::names::{Birth, TxId};
 use clv_base::ops::Op;
 use lock_table::Locks;

@@ -4,12 +4,12 @@ ghost use Rattle.clv_base.specs.declared.values.Value.{Value as ValueType};
 ghost use Rattle.clv_base.specs.Needs.{needs_of, answer_of, live_of, inserts, writes_of};
 ghost use Rattle.shard_ops.specs.Planned.{needed, insert_of, write_of, insert_by, write_by, IsPlanOf};
 
-use clv_base::values::{Value, copy_of};
 use crate::needs::{del_need, get_need, put_need};
 use crate::scan::{pairs_of, scan_needs};
 use clv_base::lists::Pairs;
 use clv_base::modes::{Anchor, Found, Need};
 use clv_base::ops::{Answer, Op};
+use clv_base::values::{Value, copy_of};
 use lock_table::Memory;
 use ordered_store::Store;
 use std::alloc::{AllocError, Global};

@@ -7,9 +7,9 @@ ghost use Rattle.clv_base.specs.Modes.{on_both as both_mode};
 ghost use Rattle.clv_base.specs.Needs.{found_at, need, gap_below as gap_by};
 ghost use Rattle.shard_ops.specs.Planned.{pair_of};
 
-use clv_base::values::Value;
 use crate::needs::{on_both, on_gap};
 use clv_base::modes::{Anchor, Found, Need, Part};
+use clv_base::values::Value;
 use lock_table::Memory;
 use ordered_store::Store;
 use std::alloc::{AllocError, Global};
@@ -74,7 +74,10 @@ fn live_pair(row: &(u64, Found)) -> Option<(u64, Value)>
 }
 
 /// The pairs of the live rows.
-pub(crate) fn pairs_of(alloc: Global, rows: &[(u64, Found)]) -> Result<Vec<(u64, Value)>, AllocError>
+pub(crate) fn pairs_of(
+    alloc: Global,
+    rows: &[(u64, Found)],
+) -> Result<Vec<(u64, Value)>, AllocError>
     ensures { IfOk result (λ pairs. pairs.items ≡ filter_map pair_of rows.now) }
 {
     rows.iter().filter_map(live_pair).collect(alloc)

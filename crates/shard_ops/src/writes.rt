@@ -3,10 +3,10 @@ ghost use Rattle.std.specs.Prelude.{◌≡◌, ◌≤◌, ◌+◌};
 ghost use Rattle.clv_base.specs.Needs.{record_set};
 ghost use Rattle.shard_ops.specs.Effects.{records_after, log_after, record_count, new_at, new_records, CanSet, CanWrite};
 
-use clv_base::values::{Value, copy_of};
 use crate::Write;
 use clv_base::logs::LogRecord;
 use clv_base::names::TxId;
+use clv_base::values::{Value, copy_of};
 use log_buffer::LogBuffer;
 use ordered_store::Store;
 

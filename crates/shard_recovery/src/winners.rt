@@ -8,11 +8,11 @@ ghost use Rattle.clv_base.specs.Restarts.{records_of, with_ghosts};
 ghost use Rattle.log_analysis.specs.Facts.{Knows};
 ghost use Rattle.shard_recovery.specs.Winning.{wins_in, writes_after, records_after};
 
-use clv_base::values::Value;
 use crate::writes::{Write, by_key};
 use clv_base::logs::LogRecord;
 use clv_base::modes::Found;
 use clv_base::names::TxId;
+use clv_base::values::Value;
 use log_analysis::{LogFacts, TxSet};
 use ordered_store::Store;
 use std::alloc::{AllocError, Global};
