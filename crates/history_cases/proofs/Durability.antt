@@ -2,7 +2,6 @@
 use Rattle.std.proofs.Common.{◌≡◌, refl, sym, ap, subst, ◌∙◌, ℕ, suc, ◌+◌, ◌≤◌, true, false, Bool, List, [], ◌∷◌, ◌++◌, Option, Some, None, length, take, ◌-◌, arith, length-append, take-append-drop}
 use Rattle.std.specs.Prelude.{drop, unwrap_or}
 use Rattle.std.proofs.lemmas.List.{take-append-le, take-take, take_all, length-drop}
-use Rattle.clv_base.specs.declared.values.Value.{Value as ValueType}
 use Rattle.clv_base.specs.declared.names.TxId.{TxId}
 use Rattle.clv_base.specs.declared.logs.LogRecord.{LogRecord}
 use Rattle.clv_base.specs.declared.causes.Vote.{Vote}
@@ -148,7 +147,7 @@ fronts_event s t c h g =
     }
 
 -- what a crash leaves begins with what is durable, whatever it keeps
-left_by : (s : Shard) (f : Option ValueType) → Counted s → s.flight ≡ f → IsPrefixOf (log_left s false) (take (unwrap_or f s.durable) s.local.log)
+left_by : (s : Shard) (f : Option ℕ) → Counted s → s.flight ≡ f → IsPrefixOf (log_left s false) (take (unwrap_or f s.durable) s.local.log)
 left_by s None c e = same (log_left s false)
 left_by s (Some n) c e = take_more_of s.durable n s.local.log (c.flying n e).0
 

@@ -10,7 +10,6 @@ use Rattle.law_base.specs.Items.{Item, Runs, after, AllLater, Clash}
 use Rattle.clv_base.proofs.SameNames.{or_left, or_right, tx_true}
 use Rattle.shard_laws.proofs.Keeping.WhatOneShardKeeps.{place}
 use Rattle.std.proofs.lemmas.Bool.{ltb-true}
-use Rattle.clv_base.specs.declared.values.Value.{Value as ValueType}
 use Rattle.clv_base.specs.declared.ops.Op.{Op}
 use Rattle.clv_base.specs.Maps.{op_after, replay_map, replay_answers}
 use Rattle.clv_base.proofs.Grouping.{is_serial_run}
@@ -39,7 +38,7 @@ after_placed ms m (x ∷ xs) = after_placed ms (op_after x.op m) xs
 
 -- ---- what clashes meets
 
-met_some : (o : Op) (w : Option ValueType) → meets_written o w ≡ true → (k : ℕ) × (w ≡ Some k) × (meets_key o k ≡ true)
+met_some : (o : Op) (w : Option ℕ) → meets_written o w ≡ true → (k : ℕ) × (w ≡ Some k) × (meets_key o k ≡ true)
 met_some o None e = absurd (both_ways false refl e)
 met_some o (Some k) e = (k, refl, e)
 

@@ -84,7 +84,7 @@ log_by tx (Some w) log = log ++ Update tx w.0 w.1 w.2 ∷ []
 -- nothing is written, or where a record stands, or a new record
 pub data Writing (rs : Records) : Change → Option ℕ → Type 0 where
   nothing : Writing rs None None
-  there : (k : ℕ) (b a x : Option ℕ) → record_at k rs ≡ Some x → Writing rs (Some (k, b, a)) None
+  there : (k : ℕ) (b a x : Option ValueType) → record_at k rs ≡ Some x → Writing rs (Some (k, b, a)) None
   fresh : (k : ℕ) (b a : Option ValueType) → record_at k rs ≡ None → Writing rs (Some (k, b, a)) (Some k)
 
 put_writing : (k : ℕ) (v : ValueType) (b : Option ValueType) (rs : Records) (o : Option (Option ValueType)) → record_at k rs ≡ o → Writing rs (writes_of (Put k v) b) (inserts (Put k v) (found_by o))
