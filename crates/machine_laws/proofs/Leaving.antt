@@ -5,7 +5,6 @@ use Rattle.std.proofs.lemmas.List.{take-take}
 use Rattle.clv_base.specs.declared.logs.LogRecord.{LogRecord}
 use Rattle.clv_base.specs.State.{Shard}
 use Rattle.std.proofs.lemmas.Bool.{both_ways, and_parts, and_from}
-use Rattle.clv_base.specs.declared.values.Value.{Value as ValueType}
 use Rattle.clv_base.specs.declared.events.Event.{Event}
 use Rattle.clv_base.specs.declared.events.Event.TheVariants.{Op, Request, Look, Drop, Send, Deliver, Remind, FlushOut, FlushIn, Stop, Restart}
 use Rattle.clv_base.specs.declared.events.Entry.{Entry}
@@ -18,7 +17,7 @@ use Rattle.machine_laws.specs.Homes.{taker_after, may_follow, ends_own, is_stop,
 use Rattle.machine_laws.specs.Gates.{EachLog, durable_records, flying_records, GateFits, GateStands}
 use Rattle.machine_laws.proofs.Gating.{legal_counted}
 
-at_least : (s : Shard) (f : Option ValueType) → Counted s → s.flight ≡ f → s.durable ≤ unwrap_or f s.durable
+at_least : (s : Shard) (f : Option ℕ) → Counted s → s.flight ≡ f → s.durable ≤ unwrap_or f s.durable
 at_least s None c e = omega arith
 at_least s (Some n) c e = (c.flying n e).0
 

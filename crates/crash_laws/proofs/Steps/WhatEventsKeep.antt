@@ -1,7 +1,6 @@
 -- What an event that isn't of a flush or a restart leaves of a shard.
 use Rattle.std.proofs.Common.{◌≡◌, refl, sym, ap, ◌∙◌, ℕ, ◌≤◌, true, false, Bool, length, take, nat_lt, Option, Some, None}
 use Rattle.std.specs.Prelude.{◌^◌, unwrap_or}
-use Rattle.clv_base.specs.declared.values.Value.{Value as ValueType}
 use Rattle.clv_base.specs.declared.events.Event.{Event}
 use Rattle.clv_base.specs.declared.events.Event.TheVariants.{FlushOut}
 use Rattle.clv_base.specs.declared.events.Outcome.{Outcome}
@@ -96,6 +95,6 @@ pub left_same : (s t : Shard) (kept : Bool) → FrontsFit s → Keeps s t → lo
 left_same s t false f k = take_grown s.durable t.durable s.local.log t.local.log f.within k.durable k.grown
 left_same s t true f k = ap (λ x. take (unwrap_or x t.durable) t.local.log) k.flight ∙ at s.flight (λ n e. f.flying n e)
   where
-    at : (x : Option ValueType) → ((n : ℕ) → x ≡ Some n → (s.durable ≤ n) × (n ≤ length s.local.log)) → take (unwrap_or x t.durable) t.local.log ≡ take (unwrap_or x s.durable) s.local.log
+    at : (x : Option ℕ) → ((n : ℕ) → x ≡ Some n → (s.durable ≤ n) × (n ≤ length s.local.log)) → take (unwrap_or x t.durable) t.local.log ≡ take (unwrap_or x s.durable) s.local.log
     at None g = take_grown s.durable t.durable s.local.log t.local.log f.within k.durable k.grown
     at (Some n) g = take_grown n n s.local.log t.local.log (g n refl).1 refl k.grown
