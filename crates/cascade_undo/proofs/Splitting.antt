@@ -51,7 +51,7 @@ module _ (set : List TxId) where
   writes_above [] ws h = refl
   writes_above (v ∷ vs) ws h = cond-false _ _ _ h.0 ∙ writes_above vs ws h.1
 
-  abbrev before_with : Option (Option ValueType) → Bool → Option ℕ → Option (Option ValueType)
+  abbrev before_with : Option (Option ValueType) → Bool → Option ValueType → Option (Option ValueType)
   before_with o b v = elim o [ Some x ↦ Some x | None ↦ cond b (Some v) None ]
 
   before_none : (o : Option (Option ValueType)) (v : Option ValueType) → before_with o false v ≡ o
