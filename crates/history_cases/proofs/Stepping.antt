@@ -1,5 +1,5 @@
 -- What an event may come to, case by case, and what is due, step by step: every law over events goes by these cases.
-use Rattle.std.proofs.Common.{◌≡◌, ◌⊎◌, inl, inr, refl, sym, subst, ℕ, zero, suc, ◌+◌, true, false, cond, Bool, List, [], ◌∷◌, Option, Some, None, ◌==◌, length, eqb-true}
+use Rattle.std.proofs.Common.{◌||◌, ◌≡◌, ◌⊎◌, inl, inr, refl, sym, subst, ℕ, zero, suc, ◌+◌, true, false, cond, Bool, List, [], ◌∷◌, Option, Some, None, ◌==◌, length, eqb-true}
 use Rattle.std.specs.Prelude.{drop}
 use Rattle.clv_base.specs.declared.names.TxId.{TxId}
 use Rattle.clv_base.specs.declared.names.Birth.{Birth}
@@ -32,7 +32,7 @@ use Rattle.clv_base.specs.Participant.{vote_by, taken_by}
 use Rattle.clv_base.specs.Coordinator.{others, takes_vote, takes_done, ask_answer, doom_cause, ruling_by}
 use Rattle.clv_base.specs.OneShard.{OpReply, OpWaits, OpCrowded, OpDies, OpAnswers, op_reply, seen_fits, close_part, drop_part}
 use Rattle.clv_base.specs.Due.{send, or_else, with_commit_done, commit_due, with_vote, finish_reader, give_vote, vote_due, with_ruling, do_ruling, rule, request_due, due_of, first_due, known_txs, next_due, do_due, with_due_done, work}
-use Rattle.clv_base.specs.Events.{Reply, QuietBeforeWorn, QuietAfterWorn, Does, finish, op_event, is_alone, epoch_in, coordinate, request_by_stage, request_event, request_epoch, look_lost, look_state, look_known, drop_event, owe_vote, on_prepare, with_votes, on_vote, decided, on_decide, with_done, on_done, ask_messages, on_message, to_of, with_outbox, send_event, remind_with, reminders, taken, with_flight, out_event, put_down, happen_up, happen}
+use Rattle.clv_base.specs.Events.{Reply, QuietBeforeWorn, QuietAfterWorn, Does, finish, op_event, is_alone, epoch_in, coordinate, request_by_stage, request_event, request_epoch, look_lost, look_state, look_known, drop_event, owe_vote, is_followed, on_prepare, with_votes, on_vote, decided, on_decide, with_done, on_done, ask_messages, on_message, to_of, with_outbox, send_event, remind_with, reminders, taken, with_flight, out_event, put_down, happen_up, happen}
 use Rattle.clv_base.proofs.Settling.{do_due_at}
 
 -- ---- what is due
@@ -251,12 +251,17 @@ is_closed a b = absurd cc
 is_gone : {x : Option Stage} (d : Option TxId) → x ≡ Some (Gone d) → x ≡ Some Active → ⊥
 is_gone d a b = absurd cc
 
+gone_if : (s : Shard) (tx : TxId) (home seen stamp : ℕ) (d : Option TxId) (b : Bool) → s.is_up ≡ true → stage_of s.local tx ≡ Some (Gone d)
+    → HappensIn s (Deliver (Prepare s.shard tx home seen) stamp) (cond b (QuietBeforeWorn Stale) (Does Taken (finish (owe_vote tx home seen s))))
+gone_if s tx home seen stamp d true u e = early
+gone_if s tx home seen stamp d false u e = does (finishes u (prepare_again tx home seen stamp (λ f. is_gone d e f)))
+
 preparing : (s : Shard) (tx : TxId) (home seen stamp : ℕ) (st : Option Stage) → s.is_up ≡ true → stage_of s.local tx ≡ st
     → HappensIn s (Deliver (Prepare s.shard tx home seen) stamp) (on_prepare s tx home seen st)
-preparing s tx home seen stamp None u e = prepare_if s tx home seen stamp (seen == s.local.epoch) u e
+preparing s tx home seen stamp None u e = prepare_if s tx home seen stamp (is_followed tx s.local.parts || (seen == s.local.epoch)) u e
 preparing s tx home seen stamp (Some Active) u e = does (finishes u (prepare_closes tx home seen stamp e))
 preparing s tx home seen stamp (Some Closed) u e = does (finishes u (prepare_again tx home seen stamp (λ f. is_closed e f)))
-preparing s tx home seen stamp (Some (Gone d)) u e = does (finishes u (prepare_again tx home seen stamp (λ f. is_gone d e f)))
+preparing s tx home seen stamp (Some (Gone d)) u e = gone_if s tx home seen stamp d (is_followed tx s.local.parts) u e
 
 vote_if : (s : Shard) (tx : TxId) (from : ℕ) (vote : Vote) (stamp : ℕ) (q : Request) (b : Bool) → s.is_up ≡ true → tx_get tx s.requests ≡ Some q → takes_vote s.shard from q ≡ b
     → HappensIn s (Deliver (VoteMessage s.shard tx from vote) stamp) (cond b (Does Taken (finish (with_votes tx from vote q s))) (QuietBeforeWorn Stale))

@@ -1,5 +1,5 @@
 -- Each that depends on another has a part here: pairs come with a granted operation or a restart, which make the part too, and no part leaves the table.
-use Rattle.std.proofs.Common.{◌≡◌, refl, sym, ap, subst, ℕ, zero, suc, ⊎_elim, Bool, true, false, cond, not, ◌==◌, List, [], ◌∷◌, map, drop, Option, Some, None}
+use Rattle.std.proofs.Common.{◌≡◌, refl, sym, ap, subst, ℕ, zero, suc, ⊎_elim, Bool, true, false, cond, not, ◌||◌, ◌==◌, List, [], ◌∷◌, map, drop, Option, Some, None}
 use Rattle.std.proofs.lemmas.Bool.{both_ways, or_cases}
 use Rattle.std.specs.List.{AllByRecursion}
 use Rattle.std.specs.Map.{keys_of}
@@ -40,7 +40,7 @@ use Rattle.clv_base.specs.Participant.{taken_by}
 use Rattle.clv_base.specs.Coordinator.{others, takes_vote, takes_done}
 use Rattle.clv_base.specs.OneShard.{OpReply, OpWaits, OpCrowded, OpDies, OpAnswers, seen_fits, op_reply, op_seen, op_by_stage, op_active, op_decided, op_granted, written, locked, performed, active_part, new_part, add_pairs, rolled_back_if, without_part, close_part, drop_part}
 use Rattle.clv_base.specs.Due.{due_of, do_due, work, finish_reader, with_vote, do_ruling, with_ruling}
-use Rattle.clv_base.specs.Events.{Reply, QuietBeforeWorn, QuietAfterWorn, Does, finish, op_event, is_alone, epoch_in, coordinate, request_by_stage, request_event, look_lost, look_state, look_known, request_epoch, drop_event, owe_vote, on_prepare, with_votes, on_vote, decided, on_decide, with_done, on_done, on_message, to_of, with_outbox, send_event, reminders, remind_with, with_durable, out_event, taken, landed, happen_up, happen, CallAnswer, Quiet, Worn, Enters, next_stamp, stamped, step, land_up, land}
+use Rattle.clv_base.specs.Events.{Reply, QuietBeforeWorn, QuietAfterWorn, Does, finish, op_event, is_alone, epoch_in, coordinate, request_by_stage, request_event, look_lost, look_state, look_known, request_epoch, drop_event, owe_vote, is_followed, on_prepare, with_votes, on_vote, decided, on_decide, with_done, on_done, on_message, to_of, with_outbox, send_event, reminders, remind_with, with_durable, out_event, taken, landed, happen_up, happen, CallAnswer, Quiet, Worn, Enters, next_stamp, stamped, step, land_up, land}
 use Rattle.clv_base.specs.Restarts.{restored_parts, log_left, next_epoch, log_after_restart, revived, revive_down, revive}
 use Rattle.clv_base.proofs.SameNames.{or_left, or_right, tx_true, tx_self, tx_eq}
 use Rattle.law_base.proofs.Lists.{all_mono, all_kept}
@@ -244,8 +244,8 @@ drop_event_keeps s tx (Some st) d = finish_keeps (with_local (drop_part tx) s) (
 prepare_keeps : (s : Shard) (tx : TxId) (home seen : ℕ) (st : Option Stage) → DependentsHaveParts s.local → KeptBy (on_prepare s tx home seen st)
 prepare_keeps s tx home seen (Some Active) d = finish_keeps (owe_vote tx home seen (with_local (close_part tx home false) s)) (close_keeps tx home false s.local d)
 prepare_keeps s tx home seen (Some Closed) d = finish_keeps (owe_vote tx home seen s) d
-prepare_keeps s tx home seen (Some (Gone x)) d = finish_keeps (owe_vote tx home seen s) d
-prepare_keeps s tx home seen None d = kept_both (seen == s.local.epoch) _ _ tt (finish_keeps (owe_vote tx home seen s) d)
+prepare_keeps s tx home seen (Some (Gone x)) d = kept_both (is_followed tx s.local.parts) _ _ tt (finish_keeps (owe_vote tx home seen s) d)
+prepare_keeps s tx home seen None d = kept_both (is_followed tx s.local.parts || (seen == s.local.epoch)) _ _ tt (finish_keeps (owe_vote tx home seen s) d)
 
 on_vote_keeps : (s : Shard) (tx : TxId) (from : ℕ) (vote : Vote) (o : Option Request) → DependentsHaveParts s.local → KeptBy (on_vote s tx from vote o)
 on_vote_keeps s tx from vote None d = tt

@@ -1,7 +1,7 @@
 -- Each event leaves the log with more behind it, and a shard that is up at rest.
 pub mod DueGrowsLogs
 pub mod GhostsGoUnnoticed
-use Rattle.std.proofs.Common.{◌≡◌, refl, subst, ℕ, zero, suc, ◌+◌, true, false, cond, Bool, List, [], ◌∷◌, Option, Some, None, ◌==◌}
+use Rattle.std.proofs.Common.{◌||◌, ◌≡◌, refl, subst, ℕ, zero, suc, ◌+◌, true, false, cond, Bool, List, [], ◌∷◌, Option, Some, None, ◌==◌}
 use Rattle.clv_base.specs.declared.names.TxId.{TxId}
 use Rattle.clv_base.specs.declared.names.Birth.{Birth}
 use Rattle.clv_base.specs.declared.ops.Op.{Op}
@@ -35,7 +35,7 @@ use Rattle.clv_base.specs.Coordinator.{others, takes_vote, takes_done, ask_answe
 use Rattle.clv_base.specs.OneShard.{OpReply, OpWaits, OpCrowded, OpDies, OpAnswers, written, locked, rolled_back_if, without_part, op_granted, op_decided, op_by_stage, op_seen, op_reply, seen_fits, close_part, drop_part}
 use Rattle.clv_base.specs.Due.{send}
 use Rattle.clv_base.specs.Needs.{needs_of, writes_of, value_at, key_of}
-use Rattle.clv_base.specs.Events.{Reply, QuietBeforeWorn, Does, finish, op_event, epoch_in, request_by_stage, request_event, look_lost, look_state, look_known, look_event, drop_event, on_prepare, on_vote, decided, on_decide, on_done, on_message, send_event, remind_with, reminders, out_event, happen_up, coordinate, is_alone, request_epoch, owe_vote, with_votes, with_done, with_outbox, with_flight, ask_messages, to_of}
+use Rattle.clv_base.specs.Events.{Reply, QuietBeforeWorn, Does, finish, op_event, epoch_in, request_by_stage, request_event, look_lost, look_state, look_known, look_event, drop_event, is_followed, on_prepare, on_vote, decided, on_decide, on_done, on_message, send_event, remind_with, reminders, out_event, happen_up, coordinate, is_alone, request_epoch, owe_vote, with_votes, with_done, with_outbox, with_flight, ask_messages, to_of}
 use Rattle.clv_base.specs.Events.{QuietAfterWorn, happen, landed, put_down, with_durable}
 use Rattle.clv_base.specs.declared.logs.LogRecord.{LogRecord}
 use Rattle.clv_base.specs.declared.events.Outcome.TheVariants.{Durable}
@@ -146,10 +146,10 @@ dropped s tx None = early
 dropped s tx (Some stage) = finished s (with_local (drop_part tx) s) _ (without s.local tx)
 
 prepares : (s : Shard) (tx : TxId) (home seen : ℕ) (st : Option Stage) → ReplyGrows s (on_prepare s tx home seen st)
-prepares s tx home seen None = at_cond s (seen == s.local.epoch) (QuietBeforeWorn Stale) (Does Taken (finish (owe_vote tx home seen s))) early (finished s (owe_vote tx home seen s) _ (same s.local.log))
+prepares s tx home seen None = at_cond s (is_followed tx s.local.parts || (seen == s.local.epoch)) (QuietBeforeWorn Stale) (Does Taken (finish (owe_vote tx home seen s))) early (finished s (owe_vote tx home seen s) _ (same s.local.log))
 prepares s tx home seen (Some Active) = finished s (owe_vote tx home seen (with_local (close_part tx home false) s)) _ (more s.local.log _)
 prepares s tx home seen (Some Closed) = finished s (owe_vote tx home seen s) _ (same s.local.log)
-prepares s tx home seen (Some (Gone d)) = finished s (owe_vote tx home seen s) _ (same s.local.log)
+prepares s tx home seen (Some (Gone d)) = at_cond s (is_followed tx s.local.parts) (QuietBeforeWorn Stale) (Does Taken (finish (owe_vote tx home seen s))) early (finished s (owe_vote tx home seen s) _ (same s.local.log))
 
 votes : (s : Shard) (tx : TxId) (from : ℕ) (v : Vote) (q : Option Request) → ReplyGrows s (on_vote s tx from v q)
 votes s tx from v None = early

@@ -1,5 +1,5 @@
 -- A message that comes keeps what a shard keeps.
-use Rattle.std.proofs.Common.{◌≡◌, ℕ, inl, inr, ⊎_elim, Bool, true, false, cond, not, ◌&&◌, List, [], ◌∷◌, Option, Some, None, ◌==◌, refl, sym, ap, subst, ◌∙◌}
+use Rattle.std.proofs.Common.{◌≡◌, ℕ, inl, inr, ⊎_elim, Bool, true, false, cond, not, ◌&&◌, ◌||◌, List, [], ◌∷◌, Option, Some, None, ◌==◌, refl, sym, ap, subst, ◌∙◌}
 use Rattle.std.proofs.lemmas.Bool.{both_ways, false_from_ne_true}
 use Rattle.std.proofs.lemmas.List.Folds.{list_any-append}
 use Rattle.clv_base.specs.declared.names.TxId.{TxId}
@@ -17,7 +17,7 @@ use Rattle.clv_base.specs.Participant.{asked_voter, taken_if, taken_by}
 use Rattle.clv_base.specs.Coordinator.{others, vote_from, takes_vote, counts_vote, with_vote_of, takes_done, with_done_of, ask_answer}
 use Rattle.clv_base.specs.OneShard.{closing, close_part}
 use Rattle.clv_base.specs.Due.{send}
-use Rattle.clv_base.specs.Events.{QuietBeforeWorn, Does, finish, owe_vote, on_prepare, with_votes, on_vote, decided, on_decide, with_done, on_done, ask_messages, on_message}
+use Rattle.clv_base.specs.Events.{QuietBeforeWorn, Does, finish, owe_vote, is_followed, on_prepare, with_votes, on_vote, decided, on_decide, with_done, on_done, ask_messages, on_message}
 use Rattle.shard_laws.specs.OneShard.{predecessors_committed}
 use Rattle.law_base.specs.Items.{Item}
 use Rattle.clv_base.proofs.SameNames.{or_left, tx_true, tx_ne}
@@ -82,9 +82,9 @@ owed all g s tx home seen h no_request open_ = record {
     open_at u v false t e = h.unvoted u v e
 
 prepares : (all : List Item) (g : Past) (s : Shard) (m : Message) (stamp : ℕ) (tx : TxId) (home seen : ℕ) (o : Option Stage) → Sound all g s → stage_of s.local tx ≡ o → tx_in tx g.asked ≡ true → tx_get tx s.requests ≡ None → (wrote_in s.local.log tx ≡ false → committed_in s.local.log tx ≡ false) → Keeps_reply all g s (Deliver m stamp) (on_prepare s tx home seen o)
-prepares all g s m stamp tx home seen None h st asks none open_ = at_cond all g s (Deliver m stamp) (seen == s.local.epoch) (QuietBeforeWorn Stale) (Does Taken (finish (owe_vote tx home seen s))) early (quietly all g s (owe_vote tx home seen s) (Deliver m stamp) Taken (refl, refl, refl) refl (owed all g s tx home seen h none open_))
+prepares all g s m stamp tx home seen None h st asks none open_ = at_cond all g s (Deliver m stamp) (is_followed tx s.local.parts || (seen == s.local.epoch)) (QuietBeforeWorn Stale) (Does Taken (finish (owe_vote tx home seen s))) early (quietly all g s (owe_vote tx home seen s) (Deliver m stamp) Taken (refl, refl, refl) refl (owed all g s tx home seen h none open_))
 prepares all g s m stamp tx home seen (Some Closed) h st asks none open_ = quietly all g s (owe_vote tx home seen s) (Deliver m stamp) Taken (refl, refl, refl) refl (owed all g s tx home seen h none open_)
-prepares all g s m stamp tx home seen (Some (Gone d)) h st asks none open_ = quietly all g s (owe_vote tx home seen s) (Deliver m stamp) Taken (refl, refl, refl) refl (owed all g s tx home seen h none open_)
+prepares all g s m stamp tx home seen (Some (Gone d)) h st asks none open_ = at_cond all g s (Deliver m stamp) (is_followed tx s.local.parts) (QuietBeforeWorn Stale) (Does Taken (finish (owe_vote tx home seen s))) early (quietly all g s (owe_vote tx home seen s) (Deliver m stamp) Taken (refl, refl, refl) refl (owed all g s tx home seen h none open_))
 prepares all g s m stamp tx home seen (Some Active) h st asks none open_ =
     quietly all g s (owe_vote tx home seen (with_local (close_part tx home false) s)) (Deliver m stamp) Taken (refl, refl, refl) refl
     (owed all g (with_local (close_part tx home false) s) tx home seen

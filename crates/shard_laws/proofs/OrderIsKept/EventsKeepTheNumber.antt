@@ -1,5 +1,5 @@
 -- No event changes the number of a shard.
-use Rattle.std.proofs.Common.{◌≡◌, ℕ, zero, suc, ◌+◌, Bool, true, false, cond, ◌==◌, List, [], ◌∷◌, Option, Some, None, refl, subst, ◌∙◌}
+use Rattle.std.proofs.Common.{◌||◌, ◌≡◌, ℕ, zero, suc, ◌+◌, Bool, true, false, cond, ◌==◌, List, [], ◌∷◌, Option, Some, None, refl, subst, ◌∙◌}
 use Rattle.std.specs.Prelude.{⊤}
 use Rattle.clv_base.specs.declared.names.TxId.{TxId}
 use Rattle.clv_base.specs.declared.state.Stage.{Stage}
@@ -28,7 +28,7 @@ use Rattle.clv_base.specs.Coordinator.{ruling_by, takes_vote, takes_done, others
 use Rattle.clv_base.specs.OneShard.{OpReply, OpWaits, OpCrowded, OpDies, OpAnswers, seen_fits, op_reply, close_part, drop_part}
 use Rattle.clv_base.specs.Logs.{committed_in}
 use Rattle.clv_base.specs.Due.{send, or_else, commit_due, give_vote, vote_due, rule, request_due, due_of, first_due, known_txs, next_due, do_due, work}
-use Rattle.clv_base.specs.Events.{Reply, QuietBeforeWorn, QuietAfterWorn, Does, finish, is_alone, coordinate, owe_vote, with_votes, with_done, decided, ask_messages, with_outbox, with_flight, with_durable, op_event, epoch_in, request_by_stage, request_event, look_lost, look_state, look_known, look_event, request_epoch, drop_event, on_prepare, on_vote, on_decide, on_done, on_message, to_of, send_event, remind_with, reminders, out_event, landed, happen_up, happen}
+use Rattle.clv_base.specs.Events.{Reply, QuietBeforeWorn, QuietAfterWorn, Does, finish, is_alone, coordinate, owe_vote, with_votes, with_done, decided, ask_messages, with_outbox, with_flight, with_durable, op_event, epoch_in, request_by_stage, request_event, look_lost, look_state, look_known, look_event, request_epoch, drop_event, is_followed, on_prepare, on_vote, on_decide, on_done, on_message, to_of, send_event, remind_with, reminders, out_event, landed, happen_up, happen}
 use Rattle.clv_base.proofs.Settling.{do_due_at}
 
 -- ---- what is due
@@ -165,10 +165,10 @@ drops s tx (Some st) = finished (with_local (drop_part tx) s)
 
 prepares : (s : Shard) (tx : TxId) (home seen : ℕ) (o : Option Stage) → Replies s.shard (on_prepare s tx home seen o)
 unfolding Replies
-prepares s tx home seen None = replies_cond s.shard (seen == s.local.epoch) _ _ tt (finished (owe_vote tx home seen s))
+prepares s tx home seen None = replies_cond s.shard (is_followed tx s.local.parts || (seen == s.local.epoch)) _ _ tt (finished (owe_vote tx home seen s))
 prepares s tx home seen (Some Active) = finished (owe_vote tx home seen (with_local (close_part tx home false) s))
 prepares s tx home seen (Some Closed) = finished (owe_vote tx home seen s)
-prepares s tx home seen (Some (Gone d)) = finished (owe_vote tx home seen s)
+prepares s tx home seen (Some (Gone d)) = replies_cond s.shard (is_followed tx s.local.parts) _ _ tt (finished (owe_vote tx home seen s))
 
 takes : (s : Shard) (tx : TxId) (from : ℕ) (v : Vote) (o : Option Request) → Replies s.shard (on_vote s tx from v o)
 unfolding Replies
