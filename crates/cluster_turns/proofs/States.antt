@@ -60,7 +60,7 @@ bears_begun run walker t tx birth h = at (begins t tx birth) refl
   where
     at : (b : Bool) → begins t tx birth ≡ b → BearsIn run walker (cond b (Some (begun t tx birth)) None)
     at true q =
-        let one = and_parts _ _ (and_parts _ _ (and_parts _ _ (and_parts _ _ q).0).0).0 in
+        let one = and_parts _ _ (and_parts _ _ (and_parts _ _ (and_parts _ _ (and_parts _ _ q).0).0).0).0 in
         (eqb-true tx.run (t.tx).run one.0 ∙ h.0, eqb-true tx.session (t.tx).session one.1 ∙ h.1)
     at false q = tt
 

@@ -9,7 +9,7 @@ use Rattle.clv_base.specs.State.{Shard, is_present}
 use Rattle.clv_base.specs.Facts.{doom_by}
 use Rattle.ended_laws.specs.Requests.{forgets, IsDone}
 use Rattle.ended_laws.specs.Parts.{forgets_part, owes_none, GoAlone}
-use Rattle.ended_laws.proofs.Rows.{get_own, get_without, without_rises}
+use Rattle.ended_laws.proofs.Rows.{get_own, get_without, without_rises, followed_without}
 use Rattle.ended_laws.proofs.Partless.{same_stage}
 
 -- without a request's row nothing of what is done is read anew; without a part's row the other stages stay
@@ -36,21 +36,24 @@ go_alone = record {
     is_gone = p.is_gone;
     owes = p.owes;
     no_request = get_without tx u s.requests n ∙ p.no_request;
+    followed = p.followed;
   };
-  past_still = λ s tx u n p. record {
+  past_still = λ s tx u n o p. record {
     parts_rise = without_rises tx s.local.parts p.parts_rise;
     voters_rise = without_rises tx s.voters p.voters_rise;
     requests_rise = p.requests_rise;
     is_gone = ap is_present (same_stage s.local tx u n) ∙ p.is_gone;
     owes = ap owes_none (get_without tx u s.voters n) ∙ p.owes;
     no_request = p.no_request;
+    followed = followed_without tx u s.local.parts o.followed ∙ p.followed;
   };
-  then_past = λ s tx q o a b w. record {
+  then_past = λ s tx q o a b w f. record {
     parts_rise = a;
     voters_rise = b;
     requests_rise = without_rises tx s.requests o.rises;
     is_gone = o.is_gone;
     owes = w;
     no_request = get_own tx s.requests;
+    followed = f;
   };
 }

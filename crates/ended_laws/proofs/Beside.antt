@@ -1,6 +1,5 @@
 -- Rows of parts that are past, along a legal history.
-use Rattle.std.proofs.Common.{◌≡◌, inl, inr, ⊎_elim, refl, sym, ap, subst, ◌∙◌, ℕ, true, false, List, ◌∷◌, ◌++◌, None}
-use Rattle.std.proofs.lemmas.Bool.{false_from_ne_true}
+use Rattle.std.proofs.Common.{◌≡◌, inl, inr, refl, sym, ap, subst, ◌∙◌, ℕ, true, false, List, ◌∷◌, ◌++◌, None}
 use Rattle.clv_base.specs.declared.names.TxId.{TxId}
 use Rattle.clv_base.specs.declared.logs.LogRecord.{LogRecord}
 use Rattle.clv_base.specs.declared.events.Event.{Event}
@@ -12,24 +11,23 @@ use Rattle.clv_base.specs.State.{Shard}
 use Rattle.clv_base.specs.LogRules.{log_of}
 use Rattle.clv_base.specs.Journals.{reply_state, flush_state, event_state}
 use Rattle.clv_base.specs.History.{state_before}
-use Rattle.clv_base.specs.Events.{Reply, QuietBeforeWorn, QuietAfterWorn, Does, happen, with_durable, with_entry, put_down}
-use Rattle.clv_base.proofs.SameNames.{tx_true}
+use Rattle.clv_base.specs.Events.{Reply, QuietBeforeWorn, QuietAfterWorn, Does, is_followed, happen, with_durable, with_entry, put_down}
 use Rattle.history_cases.proofs.Merging.{Among, is_among, among_left}
 use Rattle.fate_laws.proofs.Origins.AllComesOfEntries.{prepares_come_of_requests}
-use Rattle.clv_base.specs.declared.messages.Message.TheVariants.{Prepare, Vote as VoteMessage, Decide, Done, Ask}
+use Rattle.clv_base.specs.declared.messages.Message.TheVariants.{Prepare}
 use Rattle.clv_base.specs.History.{IsAmong}
-use Rattle.clv_base.specs.Orders.{tx_same, tx_get}
+use Rattle.clv_base.specs.Orders.{tx_get}
 use Rattle.clv_base.specs.State.{is_present}
 use Rattle.clv_base.specs.Undo.{stage_of}
 use Rattle.std.specs.Map.{keys_of}
 use Rattle.law_base.proofs.Sets.{Rise}
 use Rattle.ended_laws.specs.Parts.{forgets_part, partless, owes_none, IsPast, MayMeet}
 use Rattle.ended_laws.specs.Sessions.{names}
-use Rattle.ended_laws.specs.Histories.{IsPrepareOf, NoPrepareComesHome, PartsAreNotMissed}
+use Rattle.ended_laws.specs.Histories.{NoPrepareComesHome, PartsAreNotMissed}
 use Rattle.ended_laws.proofs.Past.{finished_past, past_stays_past}
 use Rattle.ended_laws.proofs.Partless.{finished_same}
 use Rattle.ended_laws.proofs.Meeting.{only_its_own_events_miss_it}
-use Rattle.ended_laws.proofs.Following.{one_request, nothing_follows_success, nothing_follows_a_later_one}
+use Rattle.ended_laws.proofs.Following.{one_request, nothing_follows_a_later_one}
 
 -- ---- where no Prepare comes
 
@@ -46,22 +44,18 @@ no_prepare_comes_home splits before pre n e post after tx home seen stamp l (inl
 
 -- ---- what may come
 
-may_meet : (tx : TxId) (e : Event) → names tx e ≡ false → (IsPrepareOf tx e → ⊥) → MayMeet tx e
-may_meet tx (Op t birth nth seen op) w n = w
-may_meet tx (RequestEvent t ts) w n = w
-may_meet tx (Look t) w n = tt
-may_meet tx (Drop t) w n = w
-may_meet tx Send w n = tt
-may_meet tx (Deliver (Prepare to t home seen) stamp) w n = false_from_ne_true (tx_same tx t) (λ i. n (tx_true tx t i))
-may_meet tx (Deliver (VoteMessage to t from vote) stamp) w n = tt
-may_meet tx (Deliver (Decide to t home commit) stamp) w n = tt
-may_meet tx (Deliver (Done to t from) stamp) w n = tt
-may_meet tx (Deliver (Ask to t from) stamp) w n = tt
-may_meet tx Remind w n = tt
-may_meet tx FlushOut w n = tt
-may_meet tx FlushIn w n = tt
-may_meet tx Stop w n = tt
-may_meet tx Restart w n = tt
+may_meet : (tx : TxId) (e : Event) → names tx e ≡ false → MayMeet tx e
+may_meet tx (Op t birth nth seen op) w = w
+may_meet tx (RequestEvent t ts) w = w
+may_meet tx (Look t) w = tt
+may_meet tx (Drop t) w = w
+may_meet tx Send w = tt
+may_meet tx (Deliver m stamp) w = tt
+may_meet tx Remind w = tt
+may_meet tx FlushOut w = tt
+may_meet tx FlushIn w = tt
+may_meet tx Stop w = tt
+may_meet tx Restart w = tt
 
 -- ---- what an entry leads to
 
@@ -86,6 +80,7 @@ alike s t tx p e f g = record {
   is_gone = subst (λ z. is_present (stage_of z tx) ≡ false) (sym e) p.is_gone;
   owes = subst (λ z. owes_none (tx_get tx z) ≡ true) (sym f) p.owes;
   no_request = subst (λ z. tx_get tx z ≡ None) (sym g) p.no_request;
+  followed = subst (λ z. is_followed tx z.parts ≡ true) (sym e) p.followed;
 }
 
 flush_same : (s : Shard) (tx : TxId) (o : Outcome) → IsPast s tx → (flush_state (forgets_part tx s) o ≡ forgets_part tx (flush_state s o)) × IsPast (flush_state s o) tx
@@ -109,9 +104,8 @@ event_same log s tx FlushOut x p m n = (happens_same s tx FlushOut p m, happens_
 event_same log s tx Stop x p m n = (happens_same s tx Stop p m, happens_past s tx Stop _ refl p m)
 
 pub parts_are_not_missed : PartsAreNotMissed
-parts_are_not_missed splits before pre n e post after tx l p f r k =
+parts_are_not_missed splits before pre n e post after tx l p f r =
     let s = state_before before pre after n in
-    let w : names tx e.event ≡ false =
-    ⊎_elim (λ a. nothing_follows_success splits before pre n e post after tx l.legal a) (λ b. nothing_follows_a_later_one splits before pre n e post after tx l.legal b) f in
-    let g = event_same (log_of after n) s tx e.event e.outcome p (may_meet tx e.event w k) r in
+    let w : names tx e.event ≡ false = nothing_follows_a_later_one splits before pre n e post after tx l.legal f in
+    let g = event_same (log_of after n) s tx e.event e.outcome p (may_meet tx e.event w) r in
     (ap (with_entry e.stamp e.walker e.event e.outcome) g.0, alike (event_state (log_of after n) s e.event e.outcome) _ tx g.1 refl refl refl)

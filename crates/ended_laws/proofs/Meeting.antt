@@ -30,18 +30,18 @@ use Rattle.clv_base.specs.Facts.{facts_of, has_durable_commit}
 use Rattle.clv_base.specs.Participant.{taken_by, asks}
 use Rattle.clv_base.specs.Coordinator.{others, takes_vote, takes_done, doom_cause, home_reminders}
 use Rattle.clv_base.specs.OneShard.{OpReply, OpWaits, OpCrowded, OpDies, OpAnswers, op_reply, seen_fits, close_part}
-use Rattle.clv_base.specs.Events.{QuietBeforeWorn, Does, finish, op_event, is_alone, epoch_in, coordinate, request_by_stage, request_event, request_epoch, look_lost, look_state, look_known, drop_event, owe_vote, on_prepare, with_votes, on_vote, on_decide, with_done, on_done, on_message, to_of, send_event, durable_requests, waiting_voters, remind_with, reminders, taken, out_event, happen_up}
+use Rattle.clv_base.specs.Events.{QuietBeforeWorn, Does, finish, op_event, is_alone, epoch_in, coordinate, request_by_stage, request_event, request_epoch, look_lost, look_state, look_known, drop_event, owe_vote, is_followed, on_prepare, with_votes, on_vote, on_decide, with_done, on_done, on_message, to_of, send_event, durable_requests, waiting_voters, remind_with, reminders, taken, out_event, happen_up}
 use Rattle.clv_base.proofs.SameNames.{tx_true}
 use Rattle.history_cases.proofs.Stepping.{Step, op_dies, op_answers, request_new, request_closes, drops, sends, prepare_closes, prepare_again, vote_counts, decision_comes, decision_again, done_counts, asked, reminds, flushes}
 use Rattle.clv_base.specs.declared.state.Voter.{Voter}
 use Rattle.clv_base.specs.State.{is_present}
 use Rattle.clv_base.specs.Participant.{ask_by, asks_home, is_yes_vote, asked_voter, voters_asked, taken_if}
 use Rattle.ended_laws.specs.Requests.{without}
-use Rattle.ended_laws.specs.Parts.{forgets_in, forgets_part, partless, IsPast, IsNoPrepareOf, MayMeet, OnlyItsOwnEventsMissIt}
+use Rattle.ended_laws.specs.Parts.{forgets_in, forgets_part, partless, IsPast, MayMeet, OnlyItsOwnEventsMissIt}
 use Rattle.ended_laws.proofs.Reading.{not_closed}
-use Rattle.ended_laws.proofs.Rows.{get_without, put_without}
-use Rattle.ended_laws.proofs.Past.{step_past}
-use Rattle.ended_laws.proofs.Partless.{same_stage, rolled_same, dropped_same, closed_same, partless_reply, reply_same, facts_same, waiting_same, finished_same}
+use Rattle.ended_laws.proofs.Rows.{get_without, put_without, followed_without}
+use Rattle.ended_laws.proofs.Past.{Meets, step_past, late_is_stale}
+use Rattle.ended_laws.proofs.Partless.{own_stage, same_stage, rolled_same, dropped_same, closed_same, partless_reply, reply_same, facts_same, waiting_same, finished_same}
 
 -- ---- questions that are asked again
 
@@ -94,7 +94,7 @@ module _ (s : Shard) (tx : TxId) (absent : is_present (stage_of s.local tx) ≡ 
 -- ---- events
 
 module _ (s : Shard) (tx : TxId) (past : IsPast s tx) where
-  done_by : (t : Shard) {e : Event} {o : Outcome} → Step s e o t → MayMeet tx e → Does o (finish (forgets_part tx t)) ≡ partless tx (Does o (finish t))
+  done_by : (t : Shard) {e : Event} {o : Outcome} → Step s e o t → Meets tx e → Does o (finish (forgets_part tx t)) ≡ partless tx (Does o (finish t))
   done_by t {o = o} g m = ap (Does o) (finished_same t tx (step_past s t tx g past m))
 
   idly : (o : Outcome) → Does o (finish (forgets_part tx s)) ≡ partless tx (Does o (finish s))
@@ -159,6 +159,9 @@ module _ (s : Shard) (tx : TxId) (past : IsPast s tx) where
   sending [] e = refl
   sending (m ∷ ms) e = done_by _ (sends m ms e) tt
 
+  followed_same : (u : TxId) → is_followed u (without tx s.local.parts) ≡ is_followed u s.local.parts
+  followed_same u = followed_without tx u s.local.parts past.followed
+
   owed_same : (u : TxId) (home seen : ℕ) → tx_same tx u ≡ false → voters_asked u home seen (without tx s.voters) ≡ without tx (voters_asked u home seen s.voters)
   owed_same u home seen d =
       ap (λ o. tx_put u (asked_voter home seen o) (without tx s.voters)) (get_without tx u s.voters d) ∙ sym (put_without tx u (asked_voter home seen (tx_get u s.voters)) s.voters d past.voters_rise)
@@ -168,7 +171,8 @@ module _ (s : Shard) (tx : TxId) (past : IsPast s tx) where
   owing u home seen stamp d n = ap (λ rows. Does Taken (finish (record (with_local (forgets_in tx) s) { voters = rows }))) (owed_same u home seen d) ∙ done_by _ (prepare_again u home seen stamp n) d
 
   preparing : (u : TxId) (home seen stamp : ℕ) (st : Option Stage) → tx_same tx u ≡ false → stage_of s.local u ≡ st → on_prepare (forgets_part tx s) u home seen st ≡ partless tx (on_prepare s u home seen st)
-  preparing u home seen stamp None d e = at (seen == s.local.epoch)
+  preparing u home seen stamp None d e =
+      ap (λ b. cond (b || (seen == s.local.epoch)) (QuietBeforeWorn Stale) (Does Taken (finish (owe_vote u home seen (forgets_part tx s))))) (followed_same u) ∙ at (is_followed u s.local.parts || (seen == s.local.epoch))
     where
       differ : {x : Option Stage} → x ≡ None → x ≡ Some Active → ⊥
       differ a b = absurd cc
@@ -183,10 +187,30 @@ module _ (s : Shard) (tx : TxId) (past : IsPast s tx) where
     where
       differ : {x : Option Stage} → x ≡ Some Closed → x ≡ Some Active → ⊥
       differ a b = absurd cc
-  preparing u home seen stamp (Some (Gone x)) d e = owing u home seen stamp d (λ f. differ e f)
+  preparing u home seen stamp (Some (Gone x)) d e =
+      ap (λ b. cond b (QuietBeforeWorn Stale) (Does Taken (finish (owe_vote u home seen (forgets_part tx s))))) (followed_same u) ∙ at (is_followed u s.local.parts)
     where
       differ : {z : Option Stage} → z ≡ Some (Gone x) → z ≡ Some Active → ⊥
       differ a b = absurd cc
+
+      at : (b : Bool) → cond b (QuietBeforeWorn Stale) (Does Taken (finish (owe_vote u home seen (forgets_part tx s)))) ≡ partless tx (cond b (QuietBeforeWorn Stale) (Does Taken (finish (owe_vote u home seen s))))
+      at true = refl
+      at false = owing u home seen stamp d (λ f. differ e f)
+
+  -- one of the transaction itself is stale, with the rows and without
+  own_prepare : (home seen : ℕ) → on_prepare (forgets_part tx s) tx home seen (stage_of (forgets_in tx s.local) tx) ≡ partless tx (on_prepare s tx home seen (stage_of s.local tx))
+  own_prepare home seen =
+      ap (on_prepare (forgets_part tx s) tx home seen) (own_stage s.local tx)
+      ∙ ap (λ b. cond (b || (seen == s.local.epoch)) (QuietBeforeWorn Stale) (Does Taken (finish (owe_vote tx home seen (forgets_part tx s))))) (followed_same tx ∙ past.followed)
+      ∙ sym (ap (partless tx) (late_is_stale s tx home seen past))
+
+  any_prepare : (u : TxId) (home seen stamp : ℕ) → on_prepare (forgets_part tx s) u home seen (stage_of (forgets_in tx s.local) u) ≡ partless tx (on_prepare s u home seen (stage_of s.local u))
+  any_prepare u home seen stamp = at (tx_same tx u) refl
+    where
+      at : (b : Bool) → tx_same tx u ≡ b → on_prepare (forgets_part tx s) u home seen (stage_of (forgets_in tx s.local) u) ≡ partless tx (on_prepare s u home seen (stage_of s.local u))
+      at false d = ap (on_prepare (forgets_part tx s) u home seen) (same_stage s.local tx u d) ∙ preparing u home seen stamp (stage_of s.local u) d refl
+      at true d =
+          subst (λ z. on_prepare (forgets_part tx s) z home seen (stage_of (forgets_in tx s.local) z) ≡ partless tx (on_prepare s z home seen (stage_of s.local z))) (tx_true tx u d) (own_prepare home seen)
 
   voting : (u : TxId) (from : ℕ) (vote : Vote) (stamp : ℕ) (o : Option Request) → tx_get u s.requests ≡ o → on_vote (forgets_part tx s) u from vote o ≡ partless tx (on_vote s u from vote o)
   voting u from vote stamp None e = refl
@@ -216,13 +240,13 @@ module _ (s : Shard) (tx : TxId) (past : IsPast s tx) where
   taken_same : (u : TxId) (commit : Bool) → taken_by (facts_of (forgets_part tx s) u) commit ≡ taken_by (facts_of s u) commit
   taken_same u commit = ap (λ b. taken_if b (commit && has_durable_commit (facts_of s u))) (waiting_same s tx u past.is_gone)
 
-  message : (m : Message) (stamp : ℕ) (b : Bool) → IsNoPrepareOf tx m → (to_of m == s.shard) ≡ b → cond b (on_message (forgets_part tx s) m) (QuietBeforeWorn Stale) ≡ partless tx (cond b (on_message s m) (QuietBeforeWorn Stale))
-  message m stamp false n e = refl
-  message (Prepare to u home seen) stamp true n e = ap (on_prepare (forgets_part tx s) u home seen) (same_stage s.local tx u n) ∙ preparing u home seen stamp (stage_of s.local u) n refl
-  message (VoteMessage to u from vote) stamp true n e = voting u from vote stamp (tx_get u s.requests) refl
-  message (Decide to u home commit) stamp true n e = ap (on_decide (forgets_part tx s) u home commit) (taken_same u commit) ∙ deciding u home commit stamp (taken_by (facts_of s u) commit) refl
-  message (Done to u from) stamp true n e = doing u from stamp (tx_get u s.requests) refl
-  message (Ask to u from) stamp true n e = done_by _ (asked u from stamp) tt
+  message : (m : Message) (stamp : ℕ) (b : Bool) → (to_of m == s.shard) ≡ b → cond b (on_message (forgets_part tx s) m) (QuietBeforeWorn Stale) ≡ partless tx (cond b (on_message s m) (QuietBeforeWorn Stale))
+  message m stamp false e = refl
+  message (Prepare to u home seen) stamp true e = any_prepare u home seen stamp
+  message (VoteMessage to u from vote) stamp true e = voting u from vote stamp (tx_get u s.requests) refl
+  message (Decide to u home commit) stamp true e = ap (on_decide (forgets_part tx s) u home commit) (taken_same u commit) ∙ deciding u home commit stamp (taken_by (facts_of s u) commit) refl
+  message (Done to u from) stamp true e = doing u from stamp (tx_get u s.requests) refl
+  message (Ask to u from) stamp true e = done_by _ (asked u from stamp) tt
 
   reminding : (out ms : List Message) → s.outbox ≡ out → reminders s ≡ ms → remind_with (forgets_part tx s) out ms ≡ partless tx (remind_with s out ms)
   reminding [] (m ∷ ms) e f = done_by _ (reminds m ms e f) tt
@@ -241,7 +265,7 @@ module _ (s : Shard) (tx : TxId) (past : IsPast s tx) where
   up (Look u) m = look u (has_durable_commit (facts_of s u))
   up (Drop u) m = ap (drop_event (forgets_part tx s) u) (same_stage s.local tx u m) ∙ dropping u (stage_of s.local u) m refl
   up Send m = sending s.outbox refl
-  up (Deliver x stamp) m = message x stamp (to_of x == s.shard) m refl
+  up (Deliver x stamp) m = message x stamp (to_of x == s.shard) refl
   up Remind m = ap (remind_with (forgets_part tx s) s.outbox) (reminders_same s tx past.is_gone) ∙ reminding s.outbox (reminders s) refl refl
   up FlushOut m = flushing s.flight (fitting 1048576 (drop (taken s) s.local.log)) refl refl
   up FlushIn m = refl

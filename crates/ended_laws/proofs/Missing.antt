@@ -32,7 +32,7 @@ use Rattle.clv_base.specs.Participant.{taken_by, asks}
 use Rattle.clv_base.specs.Coordinator.{others, takes_vote, with_vote_of, takes_done, with_done_of, ask_answer, doom_cause, prepares, missing_votes, missing_dones, each_request, home_reminders}
 use Rattle.clv_base.specs.OneShard.{OpReply, OpWaits, OpCrowded, OpDies, OpAnswers, op_reply, seen_fits, close_part}
 use Rattle.clv_base.specs.Due.{send}
-use Rattle.clv_base.specs.Events.{QuietBeforeWorn, Does, finish, op_event, is_alone, epoch_in, coordinate, request_by_stage, request_event, request_epoch, look_lost, look_state, look_known, drop_event, owe_vote, on_prepare, with_votes, on_vote, on_decide, with_done, on_done, ask_messages, on_ask, on_message, to_of, send_event, durable_requests, waiting_voters, remind_with, reminders, taken, out_event, happen_up}
+use Rattle.clv_base.specs.Events.{QuietBeforeWorn, Does, finish, op_event, is_alone, epoch_in, coordinate, request_by_stage, request_event, request_epoch, look_lost, look_state, look_known, drop_event, owe_vote, is_followed, on_prepare, with_votes, on_vote, on_decide, with_done, on_done, ask_messages, on_ask, on_message, to_of, send_event, durable_requests, waiting_voters, remind_with, reminders, taken, out_event, happen_up}
 use Rattle.clv_base.proofs.SameNames.{tx_true}
 use Rattle.history_cases.proofs.Stepping.{Step, op_dies, op_answers, request_new, request_closes, drops, sends, prepare_closes, prepare_again, vote_counts, decision_comes, decision_again, done_counts, asked, reminds, flushes}
 use Rattle.ended_laws.specs.Requests.{without, forgets, forgetful, IsOver, is_by_log, MayCome, NobodyMissesIt}
@@ -145,7 +145,7 @@ module _ (s : Shard) (tx : TxId) (q : Request) (over : IsOver s tx q) where
   owing u home seen stamp n = done_by _ (prepare_again u home seen stamp n) tt
 
   preparing : (u : TxId) (home seen stamp : ℕ) (st : Option Stage) → stage_of s.local u ≡ st → on_prepare (forgets tx s) u home seen st ≡ forgetful tx (on_prepare s u home seen st)
-  preparing u home seen stamp None e = at (seen == s.local.epoch)
+  preparing u home seen stamp None e = at (is_followed u s.local.parts || (seen == s.local.epoch))
     where
       differ : {x : Option Stage} → x ≡ None → x ≡ Some Active → ⊥
       differ a b = absurd cc
@@ -158,10 +158,14 @@ module _ (s : Shard) (tx : TxId) (q : Request) (over : IsOver s tx q) where
     where
       differ : {x : Option Stage} → x ≡ Some Closed → x ≡ Some Active → ⊥
       differ a b = absurd cc
-  preparing u home seen stamp (Some (Gone d)) e = owing u home seen stamp (λ f. differ e f)
+  preparing u home seen stamp (Some (Gone d)) e = at (is_followed u s.local.parts)
     where
       differ : {x : Option Stage} → x ≡ Some (Gone d) → x ≡ Some Active → ⊥
       differ a b = absurd cc
+
+      at : (b : Bool) → cond b (QuietBeforeWorn Stale) (Does Taken (finish (owe_vote u home seen (forgets tx s)))) ≡ forgetful tx (cond b (QuietBeforeWorn Stale) (Does Taken (finish (owe_vote u home seen s))))
+      at true = refl
+      at false = owing u home seen stamp (λ f. differ e f)
 
   vote_other : (u : TxId) (from : ℕ) (vote : Vote) (stamp : ℕ) (o : Option Request) → tx_get u s.requests ≡ o → tx_same tx u ≡ false → on_vote (forgets tx s) u from vote o ≡ forgetful tx (on_vote s u from vote o)
   vote_other u from vote stamp None e d = refl

@@ -54,7 +54,7 @@ map_without tx f (r ∷ rs) = at (tx_same tx r.0) (map_without tx f rs)
 pub same_stage : (l : Local) (tx u : TxId) → tx_same tx u ≡ false → stage_of (forgets_in tx l) u ≡ stage_of l u
 same_stage l tx u d = ap (λ o. elim o as (λ z. Option Stage) [ Some h ↦ Some h.stage | None ↦ None ]) (get_without tx u l.parts d)
 
-own_stage : (l : Local) (tx : TxId) → stage_of (forgets_in tx l) tx ≡ None
+pub own_stage : (l : Local) (tx : TxId) → stage_of (forgets_in tx l) tx ≡ None
 own_stage l tx = ap (λ o. elim o as (λ z. Option Stage) [ Some h ↦ Some h.stage | None ↦ None ]) (get_own tx l.parts)
 
 -- a test of stages that the one without a part passes as the part that isn't there

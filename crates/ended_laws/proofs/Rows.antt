@@ -1,17 +1,19 @@
 -- Tables without one transaction's row.
-use Rattle.std.proofs.Common.{◌≡◌, refl, sym, ap, subst, ◌∙◌, true, false, cond, Bool, not, List, [], ◌∷◌, ◌++◌, Some, None}
-use Rattle.std.specs.List.{filter, AllByRecursion}
+use Rattle.std.proofs.Common.{◌≡◌, ◌⊎◌, inl, inr, ⊎_elim, refl, sym, ap, subst, ◌∙◌, ◌<◌, true, false, cond, Bool, not, ◌||◌, List, [], ◌∷◌, ◌++◌, Some, None, arith, eq-eqb, eqb-true}
+use Rattle.std.specs.List.{filter, list_any, AllByRecursion}
 use Rattle.std.specs.List.Sorted.{IsStrictlySortedBy}
 use Rattle.std.specs.Map.{keys_of}
 use Rattle.std.specs.declared.cmp.Ordering.{Ordering}
 use Rattle.std.specs.declared.cmp.Ordering.TheVariants.{Less, Equal, Greater}
 use Rattle.std.specs.Ordering.{match_ordering}
-use Rattle.std.proofs.lemmas.Bool.{both_ways, cond-true, cond-false, false_from_ne_true}
+use Rattle.std.proofs.lemmas.Bool.{both_ways, cond-true, cond-false, false_from_ne_true, or_left, or_right, or_cases, and_parts, and_from, ltb-true, lt-ltb}
 use Rattle.clv_base.specs.declared.names.TxId.{TxId}
 use Rattle.clv_base.specs.declared.messages.Message.{Message}
+use Rattle.clv_base.specs.declared.state.Held.{Held}
 use Rattle.clv_base.specs.declared.state.Request.{Request}
 use Rattle.clv_base.specs.Orders.{Table, tx_cmp, tx_same, tx_insert, tx_get, tx_put, tx_set}
 use Rattle.clv_base.specs.Coordinator.{each_request}
+use Rattle.clv_base.specs.Events.{is_later, is_followed}
 use Rattle.clv_base.proofs.SameNames.{tx_true, tx_eq, tx_flip, cmp_equal}
 use Rattle.law_base.proofs.Sets.{Rise, filter_rises, insert_rises, above_more, AllAbove}
 use Rattle.law_base.proofs.Names.{not_less}
@@ -160,3 +162,88 @@ put_rises t x rows h = subst Rise (sym (keys_put t x rows)) (insert_rises t (key
 
 pub set_rises : {X : Type 0} (t : TxId) (x : X) (rows : Table X) → Rise (keys_of rows) → Rise (keys_of (tx_set t x rows))
 set_rises t x rows h = subst Rise (sym (set_keys t x rows)) h
+
+-- ---- who has gone on
+
+pub any_put : {X : Type 0} (f : TxId → Bool) (t : TxId) (x : X) (rows : Table X) → list_any f (keys_of rows) ≡ true → list_any f (keys_of (tx_put t x rows)) ≡ true
+any_put f t x rows h = ap (list_any f) (keys_put t x rows) ∙ inserted (keys_of rows) h
+  where
+    inserted : (ks : List TxId) → list_any f ks ≡ true → list_any f (tx_insert t ks) ≡ true
+    inserted [] h = absurd (both_ways false refl h)
+    inserted (k ∷ ks) h = at (tx_cmp t k) (inserted ks)
+      where
+        at : (o : Ordering) → (list_any f ks ≡ true → list_any f (tx_insert t ks) ≡ true) → list_any f (match_ordering o (t ∷ k ∷ ks) (k ∷ ks) (k ∷ tx_insert t ks)) ≡ true
+        at Less more = or_right (f t) (f k || list_any f ks) h
+        at Equal more = h
+        at Greater more = ⊎_elim (λ e. or_left (f k) (list_any f (tx_insert t ks)) e) (λ e. or_right (f k) (list_any f (tx_insert t ks)) (more e)) (or_cases (f k) (list_any f ks) h)
+
+-- without one name: who is left was there; who was there is left, or is that one
+left_was : (tx : TxId) (f : TxId → Bool) (ks : List TxId) → list_any f (filter (λ t. not (tx_same tx t)) ks) ≡ true → list_any f ks ≡ true
+left_was tx f [] h = h
+left_was tx f (k ∷ ks) h = at (tx_same tx k) h
+  where
+    at : (b : Bool) → list_any f (cond (not b) (k ∷ filter (λ t. not (tx_same tx t)) ks) (filter (λ t. not (tx_same tx t)) ks)) ≡ true → (f k || list_any f ks) ≡ true
+    at true e = or_right (f k) (list_any f ks) (left_was tx f ks e)
+    at false e = ⊎_elim (λ a. or_left (f k) (list_any f ks) a) (λ a. or_right (f k) (list_any f ks) (left_was tx f ks a)) (or_cases (f k) (list_any f (filter (λ t. not (tx_same tx t)) ks)) e)
+
+others_left : (tx : TxId) (f g : TxId → Bool) (ks : List TxId) → ((t : TxId) → f t ≡ true → (g t ≡ true) × (tx_same tx t ≡ false)) → list_any f ks ≡ true → list_any g (filter (λ t. not (tx_same tx t)) ks) ≡ true
+others_left tx f g [] k h = absurd (both_ways false refl h)
+others_left tx f g (u ∷ us) k h = ⊎_elim first (λ e. more (tx_same tx u) (others_left tx f g us k e)) (or_cases (f u) (list_any f us) h)
+  where
+    rest : List TxId
+    rest = filter (λ t. not (tx_same tx t)) us
+
+    first : f u ≡ true → list_any g (cond (not (tx_same tx u)) (u ∷ rest) rest) ≡ true
+    first e = let p = k u e in ap (λ b. list_any g (cond (not b) (u ∷ rest) rest)) p.1 ∙ or_left (g u) (list_any g rest) p.0
+
+    more : (b : Bool) → list_any g rest ≡ true → list_any g (cond (not b) (u ∷ rest) rest) ≡ true
+    more true e = e
+    more false e = or_right (g u) (list_any g rest) e
+
+any_left : (tx : TxId) (f : TxId → Bool) (ks : List TxId) → list_any f ks ≡ true → (f tx ≡ true) ⊎ (list_any f (filter (λ t. not (tx_same tx t)) ks) ≡ true)
+any_left tx f [] h = absurd (both_ways false refl h)
+any_left tx f (u ∷ us) h = ⊎_elim (λ e. first (tx_same tx u) refl e) (λ e. ⊎_elim (λ a. inl a) (λ a. inr (more (tx_same tx u) a)) (any_left tx f us e)) (or_cases (f u) (list_any f us) h)
+  where
+    rest : List TxId
+    rest = filter (λ t. not (tx_same tx t)) us
+
+    first : (b : Bool) → tx_same tx u ≡ b → f u ≡ true → (f tx ≡ true) ⊎ (list_any f (cond (not b) (u ∷ rest) rest) ≡ true)
+    first true e a = inl (ap f (tx_true tx u e) ∙ a)
+    first false e a = inr (or_left (f u) (list_any f rest) a)
+
+    more : (b : Bool) → list_any f rest ≡ true → list_any f (cond (not b) (u ∷ rest) rest) ≡ true
+    more true a = a
+    more false a = or_right (f u) (list_any f rest) a
+
+-- a later one of a later one is later, and has another name
+record IsLater (a b : TxId) : Type 0 where
+  runs : b.run ≡ a.run
+  sessions : b.session ≡ a.session
+  serials : a.serial < b.serial
+
+later_is : (a b : TxId) → is_later a b ≡ true → IsLater a b
+later_is a b h =
+    let p = and_parts _ _ h in let q = and_parts _ _ p.0 in
+    record { runs = eqb-true b.run a.run q.0; sessions = eqb-true b.session a.session q.1; serials = ltb-true a.serial b.serial p.1 }
+
+is_as_later : (a b : TxId) → IsLater a b → is_later a b ≡ true
+is_as_later a b l = and_from _ _ (and_from _ _ (eq-eqb b.run a.run l.runs) (eq-eqb b.session a.session l.sessions)) (lt-ltb a.serial b.serial l.serials)
+
+later_other : (a b : TxId) → is_later a b ≡ true → tx_same a b ≡ false
+later_other a b h = false_from_ne_true _ (λ i. let l = later_is a b h in let e = ap (λ z. z.serial) (tx_true a b i) in let s = l.serials in omega arith)
+
+later_still : (a b c : TxId) → is_later a b ≡ true → is_later b c ≡ true → is_later a c ≡ true
+later_still a b c f g =
+    let k = later_is a b f in let l = later_is b c g in let m = k.serials in let n = l.serials in
+    is_as_later a c (record { runs = l.runs ∙ k.runs; sessions = l.sessions ∙ k.sessions; serials = omega arith })
+
+-- where the one that is forgotten is followed itself, who is followed stays so
+any_without : (tx u : TxId) (ks : List TxId) → list_any (is_later tx) ks ≡ true → list_any (is_later u) (filter (λ t. not (tx_same tx t)) ks) ≡ list_any (is_later u) ks
+any_without tx u ks h = at (list_any (is_later u) ks) refl
+  where
+    at : (b : Bool) → list_any (is_later u) ks ≡ b → list_any (is_later u) (filter (λ t. not (tx_same tx t)) ks) ≡ b
+    at true e = ⊎_elim (λ a. others_left tx (is_later tx) (is_later u) ks (λ t g. (later_still u tx t a g, later_other tx t g)) h) (λ a. a) (any_left tx (is_later u) ks e)
+    at false e = false_from_ne_true _ (λ a. both_ways _ e (left_was tx (is_later u) ks a))
+
+pub followed_without : (tx u : TxId) (parts : Table Held) → is_followed tx parts ≡ true → is_followed u (without tx parts) ≡ is_followed u parts
+followed_without tx u parts h = ap (list_any (is_later u)) (keys_without tx parts) ∙ any_without tx u (keys_of parts) h

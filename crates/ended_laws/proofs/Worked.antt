@@ -1,15 +1,16 @@
 -- The worked examples, by computation.
 use Rattle.std.proofs.Common.{refl}
 use Rattle.std.specs.List.Sorted.{IsStrictlySortedBy}
-use Rattle.ended_laws.specs.Examples.{OneShardIsOver, AnEndedCommitIsOver, ALookTells, ALatePrepareTells}
+use Rattle.ended_laws.specs.Examples.{OneShardIsOver, AnEndedCommitIsOver, ALookTells, ALatePrepareIsStale}
 
 pub one_shard_is_over : OneShardIsOver
 unfolding IsStrictlySortedBy
 one_shard_is_over = record { rises = (tt, tt); kept = refl; is_gone = refl; is_done = (refl, refl, refl, refl) }
 
-pub a_late_prepare_tells : ALatePrepareTells
+pub a_late_prepare_is_stale : ALatePrepareIsStale
 unfolding IsStrictlySortedBy
-a_late_prepare_tells = (record { parts_rise = (tt, tt); voters_rise = (tt, tt); requests_rise = tt; is_gone = refl; owes = refl; no_request = refl }, refl, refl)
+a_late_prepare_is_stale =
+    (refl, record { parts_rise = ((refl, tt), tt, tt); voters_rise = (tt, tt); requests_rise = tt; is_gone = refl; owes = refl; no_request = refl; followed = refl }, refl, refl)
 
 pub an_ended_commit_is_over : AnEndedCommitIsOver
 unfolding IsStrictlySortedBy

@@ -1,4 +1,4 @@
--- Worked examples: a transaction that is over, and a part that a late Prepare still asks.
+-- Worked examples: a transaction that is over, and a part that a late Prepare finds past.
 use Rattle.std.specs.Prelude.{◌≡◌, List, [], ◌∷◌, None, true, false}
 use Rattle.clv_base.specs.declared.names.TxId.{TxId}
 use Rattle.clv_base.specs.declared.names.Birth.{Birth}
@@ -83,9 +83,19 @@ asking = Deliver (Prepare 1 first_tx 0 0) 3
 abbrev pub voted_reader : Shard
 voted_reader = made (opened 1 1 []) (OpEvent first_tx first_birth 1 None (Get 5) ∷ asking ∷ [])
 
--- then its part is past; but the same Prepare, delivered late, is taken and its vote given again, where without the rows it is stale
-abbrev pub ALatePrepareTells : Type 0
-ALatePrepareTells =
-    IsPast voted_reader first_tx
-    × ((made voted_reader (asking ∷ [])).outbox ≡ VoteMessage 0 first_tx 1 Read ∷ VoteMessage 0 first_tx 1 Read ∷ [])
-    × (happen (forgets_part first_tx voted_reader) asking ≡ QuietBeforeWorn Stale)
+-- the next transaction of its session reads there too
+abbrev pub second_tx : TxId
+second_tx = record { run = 1; session = 1; serial = 2 }
+
+abbrev pub second_birth : Birth
+second_birth = record { stamp = 4; session = 1; serial = 2 }
+
+abbrev pub followed_reader : Shard
+followed_reader = made voted_reader (OpEvent second_tx second_birth 1 None (Get 6) ∷ [])
+
+-- before that the same Prepare, delivered again, is taken and its vote given again, since the first vote may be lost; behind it the part is past, and
+-- the Prepare is stale with its rows and without
+abbrev pub ALatePrepareIsStale : Type 0
+ALatePrepareIsStale =
+    ((made voted_reader (asking ∷ [])).outbox ≡ VoteMessage 0 first_tx 1 Read ∷ VoteMessage 0 first_tx 1 Read ∷ [])
+    × IsPast followed_reader first_tx × (happen followed_reader asking ≡ QuietBeforeWorn Stale) × (happen (forgets_part first_tx followed_reader) asking ≡ QuietBeforeWorn Stale)

@@ -3,7 +3,6 @@ use Rattle.std.specs.Prelude.{◌≡◌, ◌⊎◌, ℕ, ◌<◌, true, List, �
 use Rattle.clv_base.specs.declared.names.TxId.{TxId}
 use Rattle.clv_base.specs.declared.logs.LogRecord.{LogRecord}
 use Rattle.clv_base.specs.declared.events.Event.TheVariants.{Deliver, Restart}
-use Rattle.clv_base.specs.declared.events.Event.{Event}
 use Rattle.clv_base.specs.declared.messages.Message.TheVariants.{Prepare}
 use Rattle.clv_base.specs.declared.events.Entry.{Entry}
 use Rattle.clv_base.specs.declared.state.Request.{Request}
@@ -17,7 +16,7 @@ use Rattle.history_laws.specs.Openings.{LegalFrom}
 use Rattle.fate_laws.specs.Origins.{WasAskedAt, WasAsked}
 use Rattle.ended_laws.specs.Requests.{forgets, IsOver, is_by_log}
 use Rattle.ended_laws.specs.Parts.{forgets_part, IsPast}
-use Rattle.ended_laws.specs.Sessions.{WasToldItsEnd, WasAcknowledged, WasFollowed}
+use Rattle.ended_laws.specs.Sessions.{WasToldItsEnd, WasFollowed}
 
 -- the log answers a look at it, or its session was told its end, or began a later one
 abbrev pub MayBeForgotten : History → TxId → Request → Type 0
@@ -34,10 +33,6 @@ RowsAreNotMissed =
 
 -- ---- parts
 
--- the session knows its success, or began a later one, so that it makes nothing more of it, not even a drop
-abbrev pub IsLetGo : History → TxId → Type 0
-IsLetGo so_far tx = WasAcknowledged so_far tx ⊎ WasFollowed so_far tx
-
 -- its request was taken on this shard, or on none so far
 abbrev pub IsAtHome : History → ℕ → TxId → Type 0
 IsAtHome so_far n tx = WasAskedAt so_far n tx ⊎ (WasAsked so_far tx → ⊥)
@@ -48,18 +43,12 @@ NoPrepareComesHome =
     (splits : List ℕ) (before : List (List LogRecord)) (so_far : History) (n : ℕ) (e : Entry) (later : History) (after : List (List LogRecord)) (tx : TxId) (home seen stamp : ℕ)
     → LegalFrom splits before (so_far ++ (n, e) ∷ later) after → IsAtHome so_far n tx → e.event ≡ Deliver (Prepare n tx home seen) stamp → ⊥
 
--- the entry is the delivery of a Prepare of it
-abbrev pub IsPrepareOf : TxId → Event → Type 0
-IsPrepareOf tx (Deliver (Prepare to t home seen) stamp) = tx ≡ t
-IsPrepareOf tx _ = ⊥
-
--- a shard that has forgotten a past part by then, where its session let it go, makes each next entry too but a late Prepare of it, and comes to the
--- same state but for its rows; and the part stays past
+-- a shard that has forgotten a past part by then, whose session began a later one, makes each next entry too, and comes to the same state but for its
+-- rows; and the part stays past
 abbrev pub PartsAreNotMissed : Type 0
 PartsAreNotMissed =
     (splits : List ℕ) (before : List (List LogRecord)) (so_far : History) (n : ℕ) (e : Entry) (later : History) (after : List (List LogRecord)) (tx : TxId)
-    → LegalFrom splits before (so_far ++ (n, e) ∷ later) after → IsPast (state_before before so_far after n) tx → IsLetGo so_far tx
-    → (e.event ≡ Restart → ⊥) → (IsPrepareOf tx e.event → ⊥)
+    → LegalFrom splits before (so_far ++ (n, e) ∷ later) after → IsPast (state_before before so_far after n) tx → WasFollowed so_far tx → (e.event ≡ Restart → ⊥)
     → (after_entry (log_of after n) (forgets_part tx (state_before before so_far after n)) e ≡ forgets_part tx (after_entry (log_of after n) (state_before before so_far after n) e))
     × IsPast (after_entry (log_of after n) (state_before before so_far after n) e) tx
 

@@ -1,6 +1,6 @@
 // Worked examples.
 
-ghost use Rattle.ended_laws.specs.Examples.{OneShardIsOver, AnEndedCommitIsOver, ALookTells, ALatePrepareTells};
+ghost use Rattle.ended_laws.specs.Examples.{OneShardIsOver, AnEndedCommitIsOver, ALookTells, ALatePrepareIsStale};
 
 /// A transaction of one shard is over once its COMMIT is durable.
 pub fn one_shard_is_over()
@@ -17,7 +17,7 @@ pub fn a_look_tells()
     ensures { ALookTells }
 {}
 
-/// A part that voted that it only read is past, and a late Prepare of it is still answered by its row.
-pub fn a_late_prepare_tells()
-    ensures { ALatePrepareTells }
+/// A part that voted that it only read answers a second Prepare as the first, until its session goes on: then it is past, and a Prepare of it is stale.
+pub fn a_late_prepare_is_stale()
+    ensures { ALatePrepareIsStale }
 {}

@@ -13,8 +13,8 @@ pub fn no_prepare_comes_home()
     ensures { NoPrepareComesHome }
 {}
 
-/// Where a part is past and its session knows its success or began a later transaction, each next entry but a restart and a late Prepare of it leads
-/// to the same without its rows; and the part stays past.
+/// Where a part is past and its session began a later transaction, each next entry but a restart leads to the same without its rows; and the part stays
+/// past.
 pub fn parts_are_not_missed()
     ensures { PartsAreNotMissed }
 {}

@@ -84,7 +84,7 @@ for_on t tx birth false e s = nobody
 
 for_new : (t : SessionState) (tx : TxId) (birth : Birth) (b : Bool) → begins t tx birth ≡ b → For t tx birth (cond b (Some (begun t tx birth)) None)
 for_new t tx birth true e =
-    let p = and_parts ((tx.run == (t.tx).run) && (tx.session == (t.tx).session) && nat_lt (t.tx).serial tx.serial && (birth.session == tx.session)) (follows_birth t.birth birth t.phase) e in
+    let p = and_parts ((tx.run == (t.tx).run) && (tx.session == (t.tx).session) && nat_lt (t.tx).serial tx.serial && (birth.session == tx.session)) (follows_birth t.birth birth t.phase) (and_parts _ _ e).0 in
     let q = and_parts ((tx.run == (t.tx).run) && (tx.session == (t.tx).session) && nat_lt (t.tx).serial tx.serial) (birth.session == tx.session) p.0 in
     let r = parts3 (tx.run == (t.tx).run) (tx.session == (t.tx).session) (nat_lt (t.tx).serial tx.serial) q.0 in
     a_new_one (eqb-true _ _ r.0) (eqb-true _ _ r.1) (ltb-true _ _ r.2)

@@ -59,7 +59,7 @@ its_new w t tx birth e f = record { named = e; born = λ b s. subst (λ c. c.ses
 
 for_new : (w : ℕ) (t : SessionState) (tx : TxId) (birth : Birth) (b : Bool) → begins t tx birth ≡ b → IsItsOwn w t → For w tx birth (cond b (Some (begun t tx birth)) None)
 for_new w t tx birth true e i =
-    let p = and_parts ((tx.run == (t.tx).run) && (tx.session == (t.tx).session) && nat_lt (t.tx).serial tx.serial && (birth.session == tx.session)) (follows_birth t.birth birth t.phase) e in
+    let p = and_parts ((tx.run == (t.tx).run) && (tx.session == (t.tx).session) && nat_lt (t.tx).serial tx.serial && (birth.session == tx.session)) (follows_birth t.birth birth t.phase) (and_parts _ _ e).0 in
     let q = and_parts ((tx.run == (t.tx).run) && (tx.session == (t.tx).session) && nat_lt (t.tx).serial tx.serial) (birth.session == tx.session) p.0 in
     let r = and_parts ((tx.run == (t.tx).run) && (tx.session == (t.tx).session)) (nat_lt (t.tx).serial tx.serial) q.0 in
     let named : tx.session ≡ w = eqb-true _ _ (and_parts (tx.run == (t.tx).run) (tx.session == (t.tx).session) r.0).1 ∙ i.named in

@@ -27,7 +27,7 @@ follows_again t p birth (inl same) may is =
     subst (λ o. follows_birth o birth t.phase ≡ true) (sym is ∙ ap (λ s. s.birth) same) (or_right (is_older birth birth) (is_eq (birth_cmp birth birth) && may_drop t.phase)
     (and_from (is_eq (birth_cmp birth birth)) (may_drop t.phase) (birth_self birth) (ap (λ s. may_drop s.phase) (sym same) ∙ may)))
 follows_again t p birth (inr (b, begins_so, other, begins_next)) may is =
-    subst (λ x. follows_birth t.birth x t.phase ≡ true) (some_birth b birth (sym (ap (λ s. s.birth) begins_so) ∙ is)) (and_parts _ _ begins_next).1
+    subst (λ x. follows_birth t.birth x t.phase ≡ true) (some_birth b birth (sym (ap (λ s. s.birth) begins_so) ∙ is)) (and_parts _ _ (and_parts _ _ begins_next).0).1
 
 module _ {M S G : Type 0} (sh : Shards M S G) (w v : Walker M S G) (p : SessionState) (tx : TxId) (a : IsRetriable sh w p) where
   -- the next transaction may have operations

@@ -65,7 +65,7 @@ on_if t u birth false e q = nobody_on
 
 new_if : (t : SessionState) (u : TxId) (birth : Birth) (b : Bool) → begins t u birth ≡ b → ForOn t u birth (cond b (Some (begun t u birth)) None)
 new_if t u birth true e =
-    let p = and_parts ((u.run == (t.tx).run) && (u.session == (t.tx).session) && nat_lt (t.tx).serial u.serial && (birth.session == u.session)) (follows_birth t.birth birth t.phase) e in
+    let p = and_parts ((u.run == (t.tx).run) && (u.session == (t.tx).session) && nat_lt (t.tx).serial u.serial && (birth.session == u.session)) (follows_birth t.birth birth t.phase) (and_parts _ _ e).0 in
     let q = and_parts ((u.run == (t.tx).run) && (u.session == (t.tx).session) && nat_lt (t.tx).serial u.serial) (birth.session == u.session) p.0 in
     let r = and_parts ((u.run == (t.tx).run) && (u.session == (t.tx).session)) (nat_lt (t.tx).serial u.serial) q.0 in
     new_on (ltb-true _ _ r.1)

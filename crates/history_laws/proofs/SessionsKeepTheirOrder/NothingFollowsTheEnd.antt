@@ -98,7 +98,7 @@ data For (t tx : TxId) : Option SessionState → Type 0 where
 
 for_new : (t : TxId) (s : SessionState) (tx : TxId) (birth : Birth) (b : Bool) → begins s tx birth ≡ b → t.serial ≤ (s.tx).serial → For t tx (cond b (Some (begun s tx birth)) None)
 for_new t s tx birth true e l =
-    let p = and_parts ((tx.run == (s.tx).run) && (tx.session == (s.tx).session) && nat_lt (s.tx).serial tx.serial && (birth.session == tx.session)) (follows_birth s.birth birth s.phase) e in
+    let p = and_parts ((tx.run == (s.tx).run) && (tx.session == (s.tx).session) && nat_lt (s.tx).serial tx.serial && (birth.session == tx.session)) (follows_birth s.birth birth s.phase) (and_parts _ _ e).0 in
     let q = and_parts ((tx.run == (s.tx).run) && (tx.session == (s.tx).session) && nat_lt (s.tx).serial tx.serial) (birth.session == tx.session) p.0 in
     let r = and_parts ((tx.run == (s.tx).run) && (tx.session == (s.tx).session)) (nat_lt (s.tx).serial tx.serial) q.0 in
     let k = ltb-true (s.tx).serial tx.serial r.1 in
