@@ -1,5 +1,5 @@
 -- What an event comes to: whether it is quiet, and what it may be.
-use Rattle.std.proofs.Common.{◌≡◌, ◌∙◌, refl, sym, ap, subst, ℕ, zero, suc, ◌==◌, ◌^◌, nat_lt, Bool, true, false, not, cond, List, [], ◌∷◌, drop, Option, Some, None, Result, Ok, Err}
+use Rattle.std.proofs.Common.{◌||◌, ◌≡◌, ◌∙◌, refl, sym, ap, subst, ℕ, zero, suc, ◌==◌, ◌^◌, nat_lt, Bool, true, false, not, cond, List, [], ◌∷◌, drop, Option, Some, None, Result, Ok, Err}
 use Rattle.std.specs.Prelude.{is_some, IfOk}
 use Rattle.std.proofs.lemmas.Bool.{both_ways}
 use Rattle.clv_base.specs.declared.names.TxId.{TxId}
@@ -34,7 +34,7 @@ use Rattle.clv_base.specs.Facts.{facts_of, has_durable_commit}
 use Rattle.clv_base.specs.Participant.{taken_by}
 use Rattle.clv_base.specs.Coordinator.{takes_vote, takes_done}
 use Rattle.clv_base.specs.OneShard.{OpReply, OpWaits, OpCrowded, OpDies, OpAnswers, seen_fits, op_reply, op_seen, op_by_stage, op_decided, op_granted}
-use Rattle.clv_base.specs.Events.{Reply, QuietBeforeWorn, QuietAfterWorn, Does, finish, op_event, epoch_in, request_by_stage, request_event, look_lost, look_state, look_known, look_event, request_epoch, drop_event, on_prepare, on_vote, on_decide, on_done, on_message, to_of, send_event, reminders, remind_with, out_event, taken, happen_up, happen, Quiet, Enters, next_stamp, stamped, step, land_up, land, put_down}
+use Rattle.clv_base.specs.Events.{Reply, QuietBeforeWorn, QuietAfterWorn, Does, finish, op_event, epoch_in, request_by_stage, request_event, look_lost, look_state, look_known, look_event, request_epoch, drop_event, is_followed, on_prepare, on_vote, on_decide, on_done, on_message, to_of, send_event, reminders, remind_with, out_event, taken, happen_up, happen, Quiet, Enters, next_stamp, stamped, step, land_up, land, put_down}
 use Rattle.machine_calls.specs.declared.machine.StepError.{StepError}
 use Rattle.machine_calls.specs.Steps.{Tells}
 use Rattle.machine_laws.specs.Homes.{is_turned}
@@ -149,8 +149,8 @@ module _ (message : Message) (stamp : ℕ) where
   prepare_fits : (s : Shard) (tx : TxId) (home seen : ℕ) (st : Option Stage) → Fits true arrives (on_prepare s tx home seen st)
   prepare_fits s tx home seen (Some Active) = record { quiet = refl; comes = refl; down = refl }
   prepare_fits s tx home seen (Some Closed) = record { quiet = refl; comes = refl; down = refl }
-  prepare_fits s tx home seen (Some (Gone d)) = record { quiet = refl; comes = refl; down = refl }
-  prepare_fits s tx home seen None = fits_both arrives (seen == s.local.epoch) _ _ stale_fits (record { quiet = refl; comes = refl; down = refl })
+  prepare_fits s tx home seen (Some (Gone d)) = fits_both arrives (is_followed tx s.local.parts) _ _ stale_fits (record { quiet = refl; comes = refl; down = refl })
+  prepare_fits s tx home seen None = fits_both arrives (is_followed tx s.local.parts || (seen == s.local.epoch)) _ _ stale_fits (record { quiet = refl; comes = refl; down = refl })
 
   vote_fits : (s : Shard) (tx : TxId) (from : ℕ) (vote : Vote) (q : Option Request) → Fits true arrives (on_vote s tx from vote q)
   vote_fits s tx from vote None = stale_fits

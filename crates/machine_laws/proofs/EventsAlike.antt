@@ -1,5 +1,5 @@
 -- Each event makes the same whatever the journal and the last stamp; of a look the epoch that the journal tells is all that counts.
-use Rattle.std.proofs.Common.{◌≡◌, refl, sym, ap, subst, ℕ, zero, suc, Bool, true, false, cond, ◌==◌, List, [], ◌∷◌, drop, Option, Some, None}
+use Rattle.std.proofs.Common.{◌||◌, ◌≡◌, refl, sym, ap, subst, ℕ, zero, suc, Bool, true, false, cond, ◌==◌, List, [], ◌∷◌, drop, Option, Some, None}
 use Rattle.std.proofs.lemmas.Bool.{both_ways}
 use Rattle.clv_base.specs.declared.names.TxId.{TxId}
 use Rattle.clv_base.specs.declared.causes.Vote.{Vote}
@@ -22,7 +22,7 @@ use Rattle.clv_base.specs.Facts.{facts_of, has_durable_commit}
 use Rattle.clv_base.specs.Participant.{taken_by}
 use Rattle.clv_base.specs.Coordinator.{others, takes_vote, takes_done}
 use Rattle.clv_base.specs.OneShard.{OpReply, OpWaits, OpCrowded, OpDies, OpAnswers, seen_fits, op_reply, close_part, drop_part}
-use Rattle.clv_base.specs.Events.{Reply, QuietBeforeWorn, Does, finish, op_event, is_alone, epoch_in, coordinate, request_by_stage, request_event, look_lost, look_state, look_known, request_epoch, drop_event, owe_vote, on_prepare, with_votes, on_vote, decided, on_decide, with_done, on_done, on_message, to_of, with_outbox, send_event, reminders, remind_with, out_event, taken}
+use Rattle.clv_base.specs.Events.{Reply, QuietBeforeWorn, Does, finish, op_event, is_alone, epoch_in, coordinate, request_by_stage, request_event, look_lost, look_state, look_known, request_epoch, drop_event, owe_vote, is_followed, on_prepare, with_votes, on_vote, decided, on_decide, with_done, on_done, on_message, to_of, with_outbox, send_event, reminders, remind_with, out_event, taken}
 use Rattle.clv_base.specs.declared.events.Outcome.{Outcome}
 use Rattle.clv_base.specs.declared.events.Entry.{Entry}
 use Rattle.std.proofs.Common.{◌+◌}
@@ -73,8 +73,8 @@ drop_alike l j s tx (Some st) = done l j _ (with_local (drop_part tx) s)
 prepare_alike : (l : ℕ) (j : List Entry) (s : Shard) (tx : TxId) (home seen : ℕ) (st : Option Stage) → Alike l j (on_prepare (stamped_as true l j s) tx home seen st) (on_prepare s tx home seen st)
 prepare_alike l j s tx home seen (Some Active) = done l j _ (owe_vote tx home seen (with_local (close_part tx home false) s))
 prepare_alike l j s tx home seen (Some Closed) = done l j _ (owe_vote tx home seen s)
-prepare_alike l j s tx home seen (Some (Gone x)) = done l j _ (owe_vote tx home seen s)
-prepare_alike l j s tx home seen None = both l j (seen == s.local.epoch) _ _ _ _ (quiet l j _) (done l j _ (owe_vote tx home seen s))
+prepare_alike l j s tx home seen (Some (Gone x)) = both l j (is_followed tx s.local.parts) _ _ _ _ (quiet l j _) (done l j _ (owe_vote tx home seen s))
+prepare_alike l j s tx home seen None = both l j (is_followed tx s.local.parts || (seen == s.local.epoch)) _ _ _ _ (quiet l j _) (done l j _ (owe_vote tx home seen s))
 
 vote_alike : (l : ℕ) (j : List Entry) (s : Shard) (tx : TxId) (from : ℕ) (vote : Vote) (o : Option Request) → Alike l j (on_vote (stamped_as true l j s) tx from vote o) (on_vote s tx from vote o)
 vote_alike l j s tx from vote None = quiet l j _

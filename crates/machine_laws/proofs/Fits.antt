@@ -1,5 +1,5 @@
 -- Names and shards fit through what is due and through each event.
-use Rattle.std.proofs.Common.{◌≡◌, refl, sym, subst, ℕ, zero, suc, ◌≤◌, Bool, true, false, cond, ◌==◌, List, [], ◌∷◌, map, length, drop, Option, Some, None, arith}
+use Rattle.std.proofs.Common.{◌||◌, ◌≡◌, refl, sym, subst, ℕ, zero, suc, ◌≤◌, Bool, true, false, cond, ◌==◌, List, [], ◌∷◌, map, length, drop, Option, Some, None, arith}
 use Rattle.clv_base.specs.declared.names.TxId.{TxId}
 use Rattle.clv_base.specs.declared.names.Birth.{Birth}
 use Rattle.clv_base.specs.declared.ops.Op.{Op}
@@ -33,7 +33,7 @@ use Rattle.clv_base.specs.Participant.{taken_by}
 use Rattle.clv_base.specs.Coordinator.{takes_vote, takes_done, ruling_by}
 use Rattle.clv_base.specs.OneShard.{OpReply, OpWaits, OpCrowded, OpDies, OpAnswers, seen_fits, op_reply, op_seen, op_by_stage, op_active, op_decided, op_granted, rolled_back_if, without_part, drop_part}
 use Rattle.clv_base.specs.Due.{with_commit_done, due_of, do_due, work, finish_reader, with_vote, do_ruling, with_ruling}
-use Rattle.clv_base.specs.Events.{Reply, QuietBeforeWorn, QuietAfterWorn, Does, finish, op_event, epoch_in, request_by_stage, request_event, look_lost, look_state, look_known, request_epoch, drop_event, on_prepare, on_vote, decided, on_decide, on_done, on_message, to_of, send_event, reminders, remind_with, out_event, taken, landed, happen_up, happen}
+use Rattle.clv_base.specs.Events.{Reply, QuietBeforeWorn, QuietAfterWorn, Does, finish, op_event, epoch_in, request_by_stage, request_event, look_lost, look_state, look_known, request_epoch, drop_event, is_followed, on_prepare, on_vote, decided, on_decide, on_done, on_message, to_of, send_event, reminders, remind_with, out_event, taken, landed, happen_up, happen}
 use Rattle.clv_base.specs.declared.logs.LogRecord.{LogRecord}
 use Rattle.clv_base.specs.declared.logs.LogRecord.TheVariants.{Commit as CommitRecord, End as EndRecord}
 use Rattle.std.proofs.Common.{◌<◌, ◌^◌, nat_lt, ◌&&◌, ◌++◌, length-append, not}
@@ -394,9 +394,10 @@ prepare_named : (s : Shard) (tx : TxId) (home seen : ℕ) (st : Option Stage) �
 prepare_named s tx home seen (Some Active) k h few n =
     fin _ (record { fitting = owed_fits tx home seen _ k h (other_local s _ n.fitting); spelled = closings_keep tx home false s.local (ltb-true home 16 h) (few tx) n.spelled })
 prepare_named s tx home seen (Some Closed) k h few n = fin _ (record { fitting = owed_fits tx home seen s k h n.fitting; spelled = n.spelled })
-prepare_named s tx home seen (Some (Gone x)) k h few n = fin _ (record { fitting = owed_fits tx home seen s k h n.fitting; spelled = n.spelled })
+prepare_named s tx home seen (Some (Gone x)) k h few n =
+    named_both (is_followed tx s.local.parts) _ _ tt (fin (owe_vote tx home seen s) (record { fitting = owed_fits tx home seen s k h n.fitting; spelled = n.spelled }))
 prepare_named s tx home seen None k h few n =
-    named_both (seen == s.local.epoch) _ _ tt (fin (owe_vote tx home seen s) (record { fitting = owed_fits tx home seen s k h n.fitting; spelled = n.spelled }))
+    named_both (is_followed tx s.local.parts || (seen == s.local.epoch)) _ _ tt (fin (owe_vote tx home seen s) (record { fitting = owed_fits tx home seen s k h n.fitting; spelled = n.spelled }))
 
 vote_named : (s : Shard) (tx : TxId) (from : ℕ) (vote : Vote) (o : Option Request) → tx_get tx s.requests ≡ o → IsNamed s → NamedBy (on_vote s tx from vote o)
 vote_named s tx from vote None e n = tt

@@ -1,5 +1,5 @@
 -- The shard's number and what is in flight, through what is due and through each event.
-use Rattle.std.proofs.Common.{◌≡◌, refl, ◌∙◌, subst, ℕ, Bool, true, false, cond, ◌==◌, List, [], ◌∷◌, Option, Some, None}
+use Rattle.std.proofs.Common.{◌||◌, ◌≡◌, refl, ◌∙◌, subst, ℕ, Bool, true, false, cond, ◌==◌, List, [], ◌∷◌, Option, Some, None}
 use Rattle.std.proofs.lemmas.Bool.{both_ways}
 use Rattle.clv_base.specs.declared.names.TxId.{TxId}
 use Rattle.clv_base.specs.declared.causes.Vote.{Vote}
@@ -27,7 +27,7 @@ use Rattle.clv_base.specs.Participant.{taken_by}
 use Rattle.clv_base.specs.Coordinator.{takes_vote, takes_done}
 use Rattle.clv_base.specs.OneShard.{OpReply, OpWaits, OpCrowded, OpDies, OpAnswers, seen_fits, op_reply, drop_part}
 use Rattle.clv_base.specs.Due.{due_of, do_due, work, finish_reader, with_vote, do_ruling, with_ruling}
-use Rattle.clv_base.specs.Events.{Reply, QuietBeforeWorn, QuietAfterWorn, Does, finish, op_event, epoch_in, request_by_stage, request_event, look_lost, look_state, look_known, request_epoch, drop_event, on_prepare, on_vote, decided, on_decide, on_done, on_message, to_of, send_event, reminders, remind_with, happen_up}
+use Rattle.clv_base.specs.Events.{Reply, QuietBeforeWorn, QuietAfterWorn, Does, finish, op_event, epoch_in, request_by_stage, request_event, look_lost, look_state, look_known, request_epoch, drop_event, is_followed, on_prepare, on_vote, decided, on_decide, on_done, on_message, to_of, send_event, reminders, remind_with, happen_up}
 use Rattle.clv_base.specs.Coordinator.{others, ask_answer}
 use Rattle.clv_base.specs.OneShard.{close_part}
 use Rattle.clv_base.specs.Due.{send}
@@ -131,8 +131,8 @@ prepare_stays : (s : Shard) (tx : TxId) (home seen : ℕ) (st : Option Stage) �
 unfolding StaysAfter
 prepare_stays s tx home seen (Some Active) = same s (owe_vote tx home seen (with_local (close_part tx home false) s)) refl refl
 prepare_stays s tx home seen (Some Closed) = same s (owe_vote tx home seen s) refl refl
-prepare_stays s tx home seen (Some (Gone x)) = same s (owe_vote tx home seen s) refl refl
-prepare_stays s tx home seen None = after_both s (seen == s.local.epoch) _ _ tt (same s (owe_vote tx home seen s) refl refl)
+prepare_stays s tx home seen (Some (Gone x)) = after_both s (is_followed tx s.local.parts) _ _ tt (same s (owe_vote tx home seen s) refl refl)
+prepare_stays s tx home seen None = after_both s (is_followed tx s.local.parts || (seen == s.local.epoch)) _ _ tt (same s (owe_vote tx home seen s) refl refl)
 
 on_vote_stays : (s : Shard) (tx : TxId) (from : ℕ) (vote : Vote) (o : Option Request) → StaysAfter s (on_vote s tx from vote o)
 unfolding StaysAfter

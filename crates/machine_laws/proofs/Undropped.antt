@@ -1,5 +1,5 @@
 -- Parts that were not dropped yet, counted through what is due and through each event.
-use Rattle.std.proofs.Common.{◌≡◌, refl, sym, ◌∙◌, ap, subst, ℕ, zero, suc, ◌+◌, ◌≤◌, Bool, true, false, cond, ◌==◌, List, [], ◌∷◌, map, length, drop, Option, Some, None, arith}
+use Rattle.std.proofs.Common.{◌||◌, ◌≡◌, refl, sym, ◌∙◌, ap, subst, ℕ, zero, suc, ◌+◌, ◌≤◌, Bool, true, false, cond, ◌==◌, List, [], ◌∷◌, map, length, drop, Option, Some, None, arith}
 use Rattle.std.specs.declared.cmp.Ordering.{Ordering}
 use Rattle.std.specs.declared.cmp.Ordering.TheVariants.{Less, Equal, Greater}
 use Rattle.std.specs.Ordering.{match_ordering}
@@ -37,7 +37,7 @@ use Rattle.clv_base.specs.Participant.{taken_by}
 use Rattle.clv_base.specs.Coordinator.{takes_vote, takes_done}
 use Rattle.clv_base.specs.OneShard.{OpReply, OpWaits, OpCrowded, OpDies, OpAnswers, seen_fits, op_reply, op_seen, op_by_stage, op_active, op_decided, op_granted, written, locked, performed, active_part, new_part, rolled_back_if, without_part, closed_in, closed_part, marked_in, dropped_part, drop_part}
 use Rattle.clv_base.specs.Due.{total, due_of, do_due, work, finish_reader, with_vote, do_ruling, with_ruling}
-use Rattle.clv_base.specs.Events.{Reply, QuietBeforeWorn, QuietAfterWorn, Does, finish, op_event, epoch_in, request_by_stage, request_event, look_lost, look_state, look_known, request_epoch, drop_event, on_prepare, on_vote, decided, on_decide, on_done, on_message, to_of, send_event, reminders, remind_with, out_event, taken, landed, happen_up, happen}
+use Rattle.clv_base.specs.Events.{Reply, QuietBeforeWorn, QuietAfterWorn, Does, finish, op_event, epoch_in, request_by_stage, request_event, look_lost, look_state, look_known, request_epoch, drop_event, is_followed, on_prepare, on_vote, decided, on_decide, on_done, on_message, to_of, send_event, reminders, remind_with, out_event, taken, landed, happen_up, happen}
 use Rattle.clv_base.specs.Restarts.{restored_parts}
 use Rattle.machine_laws.specs.Undropped.{to_drop, undropped, new_part_by, new_parts, FinishesKeepParts, EventsAddParts, LandingsKeepParts, FirstDropsTake, RestartsHaveDoubtful}
 use Rattle.protocol_laws.proofs.Due.DueCaseByCase.{IfDue, due_holds, do_holds}
@@ -253,8 +253,8 @@ drop_adds s tx (Some st) = finished (undropped s) 0 (with_local (drop_part tx) s
 prepare_adds : (s : Shard) (tx : TxId) (home seen : ℕ) (st : Option Stage) → AddedBy (undropped s) 0 (on_prepare s tx home seen st)
 prepare_adds s tx home seen (Some Active) = kept s _ (closed_same tx s.local.parts)
 prepare_adds s tx home seen (Some Closed) = kept s _ refl
-prepare_adds s tx home seen (Some (Gone x)) = kept s _ refl
-prepare_adds s tx home seen None = added_both (undropped s) 0 (seen == s.local.epoch) _ _ tt (kept s _ refl)
+prepare_adds s tx home seen (Some (Gone x)) = added_both (undropped s) 0 (is_followed tx s.local.parts) _ _ tt (kept s _ refl)
+prepare_adds s tx home seen None = added_both (undropped s) 0 (is_followed tx s.local.parts || (seen == s.local.epoch)) _ _ tt (kept s _ refl)
 
 vote_adds : (s : Shard) (tx : TxId) (from : ℕ) (vote : Vote) (o : Option Request) → AddedBy (undropped s) 0 (on_vote s tx from vote o)
 vote_adds s tx from vote None = tt

@@ -96,8 +96,8 @@ impl<S: Store + Drop, L: Locks + Drop> ShardCore<S, L> {
     }
 
     /// A Prepare of the transaction's home, with the epoch of this shard that the session has seen, and then all that is due: an active part is
-    /// closed, and a vote is owed. It is stale, which the answer false says, exactly where no part is known and the epoch is still that one; then
-    /// all stays, and so it does where there is no memory.
+    /// closed, and a vote is owed. It is stale, which the answer false says, where no part is known and the epoch is still that one, and where the
+    /// part isn't here any more and a part of a later transaction of its session is known; then all stays, and so it does where there is no memory.
     pub fn prepare(&mut self, alloc: Global, tx: TxId, home: u32, seen: u64) -> Result<bool, Memory>
         requires rest { IsAtRest self.old }
         requires home { home < 16 }
@@ -106,7 +106,8 @@ impl<S: Store + Drop, L: Locks + Drop> ShardCore<S, L> {
         ensures still { IsAtRest self.new }
     {
         match self.stage_of(tx) {
-            None if seen == self.epoch() => Ok(false),
+            None if self.is_followed(tx) || seen == self.epoch() => Ok(false),
+            Some(Stage::Gone { .. }) if self.is_followed(tx) => Ok(false),
             Some(Stage::Active) => {
                 match self.prepare_active(alloc, tx, home, seen) {
                     Ok(()) => {}

@@ -6,6 +6,7 @@ ghost use Rattle.clv_base.specs.Participant.{taken_by};
 ghost use Rattle.clv_base.specs.Coordinator.{ask_answer};
 ghost use Rattle.clv_base.specs.Orders.{tx_get};
 ghost use Rattle.clv_base.specs.Journals.{has_equal_active_birth as has_equal_birth_in};
+ghost use Rattle.clv_base.specs.Events.{is_followed as is_followed_in};
 
 use crate::shard::ShardCore;
 use clv_base::names::{Birth, TxId};
@@ -27,6 +28,13 @@ impl<S: Store + Drop, L: Locks + Drop> ShardCore<S, L> {
         ensures { result ≡ stage_in (self.now.shard).local tx }
     {
         self.transactions.stage_of(tx)
+    }
+
+    /// Whether a part is known here of a later transaction of the same session. It goes through all parts of the epoch.
+    pub fn is_followed(&self, tx: TxId) -> bool
+        ensures { result ≡ is_followed_in tx ((self.now.shard).local).parts }
+    {
+        self.transactions.is_followed(tx)
     }
 
     /// Whether another transaction's part here is active and has this birth. It goes through all parts of the epoch.

@@ -1,5 +1,5 @@
 -- What a call answers may be delivered, where it is a message that leaves; of no other event is a message that leaves the outcome.
-use Rattle.std.proofs.Common.{◌≡◌, refl, sym, subst, ℕ, zero, suc, ◌^◌, Bool, true, false, cond, nat_lt, ◌==◌, List, [], ◌∷◌, Option, Some, None, Result, Ok, Err}
+use Rattle.std.proofs.Common.{◌||◌, ◌≡◌, refl, sym, subst, ℕ, zero, suc, ◌^◌, Bool, true, false, cond, nat_lt, ◌==◌, List, [], ◌∷◌, Option, Some, None, Result, Ok, Err}
 use Rattle.std.proofs.lemmas.Bool.{and_parts}
 use Rattle.std.specs.List.{list_all}
 use Rattle.std.specs.Prelude.{IfOk}
@@ -26,7 +26,7 @@ use Rattle.clv_base.specs.Facts.{facts_of, has_durable_commit}
 use Rattle.clv_base.specs.Participant.{taken_by}
 use Rattle.clv_base.specs.Coordinator.{takes_vote, takes_done}
 use Rattle.clv_base.specs.OneShard.{OpReply, OpWaits, OpCrowded, OpDies, OpAnswers, seen_fits, op_reply}
-use Rattle.clv_base.specs.Events.{Reply, QuietBeforeWorn, QuietAfterWorn, Does, op_event, request_by_stage, request_event, epoch_in, request_epoch, look_lost, look_state, look_known, look_event, drop_event, on_prepare, on_vote, on_decide, on_done, on_message, to_of, finish, remind_with, reminders, out_event, happen_up, happen, next_stamp, CallAnswer, Quiet, Worn, Enters, stamped, step}
+use Rattle.clv_base.specs.Events.{Reply, QuietBeforeWorn, QuietAfterWorn, Does, op_event, request_by_stage, request_event, epoch_in, request_epoch, look_lost, look_state, look_known, look_event, drop_event, is_followed, on_prepare, on_vote, on_decide, on_done, on_message, to_of, finish, remind_with, reminders, out_event, happen_up, happen, next_stamp, CallAnswer, Quiet, Worn, Enters, stamped, step}
 use Rattle.clv_base.specs.declared.events.Outcome.TheVariants.{NotYet, Acknowledged, Down}
 use Rattle.machine_calls.specs.declared.machine.StepError.{StepError}
 use Rattle.machine_calls.specs.declared.machine.StepError.TheVariants.{Memory, Worn as WornError}
@@ -95,10 +95,10 @@ messages_fit : (s : Shard) (m : Message) → ReplyFits (on_message s m)
 messages_fit s (Prepare to tx home seen) = at (stage_of s.local tx)
   where
     at : (st : Option Stage) → ReplyFits (on_prepare s tx home seen st)
-    at None = if_fits (seen == s.local.epoch) _ _ refl refl
+    at None = if_fits (is_followed tx s.local.parts || (seen == s.local.epoch)) _ _ refl refl
     at (Some Active) = refl
     at (Some Closed) = refl
-    at (Some (Gone d)) = refl
+    at (Some (Gone d)) = if_fits (is_followed tx s.local.parts) _ _ refl refl
 messages_fit s (VoteMessage to tx from vote) = at (tx_get tx s.requests)
   where
     at : (q : Option Request) → ReplyFits (on_vote s tx from vote q)

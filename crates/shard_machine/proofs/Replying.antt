@@ -1,5 +1,5 @@
 -- Which events go on to a stamp and a place in the journal, and which are quiet before.
-use Rattle.std.proofs.Common.{◌≡◌, refl, sym, ap, ℕ, Bool, true, false, cond, ◌==◌, Option, Some, None}
+use Rattle.std.proofs.Common.{◌||◌, ◌≡◌, refl, sym, ap, ℕ, Bool, true, false, cond, ◌==◌, Option, Some, None}
 use Rattle.clv_base.specs.declared.names.TxId.{TxId}
 use Rattle.clv_base.specs.declared.messages.Message.{Message}
 use Rattle.clv_base.specs.declared.messages.Message.TheVariants.{Prepare, Vote as VoteMessage, Decide, Done, Ask}
@@ -22,7 +22,7 @@ use Rattle.clv_base.specs.Facts.{facts_of, has_durable_commit}
 use Rattle.clv_base.specs.Participant.{taken_by}
 use Rattle.clv_base.specs.Coordinator.{takes_vote, takes_done}
 use Rattle.clv_base.specs.OneShard.{OpReply, OpWaits, OpCrowded, OpDies, OpAnswers}
-use Rattle.clv_base.specs.Events.{Reply, QuietBeforeWorn, Does, finish, op_event, look_lost, look_state, on_prepare, owe_vote, on_vote, with_votes, on_decide, on_done, with_done, on_message, to_of, deliver_event}
+use Rattle.clv_base.specs.Events.{Reply, QuietBeforeWorn, Does, finish, op_event, look_lost, look_state, is_followed, on_prepare, owe_vote, on_vote, with_votes, on_decide, on_done, with_done, on_message, to_of, deliver_event}
 use Rattle.machine_laws.specs.Frame.{look_unknown, look_by}
 use Rattle.shard_machine.specs.Happening.{IsQuiet, comes_early}
 use Rattle.shard_machine.specs.Answers.{goes_on}
@@ -85,10 +85,10 @@ if_so true r q a z = a
 if_so false r q a z = z
 
 prepare_so : (s : Shard) (tx : TxId) (home seen : ℕ) (st : Option Stage) → EarlyOr (on_prepare s tx home seen st)
-prepare_so s tx home seen None = if_so (seen == s.local.epoch) (QuietBeforeWorn Stale) (Does Taken (finish (owe_vote tx home seen s))) stale_so (does_so _ _)
+prepare_so s tx home seen None = if_so (is_followed tx s.local.parts || (seen == s.local.epoch)) (QuietBeforeWorn Stale) (Does Taken (finish (owe_vote tx home seen s))) stale_so (does_so _ _)
 prepare_so s tx home seen (Some Active) = does_so _ _
 prepare_so s tx home seen (Some Closed) = does_so _ _
-prepare_so s tx home seen (Some (Gone d)) = does_so _ _
+prepare_so s tx home seen (Some (Gone d)) = if_so (is_followed tx s.local.parts) (QuietBeforeWorn Stale) (Does Taken (finish (owe_vote tx home seen s))) stale_so (does_so _ _)
 
 vote_so : (s : Shard) (tx : TxId) (from : ℕ) (vote : Vote) (q : Option Request) → EarlyOr (on_vote s tx from vote q)
 vote_so s tx from vote None = stale_so

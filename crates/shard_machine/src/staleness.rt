@@ -8,7 +8,7 @@ ghost use Rattle.shard_machine.specs.Happening.{comes_early};
 
 use clv_base::messages::Message;
 use clv_base::names::TxId;
-use clv_base::state::Taken;
+use clv_base::state::{Stage, Taken};
 use lock_table::Locks;
 use ordered_store::Store;
 use shard_core::ShardCore;
@@ -26,7 +26,7 @@ fn to_of(message: &Message) -> u32
     }
 }
 
-/// A Prepare of a part that isn't known, though the session has seen this epoch.
+/// A Prepare of a part that isn't known, though the session has seen this epoch; or of one that isn't here any more, though its session has gone on.
 fn is_prepare_stale<S: Store + Drop, L: Locks + Drop>(
     core: &ShardCore<S, L>,
     tx: TxId,
@@ -35,7 +35,11 @@ fn is_prepare_stale<S: Store + Drop, L: Locks + Drop>(
 ) -> bool
     ensures { result ≡ comes_early (on_prepare core.now.shard tx home seen (stage_of (core.now.shard).local tx)) }
 {
-    core.stage_of(tx).is_none() && seen == core.epoch()
+    match core.stage_of(tx) {
+        None => core.is_followed(tx) || seen == core.epoch(),
+        Some(Stage::Gone { .. }) => core.is_followed(tx),
+        Some(Stage::Active | Stage::Closed) => false,
+    }
 }
 
 /// A decision on a part that waits for none and wasn't committed so.

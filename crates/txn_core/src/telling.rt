@@ -11,6 +11,7 @@ ghost use Rattle.clv_base.specs.Orders.{tx_cmp, tx_get, tx_same, birth_cmp};
 ghost use Rattle.tx_table.specs.Parts.{parts_here};
 ghost use Rattle.clv_base.specs.State.{is_closed_stage, is_active_stage};
 ghost use Rattle.clv_base.specs.Journals.{has_equal_active_birth as has_equal_birth_in};
+ghost use Rattle.clv_base.specs.Events.{is_later as is_later_by, is_followed as is_followed_in};
 
 use crate::shard::ShardTx;
 use clv_base::names::{Birth, TxId};
@@ -69,6 +70,13 @@ fn is_rival(tx: TxId, birth: Birth, other: TxId, part: Held) -> bool
     tx != other && part.stage == Stage::Active && birth == part.birth
 }
 
+/// Whether another transaction is a later one of the same session.
+fn is_later(tx: TxId, other: TxId) -> bool
+    ensures { result ≡ is_later_by tx other }
+{
+    other.run == tx.run && other.session == tx.session && tx.serial < other.serial
+}
+
 impl<S: Store + Drop, L: Locks + Drop> ShardTx<S, L> {
     /// What votes and decisions on the transaction depend on; the LSN of its PREPARE comes from the caller.
     pub fn facts(&self, tx: TxId, prepare: Option<u64>) -> PartFacts
@@ -111,6 +119,20 @@ impl<S: Store + Drop, L: Locks + Drop> ShardTx<S, L> {
         ensures { result ≡ has_equal_birth_in tx birth (self.now.local).parts }
     {
         self.has_rival(tx, birth)
+    }
+
+    // Whether a part is a later one's.
+    fn has_later(&self, tx: TxId) -> bool
+        ensures { result ≡ list_any (λ p. is_later_by tx p.0) (self.now.local).parts }
+    {
+        self.parts.iter().any(|(other, _)| is_later(tx, *other))
+    }
+
+    /// Whether a part is known here of a later transaction of the same session. It goes through all parts of the epoch.
+    pub fn is_followed(&self, tx: TxId) -> bool
+        ensures { result ≡ is_followed_in tx (self.now.local).parts }
+    {
+        self.has_later(tx)
     }
 
     /// The transactions whose parts here are active or closed, which rise. Those that are gone cost nothing.
