@@ -13,3 +13,5 @@ pub mod Beside
 pub mod Alone
 pub mod Worked
 pub mod Losing
+pub mod GoingOn
+pub mod Ruled

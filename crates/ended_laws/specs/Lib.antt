@@ -4,3 +4,4 @@ pub mod Sessions
 pub mod Histories
 pub mod Examples
 pub mod Epochs
+pub mod Followed

@@ -7,6 +7,7 @@
 
 pub mod epochs;
 pub mod examples;
+pub mod followed;
 pub mod histories;
 pub mod parts;
 pub mod requests;
