@@ -34,7 +34,7 @@ own_turn splits before after pre post r x l i w =
     (in_turn r x (own (x.1).walker h) (subst (λ k. Among r (own k h)) w (in_own r h (among_left r pre (x ∷ post) i))) (in_own x h (among_right x pre (x ∷ post) (inl refl))))
 
 -- the same for two entries of one transaction, or of one session
-same_walker : (splits : List ℕ) (before after : List (List LogRecord)) (h : History) (r x : Placed) (u t : TxId) → Legal splits before h after → Among r h → Among x h → tx_of (r.1).event ≡ Some u → tx_of (x.1).event ≡ Some t
+pub same_walker : (splits : List ℕ) (before after : List (List LogRecord)) (h : History) (r x : Placed) (u t : TxId) → Legal splits before h after → Among r h → Among x h → tx_of (r.1).event ≡ Some u → tx_of (x.1).event ≡ Some t
     → u.session ≡ t.session → (r.1).walker ≡ (x.1).walker
 same_walker splits before after h r x u t l i j e f s = sym (walker_of splits before after h r u l i e).1 ∙ s ∙ (walker_of splits before after h x t l j f).1
 
@@ -84,7 +84,7 @@ all_by t FlushIn = refl
 all_by t Stop = refl
 all_by t Restart = refl
 
-asked_of : (t : TxId) (e : Event) (o : Outcome) → request_of e o ≡ Some t → (tx_of e ≡ Some t) × (ended_by e o ≡ Some t.serial)
+pub asked_of : (t : TxId) (e : Event) (o : Outcome) → request_of e o ≡ Some t → (tx_of e ≡ Some t) × (ended_by e o ≡ Some t.serial)
 asked_of t (Request tx ts) Asked h = let q = same h in (ap Some q, ap (λ z. Some z.serial) q)
   where
     same : {a b : TxId} → Some a ≡ Some b → a ≡ b

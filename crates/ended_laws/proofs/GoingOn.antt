@@ -89,12 +89,13 @@ one_more t n z es (x, i, a, b) = (x, inr i, a, b)
 -- where it stands, an entry of the session behind comes after the look
 told_in : (splits : List ℕ) (es : List Placed) (s : SessionState) (y : Placed) (t u : TxId) (n : ℕ) → s.tx ≡ t → s.phase ≡ Standing n → makes_from splits (Some s) es ≡ true → Among y es → tx_of (y.1).event ≡ Some u → ToldIn t n es
 told_in splits [] s y t u n q h m i f = elim i [ ]
-told_in splits (z ∷ zs) s y t u n q h m i f = at (next splits t n z.0 s (z.1).event (z.1).outcome q h) m
+told_in splits (z ∷ zs) s y t u n q h m i f = at (next splits t n z.0 s (z.1).event (z.1).outcome q h) m (λ v a b k j. told_in splits zs v y t u n a b k j f)
   where
-    at : {v : Option SessionState} → Next t n z.0 (z.1).event (z.1).outcome v → makes_from splits v zs ≡ true → ToldIn t n (z ∷ zs)
-    at refused m = absurd (both_ways false refl m)
-    at (stands {u = v} a b c) m = ⊎_elim (λ e. absurd (c u (ap (λ (w : Placed). tx_of (w.1).event) e ∙ f))) (λ j. one_more t n z zs (told_in splits zs v y t u n a b m j f)) i
-    at (told a b) m = (z, inl refl, a, b)
+    at : {v : Option SessionState} → Next t n z.0 (z.1).event (z.1).outcome v → makes_from splits v zs ≡ true
+        → ((w : SessionState) → w.tx ≡ t → w.phase ≡ Standing n → makes_from splits (Some w) zs ≡ true → Among y zs → ToldIn t n zs) → ToldIn t n (z ∷ zs)
+    at refused m more = absurd (both_ways false refl m)
+    at (stands {u = v} a b c) m more = ⊎_elim (λ e. absurd (c u (ap (λ (w : Placed). tx_of (w.1).event) e ∙ f))) (λ j. one_more t n z zs (more v a b m j)) i
+    at (told a b) m more = (z, inl refl, a, b)
 
 abbrev Stood : List ℕ → TxId → ℕ → List Placed → Type 0
 Stood splits t k es = (v : SessionState) × (v.tx ≡ t) × (v.phase ≡ Standing k) × (makes_from splits (Some v) es ≡ true)
@@ -122,21 +123,21 @@ between splits [] s r y t u n m p a e f = elim p [ ]
 between splits (z ∷ zs) s r y t u n m (inl p) a e f =
     let w = stood splits z.0 s (z.1).event (z.1).outcome t zs (ap (λ (w : Placed). request_of (w.1).event (w.1).outcome) p.0 ∙ e) m in
     one_more t n z zs (told_in splits zs w.0 y t u n w.1 (w.2 ∙ ap Standing (ap (λ (w : Placed). w.0) p.0 ∙ a)) w.3 p.1 f)
-between splits (z ∷ zs) s r y t u n m (inr p) a e f = at (session_after splits z.0 s (z.1).event (z.1).outcome) m
+between splits (z ∷ zs) s r y t u n m (inr p) a e f = at (session_after splits z.0 s (z.1).event (z.1).outcome) m (λ v k. between splits zs v r y t u n k p a e f)
   where
-    at : (v : Option SessionState) → makes_from splits v zs ≡ true → ToldIn t n (z ∷ zs)
-    at None m = absurd (both_ways false refl m)
-    at (Some v) m = one_more t n z zs (between splits zs v r y t u n m p a e f)
+    at : (v : Option SessionState) → makes_from splits v zs ≡ true → ((w : SessionState) → makes_from splits (Some w) zs ≡ true → ToldIn t n zs) → ToldIn t n (z ∷ zs)
+    at None m more = absurd (both_ways false refl m)
+    at (Some v) m more = one_more t n z zs (more v m)
 
 -- ---- among those of a history
 
 own_append : (w : ℕ) (xs ys : History) → own w (xs ++ ys) ≡ own w xs ++ own w ys
 own_append w [] ys = refl
-own_append w (x ∷ xs) ys = at ((x.1).walker == w)
+own_append w (x ∷ xs) ys = at ((x.1).walker == w) (own_append w xs ys)
   where
-    at : (b : Bool) → cond b (x ∷ own w (xs ++ ys)) (own w (xs ++ ys)) ≡ cond b (x ∷ own w xs) (own w xs) ++ own w ys
-    at true = ap (λ l. x ∷ l) (own_append w xs ys)
-    at false = own_append w xs ys
+    at : (b : Bool) → own w (xs ++ ys) ≡ own w xs ++ own w ys → cond b (x ∷ own w (xs ++ ys)) (own w (xs ++ ys)) ≡ cond b (x ∷ own w xs) (own w xs) ++ own w ys
+    at true e = ap (λ l. x ∷ l) e
+    at false e = e
 
 made_front : (splits : List ℕ) (v : Option SessionState) (xs ys : List Placed) → makes_from splits v (xs ++ ys) ≡ true → makes_from splits v xs ≡ true
 made_front splits None xs ys m = absurd (both_ways false refl m)

@@ -57,14 +57,14 @@ Meets tx e = MayMeet tx e
 
 -- ---- parts rise, and a later one is among them
 
-abbrev Stands : TxId → Local → Type 0
-Stands tx l = Rise (keys_of l.parts) × (is_followed tx l.parts ≡ true)
+abbrev Stands : TxId → Table Held → Type 0
+Stands tx parts = Rise (keys_of parts) × (is_followed tx parts ≡ true)
 
-pub stood : (s : Shard) (tx : TxId) → IsPast s tx → Stands tx s.local
+pub stood : (s : Shard) (tx : TxId) → IsPast s tx → Stands tx s.local.parts
 stood s tx p = (p.parts_rise, p.followed)
 
-stands_by : (tx : TxId) (l m : Local) → keys_of m.parts ≡ keys_of l.parts → Stands tx l → Stands tx m
-stands_by tx l m e h = (subst Rise (sym e) h.0, ap (list_any (is_later tx)) e ∙ h.1)
+stands_by : (tx : TxId) (a b : Table Held) → keys_of b ≡ keys_of a → Stands tx a → Stands tx b
+stands_by tx a b e h = (subst Rise (sym e) h.0, ap (list_any (is_later tx)) e ∙ h.1)
 
 keys_without : (u : TxId) (l : Local) → keys_of (without_part u l).parts ≡ keys_of l.parts
 keys_without u l = at (is_present (stage_of l u))
@@ -73,25 +73,25 @@ keys_without u l = at (is_present (stage_of l u))
     at true = keys_stay _ l.parts
     at false = refl
 
-performed_stands : (tx u : TxId) (birth : Birth) (op : Op) (l : Local) → Stands tx l → Stands tx (performed u birth op l)
+performed_stands : (tx u : TxId) (birth : Birth) (op : Op) (l : Local) → Stands tx l.parts → Stands tx (performed u birth op l).parts
 performed_stands tx u birth op l h =
-    subst (λ z. Rise (keys_of z) × (is_followed tx z ≡ true)) (sym (written_parts u (writes_of op (value_at (key_of op) l.records)) (locked u birth op l))) (at (tx_get u l.parts))
+    subst (Stands tx) (sym (written_parts u (writes_of op (value_at (key_of op) l.records)) (locked u birth op l))) (at (tx_get u l.parts))
   where
-    at : (o : Option Held) → Rise (keys_of (new_part u birth o l.parts)) × (is_followed tx (new_part u birth o l.parts) ≡ true)
+    at : (o : Option Held) → Stands tx (new_part u birth o l.parts)
     at None = (put_rises u (active_part birth) l.parts h.0, any_put (is_later tx) u (active_part birth) l.parts h.1)
     at (Some x) = h
 
-reply_stands : (tx u : TxId) (birth : Birth) (seen : Option ℕ) (op : Op) (l : Local) (r : OpReply) → OpIs l u birth seen op r → Stands tx l
-    → ((a : _) (m : Local) → r ≡ OpAnswers a m → Stands tx m) × ((c : _) (m : Local) → r ≡ OpDies c m → Stands tx m)
-reply_stands tx u birth seen op l _ dies h = (λ a m e. absurd cc, λ c m e. subst (Stands tx) (one_after e) h)
+reply_stands : (tx u : TxId) (birth : Birth) (seen : Option ℕ) (op : Op) (l : Local) (r : OpReply) → OpIs l u birth seen op r → Stands tx l.parts
+    → ((a : _) (m : Local) → r ≡ OpAnswers a m → Stands tx m.parts) × ((c : _) (m : Local) → r ≡ OpDies c m → Stands tx m.parts)
+reply_stands tx u birth seen op l _ dies h = (λ a m e. absurd cc, λ c m e. subst (λ z. Stands tx z.parts) (one_after e) h)
   where
     one_after : {c d : _} {m k : Local} → OpDies c m ≡ OpDies d k → m ≡ k
     one_after e = cc
-reply_stands tx u birth seen op l _ rolls h = (λ a m e. absurd cc, λ c m e. subst (Stands tx) (one_after e) (stands_by tx l (roll_back u l) (keys_stay _ l.parts) h))
+reply_stands tx u birth seen op l _ rolls h = (λ a m e. absurd cc, λ c m e. subst (λ z. Stands tx z.parts) (one_after e) (stands_by tx l.parts (roll_back u l).parts (keys_stay _ l.parts) h))
   where
     one_after : {c d : _} {m k : Local} → OpDies c m ≡ OpDies d k → m ≡ k
     one_after e = cc
-reply_stands tx u birth seen op l _ (performs f e) h = (λ a m e. subst (Stands tx) (one_after e) (performed_stands tx u birth op l h), λ c m e. absurd cc)
+reply_stands tx u birth seen op l _ (performs f e) h = (λ a m e. subst (λ z. Stands tx z.parts) (one_after e) (performed_stands tx u birth op l h), λ c m e. absurd cc)
   where
     one_after : {c d : _} {m k : Local} → OpAnswers c m ≡ OpAnswers d k → m ≡ k
     one_after e = cc
@@ -99,7 +99,7 @@ reply_stands tx u birth seen op l _ _ h = (λ a m e. absurd cc, λ c m e. absurd
 
 -- ---- a state that keeps what it has of the transaction
 
-pub past_stays : (s t : Shard) (tx : TxId) → IsPast s tx → Stands tx t.local → Rise (keys_of t.voters) → Rise (keys_of t.requests) → tx_get tx t.voters ≡ tx_get tx s.voters
+pub past_stays : (s t : Shard) (tx : TxId) → IsPast s tx → Stands tx t.local.parts → Rise (keys_of t.voters) → Rise (keys_of t.requests) → tx_get tx t.voters ≡ tx_get tx s.voters
     → tx_get tx t.requests ≡ tx_get tx s.requests → Leaves tx s.local t.local → IsPast t tx
 past_stays s t tx p a b c v r l = record {
   parts_rise = a.0;
@@ -112,7 +112,7 @@ past_stays s t tx p a b c v r l = record {
 }
 
 -- where only what transactions work on changes
-pub past_local : (s : Shard) (tx : TxId) (l : Local) → IsPast s tx → Stands tx l → Leaves tx s.local l → IsPast (record s { local = l }) tx
+pub past_local : (s : Shard) (tx : TxId) (l : Local) → IsPast s tx → Stands tx l.parts → Leaves tx s.local l → IsPast (record s { local = l }) tx
 past_local s tx l p h g = past_stays s (record s { local = l }) tx p h p.voters_rise p.requests_rise refl refl g
 
 -- ---- what is due
@@ -135,7 +135,7 @@ not_own_request s tx u q p g = false_from_ne_true _ (λ i. none (sym p.no_reques
 vote_past : (s : Shard) (tx u : TxId) (v : Voter) (x : Vote) → tx_same tx u ≡ false → IsPast s tx → IsPast (finish_reader u x (with_vote s u v x)) tx
 vote_past s tx u v Yes d p = past_stays s _ tx p (stood s tx p) (set_rises u (voted Yes v) s.voters p.voters_rise) p.requests_rise (set_other tx u (voted Yes v) s.voters d) refl (leaves_same tx s.local)
 vote_past s tx u v Read d p =
-    past_stays s _ tx p (stands_by tx s.local _ (keys_stay _ s.local.parts) (stood s tx p)) (set_rises u (voted Read v) s.voters p.voters_rise) p.requests_rise (set_other tx u (voted Read v) s.voters d) refl
+    past_stays s _ tx p (stands_by tx s.local.parts _ (keys_stay _ s.local.parts) (stood s tx p)) (set_rises u (voted Read v) s.voters p.voters_rise) p.requests_rise (set_other tx u (voted Read v) s.voters d) refl
     (leaves_finished tx (u ∷ []) s.local)
 vote_past s tx u v (No why) d p =
     past_stays s _ tx p (stood s tx p) (set_rises u (voted (No why) v) s.voters p.voters_rise) p.requests_rise (set_other tx u (voted (No why) v) s.voters d) refl (leaves_same tx s.local)
@@ -144,16 +144,16 @@ ruling_past : (s : Shard) (tx u : TxId) (r : Ruling) (q : Request) → tx_same t
 ruling_past s tx u (CommitVerdict ps) q d p =
     past_stays s _ tx p (stood s tx p) p.voters_rise (set_rises u (ruled_request (CommitVerdict ps) q) s.requests p.requests_rise) refl (set_other tx u (ruled_request (CommitVerdict ps) q) s.requests d) (leaves_append tx _ s.local)
 ruling_past s tx u Acknowledge q d p =
-    past_stays s _ tx p (stands_by tx s.local _ (keys_stay _ s.local.parts) (stood s tx p)) p.voters_rise (set_rises u (ruled_request Acknowledge q) s.requests p.requests_rise) refl
+    past_stays s _ tx p (stands_by tx s.local.parts _ (keys_stay _ s.local.parts) (stood s tx p)) p.voters_rise (set_rises u (ruled_request Acknowledge q) s.requests p.requests_rise) refl
     (set_other tx u (ruled_request Acknowledge q) s.requests d) (leaves_finished tx (u ∷ []) s.local)
 ruling_past s tx u (AbortVerdict c to) q d p =
-    past_stays s _ tx p (stands_by tx s.local _ (keys_stay _ s.local.parts) (stood s tx p)) p.voters_rise (set_rises u (ruled_request (AbortVerdict c to) q) s.requests p.requests_rise) refl
+    past_stays s _ tx p (stands_by tx s.local.parts _ (keys_stay _ s.local.parts) (stood s tx p)) p.voters_rise (set_rises u (ruled_request (AbortVerdict c to) q) s.requests p.requests_rise) refl
     (set_other tx u (ruled_request (AbortVerdict c to) q) s.requests d) (leaves_rolled tx u s.local p.is_gone)
 ruling_past s tx u EndVerdict q d p =
     past_stays s _ tx p (stood s tx p) p.voters_rise (set_rises u (ruled_request EndVerdict q) s.requests p.requests_rise) refl (set_other tx u (ruled_request EndVerdict q) s.requests d) (leaves_append tx _ s.local)
 
 pub due_past : (tx : TxId) → KeptByDue (λ s. IsPast s tx)
-due_past tx s _ (commits u c d) p = past_stays s _ tx p (stands_by tx s.local _ (keys_stay _ s.local.parts) (stood s tx p)) p.voters_rise p.requests_rise refl refl (leaves_finished tx (u ∷ []) s.local)
+due_past tx s _ (commits u c d) p = past_stays s _ tx p (stands_by tx s.local.parts _ (keys_stay _ s.local.parts) (stood s tx p)) p.voters_rise p.requests_rise refl refl (leaves_finished tx (u ∷ []) s.local)
 due_past tx s _ (votes u v x g e) p = vote_past s tx u v x (not_own_voter s tx u v x p g e) p
 due_past tx s _ (rules u q r g e) p = ruling_past s tx u r q (not_own_request s tx u q p g) p
 
@@ -180,19 +180,19 @@ step_past s _ tx (op_answers u birth nth seen op answer l e) p m =
     past_local s tx l p ((reply_stands tx u birth seen op s.local (OpAnswers answer l) is (stood s tx p)).0 answer l refl) ((leaves_reply tx u birth seen op s.local (OpAnswers answer l) is m p.is_gone).0 answer l refl)
 step_past s _ tx (request_new u ts f e) p m = past_stays s _ tx p (stood s tx p) p.voters_rise (put_rises u _ s.requests p.requests_rise) refl (put_other tx u _ s.requests m) (leaves_same tx s.local)
 step_past s _ tx (request_closes u ts f e) p m =
-    past_stays s _ tx p (stands_by tx s.local _ (keys_stay _ s.local.parts) (stood s tx p)) p.voters_rise (put_rises u _ s.requests p.requests_rise) refl (put_other tx u _ s.requests m)
+    past_stays s _ tx p (stands_by tx s.local.parts _ (keys_stay _ s.local.parts) (stood s tx p)) p.voters_rise (put_rises u _ s.requests p.requests_rise) refl (put_other tx u _ s.requests m)
     (leaves_closed tx u s.shard _ s.local (not_here s.local tx u p.is_gone e))
 step_past s _ tx (drops u stage e) p m =
-    past_local s tx (drop_part u s.local) p (stands_by tx s.local _ (keys_stay _ (without_part u s.local).parts ∙ keys_without u s.local) (stood s tx p)) (leaves_dropped tx u s.local p.is_gone)
+    past_local s tx (drop_part u s.local) p (stands_by tx s.local.parts _ (keys_stay _ (without_part u s.local).parts ∙ keys_without u s.local) (stood s tx p)) (leaves_dropped tx u s.local p.is_gone)
 step_past s _ tx (prepare_closes u home seen stamp e) p m =
-    past_stays s _ tx p (stands_by tx s.local _ (keys_stay _ s.local.parts) (stood s tx p)) (put_rises u _ s.voters p.voters_rise) p.requests_rise (put_other tx u _ s.voters m) refl
+    past_stays s _ tx p (stands_by tx s.local.parts _ (keys_stay _ s.local.parts) (stood s tx p)) (put_rises u _ s.voters p.voters_rise) p.requests_rise (put_other tx u _ s.voters m) refl
     (leaves_closed tx u home false s.local (not_here s.local tx u p.is_gone e))
 step_past s _ tx (prepare_again u home seen stamp e) p m =
     past_stays s _ tx p (stood s tx p) (put_rises u _ s.voters p.voters_rise) p.requests_rise (put_other tx u _ s.voters m) refl (leaves_same tx s.local)
 step_past s _ tx (vote_counts u from vote stamp q g e) p m =
     past_stays s _ tx p (stood s tx p) p.voters_rise (set_rises u _ s.requests p.requests_rise) refl (set_other tx u _ s.requests (not_own_request s tx u q p g)) (leaves_same tx s.local)
 step_past s _ tx (decision_comes u home true stamp e) p m = past_local s tx _ p (stood s tx p) (leaves_append tx _ s.local)
-step_past s _ tx (decision_comes u home false stamp e) p m = past_local s tx _ p (stands_by tx s.local _ (keys_stay _ s.local.parts) (stood s tx p)) (leaves_rolled tx u s.local p.is_gone)
+step_past s _ tx (decision_comes u home false stamp e) p m = past_local s tx _ p (stands_by tx s.local.parts _ (keys_stay _ s.local.parts) (stood s tx p)) (leaves_rolled tx u s.local p.is_gone)
 step_past s _ tx (done_counts u from stamp q g e) p m =
     past_stays s _ tx p (stood s tx p) p.voters_rise (set_rises u _ s.requests p.requests_rise) refl (set_other tx u _ s.requests (not_own_request s tx u q p g)) (leaves_same tx s.local)
 step_past s _ tx _ p m = past_stays s _ tx p (stood s tx p) p.voters_rise p.requests_rise refl refl (leaves_same tx s.local)

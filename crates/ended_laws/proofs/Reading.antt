@@ -75,7 +75,7 @@ no_ruling s tx q o = no_ruling_in s tx q q.state o.is_gone o.is_done
 
 -- ---- answers to questions, and to looks
 
-place_is : (n : ℕ) (tx : TxId) (log : List LogRecord) → is_some (place_from n (is_commit_of tx) log) ≡ committed_in log tx
+pub place_is : (n : ℕ) (tx : TxId) (log : List LogRecord) → is_some (place_from n (is_commit_of tx) log) ≡ committed_in log tx
 place_is n tx [] = refl
 place_is n tx (r ∷ rs) = at (is_commit_of tx r) (place_is (suc n) tx rs)
   where

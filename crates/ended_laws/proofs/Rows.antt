@@ -180,11 +180,12 @@ any_put f t x rows h = ap (list_any f) (keys_put t x rows) ∙ inserted (keys_of
 -- without one name: who is left was there; who was there is left, or is that one
 left_was : (tx : TxId) (f : TxId → Bool) (ks : List TxId) → list_any f (filter (λ t. not (tx_same tx t)) ks) ≡ true → list_any f ks ≡ true
 left_was tx f [] h = h
-left_was tx f (k ∷ ks) h = at (tx_same tx k) h
+left_was tx f (k ∷ ks) h = at (tx_same tx k) h (left_was tx f ks)
   where
-    at : (b : Bool) → list_any f (cond (not b) (k ∷ filter (λ t. not (tx_same tx t)) ks) (filter (λ t. not (tx_same tx t)) ks)) ≡ true → (f k || list_any f ks) ≡ true
-    at true e = or_right (f k) (list_any f ks) (left_was tx f ks e)
-    at false e = ⊎_elim (λ a. or_left (f k) (list_any f ks) a) (λ a. or_right (f k) (list_any f ks) (left_was tx f ks a)) (or_cases (f k) (list_any f (filter (λ t. not (tx_same tx t)) ks)) e)
+    at : (b : Bool) → list_any f (cond (not b) (k ∷ filter (λ t. not (tx_same tx t)) ks) (filter (λ t. not (tx_same tx t)) ks)) ≡ true → (list_any f (filter (λ t. not (tx_same tx t)) ks) ≡ true → list_any f ks ≡ true)
+        → (f k || list_any f ks) ≡ true
+    at true e more = or_right (f k) (list_any f ks) (more e)
+    at false e more = ⊎_elim (λ a. or_left (f k) (list_any f ks) a) (λ a. or_right (f k) (list_any f ks) (more a)) (or_cases (f k) (list_any f (filter (λ t. not (tx_same tx t)) ks)) e)
 
 others_left : (tx : TxId) (f g : TxId → Bool) (ks : List TxId) → ((t : TxId) → f t ≡ true → (g t ≡ true) × (tx_same tx t ≡ false)) → list_any f ks ≡ true → list_any g (filter (λ t. not (tx_same tx t)) ks) ≡ true
 others_left tx f g [] k h = absurd (both_ways false refl h)

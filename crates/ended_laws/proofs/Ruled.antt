@@ -18,7 +18,8 @@ use Rattle.clv_base.specs.Logs.{committed_in}
 use Rattle.clv_base.specs.Shards.{shard_count}
 use Rattle.clv_base.specs.LogRules.{log_of}
 use Rattle.clv_base.specs.State.{Shard}
-use Rattle.clv_base.specs.Facts.{is_below, facts_of, has_durable_commit}
+use Rattle.clv_base.specs.Logs.{is_below}
+use Rattle.clv_base.specs.Facts.{facts_of, has_durable_commit}
 use Rattle.clv_base.specs.Coordinator.{new_request, others, with_vote_of, with_done_of, ruled_request, restored_requests}
 use Rattle.clv_base.specs.Events.{finish, with_durable}
 use Rattle.clv_base.specs.Restarts.{run_after, unended_in}
@@ -48,18 +49,20 @@ use Rattle.ended_laws.proofs.GoingOn.{later_ones_follow_an_end}
 
 -- ---- requests that wait for no other shard
 
+abbrev RuledIn : ℕ → TxId → Table Request → Type 0
+RuledIn n t rows = (q : Request) → tx_get t rows ≡ Some q → q.state ≡ Undecided → others n q.touched ≡ []
+
 abbrev Ruled : ℕ → TxId → Shard → Type 0
-Ruled n t s = (q : Request) → tx_get t s.requests ≡ Some q → q.state ≡ Undecided → others n q.touched ≡ []
+Ruled n t s = RuledIn n t s.requests
 
 -- a changed row is no more undecided than before, and of the same shards
-set_ruled : (n : ℕ) (t u : TxId) (q w : Request) (s z : Shard) → Ruled n t s → tx_get u s.requests ≡ Some q → z.requests ≡ tx_set u w s.requests → (w.state ≡ Undecided → q.state ≡ Undecided) → w.touched ≡ q.touched → Ruled n t z
-set_ruled n t u q w s z k g r a b p e f =
-    ⊎_elim (λ x. ap (λ l. others n l) (ap (λ v. v.touched) x.1 ∙ b) ∙ k q (ap (λ v. tx_get v s.requests) x.0 ∙ g) (a (sym (ap (λ v. v.state) x.1) ∙ f))) (λ x. k p x.1 f)
-    (get_set u t w p s.requests (sym (ap (tx_get t) r) ∙ e))
+set_ruled : (n : ℕ) (t u : TxId) (q w : Request) (rows : Table Request) → RuledIn n t rows → tx_get u rows ≡ Some q → (w.state ≡ Undecided → q.state ≡ Undecided) → w.touched ≡ q.touched → RuledIn n t (tx_set u w rows)
+set_ruled n t u q w rows k g a b p e f =
+    ⊎_elim (λ x. ap (others n) (ap (λ v. v.touched) x.1 ∙ b) ∙ k q (ap (λ v. tx_get v rows) x.0 ∙ g) (a (sym (ap (λ v. v.state) x.1) ∙ f))) (λ x. k p x.1 f) (get_set u t w p rows e)
 
 -- a new row is another's
-put_ruled : (n : ℕ) (t u : TxId) (w : Request) (s z : Shard) → Ruled n t s → tx_same t u ≡ false → z.requests ≡ tx_put u w s.requests → Ruled n t z
-put_ruled n t u w s z k d r p e f = k p (sym (ap (tx_get t) r ∙ get_put u t w s.requests ∙ cond-false (tx_same t u) (Some w) (tx_get t s.requests) d) ∙ e) f
+put_ruled : (n : ℕ) (t u : TxId) (w : Request) (rows : Table Request) → RuledIn n t rows → tx_same t u ≡ false → RuledIn n t (tx_put u w rows)
+put_ruled n t u w rows k d p e f = k p (sym (get_put u t w rows ∙ cond-false (tx_same t u) (Some w) (tx_get t rows) d) ∙ e) f
 
 committed_not : (parts : List ℕ) → Committed parts ≡ Undecided → ⊥
 committed_not parts e = absurd cc
@@ -75,19 +78,19 @@ due_ruled n t s _ (commits u c d) k = k
 due_ruled n t s _ (votes u v Yes g e) k = k
 due_ruled n t s _ (votes u v Read g e) k = k
 due_ruled n t s _ (votes u v (No why) g e) k = k
-due_ruled n t s _ (rules u q (CommitVerdict ps) g e) k = set_ruled n t u q (ruled_request (CommitVerdict ps) q) s _ k g refl (λ f. absurd (committed_not ps f)) refl
-due_ruled n t s _ (rules u q Acknowledge g e) k = set_ruled n t u q (ruled_request Acknowledge q) s _ k g refl (λ f. absurd (finished_not f)) refl
-due_ruled n t s _ (rules u q (AbortVerdict c to) g e) k = set_ruled n t u q (ruled_request (AbortVerdict c to) q) s _ k g refl (λ f. absurd (refused_not c f)) refl
-due_ruled n t s _ (rules u q EndVerdict g e) k = set_ruled n t u q (ruled_request EndVerdict q) s _ k g refl (λ f. f) refl
+due_ruled n t s _ (rules u q (CommitVerdict ps) g e) k = set_ruled n t u q (ruled_request (CommitVerdict ps) q) s.requests k g (λ f. absurd (committed_not ps f)) refl
+due_ruled n t s _ (rules u q Acknowledge g e) k = set_ruled n t u q (ruled_request Acknowledge q) s.requests k g (λ f. absurd (finished_not f)) refl
+due_ruled n t s _ (rules u q (AbortVerdict c to) g e) k = set_ruled n t u q (ruled_request (AbortVerdict c to) q) s.requests k g (λ f. absurd (refused_not c f)) refl
+due_ruled n t s _ (rules u q EndVerdict g e) k = set_ruled n t u q (ruled_request EndVerdict q) s.requests k g (λ f. f) refl
 
 finished_ruled : (n : ℕ) (t : TxId) (s : Shard) → Ruled n t s → Ruled n t (finish s)
 finished_ruled n t s k = settled (Ruled n t) s (due_ruled n t) k
 
 step_ruled : (n : ℕ) (t : TxId) (s z : Shard) {e : Event} {o : Outcome} → Step s e o z → works_for t e ≡ false → Ruled n t s → Ruled n t z
-step_ruled n t s _ (request_new u ts f e) w k = put_ruled n t u (new_request ts Undecided) s _ k w refl
-step_ruled n t s _ (request_closes u ts f e) w k = put_ruled n t u (new_request ts Undecided) s _ k w refl
-step_ruled n t s _ (vote_counts u from vote stamp q g e) w k = set_ruled n t u q (with_vote_of from vote q) s _ k g refl (λ f. f) refl
-step_ruled n t s _ (done_counts u from stamp q g e) w k = set_ruled n t u q (with_done_of from q) s _ k g refl (λ f. f) refl
+step_ruled n t s _ (request_new u ts f e) w k = put_ruled n t u (new_request ts Undecided) s.requests k w
+step_ruled n t s _ (request_closes u ts f e) w k = put_ruled n t u (new_request ts Undecided) s.requests k w
+step_ruled n t s _ (vote_counts u from vote stamp q g e) w k = set_ruled n t u q (with_vote_of from vote q) s.requests k g (λ f. f) refl
+step_ruled n t s _ (done_counts u from stamp q g e) w k = set_ruled n t u q (with_done_of from q) s.requests k g (λ f. f) refl
 step_ruled n t s _ (decision_comes u home true stamp e) w k = k
 step_ruled n t s _ (decision_comes u home false stamp e) w k = k
 step_ruled n t s _ _ w k = k
@@ -228,8 +231,8 @@ own_step {splits} {before} {after} {h} l pre y post q i k t w =
     told_so : WasToldAt pre y.0 t → WasToldItsEnd pre t
     told_so a = (y.0, a.0, a.1, told_end t (a.0).event (a.0).outcome a.2)
 
-other_step : {before after : List (List LogRecord)} (pre : History) (y : Placed) (n : ℕ) → (y.0 == n) ≡ false → AllRuled before after pre n → AllRuled before after (pre ++ y ∷ []) n
-other_step {before} {after} pre y n c k t w =
+other_step : (before after : List (List LogRecord)) (pre : History) (y : Placed) (n : ℕ) → (y.0 == n) ≡ false → AllRuled before after pre n → AllRuled before after (pre ++ y ∷ []) n
+other_step before after pre y n c k t w =
     subst (λ j. Ruled n t (after_entries (log_of after n) (start_of before n) j)) (sym (other_journal n y pre c))
     (k t (⊎_elim (λ a. a) (λ b. absurd (both_ways _ c (eq-eqb y.0 n b.0))) (told_last pre y n t w)))
 
@@ -241,7 +244,7 @@ step {splits} {before} {after} l pre y post n q i k = at (y.0 == n) refl
     at true b =
         let z = eqb-true y.0 n b in
         subst (λ m. m < shard_count splits → AllRuled before after pre m → AllRuled before after (pre ++ y ∷ []) m) z (own_step l pre y post q) i k
-    at false b = other_step pre y n b k
+    at false b = other_step before after pre y n b k
 
 walk : {splits : List ℕ} {before after : List (List LogRecord)} {h : History} → LegalFrom splits before h after → (pre so_far rest : History) (n : ℕ) → pre ++ (so_far ++ rest) ≡ h → n < shard_count splits
     → AllRuled before after pre n → AllRuled before after (pre ++ so_far) n

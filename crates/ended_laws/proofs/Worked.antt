@@ -10,7 +10,7 @@ one_shard_is_over = record { rises = (tt, tt); kept = refl; is_gone = refl; is_d
 pub a_late_prepare_is_stale : ALatePrepareIsStale
 unfolding IsStrictlySortedBy
 a_late_prepare_is_stale =
-    (refl, record { parts_rise = ((refl, tt), tt, tt); voters_rise = (tt, tt); requests_rise = tt; is_gone = refl; owes = refl; no_request = refl; followed = refl }, refl, refl)
+    (refl, record { parts_rise = ((refl, tt), (tt, tt)); voters_rise = (tt, tt); requests_rise = tt; is_gone = refl; owes = refl; no_request = refl; followed = refl }, refl, refl)
 
 pub an_ended_commit_is_over : AnEndedCommitIsOver
 unfolding IsStrictlySortedBy
