@@ -15,3 +15,5 @@ pub mod Worked
 pub mod Losing
 pub mod GoingOn
 pub mod Ruled
+pub mod Spent
+pub mod Lasting

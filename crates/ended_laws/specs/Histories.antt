@@ -11,7 +11,8 @@ use Rattle.clv_base.specs.LogRules.{log_of}
 use Rattle.clv_base.specs.Restarts.{revived}
 use Rattle.clv_base.specs.State.{Shard}
 use Rattle.clv_base.specs.Journals.{History, after_entry}
-use Rattle.clv_base.specs.History.{state_before}
+use Rattle.clv_base.specs.History.{Legal, state_before}
+use Rattle.clv_base.specs.Facts.{facts_of, has_durable_commit}
 use Rattle.history_laws.specs.Openings.{LegalFrom}
 use Rattle.fate_laws.specs.Origins.{WasAskedAt, WasAsked}
 use Rattle.ended_laws.specs.Requests.{forgets, IsOver, is_by_log}
@@ -59,3 +60,11 @@ abbrev pub RestartsReadNone : Type 0
 RestartsReadNone =
     (s : Shard) (tx : TxId) (epoch : ℕ) (log : List LogRecord)
     → (revived (forgets tx s) epoch log ≡ revived s epoch log) × (revived (forgets_part tx s) epoch log ≡ revived s epoch log)
+
+-- a COMMIT that is durable stays so through whatever comes, restarts among it: each look behind it is answered by the log, and reads neither a row nor
+-- the epoch that the request named
+abbrev pub DurableCommitsStay : Type 0
+DurableCommitsStay =
+    (splits : List ℕ) (before : List (List LogRecord)) (h : History) (after : List (List LogRecord)) (front rest later : History) (n : ℕ) (tx : TxId)
+    → Legal splits before h after → front ++ (rest ++ later) ≡ h → n < shard_count splits
+    → has_durable_commit (facts_of (state_before before front after n) tx) ≡ true → has_durable_commit (facts_of (state_before before (front ++ rest) after n) tx) ≡ true

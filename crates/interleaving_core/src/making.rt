@@ -78,6 +78,7 @@ impl Session {
             && last.serial < tx.serial
             && birth.session == tx.session
             && self.is_followed(birth)
+            && !self.is_standing()
     }
 
     // Whether the operation has its number, lies in the shard, and names the epoch that was answered there.

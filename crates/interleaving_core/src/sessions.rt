@@ -4,7 +4,7 @@ ghost use Rattle.std.specs.List.{list_all};
 ghost use Rattle.std.specs.Map.{lookup};
 ghost use Rattle.clv_base.specs.FileRules.{numbers_rise, tx_has_spelling};
 ghost use Rattle.clv_base.specs.Orders.{tx_same};
-ghost use Rattle.clv_base.specs.Sessions.{no_session, begun, touch, scan_shard, is_touching as touches, same_birth, may_drop as drops, stands_at as stands, is_number as numbers, goes_on_scan, follows_birth as follows, is_session_number, Ended, Standing, Told, Refused};
+ghost use Rattle.clv_base.specs.Sessions.{no_session, begun, touch, scan_shard, is_touching as touches, same_birth, may_drop as drops, is_standing as stands_so, stands_at as stands, is_number as numbers, goes_on_scan, follows_birth as follows, is_session_number, Ended, Standing, Told, Refused};
 ghost use Rattle.cluster_turns.specs.Stages.{phase_of};
 
 use cluster_turns::{Place, Stage};
@@ -57,6 +57,15 @@ fn may_drop(stage: Stage) -> bool
     match stage {
         Stage::Touching | Stage::Ended | Stage::Refused => true,
         Stage::Standing(_) | Stage::Told => false,
+    }
+}
+
+fn is_standing(stage: Stage) -> bool
+    ensures { result ≡ stands_so (phase_of stage) }
+{
+    match stage {
+        Stage::Standing(_) => true,
+        _ => false,
     }
 }
 
@@ -120,6 +129,16 @@ impl Session {
         match &self.place {
             Some(place) => may_drop(place.stage()),
             None => true,
+        }
+    }
+
+    /// Whether its request stands, so that no other transaction may begin.
+    pub(crate) fn is_standing(&self) -> bool
+        ensures { result ≡ stands_so self.now.phase }
+    {
+        match &self.place {
+            Some(place) => is_standing(place.stage()),
+            None => false,
         }
     }
 

@@ -2,7 +2,7 @@
 use Rattle.std.proofs.Common.{◌≡◌, refl, sym, ap, subst, ℕ, Bool, true, false, List, ◌++◌, length, Option, None, Result, Ok, Err, inl, inr}
 use Rattle.clv_base.specs.declared.names.Point.{Point}
 use Rattle.clv_base.specs.declared.ops.Op.{Op}
-use Rattle.clv_base.specs.Sessions.{SessionState, Phase, Touching, Ended as HasEnded, Standing, Told, Refused}
+use Rattle.clv_base.specs.Sessions.{SessionState, Phase, is_touching, is_standing, Touching, Ended as HasEnded, Standing, Told, Refused}
 use Rattle.cluster_turns.specs.declared.shards.Shards.{Shards}
 use Rattle.cluster_turns.specs.declared.shards.Walker.{Walker}
 use Rattle.cluster_turns.specs.declared.shards.WornClock.{WornClock}
@@ -10,7 +10,8 @@ use Rattle.cluster_turns.specs.Walkers.{IsSameWalker}
 use Rattle.cluster_closing.specs.Landed.{HasLanded}
 use Rattle.cluster_turns.specs.CallTurns.{Turn, Took}
 use Rattle.cluster_turns.proofs.Laws.{worn_is_last}
-use Rattle.session_ops.proofs.Laws.{turns_land}
+use Rattle.std.proofs.lemmas.Bool.{both_ways}
+use Rattle.session_ops.proofs.Laws.{turns_land, touches_not_stand, none_stood}
 use Rattle.session_ops.specs.declared.operating.OpError.{OpError as Failure}
 use Rattle.session_ops.specs.Beginnings.{IsIdle}
 use Rattle.session_ops.specs.Dropped.{Dropping}
@@ -23,7 +24,12 @@ use Rattle.session_ops.specs.declared.committing.Settled.{Settled}
 use Rattle.session_ops.specs.declared.committing.CommitError.{CommitError as CommitFailure}
 use Rattle.session_ops.specs.Standings.{StandsAt, StandsAs, IsUnasked, IsAborted}
 use Rattle.session_ops.specs.Decided.{Deciding}
-use Rattle.session_ops.specs.Committed.{CommitTold, PointsAtRequest}
+use Rattle.clv_base.specs.declared.events.Outcome.{Outcome}
+use Rattle.clv_base.specs.declared.events.Outcome.TheVariants.{Asked as IsAsked, Dead, Down as DownOut}
+use Rattle.machine_calls.specs.declared.machine.StepError.{StepError}
+use Rattle.machine_calls.specs.declared.machine.StepError.TheVariants.{Memory as NoMemory, Worn as IsWorn}
+use Rattle.session_ops.specs.Decided.{committed_as}
+use Rattle.session_ops.specs.Committed.{CommittedBy, CommitTold, PointsAtRequest}
 use Rattle.session_ops.specs.declared.settled_looking.SettleError.TheVariants as settle
 use Rattle.session_ops.specs.declared.committing.Settled.TheVariants.{Committed, Empty}
 use Rattle.session_ops.specs.declared.committing.CommitError.TheVariants as unmade
@@ -34,6 +40,19 @@ use Rattle.session_api.specs.declared.progress.Progress.TheVariants.{Active, Ask
 use Rattle.session_api.specs.Progresses.{after_op, commit_told, settle_told, after_commit, progress_committed, progress_aborted, is_nothing}
 use Rattle.session_api.specs.Sessions.{StandsIn, IsSession}
 
+-- where a request was made, something was to be committed
+made_as : (asked : Point) (d : Result Point SettleError) → is_nothing (committed_as asked d) ≡ false
+made_as asked (Ok point) = refl
+made_as asked (Err e) = refl
+
+told_something : (count n : ℕ) (p : SessionState) (asked : Point) (q : SessionState) (answer : Result Outcome StepError) (r : Result Settled CommitFailure) (ts : List Turn) → CommittedBy count n p asked answer r ts q → is_nothing r ≡ false
+told_something count n p asked q (Ok IsAsked) r ts (d, is, more) = ap is_nothing is ∙ made_as asked d
+told_something count n p asked q (Ok (Dead cause)) r ts (is, more) = ap is_nothing is
+told_something count n p asked q (Ok DownOut) r ts (is, more) = ap is_nothing is
+told_something count n p asked q (Ok _) r ts c = absurd c
+told_something count n p asked q (Err NoMemory) r ts (is, more) = ap is_nothing is
+told_something count n p asked q (Err (IsWorn at)) r ts (is, more) = ap is_nothing is
+
 module _ {M S G : Type 0} (sh : Shards M S G) where
   -- ---- gates
 
@@ -42,12 +61,13 @@ module _ {M S G : Type 0} (sh : Shards M S G) where
 
   -- ---- idle
 
-  at_idle : (w : Walker M S G) (p : SessionState) (x : Phase) → StandsAt x sh w p → IsIdle sh w
-  at_idle w p Touching h = (h.state, h.ready)
-  at_idle w p HasEnded h = (p, h.ending.over.ready)
-  at_idle w p (Standing home) h = (p, h.ready)
-  at_idle w p Told h = (p, h)
-  at_idle w p Refused h = (p, h.ending.over.ready)
+  -- where no request of it stands
+  at_idle : (w : Walker M S G) (p : SessionState) (x : Phase) → p.phase ≡ x → is_standing x ≡ false → StandsAt x sh w p → IsIdle sh w
+  at_idle w p Touching is none h = (h.state, h.ready, none_stood h.state p h.goes (ap is_standing is))
+  at_idle w p HasEnded is none h = (p, h.ending.over.ready, ap is_standing is)
+  at_idle w p (Standing home) is none h = absurd (both_ways true none refl)
+  at_idle w p Told is none h = (p, h, ap is_standing is)
+  at_idle w p Refused is none h = (p, h.ending.over.ready, ap is_standing is)
 
   -- ---- operations
 
@@ -68,35 +88,40 @@ module _ {M S G : Type 0} (sh : Shards M S G) where
 
   -- ---- commits
 
-  pub at_stands : (v : Walker M S G) (q : SessionState) (stamp : ℕ) (x : Phase) → ((home : ℕ) → x ≡ Standing home → HasRequest v.passes.items q (record { stamp = stamp; shard = home })) → StandsAt x sh v q → StandsIn sh v (after_commit q stamp x)
-  at_stands v q stamp Touching has h = h
-  at_stands v q stamp HasEnded has h = ended_are_retriable M S G sh v q h
-  at_stands v q stamp (Standing home) has h = (h, has home refl)
-  at_stands v q stamp Told has h = (q, h)
-  at_stands v q stamp Refused has h = ended_are_retriable M S G sh v q h
+  pub at_stands : (v : Walker M S G) (q : SessionState) (stamp : ℕ) (x : Phase) → q.phase ≡ x → ((home : ℕ) → x ≡ Standing home → HasRequest v.passes.items q (record { stamp = stamp; shard = home })) → StandsAt x sh v q → StandsIn sh v (after_commit q stamp x)
+  at_stands v q stamp Touching is has h = h
+  at_stands v q stamp HasEnded is has h = ended_are_retriable M S G sh v q h
+  at_stands v q stamp (Standing home) is has h = (h, has home refl)
+  at_stands v q stamp Told is has h = (q, h, ap is_standing is)
+  at_stands v q stamp Refused is has h = ended_are_retriable M S G sh v q h
 
   abbrev AskedStands : Walker M S G → SessionState → ℕ → Type 0
   AskedStands v q stamp = (home : ℕ) → q.phase ≡ Standing home → HasRequest v.passes.items q (record { stamp = stamp; shard = home })
 
-  committed_stands : (v : Walker M S G) (q : SessionState) (stamp : ℕ) (empty : Bool) → AskedStands v q stamp → StandsAs sh v q → StandsIn sh v (progress_committed q stamp empty)
-  committed_stands v q stamp true has h = at_idle v q q.phase h
-  committed_stands v q stamp false has h = at_stands v q stamp q.phase has h
+  committed_stands : (v : Walker M S G) (q : SessionState) (stamp : ℕ) (empty : Bool) → (empty ≡ true → is_standing q.phase ≡ false) → AskedStands v q stamp → StandsAs sh v q → StandsIn sh v (progress_committed q stamp empty)
+  committed_stands v q stamp true none has h = at_idle v q q.phase refl (none refl) h
+  committed_stands v q stamp false none has h = at_stands v q stamp q.phase refl has h
 
   commit_lands : (w v : Walker M S G) (p q : SessionState) (stamp : ℕ) (r : Result Settled CommitFailure) → IsSameWalker w v → CommitTold (length sh.locks.items) w p stamp r v q → HasLanded w.number w.passes.items → HasLanded v.number v.passes.items
   commit_lands w v p q stamp r same (inl (none, is, stays, place)) h = subst (λ z. HasLanded z.number z.passes.items) (sym stays) h
   commit_lands w v p q stamp r same (inr (home, low, c)) h = landed_after w v (c.asking ++ c.rest) same c.took h
 
+  -- where there was nothing to commit its place is as before
+  nothing_stands : (w v : Walker M S G) (p q : SessionState) (stamp : ℕ) (r : Result Settled CommitFailure) → is_touching p.phase ≡ true → CommitTold (length sh.locks.items) w p stamp r v q → is_nothing r ≡ true → is_standing q.phase ≡ false
+  nothing_stands w v p q stamp r touching (inl (none, is, stays, place)) e = ap (λ s. is_standing s.phase) place ∙ touches_not_stand p.phase touching
+  nothing_stands w v p q stamp r touching (inr (home, low, c)) e = absurd (both_ways _ (told_something (length sh.locks.items) home p (record { stamp = stamp; shard = home }) q c.answer r c.rest c.told) e)
+
   pub commit_session : (w v : Walker M S G) (p q : SessionState) (stamp : ℕ) (r : Result Settled CommitFailure) → IsSession sh w (Active p) → IsSameWalker w v → CommitTold (length sh.locks.items) w p stamp r v q → StandsAs sh v q
       → IsSession sh v (progress_committed q stamp (is_nothing r))
   commit_session w v p q stamp r h same told stands = record {
-    stands = committed_stands v q stamp (is_nothing r) (λ home is. commit_asked (length sh.locks.items) stamp home w v p q r h.stands.touching told is) stands;
+    stands = committed_stands v q stamp (is_nothing r) (nothing_stands w v p q stamp r h.stands.touching told) (λ home is. commit_asked (length sh.locks.items) stamp home w v p q r h.stands.touching told is) stands;
     landed = commit_lands w v p q stamp r same told h.landed;
   }
 
   pub looks_session : (w v : Walker M S G) (p q : SessionState) (home stamp : ℕ) (r : Result Point SettleError) → IsSession sh w (Asked p home stamp) → IsSameWalker w v
       → Deciding (length sh.locks.items) w.number w.clock w.passes.items home p r v.clock v.passes.items q → StandsAs sh v q → IsSession sh v (after_commit q stamp q.phase)
   looks_session w v p q home stamp r h same d stands = record {
-    stands = at_stands v q stamp q.phase (λ k is. decided_asked (length sh.locks.items) home k stamp v.passes.items p q r d.turns (request_stays w.number w.clock v.clock w.passes.items v.passes.items d.turns p (record { stamp = stamp; shard = home }) d.took h.stands.1) d.told is) stands;
+    stands = at_stands v q stamp q.phase refl (λ k is. decided_asked (length sh.locks.items) home k stamp v.passes.items p q r d.turns (request_stays w.number w.clock v.clock w.passes.items v.passes.items d.turns p (record { stamp = stamp; shard = home }) d.took h.stands.1) d.told is) stands;
     landed = landed_after w v d.turns same d.took h.landed;
   }
 

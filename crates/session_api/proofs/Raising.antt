@@ -58,7 +58,7 @@ module _ {M S G : Type 0} (sh : Shards M S G) (clock : ℕ) where
   retriable_up w p r = record { state = r.state; ready = ready_up w r.state r.ready; goes = r.goes; may = r.may; born = born_up w p r.born; unborn = unborn_up w p r.unborn }
 
   stands_up : (w : Walker M S G) (s : Progress) (again : Option Birth) → StandsIn sh w s → standing_of s ≡ Idle again → StandsIn sh (up w) s
-  stands_up w progress.Idle again h idle = (h.0, ready_up w h.0 h.1)
+  stands_up w progress.Idle again h idle = (h.0, ready_up w h.0 h.1, h.2)
   stands_up w (progress.Active p) again h idle = let b = h.born in never_idle p p.birth b.birth again b.is idle
   stands_up w (progress.Worn p) again h idle = let b = unasked_born sh w p h.0 in never_idle p p.birth b.birth again b.is idle
   stands_up w (progress.Asked p home stamp) again h idle = asked_idle again idle

@@ -36,7 +36,7 @@ module _ {M S G : Type 0} (sh : Shards M S G) (asked : Point) where
   begun_next w v progress.Idle t again r h idle c = c
   begun_next w v (progress.Active p) t again r h idle c = let b = ((h.session).stands).born in never_idle p p.birth b.birth again b.is idle
   begun_next w v (progress.Worn p) t again r h idle c = let b = unasked_born sh w p ((h.session).stands).0 in never_idle p p.birth b.birth again b.is idle
-  begun_next w v (progress.Asked p home stamp) t again r h idle c = c
+  begun_next w v (progress.Asked p home stamp) t again r h idle c = asked_idle again idle
   begun_next w v (progress.Ended p) t again r h idle c = c
 
   none_active : (w v : Walker M S G) (s t : Progress) (r : Result TxId BeginError) (tx : TxId) → BegunNext sh w s r v t → r ≢ Err (begin.Active tx)

@@ -31,6 +31,14 @@ active_tx (Worn p) = Some p.tx
 active_tx (Asked p home stamp) = None
 active_tx (Ended p) = None
 
+-- the one that is active, or whose request stands: no other one begins beside it
+abbrev pub open_tx : Progress → Option TxId
+open_tx Idle = None
+open_tx (Active p) = Some p.tx
+open_tx (Worn p) = Some p.tx
+open_tx (Asked p home stamp) = Some p.tx
+open_tx (Ended p) = None
+
 -- ---- other tries
 
 -- one is active, or the last one didn't end by an abort

@@ -38,7 +38,7 @@ use Rattle.session_api.specs.declared.operating.OpError.TheVariants.{BadRange}
 use Rattle.session_api.specs.declared.ending.CommitError.{CommitError}
 use Rattle.session_api.specs.declared.ending.AbortError.{AbortError}
 use Rattle.session_api.specs.declared.ending.AbortError.TheVariants.{NoTx}
-use Rattle.session_api.specs.Progresses.{active_tx, retry_refusal, answer_told, refusal_of, after_op, commit_told, settle_told, commit_refusal, is_nothing, after_commit, progress_committed, abort_told, progress_aborted}
+use Rattle.session_api.specs.Progresses.{active_tx, open_tx, retry_refusal, answer_told, refusal_of, after_op, commit_told, settle_told, commit_refusal, is_nothing, after_commit, progress_committed, abort_told, progress_aborted}
 
 -- what a round answers that found this shard down, if any
 abbrev pub found_in : Option ℕ → Result Unit RoundError
@@ -61,7 +61,7 @@ module _ {M S G : Type 0} where
 
   -- ---- beginnings
 
-  -- where none is active
+  -- where none is active and no request stands
   abbrev pub BegunNext : Shards M S G → Walker M S G → Progress → Result TxId BeginError → Walker M S G → Progress → Type 0
   BegunNext sh w s (Ok tx) v t = (w.clock < 2 ^ 48 - 1) × ((p : SessionState) × Begun sh w v p × (tx ≡ p.tx) × (t ≡ Active p))
   BegunNext sh w s (Err (begin.Worn at)) v t = (at ≡ 2 ^ 48) × (2 ^ 48 - 1 ≤ w.clock) × (v ≡ w) × (t ≡ s)
@@ -72,7 +72,7 @@ module _ {M S G : Type 0} where
   BegunBeside None sh w s r v t = BegunNext sh w s r v t
 
   abbrev pub BeginCalled : Shards M S G → Walker M S G → Progress → Result TxId BeginError → Walker M S G → Progress → Type 0
-  BeginCalled sh w s r v t = BegunBeside (active_tx s) sh w s r v t
+  BeginCalled sh w s r v t = BegunBeside (open_tx s) sh w s r v t
 
   -- ---- other tries
 

@@ -1,6 +1,6 @@
 // Beginning a transaction.
 ghost use Rattle.std.specs.Prelude.{◌≡◌, None};
-ghost use Rattle.session_api.specs.Progresses.{active_tx};
+ghost use Rattle.session_api.specs.Progresses.{open_tx};
 ghost use Rattle.session_api.specs.Sessions.{IsSession, BeginCalled, BegunNext};
 
 use crate::progress::Progress;
@@ -14,17 +14,17 @@ use std::sync::Wait;
 /// Why no transaction was begun. All is as before.
 #[derive(Clone, Copy, PartialEq, Eq)]
 pub enum BeginError {
-    /// This one is active.
+    /// This one is active, or its request stands.
     Active { tx: TxId },
     /// The walker's clock is at its end.
     Worn { at: u64 },
 }
 
 impl<'a, M: Flier, P: Pace, R: Wait> Session<'a, M, P, R> {
-    // No transaction is active; a request that stands is forgotten.
+    // No transaction is active, and no request stands.
     fn begin_next(&mut self) -> Result<TxId, BeginError>
         requires session { IsSession self.old.shards.now self.old.walker self.old.progress }
-        requires none { active_tx self.old.progress ≡ None }
+        requires none { open_tx self.old.progress ≡ None }
         ensures session { IsSession self.new.shards.now self.new.walker self.new.progress }
         ensures shards { self.new.shards ≡ self.old.shards }
         ensures told { BegunNext self.old.shards.now self.old.walker self.old.progress result self.new.walker self.new.progress }
@@ -41,15 +41,15 @@ impl<'a, M: Flier, P: Pace, R: Wait> Session<'a, M, P, R> {
         }
     }
 
-    /// Begins the session's next transaction. `Active` comes exactly where one is active, else `Worn` exactly where the walker's clock is
-    /// at its end.
+    /// Begins the session's next transaction. `Active` comes exactly where one is active or its request stands (`commit` asks again what became of it),
+    /// else `Worn` exactly where the walker's clock is at its end.
     pub fn begin(&mut self) -> Result<TxId, BeginError>
         requires session { IsSession self.old.shards.now self.old.walker self.old.progress }
         ensures session { IsSession self.new.shards.now self.new.walker self.new.progress }
         ensures shards { self.new.shards ≡ self.old.shards }
         ensures told { BeginCalled self.old.shards.now self.old.walker self.old.progress result self.new.walker self.new.progress }
     {
-        match self.progress.active() {
+        match self.progress.open() {
             Some(tx) => Err(BeginError::Active { tx }),
             None => self.begin_next(),
         }

@@ -1,6 +1,6 @@
 // How a session's last transaction stands.
 ghost use Rattle.std.specs.Prelude.{◌≡◌};
-ghost use Rattle.session_api.specs.Progresses.{after_op, after_commit, active_tx};
+ghost use Rattle.session_api.specs.Progresses.{after_op, after_commit, active_tx, open_tx};
 
 use cluster_turns::{Place, Stage};
 use clv_base::names::TxId;
@@ -29,6 +29,16 @@ impl Progress {
             Progress::Active(place) => Some(place.tx()),
             Progress::Worn(place) => Some(place.tx()),
             _ => None,
+        }
+    }
+
+    /// The transaction that is active, or whose request stands, if there is one.
+    pub fn open(&self) -> Option<TxId>
+        ensures { result ≡ open_tx self.now }
+    {
+        match self {
+            Progress::Asked { place, .. } => Some(place.tx()),
+            _ => self.active(),
         }
     }
 }

@@ -1,12 +1,12 @@
 -- The next try of a transaction.
-use Rattle.std.proofs.Common.{◌≡◌, ◌∙◌, refl, sym, ap, subst, suc, ◌≤◌, ◌<◌, ◌^◌, ◌-◌, ◌&&◌, true, Option, Some, None, arith, inl, inr, eq-eqb}
+use Rattle.std.proofs.Common.{◌≡◌, ◌∙◌, refl, sym, ap, subst, suc, ◌≤◌, ◌<◌, ◌^◌, ◌-◌, ◌&&◌, not, Bool, true, false, Option, Some, None, arith, inl, inr, eq-eqb}
 use Rattle.std.specs.Prelude.{◌⊎◌}
 use Rattle.std.specs.Ordering.{is_eq}
-use Rattle.std.proofs.lemmas.Bool.{and_from, and_parts, lt-ltb, or_right}
+use Rattle.std.proofs.lemmas.Bool.{both_ways, and_from, and_parts, lt-ltb, or_right}
 use Rattle.clv_base.specs.declared.names.TxId.{TxId}
 use Rattle.clv_base.specs.declared.names.Birth.{Birth}
 use Rattle.clv_base.specs.Orders.{birth_cmp, is_older}
-use Rattle.clv_base.specs.Sessions.{SessionState, begun, follows_birth, may_drop, is_session_number}
+use Rattle.clv_base.specs.Sessions.{Phase, Touching, Ended, Standing, Told, Refused, SessionState, begun, follows_birth, is_touching, may_drop, is_standing, is_session_number}
 use Rattle.cluster_turns.specs.declared.shards.Shards.{Shards}
 use Rattle.cluster_turns.specs.declared.shards.Walker.{Walker}
 use Rattle.cluster_turns.specs.Walkers.{IsWalker, kept, founds_of}
@@ -19,6 +19,29 @@ use Rattle.session_ops.specs.Standing.{IsOld, IsActive}
 use Rattle.session_ops.proofs.First.{runs_count, other_name, spelled_so}
 use Rattle.session_ops.specs.Retried.{IsRetriable, Retried}
 use Rattle.law_base.proofs.Names.{birth_self, birth_same as some_birth}
+
+-- ---- where no request stands
+
+pub drops_not_stand : (x : Phase) → may_drop x ≡ true → is_standing x ≡ false
+drops_not_stand Touching m = refl
+drops_not_stand Ended m = refl
+drops_not_stand (Standing home) m = absurd (both_ways false refl m)
+drops_not_stand Told m = refl
+drops_not_stand Refused m = refl
+
+pub touches_not_stand : (x : Phase) → is_touching x ≡ true → is_standing x ≡ false
+touches_not_stand Touching m = refl
+touches_not_stand (Standing home) m = absurd (both_ways false refl m)
+touches_not_stand _ m = absurd (both_ways false refl m)
+
+from_not : (b : Bool) → not b ≡ true → b ≡ false
+from_not true e = absurd (both_ways false refl e)
+from_not false e = refl
+
+-- a session that goes on by a transaction whose request doesn't stand had none that stood
+pub none_stood : (t p : SessionState) → GoesOnBy t p → is_standing p.phase ≡ false → is_standing t.phase ≡ false
+none_stood t p (inl same) n = ap (λ s. is_standing s.phase) (sym same) ∙ n
+none_stood t p (inr (b, begins_so, other, begins_next)) n = from_not (is_standing t.phase) (and_parts _ _ begins_next).1
 
 -- ---- the birth follows once more
 
@@ -53,8 +76,9 @@ module _ {M S G : Type 0} (sh : Shards M S G) (w v : Walker M S G) (p : SessionS
           a.born.birth,
           refl,
           other_name tx t (let h = a.ready.serial in omega arith),
-          and_from _ _ (and_from _ _ (and_from _ _ (and_from _ _ (eq-eqb tx.run (t.tx).run (run_is ∙ sym bears.0)) (eq-eqb tx.session (t.tx).session (session_is ∙ sym bears.1))) (lt-ltb (t.tx).serial tx.serial (let h = a.ready.serial in omega arith)))
-              (eq-eqb (a.born.birth).session tx.session (a.born.bears ∙ sym session_is))) (follows_again t p a.born.birth a.goes a.may a.born.is),
+          and_from _ _ (and_from _ _ (and_from _ _ (and_from _ _ (and_from _ _ (eq-eqb tx.run (t.tx).run (run_is ∙ sym bears.0)) (eq-eqb tx.session (t.tx).session (session_is ∙ sym bears.1))) (lt-ltb (t.tx).serial tx.serial (let h = a.ready.serial in omega arith)))
+              (eq-eqb (a.born.birth).session tx.session (a.born.bears ∙ sym session_is))) (follows_again t p a.born.birth a.goes a.may a.born.is))
+              (ap not (none_stood t p a.goes (drops_not_stand p.phase a.may))),
         );
         touching = refl;
         born = record {

@@ -1,5 +1,5 @@
 -- A transaction before its first operation.
-use Rattle.std.proofs.Common.{◌≡◌, ◌∙◌, refl, sym, ap, subst, ℕ, suc, ◌≤◌, ◌<◌, ◌^◌, ◌==◌, true, false, cond, ◌&&◌, List, [], ◌∷◌, Option, Some, None, arith, inr, eq-eqb}
+use Rattle.std.proofs.Common.{◌≡◌, ◌∙◌, refl, sym, ap, subst, ℕ, suc, ◌≤◌, ◌<◌, ◌^◌, ◌==◌, true, false, cond, ◌&&◌, List, [], ◌∷◌, Option, Some, None, arith, inr, eq-eqb, not}
 use Rattle.std.specs.Ordering.{nat_cmp, ordering_then, is_eq, is_lt}
 use Rattle.std.specs.declared.cmp.Ordering.TheVariants.{Less, Equal, Greater}
 use Rattle.std.proofs.lemmas.Bool.{and_from, and_parts, lt-ltb, false_from_ne_true, or_left}
@@ -9,7 +9,7 @@ use Rattle.clv_base.specs.declared.logs.LogRecord.{LogRecord}
 use Rattle.clv_base.specs.FileRules.{tx_has_spelling}
 use Rattle.clv_base.specs.Orders.{tx_same, birth_cmp, is_older}
 use Rattle.clv_base.specs.Restarts.{run_after}
-use Rattle.clv_base.specs.Sessions.{SessionState, Phase, begins, begun, follows_birth, may_drop, is_session_number}
+use Rattle.clv_base.specs.Sessions.{SessionState, Phase, begins, begun, follows_birth, may_drop, is_session_number, is_standing}
 use Rattle.clv_base.proofs.SameNames.{tx_true}
 use Rattle.cluster_turns.specs.declared.shards.Shards.{Shards}
 use Rattle.cluster_turns.specs.declared.shards.Walker.{Walker}
@@ -35,10 +35,10 @@ follows_so clock (Some old) new phase h l = or_left (is_older old new) (is_eq (b
 pub other_name : (tx : TxId) (t : SessionState) → (t.tx).serial < tx.serial → tx_same tx t.tx ≡ false
 other_name tx t l = false_from_ne_true (tx_same tx t.tx) (λ h. let same = ap (λ x. x.serial) (tx_true tx t.tx h) in omega arith)
 
-begins_so : (t : SessionState) (tx : TxId) (birth : Birth) (clock : ℕ) → tx.run ≡ (t.tx).run → tx.session ≡ (t.tx).session → (t.tx).serial < tx.serial → birth.session ≡ tx.session → IsOld clock t.birth → clock < birth.stamp → begins t tx birth ≡ true
-begins_so t tx birth clock a b l s o c =
-    and_from _ _ (and_from _ _ (and_from _ _ (and_from _ _ (eq-eqb tx.run (t.tx).run a) (eq-eqb tx.session (t.tx).session b)) (lt-ltb (t.tx).serial tx.serial l)) (eq-eqb birth.session tx.session s))
-    (follows_so clock t.birth birth t.phase o c)
+begins_so : (t : SessionState) (tx : TxId) (birth : Birth) (clock : ℕ) → tx.run ≡ (t.tx).run → tx.session ≡ (t.tx).session → (t.tx).serial < tx.serial → birth.session ≡ tx.session → IsOld clock t.birth → clock < birth.stamp → is_standing t.phase ≡ false → begins t tx birth ≡ true
+begins_so t tx birth clock a b l s o c n =
+    and_from _ _ (and_from _ _ (and_from _ _ (and_from _ _ (and_from _ _ (eq-eqb tx.run (t.tx).run a) (eq-eqb tx.session (t.tx).session b)) (lt-ltb (t.tx).serial tx.serial l)) (eq-eqb birth.session tx.session s))
+    (follows_so clock t.birth birth t.phase o c)) (ap not n)
 
 pub spelled_so : (tx : TxId) → 0 < tx.run → tx.run < 2 ^ 32 → is_session_number tx.session ≡ true → 0 < tx.serial → tx.serial < 2 ^ 64 → tx_has_spelling tx ≡ true
 spelled_so tx a b s c d =
@@ -46,9 +46,9 @@ spelled_so tx a b s c d =
     and_from _ _ (and_from _ _ (and_from _ _ (and_from _ _ (and_from _ _ (lt-ltb 0 tx.run a) (lt-ltb tx.run (2 ^ 32) b)) p.0) p.1) (lt-ltb 0 tx.serial c)) (lt-ltb tx.serial (2 ^ 64) d)
 
 module _ {M S G : Type 0} (sh : Shards M S G) (w v : Walker M S G) (t : SessionState) (tx : TxId) (birth : Birth) where
-  begun_so : IsReady sh w t → IsWalker sh v → tx ≡ record { run = sh.run; session = w.number; serial = suc w.serial } → birth ≡ record { stamp = suc w.clock; session = w.number; serial = suc w.serial }
+  begun_so : IsReady sh w t → is_standing t.phase ≡ false → IsWalker sh v → tx ≡ record { run = sh.run; session = w.number; serial = suc w.serial } → birth ≡ record { stamp = suc w.clock; session = w.number; serial = suc w.serial }
       → v ≡ record w { clock = suc w.clock; serial = suc w.serial } → tx.run < 2 ^ 32 → tx.serial < 2 ^ 64 → IsActive sh v (begun t tx birth)
-  begun_so ready is_walker tx_is birth_is v_is low32 low64 =
+  begun_so ready none_stands is_walker tx_is birth_is v_is low32 low64 =
       let bears = states_bear_walkers sh.splits sh.run w.number (kept w.passes.items) t ready.state in
       let run_is = ap (λ x. x.run) tx_is in let session_is = ap (λ x. x.session) tx_is in let serial_is = ap (λ x. x.serial) tx_is in
       let stamp_is = ap (λ x. x.stamp) birth_is in let born_is = ap (λ x. x.session) birth_is in
@@ -64,7 +64,7 @@ module _ {M S G : Type 0} (sh : Shards M S G) (w v : Walker M S G) (t : SessionS
           old = later t.birth (omega arith) ready.old;
           informed = subst (λ x. Rattle.cluster_turns.specs.Births.AreInformed x.number x.clock x.passes.items) (sym v_is) (informed_later w.number w.clock (suc w.clock) w.passes.items (omega arith) ready.informed);
         };
-        goes = inr (birth, refl, other_name tx t (let h = ready.serial in omega arith), begins_so t tx birth w.clock (run_is ∙ sym bears.0) (session_is ∙ sym bears.1) (let h = ready.serial in omega arith) (born_is ∙ sym session_is) ready.old (omega arith));
+        goes = inr (birth, refl, other_name tx t (let h = ready.serial in omega arith), begins_so t tx birth w.clock (run_is ∙ sym bears.0) (session_is ∙ sym bears.1) (let h = ready.serial in omega arith) (born_is ∙ sym session_is) ready.old (omega arith) none_stands);
         touching = refl;
         born = record {
           birth = birth;
@@ -84,7 +84,7 @@ module _ {M S G : Type 0} (sh : Shards M S G) (w v : Walker M S G) (t : SessionS
       later None l h = tt
       later (Some b) l h = omega arith
 
-  pub begins_next : IsReady sh w t → IsWalker sh v → tx ≡ record { run = sh.run; session = w.number; serial = suc w.serial } → birth ≡ record { stamp = suc w.clock; session = w.number; serial = suc w.serial }
+  pub begins_next : IsReady sh w t → is_standing t.phase ≡ false → IsWalker sh v → tx ≡ record { run = sh.run; session = w.number; serial = suc w.serial } → birth ≡ record { stamp = suc w.clock; session = w.number; serial = suc w.serial }
       → v ≡ record w { clock = suc w.clock; serial = suc w.serial } → tx.run < 2 ^ 32 → tx.serial < 2 ^ 64 → Begun sh w v (begun t tx birth)
-  begins_next ready is_walker tx_is birth_is v_is low32 low64 =
-      record { birth = birth; is = λ before. ap (λ x. begun before x birth) tx_is; birth_is = birth_is; walker_is = v_is; active = begun_so ready is_walker tx_is birth_is v_is low32 low64 }
+  begins_next ready none_stands is_walker tx_is birth_is v_is low32 low64 =
+      record { birth = birth; is = λ before. ap (λ x. begun before x birth) tx_is; birth_is = birth_is; walker_is = v_is; active = begun_so ready none_stands is_walker tx_is birth_is v_is low32 low64 }

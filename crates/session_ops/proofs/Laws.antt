@@ -6,4 +6,5 @@ pub use Rattle.session_ops.proofs.Noting.{told_more}
 pub use Rattle.session_ops.proofs.Pointing.{request_stays, decided_asked, commit_asked}
 pub use Rattle.session_ops.proofs.Passing.{still_active}
 pub use Rattle.session_ops.proofs.EndPassing.{still_standing}
+pub use Rattle.session_ops.proofs.Again.{drops_not_stand, touches_not_stand, none_stood}
 pub use Rattle.session_ops.proofs.Resting.{still_idle, still_unasked, still_retriable}

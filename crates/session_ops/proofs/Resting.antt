@@ -17,7 +17,7 @@ use Rattle.session_ops.proofs.Passing.{all_unborn, still_ready, still_born, stil
 
 module _ {M S G : Type 0} (sh : Shards M S G) (w v : Walker M S G) where
   pub still_idle : (ts : List Turn) → Took w.number w.clock w.passes.items ts v.clock v.passes.items → AreOthers ts → IsWalker sh v → IsSameWalker w v → IsIdle sh w → IsIdle sh v
-  still_idle ts took others is_walker same idle = (idle.0, still_ready sh w v idle.0 ts took others is_walker same idle.1)
+  still_idle ts took others is_walker same idle = (idle.0, still_ready sh w v idle.0 ts took others is_walker same idle.1, idle.2)
 
   still_ending : (p : SessionState) (ts : List Turn) → Took w.number w.clock w.passes.items ts v.clock v.passes.items → AreOthers ts → IsWalker sh v → IsSameWalker w v → IsEnding sh w p → IsEnding sh v p
   still_ending p ts took others is_walker same e = record {

@@ -1,7 +1,7 @@
 -- What a beginning tells.
-use Rattle.std.specs.Prelude.{◌≡◌, suc, ◌<◌, ◌≤◌, ◌^◌, ◌-◌, true, Result, Ok, Err}
+use Rattle.std.specs.Prelude.{◌≡◌, suc, ◌<◌, ◌≤◌, ◌^◌, ◌-◌, true, false, Result, Ok, Err}
 use Rattle.clv_base.specs.declared.names.Birth.{Birth}
-use Rattle.clv_base.specs.Sessions.{SessionState, no_session, begun, is_session_number}
+use Rattle.clv_base.specs.Sessions.{SessionState, no_session, begun, is_standing, is_session_number}
 use Rattle.cluster_turns.specs.declared.shards.Shards.{Shards}
 use Rattle.cluster_turns.specs.declared.shards.Walker.{Walker}
 use Rattle.cluster_turns.specs.declared.shards.WornClock.{WornClock}
@@ -9,9 +9,9 @@ use Rattle.cluster_turns.specs.Walkers.{IsWalker, AreNewPasses, founds_of}
 use Rattle.session_ops.specs.Standing.{IsReady, IsActive}
 
 module _ {M S G : Type 0} where
-  -- the walker's last transaction, whatever became of it, leaves it ready
+  -- the walker's last transaction leaves it ready, and no request of it stands
   abbrev pub IsIdle : Shards M S G → Walker M S G → Type 0
-  IsIdle sh w = (t : SessionState) × IsReady sh w t
+  IsIdle sh w = (t : SessionState) × IsReady sh w t × (is_standing t.phase ≡ false)
 
   -- the next transaction: its name has the next serial, its birth the raised clock; it may have operations. The passes are as before
   pub record Begun (sh : Shards M S G) (before after : Walker M S G) (p : SessionState) : Type 0 where

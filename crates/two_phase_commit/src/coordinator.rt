@@ -8,7 +8,7 @@ ghost use Rattle.clv_base.specs.declared.state.RequestState.TheVariants.{Undecid
 ghost use Rattle.clv_base.specs.declared.parts.PartFacts.{PartFacts as Facts};
 ghost use Rattle.clv_base.specs.FileRules.{tx_has_spelling};
 ghost use Rattle.clv_base.specs.Facts.{is_waiting};
-ghost use Rattle.clv_base.specs.Orders.{nat_in, tx_cmp, tx_get, tx_put};
+ghost use Rattle.clv_base.specs.Orders.{nat_in, tx_cmp, tx_get, tx_put, tx_drop};
 ghost use Rattle.clv_base.specs.Coordinator.{new_request, restored_requests, home_reminders, ask_answer};
 ghost use Rattle.two_phase_commit.specs.Coordinated.{AreNamed, IsSpelledRuling, ruling_of, requests_by, counts_by, requests_with, done_by, requests_done, told_by, state_by};
 ghost use Rattle.two_phase_commit.specs.Reminding.{each_at, of_one, votes_of, dones_of};
@@ -337,5 +337,16 @@ impl Coordinator {
             tx,
             request,
         )
+    }
+
+    /// The transaction's request is kept no more. Takes no memory.
+    pub fn forget(&mut self, tx: TxId)
+        ensures requests { self.new ≡ record self.old { requests = tx_drop tx self.old.requests } }
+        ensures keys { IsStrictlySortedBy tx_cmp (keys_of self.new.requests) }
+    {
+        let _all = self.requests.len();
+        self.requests.remove(&tx);
+        self.waiting.keep_if(tx, false);
+        self.asked.remove(tx);
     }
 }
