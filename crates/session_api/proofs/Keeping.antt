@@ -43,7 +43,10 @@ use Rattle.session_api.specs.Sessions.{StandsIn, IsSession}
 -- where a request was made, something was to be committed
 made_as : (asked : Point) (d : Result Point SettleError) → is_nothing (committed_as asked d) ≡ false
 made_as asked (Ok point) = refl
-made_as asked (Err e) = refl
+made_as asked (Err (settle.Aborted cause)) = refl
+made_as asked (Err (settle.Unsettled n)) = refl
+made_as asked (Err (settle.Worn at)) = refl
+made_as asked (Err settle.Memory) = refl
 
 told_something : (count n : ℕ) (p : SessionState) (asked : Point) (q : SessionState) (answer : Result Outcome StepError) (r : Result Settled CommitFailure) (ts : List Turn) → CommittedBy count n p asked answer r ts q → is_nothing r ≡ false
 told_something count n p asked q (Ok IsAsked) r ts (d, is, more) = ap is_nothing is ∙ made_as asked d
