@@ -1,5 +1,5 @@
 -- A durable COMMIT stays durable.
-use Rattle.std.proofs.Common.{◌≡◌, refl, sym, ap, subst, ◌∙◌, ℕ, suc, ◌<◌, ◌≤◌, true, cond, Bool, List, [], ◌∷◌, ◌++◌, Option, Some, length, length-take, take-append-drop, arith}
+use Rattle.std.proofs.Common.{◌≡◌, refl, sym, ap, subst, ◌∙◌, ℕ, suc, ◌<◌, ◌≤◌, true, false, cond, Bool, List, [], ◌∷◌, ◌++◌, Option, Some, length, length-take, take-append-drop, arith}
 use Rattle.std.specs.Prelude.{take, drop}
 use Rattle.std.proofs.lemmas.Bool.{lt-ltb, or_left}
 use Rattle.clv_base.specs.declared.names.TxId.{TxId}

@@ -20,13 +20,14 @@ use Rattle.clv_base.specs.State.{Local, Shard, is_present}
 use Rattle.clv_base.specs.Undo.{stage_of}
 use Rattle.clv_base.specs.OneShard.{OpReply, OpDies, OpAnswers, op_by_stage, op_seen, op_reply, seen_fits, rolled_back_if, without_part}
 use Rattle.clv_base.specs.Due.{with_due_done}
-use Rattle.clv_base.specs.Events.{QuietBeforeWorn, Does, finish, op_event, epoch_in, request_by_stage, request_event, with_durable, put_down, landed, happen_up, happen}
+use Rattle.clv_base.specs.Coordinator.{others}
+use Rattle.clv_base.specs.Events.{QuietBeforeWorn, Does, finish, op_event, is_alone, epoch_in, request_by_stage, request_event, with_durable, put_down, landed, happen_up, happen}
 use Rattle.clv_base.proofs.SameNames.{tx_true}
 use Rattle.std.proofs.lemmas.Bool.{both_ways, false_from_ne_true}
 use Rattle.history_cases.proofs.Stepping.{commits, votes, rules, KeptByDue, settled, Step, op_dies, op_answers, request_closes, drops, prepare_closes, decision_comes, Happens, finishes, stops, happened}
 use Rattle.history_laws.proofs.Entries.WhatOperationsDo.{reply_is}
 use Rattle.ended_laws.specs.Requests.{forgets, forgetful, IsOver, is_by_log, MayCome, IsSpent, NothingMissesIt, SpentStaysSpent, FlushesMissNothing, SpentGoAlone}
-use Rattle.ended_laws.proofs.Staying.{Fades, Leaves, leaves_append, leaves_finished, leaves_rolled, leaves_dropped, leaves_closed, leaves_reply, leaves_same, over_stays, finished_leaves, over_stays_over}
+use Rattle.ended_laws.proofs.Staying.{Fades, Leaves, leaves_finished, leaves_rolled, leaves_dropped, leaves_closed, leaves_reply, leaves_same, over_stays, finished_leaves, over_stays_over}
 use Rattle.ended_laws.proofs.Due.{finished_same}
 use Rattle.ended_laws.proofs.Missing.{nobody_misses_it}
 use Rattle.ended_laws.proofs.Alone.{go_alone}
@@ -51,10 +52,10 @@ due_finished tx s _ (commits u c d) f = still tx s.local _ (leaves_finished tx (
 due_finished tx s _ (votes u v Yes g e) f = f
 due_finished tx s _ (votes u v Read g e) f = still tx s.local _ (leaves_finished tx (u ∷ []) s.local) f
 due_finished tx s _ (votes u v (No why) g e) f = f
-due_finished tx s _ (rules u q (CommitVerdict ps) g e) f = still tx s.local _ (leaves_append tx _ s.local) f
+due_finished tx s _ (rules u q (CommitVerdict ps) g e) f = f
 due_finished tx s _ (rules u q Acknowledge g e) f = still tx s.local _ (leaves_finished tx (u ∷ []) s.local) f
 due_finished tx s _ (rules u q (AbortVerdict c to) g e) f = still tx s.local _ (leaves_rolled tx u s.local (absent tx s.local f)) f
-due_finished tx s _ (rules u q EndVerdict g e) f = still tx s.local _ (leaves_append tx _ s.local) f
+due_finished tx s _ (rules u q EndVerdict g e) f = f
 
 finish_finished : (tx : TxId) (s : Shard) → Finished tx s.local → Finished tx (finish s).local
 finish_finished tx s f = settled (λ z. Finished tx z.local) s (due_finished tx) f
@@ -67,10 +68,10 @@ step_finished tx q s _ (op_dies u birth nth seen op cause l e) m f =
     still tx s.local l ((leaves_reply tx u birth seen op s.local (OpDies cause l) (reply_is s.shard s.local u birth seen op (OpDies cause l) e) m (absent tx s.local f)).1 cause l refl) f
 step_finished tx q s _ (op_answers u birth nth seen op answer l e) m f =
     still tx s.local l ((leaves_reply tx u birth seen op s.local (OpAnswers answer l) (reply_is s.shard s.local u birth seen op (OpAnswers answer l) e) m (absent tx s.local f)).0 answer l refl) f
-step_finished tx q s _ (request_closes u ts g e) m f = still tx s.local _ (leaves_closed tx u s.shard _ s.local (not_here tx u s.local f e)) f
+step_finished tx q s _ (request_closes u ts g e) m f = still tx s.local _ (leaves_closed tx u s.shard (is_alone (others s.shard ts)) s.local (not_here tx u s.local f e)) f
 step_finished tx q s _ (drops u stage e) m f = still tx s.local _ (leaves_dropped tx u s.local (absent tx s.local f)) f
 step_finished tx q s _ (prepare_closes u home seen stamp e) m f = still tx s.local _ (leaves_closed tx u home false s.local (not_here tx u s.local f e)) f
-step_finished tx q s _ (decision_comes u home true stamp e) m f = still tx s.local _ (leaves_append tx _ s.local) f
+step_finished tx q s _ (decision_comes u home true stamp e) m f = f
 step_finished tx q s _ (decision_comes u home false stamp e) m f = still tx s.local _ (leaves_rolled tx u s.local (absent tx s.local f)) f
 step_finished tx q s _ _ m f = f
 
@@ -140,6 +141,7 @@ idle_same s tx q e o over a b = at s.is_up
     at false = refl
 
 pub nothing_misses_it : NothingMissesIt
+unfolding idle_op own_request
 nothing_misses_it s tx q e p = at (whose tx q e p.by_log)
   where
     at : Whose tx q e → happen (forgets tx s) e ≡ forgetful tx (happen s e)

@@ -12,7 +12,8 @@ use Rattle.clv_base.specs.Logs.{committed_in}
 use Rattle.clv_base.specs.declared.state.Request.{Request}
 use Rattle.clv_base.specs.declared.state.RequestState.{RequestState}
 use Rattle.clv_base.specs.declared.state.RequestState.TheVariants.{Undecided, Committed, Finished, Refused}
-use Rattle.clv_base.specs.State.{Shard, Gone, is_present}
+use Rattle.clv_base.specs.declared.state.Stage.TheVariants.{Gone}
+use Rattle.clv_base.specs.State.{Shard, is_present}
 use Rattle.clv_base.specs.Undo.{stage_of}
 use Rattle.clv_base.specs.Facts.{doom_by}
 use Rattle.clv_base.specs.Coordinator.{others, end_ruling}

@@ -12,9 +12,9 @@ use Rattle.clv_base.specs.Undo.{stage_of}
 use Rattle.clv_base.specs.Facts.{facts_of}
 use Rattle.clv_base.specs.OneShard.{purge}
 use Rattle.clv_base.proofs.SameNames.{tx_true, tx_eq}
-use Rattle.protocol_laws.specs.Candidates.{is_commit_due, is_vote_due, is_ruling_due, is_due, is_due_by, Cover}
+use Rattle.protocol_laws.specs.Candidates.{is_commit_due, is_vote_due, is_ruling_due, is_due, is_due_by, Cover, DueByFacts}
 use Rattle.protocol_laws.specs.Left.{left_request, total_by, is_idle, left}
-use Rattle.protocol_laws.proofs.Laws.{due_by_facts, in_append}
+use Rattle.protocol_laws.proofs.Laws.{in_append}
 use Rattle.two_phase_commit.proofs.Laws.{get_drop}
 use Rattle.txn_core.specs.State.{TxState}
 use Rattle.txn_core.specs.Sound.{IsSound}
@@ -39,8 +39,8 @@ less_due true v r e = refl
 less_due false true r e = refl
 less_due false false r e = absurd (both_ways false refl e)
 
-none_due : (s : Shard) (tx t : TxId) → IsStrictlySortedBy tx_cmp (keys_of s.requests) → is_due (dropped tx s) t ≡ true → is_due s t ≡ true
-none_due s tx t h e = due_by_facts s t ∙ at (tx_same tx t) refl (sym (ap (is_due_by s.shard t (facts_of s t) (tx_get t s.voters)) (get_drop tx t s.requests h)) ∙ sym (due_by_facts (dropped tx s) t) ∙ e)
+none_due : DueByFacts → (s : Shard) (tx t : TxId) → IsStrictlySortedBy tx_cmp (keys_of s.requests) → is_due (dropped tx s) t ≡ true → is_due s t ≡ true
+none_due by_facts s tx t h e = by_facts s t ∙ at (tx_same tx t) refl (sym (ap (is_due_by s.shard t (facts_of s t) (tx_get t s.voters)) (get_drop tx t s.requests h)) ∙ sym (by_facts (dropped tx s) t) ∙ e)
   where
     at : (b : Bool) → tx_same tx t ≡ b → is_due_by s.shard t (facts_of s t) (tx_get t s.voters) (cond (tx_same tx t) None (tx_get t s.requests)) ≡ true
         → is_due_by s.shard t (facts_of s t) (tx_get t s.voters) (tx_get t s.requests) ≡ true
@@ -129,15 +129,15 @@ still_room s tx t o r =
 
 -- ---- all of it
 
-pub forgotten : (a : Parts) (tx : TxId) (c : Coordination) → IsAtRest (viewed a) → Holds a → stage_of a.transactions.local tx ≡ Some (Gone None) → c ≡ record a.coordinator { requests = tx_drop tx a.coordinator.requests }
+pub forgotten : DueByFacts → (a : Parts) (tx : TxId) (c : Coordination) → IsAtRest (viewed a) → Holds a → stage_of a.transactions.local tx ≡ Some (Gone None) → c ≡ record a.coordinator { requests = tx_drop tx a.coordinator.requests }
     → IsStrictlySortedBy tx_cmp (keys_of c.requests) → IsSound a.transactions.local a.transactions.room → purge a.transactions.local ≡ a.transactions.local → Changed (record a { coordinator = c }) (dropped tx (seen a))
-forgotten a tx c rest whole done is rise sound purged =
+forgotten by_facts a tx c rest whole done is rise sound purged =
     let s : Shard = seen a in let v : Shard = dropped tx s in let b : Parts = record a { coordinator = c } in
     let here = part_there s.local tx done in
     let alike : seen b ≡ v = ap (λ (k : Coordination). seen (record a { coordinator = k })) is in
     let pure : v ≡ with_local purge v = ap (λ (l : Local). record v { local = l }) (sym purged) in
     covered a b v whole (alike ∙ pure)
-    (subst (λ xs. Cover xs (with_local purge v)) (sym rest.none) (subst (Cover []) pure (λ t e. rest.ready.cover t (none_due s tx t rest.ready.requests e))))
+    (subst (λ xs. Cover xs (with_local purge v)) (sym rest.none) (subst (Cover []) pure (λ t e. rest.ready.cover t (none_due by_facts s tx t rest.ready.requests e))))
     (record { shard = refl; transactions = refl; participant = refl; coordinator = ap (λ (k : Coordination). k.shard) is }) whole.prepares whole.dependents
     (logged_known (known_keys s) (known_keys v) (λ x e. still_known s tx x here e) (drop a.transactions.durable (a.transactions.local).log) whole.logged)
     (record { known = λ x e. still_known s tx x here (whole.candidates.known x e); places = (let h = fewer tx s.requests in let p = whole.candidates.places in omega (arith, h, p)) })

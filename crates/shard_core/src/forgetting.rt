@@ -9,6 +9,7 @@ use crate::shard::ShardCore;
 use clv_base::names::TxId;
 use lock_table::Locks;
 use ordered_store::Store;
+use protocol_laws::candidates::due_by_facts;
 
 impl<S: Store + Drop, L: Locks + Drop> ShardCore<S, L> {
     /// The transaction's request is kept no more, where its part here is finished. Takes no memory.
@@ -18,6 +19,7 @@ impl<S: Store + Drop, L: Locks + Drop> ShardCore<S, L> {
         ensures shard { self.new.shard ≡ record self.old.shard { requests = tx_drop tx (self.old.shard).requests } }
         ensures rest { IsAtRest self.new }
     {
+        due_by_facts();
         self.coordinator.forget(tx);
         self.transactions.kept();
     }

@@ -27,7 +27,7 @@ the_change : (g : given.Over) (c : goal.After-kept g) → Changed (record (befor
 unfolding before
 the_change g c =
     let a = before g c in
-    forgotten a c.args.tx c.forget.new.self (rest_of a c.args.self.now c.self.view_is c.requires.rest) c.self.invariant
+    forgotten c.due_by_facts.ensures a c.args.tx c.forget.new.self (rest_of a c.args.self.now c.self.view_is c.requires.rest) c.self.invariant
     (subst (λ (v : Core). stage_of v.shard.local c.args.tx ≡ Some (Gone None)) (sym c.self.view_is) c.requires.finished) c.forget.ensures.requests c.forget.ensures.keys c.kept.ensures.sound c.kept.ensures.purged
 
 pub invariant_of-self : goal.invariant_of-self
