@@ -17,3 +17,4 @@ pub mod GoingOn
 pub mod Ruled
 pub mod Spent
 pub mod Lasting
+pub mod Recalled

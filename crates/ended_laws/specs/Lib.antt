@@ -5,3 +5,4 @@ pub mod Histories
 pub mod Examples
 pub mod Epochs
 pub mod Followed
+pub mod Recalled

@@ -1,6 +1,7 @@
 // Requests that are over at their homes.
 
 ghost use Rattle.ended_laws.specs.Requests.{NobodyMissesIt, OverStaysOver, NothingMissesIt, SpentStaysSpent, FlushesMissNothing, SpentGoAlone};
+ghost use Rattle.ended_laws.specs.Recalled.{SpentAreNotMissed};
 
 /// Where a request is over, each event that may still come finds the same without its row: late votes, acknowledgements and questions, looks that
 /// the log answers, reminders, and all that is of others.
@@ -32,4 +33,9 @@ pub fn flushes_miss_nothing()
 /// Such rows are forgotten one by one.
 pub fn spent_go_alone()
     ensures { SpentGoAlone }
+{}
+
+/// A shard that has forgotten any number of them makes the same of each call, and what it keeps is, with those rows, all that the definitions keep.
+pub fn spent_are_not_missed()
+    ensures { SpentAreNotMissed }
 {}
