@@ -18,3 +18,4 @@ pub mod Ruled
 pub mod Spent
 pub mod Lasting
 pub mod Recalled
+pub mod Laws

@@ -1,4 +1,5 @@
 pub mod Telling
+pub mod Forgotten
 pub mod Running
 pub mod Answering
 pub mod Replying

@@ -1,13 +1,14 @@
 -- A request's row less, and nobody is touched.
 use Rattle.std.proofs.Common.{◌≡◌, Some, None, refl, sym, ap, subst, ◌∙◌}
 use Rattle.clv_base.specs.declared.state.Stage.TheVariants.{Gone}
+use Rattle.clv_base.specs.Orders.{tx_get}
 use Rattle.clv_base.specs.State.{Shard}
 use Rattle.clv_base.specs.Undo.{stage_of}
 use Rattle.two_phase_commit.specs.Coordinated.{Coordination}
 use Rattle.shard_core.specs.Core.{Core}
 use Rattle.shard_core.specs.Whole.{IsAtRest}
 use Rattle.shard_core.proofs.Parts.{Parts, seen, viewed, Changed, rest_of}
-use Rattle.shard_core.proofs.Forgetting.{dropped, forgotten, forgotten_rest}
+use Rattle.shard_core.proofs.Forgotten.{dropped, forgotten, forgotten_rest}
 use Rattle.shard_core.proofs.shard.ShardCore.forget_request.Given as given
 use Rattle.shard_core.proofs.shard.ShardCore.forget_request.Goals as goal
 
@@ -43,3 +44,6 @@ pub returns-clause-rest : goal.returns-clause-rest
 unfolding before
 returns-clause-rest g c =
     let a = before g c in forgotten_rest a (record a { coordinator = c.forget.new.self }) (dropped c.args.tx (seen a)) (rest_of a c.args.self.now c.self.view_is c.requires.rest) refl (the_change g c)
+
+pub returns-clause-given : goal.returns-clause-given
+returns-clause-given g c = c.forget.ensures.given ∙ ap (λ (v : Core). tx_get c.args.tx v.shard.requests) c.self.view_is

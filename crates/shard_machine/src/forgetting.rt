@@ -1,0 +1,24 @@
+//! What is over is forgotten.
+ghost use Rattle.std.specs.Prelude.{◌≡◌, None, Some};
+ghost use Rattle.clv_base.specs.declared.state.Stage.TheVariants.{Gone};
+ghost use Rattle.clv_base.specs.Orders.{tx_get, tx_drop};
+ghost use Rattle.clv_base.specs.Undo.{stage_of as stage_in};
+
+use crate::machine::ShardMachine;
+use clv_base::names::TxId;
+use lock_table::Locks;
+use log_gate::Gate;
+use ordered_store::Store;
+use two_phase_commit::Kept;
+
+impl<S: Store + Drop, L: Locks + Drop, G: Gate> ShardMachine<S, L, G> {
+    /// The transaction's request, if it has one, is kept no more, where its part here is finished, and given away. Takes no memory.
+    pub fn forget_request(&mut self, tx: TxId) -> Option<Kept>
+        requires finished { stage_in (self.old.shard).local tx ≡ Some (Gone None) }
+        ensures given { result ≡ tx_get tx (self.old.shard).requests }
+        ensures shard { self.new.shard ≡ record self.old.shard { requests = tx_drop tx (self.old.shard).requests } }
+        ensures gate { self.new.gate ≡ self.old.gate }
+    {
+        self.core.forget_request(tx)
+    }
+}
