@@ -6,7 +6,7 @@ use Rattle.clv_base.specs.declared.events.Event.{Event}
 use Rattle.clv_base.specs.declared.events.Event.TheVariants.{Op, Request as RequestEvent, Look, Drop, Send, Deliver, Remind, FlushOut, FlushIn, Stop, Restart}
 use Rattle.clv_base.specs.declared.events.Outcome.{Outcome}
 use Rattle.clv_base.specs.declared.events.Outcome.TheVariants.{Wait, Crowded, Nothing}
-use Rattle.clv_base.specs.Orders.{Table}
+use Rattle.clv_base.specs.Orders.{Table, tx_put}
 use Rattle.clv_base.specs.State.{Shard}
 use Rattle.clv_base.specs.Events.{CallAnswer, Quiet, Worn as IsWorn, Enters, next_stamp, step}
 use Rattle.machine_calls.specs.declared.machine.StepError.{StepError}
@@ -25,6 +25,10 @@ stamp_same (r ∷ rs) s clock e = stamp_same rs s clock e
 journal_same : (rows : Table Request) (s : Shard) → (forgets_all rows s).journal ≡ s.journal
 journal_same [] s = refl
 journal_same (r ∷ rs) s = journal_same rs s
+
+pub number_same : (rows : Table Request) (s : Shard) → (recalls rows s).shard ≡ s.shard
+number_same [] s = refl
+number_same (r ∷ rs) s = number_same rs (record s { requests = tx_put r.0 r.1 s.requests })
 
 -- ---- answers
 

@@ -70,7 +70,7 @@ module _ {M S G : Type 0} (sh : Shards M S G) where
   begin_later w v Idle t r c = begun_later w v Idle t r c
   begin_later w v (Active p) t r c = same_later w v c.1
   begin_later w v (Worn p) t r c = same_later w v c.1
-  begin_later w v (Asked p home stamp) t r c = begun_later w v (Asked p home stamp) t r c
+  begin_later w v (Asked p home stamp) t r c = same_later w v c.1
   begin_later w v (Ended p) t r c = begun_later w v (Ended p) t r c
 
   retried_later : (w v : Walker M S G) (last : SessionState) (t : Progress) (r : Result TxId RetryError) → RetriedNext sh w last r v t → IsLater w v

@@ -2,20 +2,20 @@
 use Rattle.std.proofs.Common.{◌≡◌, refl, ap, true, None, Ok}
 use Rattle.session_api.specs.declared.progress.Progress.{Progress}
 use Rattle.session_api.specs.declared.progress.Progress.TheVariants.{Idle, Active, Worn, Asked, Ended}
-use Rattle.session_api.specs.Progresses.{active_tx}
+use Rattle.session_api.specs.Progresses.{open_tx}
 use Rattle.session_examples.specs.declared.transfers.Transferred.{Transferred}
 use Rattle.session_examples.specs.declared.transfers.Transferred.TheVariants.{Moved, Refused, GivenUp}
 use Rattle.session_examples.specs.Ends.{has_ended, EndsAs}
 
--- none is active after a transfer that wasn't stopped
-pub ended_idle : (t : Progress) → has_ended t ≡ true → active_tx t ≡ None
+-- none is active and no request stands after a transfer that wasn't stopped
+pub ended_idle : (t : Progress) → has_ended t ≡ true → open_tx t ≡ None
 ended_idle Idle e = refl
 ended_idle (Active p) e = absurd cc
 ended_idle (Worn p) e = absurd cc
-ended_idle (Asked p home stamp) e = refl
+ended_idle (Asked p home stamp) e = absurd cc
 ended_idle (Ended p) e = refl
 
-pub ends_idle : (x : Transferred) (t : Progress) → EndsAs (Ok x) t → active_tx t ≡ None
-ends_idle Moved t e = ap active_tx e
+pub ends_idle : (x : Transferred) (t : Progress) → EndsAs (Ok x) t → open_tx t ≡ None
+ends_idle Moved t e = ap open_tx e
 ends_idle (Refused why) t e = ended_idle t e
 ends_idle (GivenUp cause) t e = ended_idle t e

@@ -38,7 +38,7 @@ use Rattle.session_api.specs.declared.operating.OpError.{OpError}
 use Rattle.session_api.specs.declared.ending.CommitError.{CommitError}
 use Rattle.session_api.specs.declared.ending.AbortError.{AbortError}
 use Rattle.session_api.specs.declared.ending.AbortError.TheVariants as abort
-use Rattle.session_api.specs.Progresses.{active_tx, answer_told, after_op, commit_told, is_nothing, after_commit, progress_committed, abort_told, progress_aborted}
+use Rattle.session_api.specs.Progresses.{open_tx, answer_told, after_op, commit_told, is_nothing, after_commit, progress_committed, abort_told, progress_aborted}
 use Rattle.session_api.specs.Sessions.{BegunNext, BeginCalled, RetriedNext, RetryCalled, PointMade, PointCalled, CommitMade, CommitCalled, AbortCalled}
 use Rattle.session_examples.specs.declared.transfers.Failure.{Failure}
 use Rattle.session_examples.specs.declared.transfers.Stop.{Stop}
@@ -227,11 +227,11 @@ module _ {M S G : Type 0} (sh : Shards M S G) where
   begun_as w v s t (Err (begin.Worn at)) h c = ap is_open c.3 ∙ h
   begun_as w v s t (Err (begin.Active tx)) h c = absurd c
 
-  pub begin_as : (w v : Walker M S G) (s t : Progress) (r : Result TxId BeginError) → active_tx s ≡ None → BeginCalled sh w s r v t → BegunAs sh v t r
+  pub begin_as : (w v : Walker M S G) (s t : Progress) (r : Result TxId BeginError) → open_tx s ≡ None → BeginCalled sh w s r v t → BegunAs sh v t r
   begin_as w v Idle t r h c = begun_as w v Idle t r refl c
   begin_as w v (Active p) t r h c = absurd cc
   begin_as w v (Worn p) t r h c = absurd cc
-  begin_as w v (Asked p home stamp) t r h c = begun_as w v (Asked p home stamp) t r refl c
+  begin_as w v (Asked p home stamp) t r h c = absurd cc
   begin_as w v (Ended p) t r h c = begun_as w v (Ended p) t r refl c
 
   retried_as : (w v : Walker M S G) (last : SessionState) (t : Progress) (r : Result TxId RetryError) → RetriedNext sh w last r v t → RetriedAs sh v t r

@@ -7,7 +7,7 @@ use Rattle.cluster_closing.specs.Landed.{HasLanded}
 use Rattle.cluster_closing.specs.Held.{HoldsNone}
 use Rattle.cluster_opening.specs.Made.{IsNewWalker}
 use Rattle.session_api.specs.declared.progress.Progress.{Progress}
-use Rattle.session_api.specs.Progresses.{active_tx}
+use Rattle.session_api.specs.Progresses.{open_tx}
 use Rattle.session_api.specs.Standing.{Holds, IsAtRest}
 
 module _ {M S G : Type 0} where
@@ -35,4 +35,4 @@ module _ {M S G : Type 0} where
     pub on : shards ≡ sh
     pub number_is : w.number ≡ number
     pub holds : Holds shards w s
-    pub idle : active_tx s ≡ None
+    pub idle : open_tx s ≡ None

@@ -3,7 +3,7 @@ ghost use Rattle.std.specs.Prelude.{◌≡◌, ◌≢◌, ◌<◌, ◌≤◌, �
 ghost use Rattle.clv_base.specs.Shards.{are_splits};
 ghost use Rattle.cluster_opening.specs.Opening.{Refuses, CountsOpen};
 ghost use Rattle.session_api.specs.Standing.{Holds, IsAtRest};
-ghost use Rattle.session_api.specs.Progresses.{active_tx};
+ghost use Rattle.session_api.specs.Progresses.{open_tx};
 ghost use Rattle.session_examples.specs.Walkers.{AreNew, AreAtRest, IsSeated};
 ghost use Rattle.session_examples.specs.Programs.{HasRun, AnyMade};
 
@@ -111,7 +111,7 @@ fn transfer_often<M: Flier, P: Pace, R: Wait>(
     tries: u32,
 ) -> u32
     requires session { Holds session.old.shards.now session.old.walker session.old.progress }
-    requires idle { active_tx session.old.progress ≡ None }
+    requires idle { open_tx session.old.progress ≡ None }
     ensures session { Holds session.new.shards.now session.new.walker session.new.progress }
     ensures shards { session.new.shards ≡ session.old.shards }
     ensures number { session.new.walker.number ≡ session.old.walker.number }
@@ -135,7 +135,7 @@ fn make_transfers<M: Flier, P: Pace, R: Wait>(
     tries: u32,
 )
     requires session { Holds seat.old.session.shards.now seat.old.session.walker seat.old.session.progress }
-    requires idle { active_tx seat.old.session.progress ≡ None }
+    requires idle { open_tx seat.old.session.progress ≡ None }
     ensures session { Holds seat.new.session.shards.now seat.new.session.walker seat.new.session.progress }
     ensures shards { seat.new.session.shards.now ≡ seat.old.session.shards.now }
     ensures number { seat.new.session.walker.number ≡ seat.old.session.walker.number }
@@ -155,7 +155,7 @@ where
     M::Store: Send,
     M::Gate: Send,
     requires session { (k : ℕ) (d : _) → k < length seats.old → Holds (slice_index_or seats.old k d).session.shards.now (slice_index_or seats.old k d).session.walker (slice_index_or seats.old k d).session.progress }
-    requires idle { (k : ℕ) (d : _) → k < length seats.old → active_tx (slice_index_or seats.old k d).session.progress ≡ None }
+    requires idle { (k : ℕ) (d : _) → k < length seats.old → open_tx (slice_index_or seats.old k d).session.progress ≡ None }
     ensures session { (k : ℕ) (d : _) → k < length seats.old → Holds (slice_index_or seats.new k d).session.shards.now (slice_index_or seats.new k d).session.walker (slice_index_or seats.new k d).session.progress }
     ensures shards { (k : ℕ) (d : _) → k < length seats.old → (slice_index_or seats.new k d).session.shards.now ≡ (slice_index_or seats.old k d).session.shards.now }
     ensures number { (k : ℕ) (d : _) → k < length seats.old → (slice_index_or seats.new k d).session.walker.number ≡ (slice_index_or seats.old k d).session.walker.number }
@@ -166,7 +166,7 @@ where
     let count = seats.len();
     let body = |_: usize, seat: &mut Seat<'_, M, P, R>|
         requires session { Holds seat.now.session.shards.now seat.now.session.walker seat.now.session.progress }
-        requires idle { active_tx seat.now.session.progress ≡ None }
+        requires idle { open_tx seat.now.session.progress ≡ None }
         ensures session { Holds seat.exit.now.session.shards.now seat.exit.now.session.walker seat.exit.now.session.progress }
         ensures shards { seat.exit.now.session.shards.now ≡ seat.entry.now.session.shards.now }
         ensures number { seat.exit.now.session.walker.number ≡ seat.entry.now.session.walker.number }

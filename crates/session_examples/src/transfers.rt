@@ -8,7 +8,7 @@ ghost use Rattle.clv_base.specs.declared.ops.Answer.TheVariants.{Value};
 ghost use Rattle.session_ops.specs.declared.operating.OpError.{OpError as OpFailure};
 ghost use Rattle.session_ops.specs.declared.committing.Settled.{Settled as SettledIs};
 ghost use Rattle.session_ops.specs.declared.committing.CommitError.{CommitError as CommitFailure};
-ghost use Rattle.session_api.specs.Progresses.{active_tx, failure_told, answer_told, commit_told};
+ghost use Rattle.session_api.specs.Progresses.{open_tx, failure_told, answer_told, commit_told};
 ghost use Rattle.session_api.specs.Sessions.{IsSession};
 ghost use Rattle.session_examples.specs.Later.{IsLater};
 ghost use Rattle.session_examples.specs.Ends.{is_open, has_ended, failure_end, value_end, written_end, commit_end, BeginEnds, RetryEnds, AbortEnds, GoesOnAs, TriedAs, EndsAs};
@@ -319,7 +319,7 @@ fn finish<M: Flier, P: Pace, R: Wait>(
 
 fn begin<M: Flier, P: Pace, R: Wait>(session: &mut Session<'_, M, P, R>) -> Result<(), Stop>
     requires session { IsSession session.old.shards.now session.old.walker session.old.progress }
-    requires idle { active_tx session.old.progress ≡ None }
+    requires idle { open_tx session.old.progress ≡ None }
     ensures session { IsSession session.new.shards.now session.new.walker session.new.progress }
     ensures shards { session.new.shards ≡ session.old.shards }
     ensures later { IsLater session.old.walker session.new.walker }
@@ -390,7 +390,7 @@ pub fn transfer<M: Flier, P: Pace, R: Wait>(
     tries: u32,
 ) -> Result<Transferred, Stop>
     requires session { IsSession session.old.shards.now session.old.walker session.old.progress }
-    requires idle { active_tx session.old.progress ≡ None }
+    requires idle { open_tx session.old.progress ≡ None }
     requires apart { from ≢ to }
     ensures session { IsSession session.new.shards.now session.new.walker session.new.progress }
     ensures shards { session.new.shards ≡ session.old.shards }

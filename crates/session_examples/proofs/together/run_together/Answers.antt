@@ -3,7 +3,7 @@ use denote.Ref.{NamedLft}
 use denote.Param.{param}
 use denote.Param.Send.{param_send}
 use Rattle.std.proofs.Common.{◌≡◌, sym, subst, slice_index_or, None}
-use Rattle.session_api.specs.Progresses.{active_tx}
+use Rattle.session_api.specs.Progresses.{open_tx}
 use Rattle.session_api.specs.Standing.{Holds}
 use Rattle.session_examples.proofs.Sending.{seat_row_send}
 use Rattle.session_examples.proofs.together.run_together.Goals as goal
@@ -21,7 +21,7 @@ pub for_each_mut-requires-clause-accepts : goal.for_each_mut-requires-clause-acc
 for_each_mut-requires-clause-accepts g c κs within =
     λ i p l same. (
       subst (λ s. Holds s.session.shards.now s.session.walker s.session.progress) (sym same) (c.requires.session i p.now l),
-      subst (λ s. active_tx s.session.progress ≡ None) (sym same) (c.requires.idle i p.now l),
+      subst (λ s. open_tx s.session.progress ≡ None) (sym same) (c.requires.idle i p.now l),
     )
 
 -- what its call left is what stands in its place

@@ -2,7 +2,7 @@ use Rattle.std.proofs.Common.{arith, refl, ◌≡◌, ◌∙◌, ◌+◌, ◌-�
 use Rattle.std.proofs.lemmas.List.{get_or-take}
 use Rattle.session_api.specs.Standing.{Holds}
 use Rattle.session_api.specs.declared.progress.Progress.TheVariants.{Idle}
-use Rattle.session_api.specs.Progresses.{active_tx}
+use Rattle.session_api.specs.Progresses.{open_tx}
 use Rattle.session_examples.specs.Walkers.{IsSeated}
 use Rattle.law_base.proofs.Lists.{pushed_each}
 use Rattle.session_examples.proofs.Walking.{holds_new}
@@ -32,7 +32,7 @@ loop-taken-preserved g c =
             on = s.shards;
             number_is = ap (λ x. x.number) (s.walker o.walker ∙ inv.same (vec_len ws - 1) o.walker (omega arith)) ∙ ((c.requires.new (vec_len ws - 1) o.walker (omega arith)).number_is ∙ (omega arith));
             holds = s.session;
-            idle = ap active_tx s.idle;
+            idle = ap open_tx s.idle;
           }) j d (omega arith));
     }
 
