@@ -18,4 +18,3 @@ pub mod Ruled
 pub mod Spent
 pub mod Lasting
 pub mod Recalled
-pub mod Laws

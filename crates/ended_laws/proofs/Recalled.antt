@@ -13,7 +13,7 @@ use Rattle.clv_base.specs.declared.events.Event.{Event}
 use Rattle.clv_base.specs.declared.events.Event.TheVariants.{FlushIn}
 use Rattle.clv_base.specs.declared.events.Outcome.{Outcome}
 use Rattle.clv_base.specs.declared.events.Outcome.TheVariants.{Nothing, Down}
-use Rattle.clv_base.specs.Orders.{Table, tx_cmp, tx_same, tx_get, tx_put, tx_drop}
+use Rattle.clv_base.specs.Orders.{Table, tx_cmp, tx_same, tx_get, tx_put}
 use Rattle.clv_base.specs.State.{Shard}
 use Rattle.clv_base.specs.Events.{Reply, QuietBeforeWorn, QuietAfterWorn, Does, with_entry, happen, landed, CallAnswer, Quiet, Worn, Enters, next_stamp, stamped, step, land_up, land}
 use Rattle.clv_base.proofs.SameNames.{tx_true, tx_eq, cmp_equal}
@@ -56,27 +56,9 @@ put_back tx q (r ∷ rs) h e = at (tx_same tx r.0) refl e (put_back tx q rs h.1)
         ap (tx_put tx q) (none_goes tx rs above) ∙ put_first tx q rs above ∙ ap (λ z. (z, q) ∷ rs) same ∙ ap (λ v. (r.0, v) ∷ rs) (sym (same_value f))
     at false i f more = below (tx_cmp tx r.0) refl i f (more f)
 
--- what a table drops of a transaction is its row, where the rows rise; nothing where it has none
-pub drop_is_without : (tx : TxId) (rows : Table Request) → Rise (keys_of rows) → tx_drop tx rows ≡ without tx rows
-unfolding IsStrictlySortedBy
-drop_is_without tx [] h = refl
-drop_is_without tx (r ∷ rs) h = at (tx_same tx r.0) refl (drop_is_without tx rs h.1)
-  where
-    at : (b : Bool) → tx_same tx r.0 ≡ b → tx_drop tx rs ≡ without tx rs → cond b rs (r ∷ tx_drop tx rs) ≡ cond (not b) (r ∷ without tx rs) (without tx rs)
-    at true i more = sym (none_goes tx rs (subst (λ z. AllAbove z (keys_of rs)) (sym (tx_true tx r.0 i)) h.0))
-    at false i more = ap (λ l. r ∷ l) more
-
-pub drop_none : (tx : TxId) (rows : Table Request) → tx_get tx rows ≡ None → tx_drop tx rows ≡ rows
-drop_none tx [] e = refl
-drop_none tx (r ∷ rs) e = at (tx_same tx r.0) e (drop_none tx rs)
-  where
-    at : (b : Bool) → cond b (Some r.1) (tx_get tx rs) ≡ None → (tx_get tx rs ≡ None → tx_drop tx rs ≡ rs) → cond b rs (r ∷ tx_drop tx rs) ≡ r ∷ rs
-    at true f more = absurd (none_some (sym f))
-    at false f more = ap (λ l. r ∷ l) (more f)
-
 -- ---- one of them where others are forgotten
 
-pub spent_beside : (rows : Table Request) (s : Shard) (u : TxId) (q : Request) → AllByRecursion (λ x. tx_same x.0 u ≡ false) rows → IsSpent s u q → IsSpent (forgets_all rows s) u q
+spent_beside : (rows : Table Request) (s : Shard) (u : TxId) (q : Request) → AllByRecursion (λ x. tx_same x.0 u ≡ false) rows → IsSpent s u q → IsSpent (forgets_all rows s) u q
 spent_beside [] s u q a p = p
 spent_beside (r ∷ rs) s u q a p = spent_go_alone (forgets_all rs s) r.0 u q a.0 (spent_beside rs s u q a.1 p)
 

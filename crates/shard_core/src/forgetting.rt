@@ -1,7 +1,7 @@
 //! What is over is forgotten.
 ghost use Rattle.std.specs.Prelude.{◌≡◌, None, Some};
 ghost use Rattle.clv_base.specs.declared.state.Stage.TheVariants.{Gone};
-ghost use Rattle.clv_base.specs.Orders.{tx_get, tx_drop};
+ghost use Rattle.clv_base.specs.Orders.{tx_drop};
 ghost use Rattle.clv_base.specs.Undo.{stage_of as stage_in};
 ghost use Rattle.shard_core.specs.Whole.{IsAtRest};
 
@@ -10,20 +10,17 @@ use clv_base::names::TxId;
 use lock_table::Locks;
 use ordered_store::Store;
 use protocol_laws::candidates::due_by_facts;
-use two_phase_commit::Kept;
 
 impl<S: Store + Drop, L: Locks + Drop> ShardCore<S, L> {
-    /// The transaction's request, if it has one, is kept no more, where its part here is finished, and given away. Takes no memory.
-    pub fn forget_request(&mut self, tx: TxId) -> Option<Kept>
+    /// The transaction's request is kept no more, where its part here is finished. Takes no memory.
+    pub fn forget_request(&mut self, tx: TxId)
         requires rest { IsAtRest self.old }
         requires finished { stage_in (self.old.shard).local tx ≡ Some (Gone None) }
-        ensures given { result ≡ tx_get tx (self.old.shard).requests }
         ensures shard { self.new.shard ≡ record self.old.shard { requests = tx_drop tx (self.old.shard).requests } }
         ensures rest { IsAtRest self.new }
     {
         due_by_facts();
-        let request = self.coordinator.forget(tx);
+        self.coordinator.forget(tx);
         self.transactions.kept();
-        request
     }
 }

@@ -1,5 +1,4 @@
 pub mod Telling
-pub mod Forgotten
 pub mod Running
 pub mod Answering
 pub mod Replying

@@ -11,7 +11,6 @@ mod disks;
 mod dropping;
 mod flights;
 mod flying;
-mod forgetting;
 mod gates;
 mod happening;
 mod hearing;

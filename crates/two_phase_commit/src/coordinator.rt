@@ -339,16 +339,14 @@ impl Coordinator {
         )
     }
 
-    /// The transaction's request, if it has one, is kept no more, and given away. Takes no memory.
-    pub fn forget(&mut self, tx: TxId) -> Option<Kept>
-        ensures given { result ≡ tx_get tx self.old.requests }
+    /// The transaction's request is kept no more. Takes no memory.
+    pub fn forget(&mut self, tx: TxId)
         ensures requests { self.new ≡ record self.old { requests = tx_drop tx self.old.requests } }
         ensures keys { IsStrictlySortedBy tx_cmp (keys_of self.new.requests) }
     {
         let _all = self.requests.len();
-        let request = self.requests.remove(&tx);
+        self.requests.remove(&tx);
         self.waiting.keep_if(tx, false);
         self.asked.remove(tx);
-        request
     }
 }

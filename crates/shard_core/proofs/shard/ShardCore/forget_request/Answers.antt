@@ -1,7 +1,6 @@
 -- A request's row less, and nobody is touched.
 use Rattle.std.proofs.Common.{◌≡◌, Some, None, refl, sym, ap, subst, ◌∙◌}
 use Rattle.clv_base.specs.declared.state.Stage.TheVariants.{Gone}
-use Rattle.clv_base.specs.Orders.{tx_get}
 use Rattle.clv_base.specs.State.{Shard}
 use Rattle.clv_base.specs.Undo.{stage_of}
 use Rattle.two_phase_commit.specs.Coordinated.{Coordination}
@@ -44,6 +43,3 @@ pub returns-clause-rest : goal.returns-clause-rest
 unfolding before
 returns-clause-rest g c =
     let a = before g c in forgotten_rest a (record a { coordinator = c.forget.new.self }) (dropped c.args.tx (seen a)) (rest_of a c.args.self.now c.self.view_is c.requires.rest) refl (the_change g c)
-
-pub returns-clause-given : goal.returns-clause-given
-returns-clause-given g c = c.forget.ensures.given ∙ ap (λ (v : Core). tx_get c.args.tx v.shard.requests) c.self.view_is

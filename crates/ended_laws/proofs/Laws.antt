@@ -1,3 +1,0 @@
--- Lemmas that this crate offers to the proofs of the crates above it.
-pub use Rattle.ended_laws.proofs.Rows.{get_own, get_without}
-pub use Rattle.ended_laws.proofs.Recalled.{drop_is_without, drop_none, spent_beside}
