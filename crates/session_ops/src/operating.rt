@@ -22,6 +22,8 @@ use machine_calls::{Flier, Machine, StepError};
 use std::alloc::Global;
 use std::array;
 use std::sync::Wait;
+use std::sync::atomic::AtomicU64;
+use std::time::Duration;
 use turn_lock::Batch;
 
 /// Why an operation wasn't answered.
@@ -149,6 +151,24 @@ fn try_and_pass<M: Flier, P: Pace, R: Wait>(
 // Of so many waits one makes a round.
 const WAITS_PER_ROUND: u64 = 64;
 
+// So many waits give way to whoever is ready to run; later ones sleep, as a client may think while it holds the lock.
+const YIELDING: u64 = 1_000;
+
+// Each sleep is so much longer than the one before, in microseconds, up to the longest.
+const LONGER: u64 = 10;
+
+const LONGEST: u64 = 1_000;
+
+// Gives way behind a try that has to wait, after so many waits.
+fn give_way<R: Wait>(rt: &R, backoff: &Backoff, waits: u64) {
+    if waits <= YIELDING {
+        backoff.snooze();
+        return;
+    }
+    let nap = LONGEST.min((waits - YIELDING).saturating_mul(LONGER));
+    AtomicU64::new(0).park_timeout(rt, 0, Duration::from_micros(nap));
+}
+
 /// One operation, or part scan, of the active transaction on one shard, until it is answered: while it has to wait it gives way, and makes a round after each
 /// 64th try. Of a session's turns it takes only those of this operation. `Aborted` comes only where one of them died of that cause, and the transaction is
 /// over then; `Down` only where a turn of the call found that shard down, which is the operation's own or comes after a wait; `Worn` only where a turn would
@@ -188,7 +208,7 @@ pub fn operate<M: Flier, P: Pace, R: Wait>(
             rt, alloc, shards, walker, place, shard, nth, op, pace, is_time,
         ) {
             Ok(Some(answer)) => return Ok(answer),
-            Ok(None) => backoff.snooze(),
+            Ok(None) => give_way(rt, &backoff, waits),
             Err(OpError::Down { shard: down }) => {
                 if !patience.bears(rt, shards, &needed_by(place, shard), down) {
                     return Err(OpError::Down { shard: down });
