@@ -5,7 +5,7 @@ use Rattle.clap.specs.Words.{Text, first_of, rows_of, first_value}
 use Rattle.clap.specs.declared.parser.matches.Found.{Found}
 use Rattle.clap.proofs.WalkLemmas.{first_value-rows}
 use Rattle.script_lang.specs.Grammar.{IsNumber}
-use Rattle.command_line.specs.Commands.{IsGiven, AreTries}
+use Rattle.command_line.specs.Commands.{IsGiven, IsUpTo}
 
 pub found_is : (f : Found) (id : Text) (result : Option (Bor (List ℕ))) → option_map (λ s. s.now) result ≡ first_value f id → first_of id (rows_of f) ≡ option_map (λ s. s.now) result
 found_is f id result e = sym (first_value-rows f id) ∙ sym e
@@ -25,13 +25,13 @@ given_by v word bytes r e same h =
 pub none_given : (v : Option Text) → v ≡ None → (n : ℕ) → IsGiven v n → ⊥
 none_given v e n h = subst (λ (o : Option Text). IsGiven o n) e h
 
-pub tries_by : (v : Option Text) (word bytes : List ℕ) (n : ℕ) → v ≡ Some word → bytes ≡ word → IsNumber bytes n → 1 ≤ n → n ≤ 1000 → AreTries v n
-tries_by v word bytes n e same is some few =
-    subst (λ (o : Option Text). AreTries o n) (sym e) (subst (λ (b : List ℕ). IsNumber b n) same is, some, few)
+pub is_up_to : (v : Option Text) (word bytes : List ℕ) (most otherwise n : ℕ) → v ≡ Some word → bytes ≡ word → IsNumber bytes n → 1 ≤ n → n ≤ most → IsUpTo most otherwise v n
+is_up_to v word bytes most otherwise n e same is some few =
+    subst (λ (o : Option Text). IsUpTo most otherwise o n) (sym e) (subst (λ (b : List ℕ). IsNumber b n) same is, some, few)
 
-pub number_of_tries : (v : Option Text) (word bytes : List ℕ) (n : ℕ) → v ≡ Some word → bytes ≡ word → AreTries v n → IsNumber bytes n × (1 ≤ n) × (n ≤ 1000)
-number_of_tries v word bytes n e same h =
-    let g : IsNumber word n × (1 ≤ n) × (n ≤ 1000) = subst (λ (o : Option Text). AreTries o n) e h in (subst (λ (b : List ℕ). IsNumber b n) (sym same) g.0, g.1, g.2)
+pub up_to_is : (v : Option Text) (word bytes : List ℕ) (most otherwise n : ℕ) → v ≡ Some word → bytes ≡ word → IsUpTo most otherwise v n → IsNumber bytes n × (1 ≤ n) × (n ≤ most)
+up_to_is v word bytes most otherwise n e same h =
+    let g : IsNumber word n × (1 ≤ n) × (n ≤ most) = subst (λ (o : Option Text). IsUpTo most otherwise o n) e h in (subst (λ (b : List ℕ). IsNumber b n) (sym same) g.0, g.1, g.2)
 
-pub default_tries : (v : Option Text) → v ≡ None → AreTries v 100
-default_tries v e = subst (λ (o : Option Text). AreTries o 100) (sym e) refl
+pub up_to_none : (v : Option Text) (most otherwise : ℕ) → v ≡ None → IsUpTo most otherwise v otherwise
+up_to_none v most otherwise e = subst (λ (o : Option Text). IsUpTo most otherwise o otherwise) (sym e) refl

@@ -4,7 +4,7 @@ ghost use Rattle.std.specs.Prelude.{◌≡◌, ◌≢◌, ◌≤◌, ℕ, List, 
 ghost use Rattle.clap.specs.Words.{first_of, all_of};
 ghost use Rattle.clv_base.specs.Shards.{are_splits};
 ghost use Rattle.command_line.specs.declared.commands.Command.{Command as ACommand};
-ghost use Rattle.command_line.specs.Commands.{IsGiven, AreTries, AreNumbers, listed, Says, IsCommand};
+ghost use Rattle.command_line.specs.Commands.{IsGiven, IsUpTo, AreNumbers, listed, Says, IsCommand};
 ghost use Rattle.command_line.specs.Steps.{texts, given_rows};
 
 use crate::commands::{Command, WordsError};
@@ -24,21 +24,22 @@ fn number_at(given: &ArgMatches, name: &str) -> Option<u64>
     }
 }
 
-fn tries_of(given: &ArgMatches) -> Option<u64>
-    ensures { MatchOption result ((n : ℕ) → AreTries (first_of (codes "tries") (given_rows given.now)) n → ⊥) (λ n. AreTries (first_of (codes "tries") (given_rows given.now)) n) }
+// The number from 1 to so many that is given under a name, or another one where none is.
+fn number_up_to(given: &ArgMatches, name: &str, most: u64, otherwise: u64) -> Option<u64>
+    ensures { MatchOption result ((n : ℕ) → IsUpTo most otherwise (first_of name.now (given_rows given.now)) n → ⊥) (λ n. IsUpTo most otherwise (first_of name.now (given_rows given.now)) n) }
 {
-    let Some(word) = given.get_str("tries") else {
-        return Some(100);
+    let Some(word) = given.get_str(name) else {
+        return Some(otherwise);
     };
     match number_of(word.as_bytes()) {
-        Some(tries) => {
-            if tries == 0 {
+        Some(number) => {
+            if number == 0 {
                 return None;
             }
-            if tries > 1000 {
+            if number > most {
                 return None;
             }
-            Some(tries)
+            Some(number)
         }
         None => None,
     }
@@ -134,7 +135,7 @@ fn read(alloc: Global, name: &str, given: &ArgMatches) -> Result<Command, WordsE
         return make_of(alloc, given);
     }
     if name == "run" {
-        return match tries_of(given) {
+        return match number_up_to(given, "tries", 1000, 100) {
             Some(tries) => Ok(Command::Run { tries }),
             None => Err(WordsError::Usage),
         };
@@ -145,6 +146,12 @@ fn read(alloc: Global, name: &str, given: &ArgMatches) -> Result<Command, WordsE
     if name == "load" {
         return match load_of(given) {
             Some(command) => Ok(command),
+            None => Err(WordsError::Usage),
+        };
+    }
+    if name == "serve" {
+        return match number_up_to(given, "sessions", 64, 16) {
+            Some(sessions) => Ok(Command::Serve { sessions }),
             None => Err(WordsError::Usage),
         };
     }
