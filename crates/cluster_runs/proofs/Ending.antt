@@ -56,18 +56,18 @@ use Rattle.script_runs.specs.Sessions.{session_entries}
 use Rattle.cluster_runs.specs.Ended.{ClusterEnded, runs_on}
 use Rattle.cluster_runs.specs.PromisedSessions.{Went, Begun, SessionWent, SessionsWent}
 use Rattle.cluster_runs.specs.Down.{IsLowestDown, IsLowestFault}
-use Rattle.cluster_runs.proofs.Promising.{runs_are_promised}
+use Rattle.cluster_runs.proofs.Promising.{clusters_are_promised, runs_are_promised}
 use Rattle.cluster_runs.proofs.Down.{failed_are_down, down_stays, lowest_down_is_fault}
 use Rattle.command_line.specs.Running.{End, IsOk, status_by}
 use Rattle.cluster_runs.specs.Ends.{end_of, walked_by, IsClosedRun}
 use Rattle.cluster_turns.specs.Dates.{latest, seen_by, last_seen}
 use Rattle.cluster_turns.proofs.Laws.{notes_left}
 use Rattle.cluster_runs.specs.Sessions.{AreCounted, seen_by_all, begun_by_all}
-use Rattle.cluster_runs.specs.Statuses.{StatusTold, FlushesTold, AreWorn, transactions, last_stamp}
+use Rattle.cluster_runs.specs.Statuses.{StatusTold, DisksTold, FlushesTold, AreWorn, transactions, last_stamp}
 use Rattle.cluster_runs.proofs.Wearing.{owned_few, begun_few, filter_below, journal_below}
 use Rattle.cluster_runs.specs.Drained.{QuietAt, WasSettled, IsQuietAtEnd}
 use Rattle.cluster_runs.proofs.Seeing.{whole_seen}
-use Rattle.cluster_runs.specs.Laws.{ClustersEnd, OthersStand, AllAreIn, RunsKeep, SessionsHaveGone, StatusesTell, FlushesTell, DownsTell}
+use Rattle.cluster_runs.specs.Laws.{ClustersEnd, ClustersKeep, OthersStand, AllAreIn, RunsKeep, SessionsHaveGone, StatusesTell, DisksTell, FlushesTell, DownsTell}
 use Rattle.law_base.proofs.Lists.{elem_at, all_mono}
 use Rattle.law_base.proofs.Restarts.{left_length as length_left}
 use Rattle.cluster_closing.proofs.Laws.{map_at, state_here}
@@ -393,12 +393,28 @@ others_stand shard sh walkers homes kept down counts counts_now out out_now befo
 pub all_are_in : {M S G D : Type 0} → AllAreIn M S G D
 all_are_in shard sh walkers homes kept down counts counts_now out out_now before now r were n few = is_in shard sh walkers homes kept down counts counts_now out out_now before now r were n few
 
+pub clusters_keep : {M S G D : Type 0} → ClustersKeep M S G D
+clusters_keep {D = D} shard sh walkers homes kept down counts counts_now out out_now before now r =
+    clusters_are_promised sh.splits before now counts counts_now kept (end_of D shard sh homes) (walked_by walkers) (ended shard sh walkers homes kept down counts counts_now out out_now before now r)
+
 pub runs_keep : {M S G D : Type 0} → RunsKeep M S G D
 runs_keep {D = D} shard sh walkers homes kept down counts counts_now out out_now before now most script went r sessions =
     runs_are_promised sh.splits before now counts counts_now most script went kept (end_of D shard sh homes) (walked_by walkers) (ended shard sh walkers homes kept down counts counts_now out out_now before now r)
     (subst (λ f. SessionsWent sh.splits (run_after f) most script went (walked_by walkers)) (sym r.closed.founds_are) sessions)
 
 -- ---- statuses
+
+disks_told : (shards : ℕ) (counts counts_now : ℕ → ℕ) (down : Option ℕ) (end : End) → IsLowestFault counts counts_now shards down → ((at : ℕ) → end ≡ Err (stop.Worn at) → at ≡ 2 ^ 48) → DisksTold shards counts counts_now (status_by down end)
+disks_told shards counts counts_now (Some m) end fault worn = fault
+disks_told shards counts counts_now None (Ok a) fault worn = fault
+disks_told shards counts counts_now None (Err (stop.Worn at)) fault worn = (worn at refl, fault)
+disks_told shards counts counts_now None (Err stop.Memory) fault worn = fault
+disks_told shards counts counts_now None (Err (stop.Down n)) fault worn = fault
+disks_told shards counts counts_now None (Err (stop.Unsettled n)) fault worn = fault
+
+pub disks_tell : {M S G D : Type 0} → DisksTell M S G D
+disks_tell shard sh walkers homes kept down counts counts_now out out_now before now end r worn =
+    disks_told (shard_count sh.splits) counts counts_now down end (fault shard sh walkers homes kept down counts counts_now out out_now before now r) worn
 
 pub flushes_tell : {M S G D : Type 0} → FlushesTell M S G D
 flushes_tell shard sh walkers homes kept down counts counts_now out out_now before now end r = flushes shard sh walkers homes kept down counts counts_now out out_now before now r end
@@ -459,6 +475,13 @@ all_below : {M S G : Type 0} (top : ℕ) (ws : List (Walker M S G)) → ((k : �
 all_below top [] all = omega arith
 all_below top (w ∷ ws) all = let a = all 0 w (omega arith) in let b = all_below top ws (λ k d l. all (suc k) d (omega arith)) in omega arith
 
+-- all that walkers have seen is in the history
+pub seen_in_history :
+    {M S G D : Type 0} (shard : M → Shard) (sh : Shards M S G) (walkers : List (Walker M S G)) (homes : List (Home M S G)) (kept : Kept) (down : Option ℕ) (counts counts_now : ℕ → ℕ) (out out_now : ℕ → Bool) (before now : ℕ → Option Story)
+    → IsClosedRun D shard sh walkers homes kept down counts counts_now out out_now before now → seen_by_all walkers ≤ last_stamp (entries_of kept.journals)
+seen_in_history {D = D} shard sh walkers homes kept down counts counts_now out out_now before now r =
+    all_below (last_stamp (entries_of kept.journals)) walkers (walker_below {D = D} shard sh walkers homes kept down counts counts_now out out_now before now r)
+
 begun_by_sessions : {M S G : Type 0} (script : List (List Body)) (ws : List (Walker M S G)) (h : History) → length ws ≡ suc (length script) → AreCounted script ws
     → ((k : ℕ) (d : Walker M S G) → k < length ws → own k h ≡ kept_by (get_or ws k d).passes.items) → begun_by_all ws ≤ transactions script + length h
 begun_by_sessions script [] h many counted same = absurd (omega arith)
@@ -475,7 +498,7 @@ worn_by :
     (script : List (List Body)) → IsClosedRun D shard sh walkers homes kept down counts counts_now out out_now before now → ((k : ℕ) (d : Walker M S G) → k < length walkers → (get_or walkers k d).number ≡ k) → length walkers ≡ suc (length script)
     → AreCounted script walkers → 2 ^ 48 - 1 ≤ seen_by_all walkers + begun_by_all walkers → AreWorn script (entries_of kept.journals)
 worn_by {D = D} shard sh walkers homes kept down counts counts_now out out_now before now script r numbers many counted worn =
-    let top = all_below (last_stamp (entries_of kept.journals)) walkers (walker_below {D = D} shard sh walkers homes kept down counts counts_now out out_now before now r) in
+    let top = seen_in_history {D = D} shard sh walkers homes kept down counts counts_now out out_now before now r in
     let few = begun_by_sessions script walkers (entries_of kept.journals) many counted (own_is_kept {D = D} shard sh walkers homes kept down counts counts_now out out_now before now r numbers) in
     omega arith
 

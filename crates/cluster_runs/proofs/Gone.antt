@@ -50,7 +50,7 @@ module _ {M S G : Type 0} (sh : Shards M S G) (most : Option ℕ) (script : List
   pub new_rest : (number : ℕ) (w : Walker M S G) → IsNewWalker sh number 0 w → IsAtRest sh number w
   new_rest number w new = new_walkers_rest _ _ _ sh number 0 w new
 
-  behind : (walkers : List (Walker M S G)) (w d : Walker M S G) (k : ℕ) → get_or (set walkers 0 w) (suc k) d ≡ get_or walkers (suc k) d
+  pub behind : (walkers : List (Walker M S G)) (w d : Walker M S G) (k : ℕ) → get_or (set walkers 0 w) (suc k) d ≡ get_or walkers (suc k) d
   behind [] w d k = refl
   behind (x ∷ xs) w d k = refl
 

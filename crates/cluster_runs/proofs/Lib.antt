@@ -1,9 +1,9 @@
-mod Promised
-mod Wearing
+pub mod Promised
+pub mod Wearing
 mod Drained
 mod Settled
-mod Seeing
-mod Gone
+pub mod Seeing
+pub mod Gone
 pub mod Sending
 mod Sitting
 mod Steps
@@ -24,7 +24,7 @@ mod Beginnings
 mod Completing
 mod Telling
 mod Going
-mod Before
+pub mod Before
 mod Alone
 mod Replaying
 mod Stored

@@ -80,6 +80,11 @@ module _ {M S G : Type 0} (shards : ℕ) (failed : ℕ → Bool) (w : Walker M S
   stop_told (Begun (Some (stop.Worn at))) h = h.0
   stop_told (Begun (Some stop.Memory)) h = tt
 
+-- the number that worn stamps name
+abbrev number_in : Status → ℕ
+number_in (Worn at) = at
+number_in status = 0
+
 -- a run is fine only by an end that is
 pub fine_end : (down : Option ℕ) (end : End) → status_by down end ≡ Fine → IsOk end
 fine_end (Some n) end h = absurd cc
@@ -88,6 +93,15 @@ fine_end None (Err (stop.Worn at)) h = absurd cc
 fine_end None (Err stop.Memory) h = absurd cc
 fine_end None (Err (stop.Down n)) h = absurd cc
 fine_end None (Err (stop.Unsettled n)) h = absurd cc
+
+-- and worn by one that is
+pub worn_end : (down : Option ℕ) (end : End) (at : ℕ) → status_by down end ≡ Worn at → end ≡ Err (stop.Worn at)
+worn_end (Some n) end at h = absurd cc
+worn_end None (Ok u) at h = absurd cc
+worn_end None (Err (stop.Worn n)) at h = ap (λ s. Err (stop.Worn (number_in s))) h
+worn_end None (Err stop.Memory) at h = absurd cc
+worn_end None (Err (stop.Down n)) at h = absurd cc
+worn_end None (Err (stop.Unsettled n)) at h = absurd cc
 
 pub ran_all : {M S G : Type 0} → SessionsHaveEnded → (D : Type 0) (shard : M → Shard) (sh : Shards M S G) (walkers : List (Walker M S G)) (homes : List (Home M S G)) (kept : Kept) (down : Option ℕ) (counts counts_now : ℕ → ℕ) (out out_now : ℕ → Bool)
     (before now : ℕ → Option Story) (most : Option ℕ) (start : Start) (script : List (List Body)) (went : ℕ → Went) (end : End) (status : Status)

@@ -1,4 +1,4 @@
--- The end of a cluster, with how its sessions went, keeps the promise.
+-- The end of a cluster keeps the promise.
 use Rattle.std.proofs.Common.{◌≡◌, refl, sym, ap, ◌∙◌, subst, ◌⊎◌, inl, inr, ℕ, suc, ◌<◌, Bool, true, false, cond, ◌||◌, ◌==◌, eqb-true, [], ◌∷◌, length, IfSome}
 use Rattle.std.specs.Prelude.{not}
 use Rattle.std.specs.List.{list_all}
@@ -18,7 +18,7 @@ use Rattle.cluster_runs.specs.Disks.{HoldsLog, flush_failed}
 use Rattle.script_runs.specs.Sessions.{session_entries}
 use Rattle.cluster_runs.specs.Ended.{runs_on}
 use Rattle.cluster_runs.specs.PromisedSessions.{SessionWent}
-use Rattle.cluster_runs.specs.Promises.{RunsArePromised}
+use Rattle.cluster_runs.specs.Promises.{ClustersArePromised, RunsArePromised}
 use Rattle.cluster_runs.proofs.Choosing.{Picked, picked, choice, choice_reads, left, left_is, left_length}
 
 -- ---- walker 0 makes no entry that only sessions make
@@ -44,8 +44,8 @@ none_of_zero (e ∷ es) all =
 
 -- ---- the promise
 
-pub runs_are_promised : RunsArePromised
-runs_are_promised splits before now counts counts_now most script went kept states own_of ended sessions =
+pub clusters_are_promised : ClustersArePromised
+clusters_are_promised splits before now counts counts_now kept states own_of ended =
     let count = shard_count splits in
     let picks : (n : ℕ) → n < count → Picked splits (states n) n (now n) = λ n l. picked splits (flush_failed (journal_at kept.journals n)) (states n) n (now n) (ended.holds n l) in
     let c = choice splits count states now picks in
@@ -71,18 +71,31 @@ runs_are_promised splits before now counts counts_now most script went kept stat
                 (subst (λ j. IfSome (now n) (EachNow (HoldsLog splits (flush_failed j) (states n) n))) (sym (made.same_journals n l)) (ended.holds n l));
             promised = λ by. promise splits kept.found h logs by (record { opens = ended.opens; legal = made.legal });
           };
-      sessions =
-          record {
-            each = λ k bodies at. subst (SessionWent splits (run_after kept.found) (suc k) most bodies (went k)) (sym (made.same_own (suc k))) (sessions.each k bodies at);
-            others = λ walker. other h own_of (length script) walker (made.same_own walker) made.legal.numbered (sessions.beyond walker);
-          };
+      owned = made.same_own;
+      no_session = none_of_zero h made.legal.numbered;
       rose = λ n l failed. ended.rose n l (sym (ap has_failed (made.same_journals n l)) ∙ failed);
       stands = λ n l none. ended.stands n l (sym (ap has_failed (made.same_journals n l)) ∙ none);
       on = λ n l. ap runs_on (made.same_journals n l) ∙ ended.on n l;
     }
-  where
-    other :
-        (h : History) (own_of : ℕ → History) (count walker : ℕ) → own walker h ≡ own_of walker → list_all (λ e. not (is_of_session (e.1).event) || is_session_number (e.1).walker) h ≡ true
-        → (count < walker → session_entries (own_of walker) ≡ []) → (walker ≡ 0) ⊎ (count < walker) → session_entries (own walker h) ≡ []
-    other h own_of count walker same numbered beyond (inl zero_is) = ap (λ w. session_entries (own w h)) zero_is ∙ none_of_zero h numbered
-    other h own_of count walker same numbered beyond (inr past) = ap session_entries same ∙ beyond past
+
+-- ---- and with how its sessions went
+
+-- walkers that are no session's made none of what only sessions make
+no_others : (h : History) (own_of : ℕ → History) (count walker : ℕ) → own walker h ≡ own_of walker → session_entries (own 0 h) ≡ [] → (count < walker → session_entries (own_of walker) ≡ []) → (walker ≡ 0) ⊎ (count < walker) → session_entries (own walker h) ≡ []
+no_others h own_of count walker same none beyond (inl zero_is) = ap (λ w. session_entries (own w h)) zero_is ∙ none
+no_others h own_of count walker same none beyond (inr past) = ap session_entries same ∙ beyond past
+
+pub runs_are_promised : RunsArePromised
+runs_are_promised splits before now counts counts_now most script went kept states own_of ended sessions =
+    let c = clusters_are_promised splits before now counts counts_now kept states own_of ended in
+    record {
+      keeps = c.keeps;
+      sessions =
+          record {
+            each = λ k bodies at. subst (SessionWent splits (run_after kept.found) (suc k) most bodies (went k)) (sym (c.owned (suc k))) (sessions.each k bodies at);
+            others = λ walker. no_others (entries_of kept.journals) own_of (length script) walker (c.owned walker) c.no_session (sessions.beyond walker);
+          };
+      rose = c.rose;
+      stands = c.stands;
+      on = c.on;
+    }

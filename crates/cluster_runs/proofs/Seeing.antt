@@ -111,7 +111,7 @@ module _ {T : Type 0} where
       }
 
   -- what it has seen settled, or down, it has seen so still
-  sees_settled : {before after : List (Option (Pass T Note Origin))} → SeesOn before after → (n clock : ℕ) → WasSettled n clock before → WasSettled n clock after
+  pub sees_settled : {before after : List (Option (Pass T Note Origin))} → SeesOn before after → (n clock : ℕ) → WasSettled n clock before → WasSettled n clock after
   sees_settled s n clock (p, had, k) =
       let (q, has, origin, more) = s.each n p had in (
         q,

@@ -76,12 +76,12 @@ journal_below n (e ∷ es) = at (journal_below n es) (e.0 == n)
 -- ---- walkers at their places
 
 module _ {M S G : Type 0} where
-  seen_at : (ws : List (Walker M S G)) (k : ℕ) (d : Walker M S G) → k < length ws → last_seen (get_or ws k d).passes.items ≤ seen_by_all ws
+  pub seen_at : (ws : List (Walker M S G)) (k : ℕ) (d : Walker M S G) → k < length ws → last_seen (get_or ws k d).passes.items ≤ seen_by_all ws
   seen_at [] k d l = absurd (omega arith)
   seen_at (w ∷ ws) zero d l = omega arith
   seen_at (w ∷ ws) (suc k) d l = let a = seen_at ws k d (omega arith) in omega arith
 
-  begun_at : (ws : List (Walker M S G)) (k : ℕ) (d : Walker M S G) → k < length ws → (get_or ws k d).serial ≤ begun_by_all ws
+  pub begun_at : (ws : List (Walker M S G)) (k : ℕ) (d : Walker M S G) → k < length ws → (get_or ws k d).serial ≤ begun_by_all ws
   begun_at [] k d l = absurd (omega arith)
   begun_at (w ∷ ws) zero d l = omega arith
   begun_at (w ∷ ws) (suc k) d l = let a = begun_at ws k d (omega arith) in omega arith

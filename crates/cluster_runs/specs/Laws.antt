@@ -1,5 +1,5 @@
 -- What the end of a run is, by what opening and closing its cluster told.
-use Rattle.std.specs.Prelude.{◌≡◌, ℕ, suc, ◌<◌, ◌≤◌, Bool, true, false, List, ◌++◌, length, slice_index_or, Option, None, Some, slice_get}
+use Rattle.std.specs.Prelude.{◌≡◌, ℕ, suc, ◌<◌, ◌≤◌, ◌^◌, Bool, true, false, List, ◌++◌, length, slice_index_or, Option, None, Some, Err, slice_get}
 use Rattle.clv_base.specs.Shards.{shard_count}
 use Rattle.clv_base.specs.State.{Shard}
 use Rattle.clv_base.specs.Restarts.{run_after}
@@ -16,13 +16,14 @@ use Rattle.cluster_turns.specs.declared.shards.Shards.{Shards}
 use Rattle.cluster_turns.specs.declared.shards.Walker.{Walker}
 use Rattle.cluster_turns.specs.Walkers.{kept as kept_by, founds_of}
 use Rattle.script_lang.specs.Bodies.{Body}
+use Rattle.script_runs.specs.declared.ends.StopCause.TheVariants.{Worn}
 use Rattle.cluster_runs.specs.Ended.{ClusterEnded}
 use Rattle.cluster_runs.specs.Sessions.{AreCounted, HasWornLast}
 use Rattle.cluster_runs.specs.PromisedSessions.{Went, Begun, SessionWent, SessionsWent}
-use Rattle.cluster_runs.specs.Promises.{RunPromised}
+use Rattle.cluster_runs.specs.Promises.{ClusterPromised, RunPromised}
 use Rattle.command_line.specs.Running.{End, IsOk, status_by}
 use Rattle.cluster_runs.specs.Ends.{end_of, walked_by, IsClosedRun}
-use Rattle.cluster_runs.specs.Statuses.{StatusTold, FlushesTold}
+use Rattle.cluster_runs.specs.Statuses.{StatusTold, DisksTold, FlushesTold}
 
 module _ (M S G D : Type 0) where
   -- what such a run leaves is the end of a cluster
@@ -31,6 +32,12 @@ module _ (M S G D : Type 0) where
       (shard : M → Shard) (sh : Shards M S G) (walkers : List (Walker M S G)) (homes : List (Home M S G)) (kept : Kept) (down : Option ℕ) (counts counts_now : ℕ → ℕ) (out out_now : ℕ → Bool) (before now : ℕ → Option Story)
       → IsClosedRun D shard sh walkers homes kept down counts counts_now out out_now before now
       → ClusterEnded sh.splits before now counts counts_now kept (end_of D shard sh homes) (walked_by walkers)
+
+  -- which keeps the promise, whatever its sessions did
+  abbrev pub ClustersKeep : Type 0
+  ClustersKeep =
+      (shard : M → Shard) (sh : Shards M S G) (walkers : List (Walker M S G)) (homes : List (Home M S G)) (kept : Kept) (down : Option ℕ) (counts counts_now : ℕ → ℕ) (out out_now : ℕ → Bool) (before now : ℕ → Option Story)
+      → IsClosedRun D shard sh walkers homes kept down counts counts_now out out_now before now → ClusterPromised sh.splits before now counts counts_now kept (walked_by walkers)
 
   -- and with how its sessions went it keeps the promise of a run
   abbrev pub RunsKeep : Type 0
@@ -61,6 +68,13 @@ module _ (M S G D : Type 0) where
       → IsClosedRun D shard sh walkers homes kept down counts counts_now out out_now before now → (IsOk end → (k : ℕ) → k < length script → went k ≡ Begun None) → ((k : ℕ) (d : Walker M S G) → k < length walkers → (slice_index_or walkers k d).number ≡ k)
       → length walkers ≡ suc (length script) → AreCounted script walkers → HasWornLast walkers end
       → StatusTold (shard_count sh.splits) counts counts_now script (entries_of kept.journals) went (status_by down end)
+
+  -- and, whatever the sessions were, so of disks alone: where that end is worn stamps, only the number has to be the first past the last stamp
+  abbrev pub DisksTell : Type 0
+  DisksTell =
+      (shard : M → Shard) (sh : Shards M S G) (walkers : List (Walker M S G)) (homes : List (Home M S G)) (kept : Kept) (down : Option ℕ) (counts counts_now : ℕ → ℕ) (out out_now : ℕ → Bool) (before now : ℕ → Option Story) (end : End)
+      → IsClosedRun D shard sh walkers homes kept down counts counts_now out out_now before now → ((at : ℕ) → end ≡ Err (Worn at) → at ≡ 2 ^ 48)
+      → DisksTold (shard_count sh.splits) counts counts_now (status_by down end)
 
   -- and which shards' flushes failed
   abbrev pub FlushesTell : Type 0

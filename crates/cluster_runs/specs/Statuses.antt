@@ -40,6 +40,20 @@ StatusTold shards counts counts_now script h went (NotLog shard at) = ⊥
 StatusTold shards counts counts_now script h went (Exists shard len) = ⊥
 StatusTold shards counts counts_now script h went (Apart tx) = ⊥
 
+-- the same of disks alone, whatever the sessions were
+abbrev pub DisksTold : ℕ → (ℕ → ℕ) → (ℕ → ℕ) → Status → Type 0
+DisksTold shards counts counts_now Fine = CountsStand shards counts counts_now
+DisksTold shards counts counts_now (DiskFault shard) = (shard < shards) × Rose (counts shard) (counts_now shard) × CountsStand shard counts counts_now
+DisksTold shards counts counts_now (Worn at) = (at ≡ 2 ^ 48) × CountsStand shards counts counts_now
+DisksTold shards counts counts_now Memory = CountsStand shards counts counts_now
+DisksTold shards counts counts_now Usage = ⊥
+DisksTold shards counts counts_now (Script line) = ⊥
+DisksTold shards counts counts_now ReadFault = ⊥
+DisksTold shards counts counts_now WriteFault = ⊥
+DisksTold shards counts counts_now (NotLog shard at) = ⊥
+DisksTold shards counts counts_now (Exists shard len) = ⊥
+DisksTold shards counts counts_now (Apart tx) = ⊥
+
 -- which shards' flushes failed: a disk's fault is of the lowest one, and at any other status none did
 abbrev pub FlushesTold : ℕ → (ℕ → Bool) → Status → Type 0
 FlushesTold shards failed (DiskFault shard) = (failed shard ≡ true) × ((n : ℕ) → n < shard → failed n ≡ false)

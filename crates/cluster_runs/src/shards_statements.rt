@@ -1,9 +1,14 @@
 // Laws of the promise.
 
 ghost use Rattle.cluster_runs.specs.Following.{LeftLogsAreFound, LastLogsAreFound, LeftLogsAreGood};
-ghost use Rattle.cluster_runs.specs.Promises.{RunsArePromised};
+ghost use Rattle.cluster_runs.specs.Promises.{ClustersArePromised, RunsArePromised};
 ghost use Rattle.cluster_runs.specs.Completing.{SessionsHaveEnded};
 ghost use Rattle.cluster_runs.specs.Down.{FailedAreDown, DownStays, LowestDownIsFault};
+
+/// The end of a cluster keeps the promise, whatever its sessions did; and the entries of each walker in its history are its own.
+pub fn clusters_are_promised()
+    ensures { ClustersArePromised }
+{}
 
 /// The end of a cluster, with how its sessions went, is a run that keeps the promise.
 pub fn runs_are_promised()
