@@ -1,0 +1,4 @@
+pub mod Doing
+pub mod RepliesTellEntries
+pub mod RepliesAreTrue
+pub mod Laws
