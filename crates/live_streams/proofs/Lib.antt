@@ -1,0 +1,10 @@
+pub mod Adding
+pub mod Cutting
+pub mod Grown
+pub mod Handing
+pub mod Lines
+pub mod OfLanes
+pub mod Pairs
+pub mod Taken
+pub mod Taking
+pub mod Laws
