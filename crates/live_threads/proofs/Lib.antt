@@ -1,0 +1,5 @@
+pub mod Joining
+pub mod Joined
+pub mod Looking
+pub mod Moving
+pub mod Serving
