@@ -1,0 +1,4 @@
+pub mod Replied
+mod Leaving
+mod Placing
+mod Walking
