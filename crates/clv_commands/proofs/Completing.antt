@@ -2,18 +2,19 @@
 use Rattle.std.proofs.Common.{◌≡◌, ap, ◌∙◌, subst, ℕ, List, [], length, Option, Some, None}
 use Rattle.std.specs.Prelude.{IsSomeAnd}
 use Rattle.io_model.specs.Story.{Story, reads}
+use Rattle.io_model.specs.Disk.{Rose}
 use Rattle.cluster_opening.specs.Making.{HasBytes}
 use Rattle.cluster_opening.specs.declared.error.OpenError.TheVariants as opening
 use Rattle.cluster_opening.specs.Accepted.{GoodLogsAreNotRefused}
 use Rattle.command_line.specs.declared.commands.Command.{Command}
-use Rattle.command_line.specs.declared.commands.Command.TheVariants.{Make, Run, Show, Load}
+use Rattle.command_line.specs.declared.commands.Command.TheVariants.{Make, Run, Show, Load, Serve}
 use Rattle.history_replay.specs.Entries.{Kept}
 use Rattle.script_lang.specs.Laws.{ScriptsAreNotRefused}
 use Rattle.command_line.specs.declared.status.Status.{Status}
 use Rattle.command_line.specs.declared.status.Status.TheVariants.{Fine, Usage, Script, ReadFault, WriteFault, DiskFault, NotLog, Memory, Worn, Exists, Apart}
 use Rattle.clv_commands.specs.Kinds.{IsOfCommand}
 use Rattle.clv_commands.specs.Causes as causes
-use Rattle.clv_commands.specs.Causes.{BreaksBy, BreaksScript, CountsSource, CountsSink, CountsDisks}
+use Rattle.clv_commands.specs.Causes.{BreaksBy, BreaksScript, CountsSourceBy, CountsSinkBy, CountsDisks}
 use Rattle.clv_commands.specs.Completing.{TellsScript, IsAccepted, NoneRose, IsCompleted}
 
 -- a disk without bytes has none
@@ -24,11 +25,20 @@ no_bytes (Some s) len empty has = has.1 (has.0 ∙ ap length empty)
 refused_line : ScriptsAreNotRefused → (left : Option (List ℕ)) (line : ℕ) → TellsScript left → BreaksScript (Script line) left → ⊥
 refused_line law left line (bytes, script, is, told) breaks = law bytes script line told (subst (λ (l : Option (List ℕ)). BreaksScript (Script line) l) is breaks)
 
+-- a fault of the source or the sink is told where its count rose
+source_rose : (sessions : ℕ) (history : Option Kept) (count count' : ℕ) → CountsSourceBy (Serve sessions) history count count' ReadFault → Rose count count'
+source_rose sessions None count count' h = h
+source_rose sessions (Some kept) count count' h = h
+
+sink_rose : (sessions : ℕ) (history : Option Kept) (count count' : ℕ) → CountsSinkBy (Serve sessions) history count count' WriteFault → Rose count count'
+sink_rose sessions None count count' h = h
+sink_rose sessions (Some kept) count count' h = h
+
 module _
     (scripts : ScriptsAreNotRefused) (logs : GoodLogsAreNotRefused) (history : Option Kept) (left : Option (List ℕ)) (stories stories' : ℕ → Option Story) (source source' sink sink' : ℕ) (disks disks' : ℕ → ℕ)
     (none : NoneRose source source' sink sink' disks disks') where
   pub completed : (c : Command) (status : Status) → IsOfCommand c status → causes.HasBytes c status stories stories' → BreaksBy c status history stories → BreaksScript status left
-      → CountsSource source source' status → CountsSink history sink sink' status → CountsDisks history disks disks' status → IsAccepted c left stories → IsCompleted c status
+      → CountsSourceBy c history source source' status → CountsSinkBy c history sink sink' status → CountsDisks history disks disks' status → IsAccepted c left stories → IsCompleted c status
   completed (Make splits) Fine kind has breaks line_is s k d ok = tt
   completed (Make splits) Usage kind has breaks line_is s k d ok = absurd kind
   completed (Make splits) (Script line) kind has breaks line_is s k d ok = absurd kind
@@ -73,3 +83,14 @@ module _
   completed (Load seed sessions accounts transfers) (Worn at) kind has breaks line_is s k d ok = tt
   completed (Load seed sessions accounts transfers) (Exists shard len) kind has breaks line_is s k d ok = absurd kind
   completed (Load seed sessions accounts transfers) (Apart tx) kind has breaks line_is s k d ok = absurd (logs stories (opening.Apart tx) ok breaks)
+  completed (Serve sessions) Fine kind has breaks line_is s k d ok = tt
+  completed (Serve sessions) Usage kind has breaks line_is s k d ok = absurd kind
+  completed (Serve sessions) (Script line) kind has breaks line_is s k d ok = absurd kind
+  completed (Serve sessions) ReadFault kind has breaks line_is s k d ok = absurd (none.of_source (source_rose sessions history source source' s))
+  completed (Serve sessions) WriteFault kind has breaks line_is s k d ok = absurd (none.of_sink (sink_rose sessions history sink sink' k))
+  completed (Serve sessions) (DiskFault shard) kind has breaks line_is s k d ok = absurd (none.of_disks shard d.0)
+  completed (Serve sessions) (NotLog shard at) kind has breaks line_is s k d ok = absurd (logs stories (opening.NotLog shard at) ok breaks)
+  completed (Serve sessions) Memory kind has breaks line_is s k d ok = tt
+  completed (Serve sessions) (Worn at) kind has breaks line_is s k d ok = tt
+  completed (Serve sessions) (Exists shard len) kind has breaks line_is s k d ok = absurd kind
+  completed (Serve sessions) (Apart tx) kind has breaks line_is s k d ok = absurd (logs stories (opening.Apart tx) ok breaks)

@@ -38,7 +38,7 @@ pub record Tells (counts counts_now : ℕ → ℕ) (stories : ℕ → Option Sto
   pub source : CountsSource faults faults' status
   pub disks : CountsDisks (Some kept) counts counts_now status
 
-stand : (shards : ℕ) (counts counts_now : ℕ → ℕ) → ((n : ℕ) → n < shards → counts_now n ≡ counts n) → ((n : ℕ) → shards ≤ n → counts_now n ≡ counts n) → Stand counts counts_now
+pub stand : (shards : ℕ) (counts counts_now : ℕ → ℕ) → ((n : ℕ) → n < shards → counts_now n ≡ counts n) → ((n : ℕ) → shards ≤ n → counts_now n ≡ counts n) → Stand counts counts_now
 stand shards counts counts_now below above n = ⊎_elim (λ l. below n l) (λ l. above n l) (cases_lt n shards)
 
 module _ (counts counts_now : ℕ → ℕ) (stories : ℕ → Option Story) (kept : Kept) (left : Option (List ℕ)) (faults faults' : ℕ) (shards : ℕ) (script : List (List Body)) (h : History) (went : ℕ → Went) where

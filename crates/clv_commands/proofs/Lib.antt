@@ -2,6 +2,7 @@ pub mod Words
 pub mod Refused
 pub mod Unread
 pub mod Endings
+mod LiveEndings
 mod Reported
 mod Lines
 mod Summing

@@ -6,7 +6,7 @@ use Rattle.log_gate.specs.Opening.{IsUnchanged}
 use Rattle.cluster_runs.specs.Begun.{AreUnchanged, before}
 use Rattle.command_line.specs.Commands.{IsCommand}
 use Rattle.command_line.specs.declared.commands.Command.{Command}
-use Rattle.command_line.specs.declared.commands.Command.TheVariants.{Make, Run, Show, Load}
+use Rattle.command_line.specs.declared.commands.Command.TheVariants.{Make, Run, Show, Load, Serve}
 use Rattle.command_line.specs.declared.commands.WordsError.{WordsError}
 use Rattle.command_line.specs.declared.commands.WordsError.TheVariants as words
 use Rattle.cluster_opening.specs.Making.{Spares}
@@ -14,10 +14,12 @@ use Rattle.command_line.specs.Refusals.{of_words}
 use Rattle.command_line.specs.declared.status.Status.{Status}
 use Rattle.command_line.specs.declared.status.Status.TheVariants.{Fine, Usage, Script, ReadFault, WriteFault, DiskFault, NotLog, Memory, Worn, Exists, Apart}
 use Rattle.clv_commands.specs.Kinds.{IsOfCommand}
+use Rattle.history_replay.specs.Entries.{Kept}
 use Rattle.clv_commands.specs.Disks.{ClosedBy}
+use Rattle.clv_commands.specs.Causes.{CountsSource, CountsSink, CountsSourceBy, CountsSinkBy}
 use Rattle.clv_commands.specs.Reading.{ReadsBy}
 use Rattle.clv_commands.specs.Completing.{IsCompleted}
-use Rattle.clv_commands.specs.Top.{IsRefusedWords, HasCommand}
+use Rattle.clv_commands.specs.Top.{AreNotServe, IsRefusedWords, HasCommand}
 use Rattle.cluster_opening.proofs.Laws.{same_story as still}
 
 -- ---- no command
@@ -31,6 +33,7 @@ wanting (Make splits) = tt
 wanting (Run tries) = tt
 wanting Show = tt
 wanting (Load s n a t) = tt
+wanting (Serve n) = tt
 
 pub kind : (texts : List (List ℕ)) (e : WordsError) (status : Status) → status ≡ of_words e → (e ≡ words.Usage → (c : Command) → IsCommand texts c → ⊥) → HasCommand texts (λ c. IsOfCommand c status)
 kind texts words.Usage status is none c also = absurd (none refl c also)
@@ -52,6 +55,7 @@ left stories (Make splits) = record { spares = (λ n. spared (stories n)); other
 left stories (Run tries) = (λ h. before (unwritten stories))
 left stories Show = (λ h. before (unwritten stories))
 left stories (Load s n a t) = (λ h. before (unwritten stories))
+left stories (Serve n) = (λ h. before (unwritten stories))
 
 pub closed :
     (texts : List (List ℕ)) (e : WordsError) (status : Status) (stories : ℕ → Option Story) → status ≡ of_words e → (e ≡ words.Usage → (c : Command) → IsCommand texts c → ⊥)
@@ -64,6 +68,7 @@ reads_none (Make splits) left = refl
 reads_none (Run tries) left = tt
 reads_none Show left = refl
 reads_none (Load s n a t) left = refl
+reads_none (Serve n) left = refl
 
 pub unread :
     (texts : List (List ℕ)) (e : WordsError) (status : Status) (left : Option (List ℕ)) → status ≡ of_words e → (e ≡ words.Usage → (c : Command) → IsCommand texts c → ⊥) → HasCommand texts (λ c. ReadsBy c None status left left)
@@ -74,7 +79,60 @@ pub completed_not : (texts : List (List ℕ)) (e : WordsError) (status : Status)
 completed_not texts words.Usage status is none c also = absurd (none refl c also)
 completed_not texts words.Memory status is none c also = subst (λ (s : Status). IsCompleted c s) (sym is) tt
 
+-- no count rises
+
+stands_source : (c : Command) (e : WordsError) (count : ℕ) → CountsSourceBy c None count count (of_words e)
+stands_source (Make splits) words.Usage count = refl
+stands_source (Make splits) words.Memory count = refl
+stands_source (Run tries) words.Usage count = refl
+stands_source (Run tries) words.Memory count = refl
+stands_source Show words.Usage count = refl
+stands_source Show words.Memory count = refl
+stands_source (Load s n a t) words.Usage count = refl
+stands_source (Load s n a t) words.Memory count = refl
+stands_source (Serve n) words.Usage count = refl
+stands_source (Serve n) words.Memory count = refl
+
+stands_sink : (c : Command) (e : WordsError) (count : ℕ) → CountsSinkBy c None count count (of_words e)
+stands_sink (Make splits) words.Usage count = refl
+stands_sink (Make splits) words.Memory count = refl
+stands_sink (Run tries) words.Usage count = refl
+stands_sink (Run tries) words.Memory count = refl
+stands_sink Show words.Usage count = refl
+stands_sink Show words.Memory count = refl
+stands_sink (Load s n a t) words.Usage count = refl
+stands_sink (Load s n a t) words.Memory count = refl
+stands_sink (Serve n) words.Usage count = refl
+stands_sink (Serve n) words.Memory count = refl
+
+pub source_stands : (texts : List (List ℕ)) (e : WordsError) (status : Status) (count : ℕ) → status ≡ of_words e → HasCommand texts (λ c. CountsSourceBy c None count count status)
+source_stands texts e status count is c also = subst (λ (s : Status). CountsSourceBy c None count count s) (sym is) (stands_source c e count)
+
+pub sink_stands : (texts : List (List ℕ)) (e : WordsError) (status : Status) (count : ℕ) → status ≡ of_words e → HasCommand texts (λ c. CountsSinkBy c None count count status)
+sink_stands texts e status count is c also = subst (λ (s : Status). CountsSinkBy c None count count s) (sym is) (stands_sink c e count)
+
+pub source_still : (e : WordsError) (status : Status) (count : ℕ) → status ≡ of_words e → CountsSource count count status
+source_still e status count is = subst (CountsSource count count) (sym is) (stands_source Show e count)
+
+pub sink_still : (e : WordsError) (status : Status) (count : ℕ) → status ≡ of_words e → CountsSink None count count status
+sink_still e status count is = subst (λ (s : Status). CountsSink None count count s) (sym is) (stands_sink Show e count)
+
 -- ---- a command
+
+-- but of `serve` faults of source and sink are counted so
+pub source_but : (texts : List (List ℕ)) (c : Command) (history : Option Kept) (count count' : ℕ) (status : Status) → IsCommand texts c → CountsSourceBy c history count count' status → AreNotServe texts → CountsSource count count' status
+source_but texts (Make splits) history count count' status is h other = h
+source_but texts (Run tries) history count count' status is h other = h
+source_but texts Show history count count' status is h other = h
+source_but texts (Load s n a t) history count count' status is h other = h
+source_but texts (Serve n) history count count' status is h other = absurd (other n is)
+
+pub sink_but : (texts : List (List ℕ)) (c : Command) (history : Option Kept) (count count' : ℕ) (status : Status) → IsCommand texts c → CountsSinkBy c history count count' status → AreNotServe texts → CountsSink history count count' status
+sink_but texts (Make splits) history count count' status is h other = h
+sink_but texts (Run tries) history count count' status is h other = h
+sink_but texts Show history count count' status is h other = h
+sink_but texts (Load s n a t) history count count' status is h other = h
+sink_but texts (Serve n) history count count' status is h other = absurd (other n is)
 
 -- none ends so
 never : (c : Command) → IsOfCommand c Usage → ⊥
@@ -82,6 +140,7 @@ never (Make splits) is = is
 never (Run tries) is = is
 never Show is = is
 never (Load s n a t) is = is
+never (Serve n) is = is
 
 pub taken : (texts : List (List ℕ)) (c : Command) (status : Status) → IsCommand texts c → ((d : Command) → IsCommand texts d → IsOfCommand d status) → IsRefusedWords texts status
 taken texts c Fine is kind = (c, is)

@@ -1,9 +1,9 @@
 -- Words are one command.
 use Rattle.std.proofs.Common.{◌≡◌, refl, sym, ap, subst, ◌∙◌, ℕ, List, [], ◌∷◌, Option, Some, None, arith}
 use Rattle.clap.specs.Words.{Row, Text}
-use Rattle.command_line.specs.Commands.{IsGiven, AreTries, Says, IsCommand}
+use Rattle.command_line.specs.Commands.{IsGiven, IsUpTo, Says, IsCommand}
 use Rattle.command_line.specs.declared.commands.Command.{Command}
-use Rattle.command_line.specs.declared.commands.Command.TheVariants.{Make, Run, Show, Load}
+use Rattle.command_line.specs.declared.commands.Command.TheVariants.{Make, Run, Show, Load, Serve}
 use Rattle.clv_commands.specs.Top.{HasCommand}
 use Rattle.law_base.proofs.Numbers.{below_differs as less}
 use Rattle.script_lang.proofs.Laws.{number_once}
@@ -13,19 +13,24 @@ given_once : (o : Option Text) (m n : ℕ) → IsGiven o m → IsGiven o n → m
 given_once None m n p q = absurd p
 given_once (Some word) m n p q = number_once word m n p q
 
-tries_once : (o : Option Text) (m n : ℕ) → AreTries o m → AreTries o n → m ≡ n
-tries_once None m n p q = p ∙ sym q
-tries_once (Some word) m n p q = number_once word m n p.0 q.0
+up_to_once : (most otherwise : ℕ) (o : Option Text) (m n : ℕ) → IsUpTo most otherwise o m → IsUpTo most otherwise o n → m ≡ n
+up_to_once most otherwise None m n p q = p ∙ sym q
+up_to_once most otherwise (Some word) m n p q = number_once word m n p.0 q.0
 
--- the first letter of each command's name differs
+-- the first letter of each command's name differs, but for two, whose second one does
 abbrev first_letter : List ℕ → ℕ
 first_letter [] = 0
 first_letter (letter ∷ letters) = letter
 
+abbrev second_letter : List ℕ → ℕ
+second_letter [] = 0
+second_letter (letter ∷ letters) = first_letter letters
+
 says_once : (name : Text) (rows : List Row) (c d : Command) → Says name rows c → Says name rows d → c ≡ d
 says_once name rows (Make a) (Make b) p q = ap Make (numbers_once _ a b p.1 q.1)
-says_once name rows (Run a) (Run b) p q = ap Run (tries_once _ a b p.1 q.1)
+says_once name rows (Run a) (Run b) p q = ap Run (up_to_once 1000 100 _ a b p.1 q.1)
 says_once name rows Show Show p q = refl
+says_once name rows (Serve a) (Serve b) p q = ap Serve (up_to_once 64 16 _ a b p.1 q.1)
 says_once name rows (Load s n a t) (Load s' n' a' t') p q =
     let es : s ≡ s' = given_once _ s s' p.1 q.1 in
     let en : n ≡ n' = given_once _ n n' p.2 q.2 in
@@ -44,6 +49,14 @@ says_once name rows Show (Load s2 n2 k2 t2) p q = absurd (less 108 115 (omega ar
 says_once name rows (Load s n k t) (Make a2) p q = absurd (less 108 109 (omega arith) (ap first_letter (sym p.0 ∙ q.0)))
 says_once name rows (Load s n k t) (Run b2) p q = absurd (less 108 114 (omega arith) (ap first_letter (sym p.0 ∙ q.0)))
 says_once name rows (Load s n k t) Show p q = absurd (less 108 115 (omega arith) (ap first_letter (sym p.0 ∙ q)))
+says_once name rows (Make a) (Serve e2) p q = absurd (less 109 115 (omega arith) (ap first_letter (sym p.0 ∙ q.0)))
+says_once name rows (Run b) (Serve e2) p q = absurd (less 114 115 (omega arith) (ap first_letter (sym p.0 ∙ q.0)))
+says_once name rows Show (Serve e2) p q = absurd (less 101 104 (omega arith) (ap second_letter (sym q.0 ∙ p)))
+says_once name rows (Load s n k t) (Serve e2) p q = absurd (less 108 115 (omega arith) (ap first_letter (sym p.0 ∙ q.0)))
+says_once name rows (Serve e) (Make a2) p q = absurd (less 109 115 (omega arith) (ap first_letter (sym q.0 ∙ p.0)))
+says_once name rows (Serve e) (Run b2) p q = absurd (less 114 115 (omega arith) (ap first_letter (sym q.0 ∙ p.0)))
+says_once name rows (Serve e) Show p q = absurd (less 101 104 (omega arith) (ap second_letter (sym p.0 ∙ q)))
+says_once name rows (Serve e) (Load s2 n2 k2 t2) p q = absurd (less 108 115 (omega arith) (ap first_letter (sym q.0 ∙ p.0)))
 
 abbrev says : Option (Text × List Row) → Command → Type 0
 says None c = ⊥

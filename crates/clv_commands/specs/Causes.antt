@@ -2,7 +2,7 @@
 use Rattle.std.specs.Prelude.{◌≡◌, ℕ, ◌<◌, List, Option, Some, None, IfSome, Result, Ok, Err}
 use Rattle.clv_base.specs.Shards.{shard_count}
 use Rattle.command_line.specs.declared.commands.Command.{Command}
-use Rattle.command_line.specs.declared.commands.Command.TheVariants.{Make}
+use Rattle.command_line.specs.declared.commands.Command.TheVariants.{Make, Serve}
 use Rattle.io_model.specs.Story.{Story}
 use Rattle.io_model.specs.Disk.{Rose}
 use Rattle.cluster_opening.specs.Making.{ExistsAt}
@@ -48,6 +48,28 @@ CountsSink history before now Fine = now ≡ before
 CountsSink history before now Memory = now ≡ before
 CountsSink None before now status = now ≡ before
 CountsSink history before now status = Unit {0}
+
+-- of `serve` that opened its shards a fault of the source stands behind a disk's fault, worn stamps and want of memory: a read fault is told only where the count rose,
+-- which stands where all was fine, and at a write fault
+abbrev pub CountsServedSource : ℕ → ℕ → Status → Type 0
+CountsServedSource before now ReadFault = Rose before now
+CountsServedSource before now Fine = now ≡ before
+CountsServedSource before now WriteFault = now ≡ before
+CountsServedSource before now status = Unit {0}
+
+-- a fault of the sink stands behind these, and behind one of the source
+abbrev pub CountsServedSink : ℕ → ℕ → Status → Type 0
+CountsServedSink before now WriteFault = Rose before now
+CountsServedSink before now Fine = now ≡ before
+CountsServedSink before now status = Unit {0}
+
+abbrev pub CountsSourceBy : Command → Option Kept → ℕ → ℕ → Status → Type 0
+CountsSourceBy (Serve sessions) (Some kept) before now status = CountsServedSource before now status
+CountsSourceBy command history before now status = CountsSource before now status
+
+abbrev pub CountsSinkBy : Command → Option Kept → ℕ → ℕ → Status → Type 0
+CountsSinkBy (Serve sessions) (Some kept) before now status = CountsServedSink before now status
+CountsSinkBy command history before now status = CountsSink history before now status
 
 -- the counts of all disks stand
 abbrev pub Stand : (ℕ → ℕ) → (ℕ → ℕ) → Type 0

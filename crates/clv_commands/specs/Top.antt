@@ -2,7 +2,7 @@
 use Rattle.std.specs.Prelude.{◌≤◌, ℕ, List}
 use Rattle.command_line.specs.Commands.{IsCommand}
 use Rattle.command_line.specs.declared.commands.Command.{Command}
-use Rattle.command_line.specs.declared.commands.Command.TheVariants.{Run, Load}
+use Rattle.command_line.specs.declared.commands.Command.TheVariants.{Run, Load, Serve}
 use Rattle.command_line.specs.declared.status.Status.{Status}
 use Rattle.command_line.specs.declared.status.Status.TheVariants.{Usage, Memory}
 
@@ -14,6 +14,10 @@ HasCommand words P = (command : Command) → IsCommand words command → P comma
 abbrev pub AreRefused : List (List ℕ) → Type 0
 AreRefused words = (command : Command) → IsCommand words command → ⊥
 
+-- they are not `serve`
+abbrev pub AreNotServe : List (List ℕ) → Type 0
+AreNotServe words = (sessions : ℕ) → IsCommand words (Serve sessions) → ⊥
+
 -- Usage exactly where they are none, but that memory may be wanting before they are read
 abbrev pub IsRefusedWords : List (List ℕ) → Status → Type 0
 IsRefusedWords words Usage = AreRefused words
@@ -24,4 +28,5 @@ IsRefusedWords words status = (command : Command) × IsCommand words command
 abbrev pub IsWithinBounds : Command → Type 0
 IsWithinBounds (Run tries) = tries ≤ 1000
 IsWithinBounds (Load seed sessions accounts transfers) = (1 ≤ sessions) × (sessions ≤ 64) × (2 ≤ accounts) × (accounts ≤ 10000) × (transfers ≤ 1000)
+IsWithinBounds (Serve sessions) = (1 ≤ sessions) × (sessions ≤ 64)
 IsWithinBounds command = Unit {0}

@@ -2,12 +2,12 @@ use Rattle.std.proofs.Common.{map, IfSome}
 use Rattle.clv_commands.specs.Kinds.{IsOfCommand}
 use Rattle.clv_commands.specs.Disks.{ClosedBy, Makes}
 use Rattle.clv_commands.specs.Sinks.{Took}
-use Rattle.clv_commands.specs.Causes.{HasBytes, BreaksBy}
+use Rattle.clv_commands.specs.Causes.{HasBytes, BreaksBy, CountsSourceBy, CountsSinkBy}
 use Rattle.clv_commands.specs.Reading.{ReadsBy}
 use Rattle.clv_commands.specs.Completing.{IsAccepted, NoneRose, IsCompleted}
-use Rattle.clv_commands.specs.Runs.{PromisedBy, OpensByCommand}
+use Rattle.clv_commands.specs.Runs.{PromisedBy, ServedBy, OpensByCommand}
 use Rattle.clv_commands.proofs.Words.{shown}
-use Rattle.clv_commands.proofs.Refused.{refused, kind, closed, taken, unread, completed_not}
+use Rattle.clv_commands.proofs.Refused.{refused, kind, closed, taken, unread, completed_not, source_stands, sink_stands, source_still, sink_still, source_but, sink_but}
 use Rattle.clv_commands.proofs.Completing.{completed}
 use Rattle.clv_commands.proofs.top.run.Goals as goal
 
@@ -16,6 +16,11 @@ returns-in-Ok-clause-kind g c = shown (map (λ w. w.now) c.args.words.now) c.in-
 
 pub returns-in-Ok-clause-promised : goal.returns-in-Ok-clause-promised
 returns-in-Ok-clause-promised g c = shown (map (λ w. w.now) c.args.words.now) c.in-Ok.command (λ d. IfSome c.obey.result.history (PromisedBy d (g.S.Source.left c.args.source.now) (g.H.House.story c.args.house.now) (g.H.House.story c.obey.new.house) (g.H.House.faults c.args.house.now) (g.H.House.faults c.obey.new.house) c.obey.result.status)) c.in-Ok.ensures.command c.obey.ensures.promised
+
+pub returns-in-Ok-clause-served : goal.returns-in-Ok-clause-served
+returns-in-Ok-clause-served g c = shown (map (λ w. w.now) c.args.words.now) c.in-Ok.command
+    (λ d. IfSome c.obey.result.history (ServedBy d (g.S.Source.left c.args.source.now) (g.S.Source.left c.obey.new.source) (g.K.Sink.taken c.args.sink.now) (g.K.Sink.taken c.obey.new.sink) (g.H.House.story c.args.house.now) (g.H.House.story c.obey.new.house) (g.H.House.faults c.args.house.now) (g.H.House.faults c.obey.new.house) c.obey.result.status))
+    c.in-Ok.ensures.command c.obey.ensures.served
 
 pub returns-in-Ok-clause-opened : goal.returns-in-Ok-clause-opened
 returns-in-Ok-clause-opened g c = shown (map (λ w. w.now) c.args.words.now) c.in-Ok.command (λ d. OpensByCommand d c.obey.result.status c.obey.result.history) c.in-Ok.ensures.command c.obey.ensures.opened
@@ -46,6 +51,18 @@ returns-in-Ok-clause-read g c = shown (map (λ w. w.now) c.args.words.now) c.in-
 pub returns-in-Ok-clause-logs : goal.returns-in-Ok-clause-logs
 returns-in-Ok-clause-logs g c = shown (map (λ w. w.now) c.args.words.now) c.in-Ok.command (λ d. BreaksBy d c.obey.result.status c.obey.result.history (g.H.House.story c.args.house.now)) c.in-Ok.ensures.command c.obey.ensures.logs
 
+pub returns-in-Ok-clause-source : goal.returns-in-Ok-clause-source
+returns-in-Ok-clause-source g c = source_but (map (λ w. w.now) c.args.words.now) c.in-Ok.command c.obey.result.history (g.S.Source.faults c.args.source.now) (g.S.Source.faults c.obey.new.source) c.obey.result.status c.in-Ok.ensures.command c.obey.ensures.source
+
+pub returns-in-Ok-clause-sink : goal.returns-in-Ok-clause-sink
+returns-in-Ok-clause-sink g c = sink_but (map (λ w. w.now) c.args.words.now) c.in-Ok.command c.obey.result.history (g.K.Sink.faults c.args.sink.now) (g.K.Sink.faults c.obey.new.sink) c.obey.result.status c.in-Ok.ensures.command c.obey.ensures.sink
+
+pub returns-in-Ok-clause-served_source : goal.returns-in-Ok-clause-served_source
+returns-in-Ok-clause-served_source g c = shown (map (λ w. w.now) c.args.words.now) c.in-Ok.command (λ d. CountsSourceBy d c.obey.result.history (g.S.Source.faults c.args.source.now) (g.S.Source.faults c.obey.new.source) c.obey.result.status) c.in-Ok.ensures.command c.obey.ensures.source
+
+pub returns-in-Ok-clause-served_sink : goal.returns-in-Ok-clause-served_sink
+returns-in-Ok-clause-served_sink g c = shown (map (λ w. w.now) c.args.words.now) c.in-Ok.command (λ d. CountsSinkBy d c.obey.result.history (g.K.Sink.faults c.args.sink.now) (g.K.Sink.faults c.obey.new.sink) c.obey.result.status) c.in-Ok.ensures.command c.obey.ensures.sink
+
 pub returns-in-Ok-clause-completes : goal.returns-in-Ok-clause-completes
 returns-in-Ok-clause-completes g c =
     let e = c.obey.ensures in
@@ -69,3 +86,15 @@ returns-in-Err-clause-read g c = unread (map (λ w. w.now) c.args.words.now) c.i
 
 pub returns-in-Err-clause-completes : goal.returns-in-Err-clause-completes
 returns-in-Err-clause-completes g c = λ d is ok none. completed_not (map (λ w. w.now) c.args.words.now) c.in-Err.error c.into.result c.into.ensures c.in-Err.ensures.usage d is
+
+pub returns-in-Err-clause-source : goal.returns-in-Err-clause-source
+returns-in-Err-clause-source g c = λ other. source_still c.in-Err.error c.into.result (g.S.Source.faults c.args.source.now) c.into.ensures
+
+pub returns-in-Err-clause-sink : goal.returns-in-Err-clause-sink
+returns-in-Err-clause-sink g c = λ other. sink_still c.in-Err.error c.into.result (g.K.Sink.faults c.args.sink.now) c.into.ensures
+
+pub returns-in-Err-clause-served_source : goal.returns-in-Err-clause-served_source
+returns-in-Err-clause-served_source g c = source_stands (map (λ w. w.now) c.args.words.now) c.in-Err.error c.into.result (g.S.Source.faults c.args.source.now) c.into.ensures
+
+pub returns-in-Err-clause-served_sink : goal.returns-in-Err-clause-served_sink
+returns-in-Err-clause-served_sink g c = sink_stands (map (λ w. w.now) c.args.words.now) c.in-Err.error c.into.result (g.K.Sink.faults c.args.sink.now) c.into.ensures
