@@ -3,7 +3,7 @@ use Rattle.std.proofs.Common.{refl, inl, ℕ, List, Option, Some, None, IfSome}
 use Rattle.std.specs.Prelude.{IsSome}
 use Rattle.io_model.specs.Story.{Story}
 use Rattle.history_replay.specs.Entries.{Kept}
-use Rattle.command_line.specs.declared.commands.Command.TheVariants.{Run, Show}
+use Rattle.command_line.specs.declared.commands.Command.TheVariants.{Run, Show, Serve}
 use Rattle.command_line.specs.declared.status.Status.{Status}
 use Rattle.cluster_runs.specs.Following.{IsFoundAgain, IsReadAgain, LastLogsAreFound, LeftLogsAreGood}
 use Rattle.clv_commands.specs.Runs.{PromisedBy}
@@ -15,6 +15,9 @@ opened_by_run tries left before now counts counts' status kept (script, has, (ru
 
 pub opened_by_show : (left : Option (List ℕ)) (before now : ℕ → Option Story) (counts counts' : ℕ → ℕ) (status : Status) (kept : Kept) → PromisedBy Show left before now counts counts' status kept → Opens before now kept
 opened_by_show left before now counts counts' status kept (running, r, ends) = record { splits = r.splits; held = r.held; keeps = (r.promised).keeps }
+
+pub opened_by_serve : (sessions : ℕ) (left : Option (List ℕ)) (before now : ℕ → Option Story) (counts counts' : ℕ → ℕ) (status : Status) (kept : Kept) → PromisedBy (Serve sessions) left before now counts counts' status kept → Opens before now kept
+opened_by_serve sessions left before now counts counts' status kept (splits, lives, held, promised) = record { splits = splits; held = held; keeps = promised.keeps }
 
 told_again : (o : Option Story) → IsSome o → IsReadAgain o o
 told_again None is = absurd cc

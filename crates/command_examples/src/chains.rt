@@ -1,8 +1,9 @@
-// A store that is made, run over twice, and shown.
-ghost use Rattle.std.specs.Prelude.{◌≡◌, ◌<◌, ℕ, List, false, map};
+// A store that is made, run over twice, and shown; and one whose sessions live, and which is shown then.
+ghost use Rattle.std.specs.Prelude.{◌≡◌, ◌<◌, ℕ, List, Option, false, map};
 ghost use Rattle.command_line.specs.Commands.{IsCommand};
 ghost use Rattle.command_line.specs.declared.commands.Command.TheVariants as commands;
-ghost use Rattle.command_examples.specs.Chains.{AreJoined};
+ghost use Rattle.io_model.specs.Story.{Story};
+ghost use Rattle.command_examples.specs.Chains.{AreJoined, IfBoth, Follows};
 
 use cluster_runs::shards_statements::{last_logs_are_found, left_logs_are_good};
 use clv_commands::{Ended, run};
@@ -28,7 +29,7 @@ pub struct Chain {
 pub fn make_run_twice_and_show<
     R: Threads + Wait + Sync,
     S: Source,
-    K: Sink,
+    K: Sink + Send,
     H: House,
     P: Pace + Sync,
 >(
@@ -61,4 +62,41 @@ where
         second,
         shown,
     }
+}
+
+/// How live sessions ended, and what was shown behind them.
+#[derive(Drop)]
+pub struct Shown {
+    pub served: Ended,
+    pub shown: Ended,
+}
+
+/// Lets sessions live over a store, until their input ends, and shows it: each by words of its own. What they left is what is shown, as of a run.
+pub fn serve_and_show<
+    R: Threads + Wait + Sync,
+    S: Source,
+    K: Sink + Send,
+    H: House,
+    P: Pace + Sync,
+>(
+    rt: &R,
+    alloc: Global,
+    serve_words: &[&str],
+    show_words: &[&str],
+    source: &mut S,
+    sink: &mut K,
+    house: &mut H,
+    pace: &P,
+) -> Shown
+where
+    H::Disk: Send,
+    requires inside { (n : ℕ) → n < 16 → H.is_out house.old n ≡ false }
+    ensures joined { (sessions : ℕ) → IsCommand (map (λ w. w.now) serve_words.now) (commands.Serve sessions) → IsCommand (map (λ w. w.now) show_words.now) commands.Show → (between : ℕ → Option Story) × IfBoth result.served.history result.shown.history (Follows (H.story house.old) between (H.story house.new)) }
+    ensures back { (n : ℕ) → n < 16 → H.is_out house.new n ≡ false }
+{
+    last_logs_are_found();
+    left_logs_are_good();
+    let served = run(rt, alloc, serve_words, source, sink, house, pace);
+    let shown = run(rt, alloc, show_words, source, sink, house, pace);
+    Shown { served, shown }
 }

@@ -22,4 +22,6 @@ mod row;
 #[cfg(test)]
 mod running;
 #[cfg(test)]
+mod serving;
+#[cfg(test)]
 mod tests;

@@ -22,6 +22,8 @@ pub struct Row {
     pub script: &'static [u8],
     pub status: Status,
     pub text: &'static [u8],
+    /// The digits of the live sessions whose lines may come between each other's.
+    pub meeting: &'static [u8],
     /// How long the first disks are then.
     pub lengths: &'static [usize],
     /// What the first disk holds then; not looked at where there is none.
@@ -37,6 +39,7 @@ pub const ROW: Row = Row {
     script: b"",
     status: Status::Fine,
     text: b"",
+    meeting: b"",
     lengths: &[],
     bytes: b"",
 };

@@ -3,7 +3,7 @@
 ghost use Rattle.std.specs.Prelude.{◌≡◌, ◌<◌, ℕ, false};
 
 use crate::row::{Given, Row};
-use crate::{broken, faults, loading, making, opening, running};
+use crate::{broken, faults, loading, making, opening, running, serving};
 use clv_commands::run;
 use disk_memory::{MemoryDisk, MemoryHouse};
 use io_model::{House, MemorySink, MemorySource, NoPace};
@@ -68,6 +68,42 @@ fn put_all(alloc: Global, row: &Row, house: &mut MemoryHouse) -> Result<(), Allo
     Ok(())
 }
 
+// The lines of one live session in an output, each without its first byte.
+fn lines_of(alloc: Global, output: &[u8], session: u8) -> Result<Vec<u8>, AllocError> {
+    let mut lines = Vec::new(alloc);
+    let mut begun = 0u8;
+    let mut is_its = false;
+    for byte in output {
+        if begun == 1 {
+            is_its = *byte == session;
+        }
+        if begun > 0 && is_its {
+            lines.push(*byte)?;
+        }
+        begun = match (*byte, begun) {
+            (b'\n', _) => 0,
+            (_, 0) => 1,
+            _ => 2,
+        };
+    }
+    Ok(lines)
+}
+
+// Whether it wrote what the row says.
+fn is_written(alloc: Global, row: &Row, output: &[u8]) -> Result<bool, AllocError> {
+    if row.meeting.is_empty() {
+        return Ok(output == row.text);
+    }
+    for session in row.meeting {
+        let found = lines_of(alloc, output, *session)?;
+        let wanted = lines_of(alloc, row.text, *session)?;
+        if found.as_slice() != wanted.as_slice() {
+            return Ok(false);
+        }
+    }
+    Ok(output.len() == row.text.len())
+}
+
 // Whether the run ends as the row says, and writes what it says.
 fn ends<R: Threads + Wait + Sync>(
     rt: &R,
@@ -81,7 +117,7 @@ fn ends<R: Threads + Wait + Sync>(
     let mut source = MemorySource::new(alloc, row.script, 7, row.failing[1])?;
     let mut sink = MemorySink::new(alloc, ROOM, 5, row.failing[2])?;
     let status = run(rt, alloc, row.words, &mut source, &mut sink, house, &NoPace).status;
-    Ok(status == row.status && sink.taken() == row.text)
+    Ok(status == row.status && is_written(alloc, row, sink.taken())?)
 }
 
 // Whether the disks are as the row says.
@@ -141,6 +177,7 @@ fn each_row_is_so(rt: HostRuntime) -> Result<(), &'static str> {
         opening::rows(),
         faults::rows(),
         loading::rows(),
+        serving::rows(),
     ];
     for rows in tables {
         try_all(&rt, rt.alloc(), rows)?;
