@@ -6,6 +6,7 @@ import os
 import re
 import struct
 import subprocess
+import sys
 import threading
 
 import logs
@@ -16,7 +17,7 @@ TOP = os.path.dirname(os.path.dirname(os.path.abspath(__file__)))
 LAST = (1 << 64) - 1
 LONGEST_SCRIPT = 16777216
 SECONDS = 120
-USAGE = "usage: clv_shell make [SPLIT].. | run [--tries N] | show | load --seed S --sessions N --accounts A --transfers T"
+USAGE = "usage: clv_shell make [SPLIT].. | run [--tries N] | show | load --seed S --sessions N --accounts A --transfers T | serve [--sessions N]"
 ONE_PUT = b"session\nbegin\nput 5 10\ncommit\n"
 NOTHING_DONE = '{"aborted":0,"acknowledged":0,"unsettled":0}\n'
 
@@ -426,9 +427,9 @@ def transcripts(text):
             yield [(words, script, "".join(f"{it}\n" for it in lines)) for words, script, lines in found]
 
 
-def is_as_shown(script, pairs, got, want):
-    """Whether a run wrote what a document shows. Where sessions meet, another order of them is as good."""
-    if not got.is_fine() or len(reports.sessions_of(script)) < 2:
+def is_as_shown(words, script, pairs, got, want):
+    """Whether a command wrote what a document shows. Where sessions of a script meet, another order of them is as good."""
+    if not got.is_fine() or words[0] != "run" or len(reports.sessions_of(script)) < 2:
         return got.is_fine() and got.out == want
     shown, found = reports.replay(script, want, pairs), reports.replay(script, got.out, pairs)
     return shown == found
@@ -453,9 +454,25 @@ def follows_command(checks, folder, name, words, file, want):
     pairs = logs.map_of(folder.logs()) if folder.logs() else {}
     got = folder.run(*words, script=script)
     try:
-        checks.check(name, is_as_shown(script, pairs, got, want), (got, want), script)
+        checks.check(name, is_as_shown(words, script, pairs, got, want), (got, want), script)
     except reports.Wrong as wrong:
         checks.check(name, False, (wrong, got), script)
+
+
+def runs_python(checks, program):
+    """README's example in Python, where `clv_shell` is the program, over a store in the folder that it names; what it prints stands behind the call."""
+    with open(f"{TOP}/README.md") as file:
+        blocks = re.findall(r"^```python\n(.*?)^```$", file.read(), re.MULTILINE | re.DOTALL)
+    checks.check("README.md has an example in Python", len(blocks) == 1, len(blocks))
+    for block in blocks:
+        with Folder(program) as folder:
+            os.symlink(folder.program, f"{folder.path}/clv_shell")
+            os.mkdir(f"{folder.path}/folder")
+            subprocess.run([folder.program, "make", "10"], cwd=f"{folder.path}/folder", check=True)
+            told = {**os.environ, "PATH": f"{folder.path}:{os.environ['PATH']}", "PYTHONPATH": f"{TOP}/examples", "PYTHONDONTWRITEBYTECODE": "1"}
+            got = subprocess.run([sys.executable, "-c", block], cwd=folder.path, env=told, capture_output=True, text=True, timeout=SECONDS)
+            want = "".join(f"{it}\n" for it in re.findall(r"^ *print\(.*\)  # (.*)$", block, re.MULTILINE))
+            checks.check("README.md's example in Python", (got.returncode, got.stdout, got.stderr) == (0, want, "") and want, (got, want))
 
 
 def bytes_of_table(text, heading):
@@ -487,7 +504,7 @@ def main():
     told = arguments(__doc__)
     checks = Checks(told)
     tests = (makes_logs, writes_the_worked_log, commits_over_two_shards, writes_reports, refuses_scripts, reads_pieces, refuses_words, tells_faults)
-    for test in (*tests, refuses_logs, loads, loads_in_any_order, follows_documents, follows_the_format):
+    for test in (*tests, refuses_logs, loads, loads_in_any_order, follows_documents, runs_python, follows_the_format):
         test(checks, told.program)
     checks.end()
 
