@@ -16,8 +16,8 @@ use machine_calls::OverDisks;
 use ordered_store::Store;
 use std::alloc::Global;
 
-// Closes the cluster of walkers that have no gate and never took a disk.
-pub(crate) fn close_run<H: House, M: OverDisks<H::Disk>>(
+/// Closes the cluster of walkers that have no gate and never took a disk.
+pub fn close_run<H: House, M: OverDisks<H::Disk>>(
     alloc: Global,
     house: &mut H,
     shards: Shards<M>,

@@ -109,8 +109,8 @@ fn last_if_settled<M: Machine, R: Wait>(
     Some(most)
 }
 
-// Drains all shards by walker 0, until it has seen each settled; what it makes from then on has stamps past those that it has seen, as its clock tells.
-pub(crate) fn drain_all<M: Flier, P: Pace, R: Wait>(
+/// Drains all shards by walker 0, until it has seen each settled; what it makes from then on has stamps past those that it has seen, as its clock tells.
+pub fn drain_all<M: Flier, P: Pace, R: Wait>(
     rt: &R,
     alloc: Global,
     shards: &Shards<M>,
@@ -187,9 +187,9 @@ fn all_see_quiet<M: Flier, R: Wait>(rt: &R, shards: &Shards<M>, walkers: &mut Ve
     }
 }
 
-// Drains all shards by walker 0, behind all that the other walkers do. Where all sessions went through, so that none has an active part any more, each walker
-// has then seen each shard quiet, so that nothing came behind it.
-pub(crate) fn drain_last<M: Flier, P: Pace, R: Wait>(
+/// Drains all shards by walker 0, behind all that the other walkers do. Where all sessions went through, so that none has an active part any more, each walker
+/// has then seen each shard quiet, so that nothing came behind it.
+pub fn drain_last<M: Flier, P: Pace, R: Wait>(
     rt: &R,
     alloc: Global,
     shards: &Shards<M>,

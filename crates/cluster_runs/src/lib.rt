@@ -28,6 +28,8 @@ pub mod statements;
 mod whole;
 
 pub use beginning::{Opened, open_all};
+pub use closing::close_run;
+pub use draining::{drain_all, drain_last};
 pub use over::run_over;
 pub use plan::Plan;
 pub use ran::Ran;

@@ -2,7 +2,7 @@
 use Rattle.std.specs.Prelude.{◌≡◌, ℕ, ◌<◌, List, Option, Some, None, IfSome, Result, Ok, Err}
 use Rattle.clv_base.specs.Shards.{shard_count}
 use Rattle.command_line.specs.declared.commands.Command.{Command}
-use Rattle.command_line.specs.declared.commands.Command.TheVariants.{Make}
+use Rattle.command_line.specs.declared.commands.Command.TheVariants.{Make, Serve}
 use Rattle.io_model.specs.Story.{Story}
 use Rattle.io_model.specs.Disk.{Rose}
 use Rattle.cluster_opening.specs.Making.{ExistsAt}
@@ -48,6 +48,19 @@ CountsSink history before now Fine = now ≡ before
 CountsSink history before now Memory = now ≡ before
 CountsSink None before now status = now ≡ before
 CountsSink history before now status = Unit {0}
+
+-- of `serve` the source and the sink may fail, too, where a disk failed or stamps or memory were wanting
+abbrev pub CountsSourceBy : Command → ℕ → ℕ → Status → Type 0
+CountsSourceBy (Serve sessions) before now ReadFault = Rose before now
+CountsSourceBy (Serve sessions) before now Fine = now ≡ before
+CountsSourceBy (Serve sessions) before now status = Unit {0}
+CountsSourceBy command before now status = CountsSource before now status
+
+abbrev pub CountsSinkBy : Command → Option Kept → ℕ → ℕ → Status → Type 0
+CountsSinkBy (Serve sessions) (Some kept) before now WriteFault = Rose before now
+CountsSinkBy (Serve sessions) (Some kept) before now Fine = now ≡ before
+CountsSinkBy (Serve sessions) (Some kept) before now status = Unit {0}
+CountsSinkBy command history before now status = CountsSink history before now status
 
 -- the counts of all disks stand
 abbrev pub Stand : (ℕ → ℕ) → (ℕ → ℕ) → Type 0

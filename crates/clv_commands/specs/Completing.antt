@@ -2,7 +2,7 @@
 use Rattle.std.specs.Prelude.{◌≡◌, ℕ, ◌<◌, List, [], Option, Some, IsSomeAnd}
 use Rattle.clv_base.specs.Shards.{shard_count}
 use Rattle.command_line.specs.declared.commands.Command.{Command}
-use Rattle.command_line.specs.declared.commands.Command.TheVariants.{Make, Run, Show, Load}
+use Rattle.command_line.specs.declared.commands.Command.TheVariants.{Make, Run, Show, Load, Serve}
 use Rattle.io_model.specs.Story.{Story, reads}
 use Rattle.io_model.specs.Disk.{Rose}
 use Rattle.cluster_opening.specs.Accepted.{AreGoodLogs}
@@ -24,6 +24,7 @@ IsAccepted (Make splits) left stories = AreEmpty (shard_count splits) stories
 IsAccepted (Run tries) left stories = TellsScript left × AreGoodLogs stories
 IsAccepted Show left stories = AreGoodLogs stories
 IsAccepted (Load seed sessions accounts transfers) left stories = AreGoodLogs stories
+IsAccepted (Serve sessions) left stories = AreGoodLogs stories
 
 -- no count of a fault rose, nor stands at its end: the source's, the sink's, and the disks'
 pub record NoneRose (source source' sink sink' : ℕ) (disks disks' : ℕ → ℕ) : Type 0 where

@@ -1,6 +1,6 @@
 -- The statuses that each command may end with.
 use Rattle.command_line.specs.declared.commands.Command.{Command}
-use Rattle.command_line.specs.declared.commands.Command.TheVariants.{Make, Run, Show, Load}
+use Rattle.command_line.specs.declared.commands.Command.TheVariants.{Make, Run, Show, Load, Serve}
 use Rattle.command_line.specs.declared.status.Status.{Status}
 use Rattle.command_line.specs.declared.status.Status.TheVariants.{Fine, Usage, Script, ReadFault, DiskFault, Memory, Worn, Exists}
 
@@ -24,11 +24,19 @@ IsOfShow (Script line) = ⊥
 IsOfShow ReadFault = ⊥
 IsOfShow status = Unit {0}
 
+-- `serve` reads lines, which are refused one by one
+abbrev pub IsOfServe : Status → Type 0
+IsOfServe Usage = ⊥
+IsOfServe (Exists shard len) = ⊥
+IsOfServe (Script line) = ⊥
+IsOfServe status = Unit {0}
+
 abbrev pub IsOfCommand : Command → Status → Type 0
 IsOfCommand (Make splits) status = IsOfMake status
 IsOfCommand (Run tries) status = IsOfRun status
 IsOfCommand Show status = IsOfShow status
 IsOfCommand (Load seed sessions accounts transfers) status = IsOfShow status
+IsOfCommand (Serve sessions) status = IsOfServe status
 
 -- the statuses of shards that were opened, before any text is written
 abbrev pub IsOfShards : Status → Type 0

@@ -7,3 +7,4 @@ pub mod Runs
 pub mod Reading
 pub mod Completing
 pub mod Top
+pub mod Statuses

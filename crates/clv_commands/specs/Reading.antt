@@ -1,7 +1,7 @@
 -- What was read of the source.
-use Rattle.std.specs.Prelude.{◌≡◌, ℕ, List, Option, None}
+use Rattle.std.specs.Prelude.{◌≡◌, ℕ, List, Option, None, Some}
 use Rattle.command_line.specs.declared.commands.Command.{Command}
-use Rattle.command_line.specs.declared.commands.Command.TheVariants.{Run}
+use Rattle.command_line.specs.declared.commands.Command.TheVariants.{Run, Serve}
 use Rattle.history_replay.specs.Entries.{Kept}
 use Rattle.io_model.specs.Streams.{Ends}
 use Rattle.script_lang.specs.Bodies.{Body}
@@ -20,7 +20,8 @@ ReadsScript None ReadFault left now = Unit {0}
 ReadsScript None Memory left now = Unit {0}
 ReadsScript history status left now = IsRead left now
 
--- only `run` reads
+-- only `run` reads, and `serve`, once shards were opened: what it reads stands in a clause of its own
 abbrev pub ReadsBy : Command → Option Kept → Status → Option (List ℕ) → Option (List ℕ) → Type 0
 ReadsBy (Run tries) history status left now = ReadsScript history status left now
+ReadsBy (Serve sessions) (Some kept) status left now = Unit {0}
 ReadsBy command history status left now = now ≡ left

@@ -2,8 +2,11 @@
 use Rattle.std.specs.Prelude.{◌≡◌, ℕ, ◌*◌, List, [], Option, Some, None, IfSome, Result}
 use Rattle.cluster_runs.specs.Ran.{RanAll}
 use Rattle.command_line.specs.declared.commands.Command.{Command}
-use Rattle.command_line.specs.declared.commands.Command.TheVariants.{Make, Run, Show, Load}
+use Rattle.command_line.specs.declared.commands.Command.TheVariants.{Make, Run, Show, Load, Serve}
 use Rattle.io_model.specs.Story.{Story}
+use Rattle.io_model.specs.declared.whole.ReadError.{ReadError}
+use Rattle.live_runs.specs.Lived.{Life, LivesPromised, ServedAll}
+use Rattle.clv_commands.specs.Statuses.{with_input}
 use Rattle.history_replay.specs.Entries.{Kept}
 use Rattle.history_replay.specs.Replayed.{replayed}
 use Rattle.workload_laws.specs.Sums.{accounts_sum}
@@ -45,6 +48,15 @@ PromisedBy Show left before now counts counts_now status kept = HasRun None [] b
 PromisedBy (Load seed sessions accounts transfers) left before now counts counts_now status kept =
     HasLoaded accounts (load seed sessions accounts transfers) before now counts counts_now kept status
 PromisedBy (Make splits) left before now counts counts_now status kept = ⊥
+PromisedBy (Serve sessions) left before now counts counts_now status kept =
+    (splits : List ℕ) × (lives : ℕ → Life) × LivesPromised splits before now counts counts_now sessions lives kept
+
+-- `serve` did the lines that it read, and wrote their replies; its status is that of its sessions and its drains, by what became of the input and of the output
+abbrev pub ServedBy : Command → Option (List ℕ) → Option (List ℕ) → Option (List ℕ) → Option (List ℕ) → (ℕ → Option Story) → (ℕ → Option Story) → (ℕ → ℕ) → (ℕ → ℕ) → Status → Kept → Type 0
+ServedBy (Serve sessions) left left' taken taken' before now counts counts_now status kept =
+    (running : Status) × (read : Result (Unit {0}) ReadError) × (written : Result (Unit {0}) ReportError)
+    × ServedAll before now counts counts_now sessions left left' taken taken' read written kept running × (status ≡ with_text (with_input running read) written)
+ServedBy command left left' taken taken' before now counts counts_now status kept = Unit {0}
 
 -- shards were opened where `run`, `show` or `load` was fine but for the sink; `make` opens none
 abbrev pub Opened : Option Kept → Status → Type 0
@@ -57,4 +69,5 @@ abbrev pub OpensByCommand : Command → Status → Option Kept → Type 0
 OpensByCommand (Run tries) status history = Opened history status
 OpensByCommand Show status history = Opened history status
 OpensByCommand (Load seed sessions accounts transfers) status history = Opened history status
+OpensByCommand (Serve sessions) status history = Opened history status
 OpensByCommand (Make splits) status history = history ≡ None

@@ -2,7 +2,7 @@
 use Rattle.std.specs.Prelude.{◌≤◌, ℕ, List}
 use Rattle.command_line.specs.Commands.{IsCommand}
 use Rattle.command_line.specs.declared.commands.Command.{Command}
-use Rattle.command_line.specs.declared.commands.Command.TheVariants.{Run, Load}
+use Rattle.command_line.specs.declared.commands.Command.TheVariants.{Run, Load, Serve}
 use Rattle.command_line.specs.declared.status.Status.{Status}
 use Rattle.command_line.specs.declared.status.Status.TheVariants.{Usage, Memory}
 
@@ -24,4 +24,5 @@ IsRefusedWords words status = (command : Command) × IsCommand words command
 abbrev pub IsWithinBounds : Command → Type 0
 IsWithinBounds (Run tries) = tries ≤ 1000
 IsWithinBounds (Load seed sessions accounts transfers) = (1 ≤ sessions) × (sessions ≤ 64) × (2 ≤ accounts) × (accounts ≤ 10000) × (transfers ≤ 1000)
+IsWithinBounds (Serve sessions) = (1 ≤ sessions) × (sessions ≤ 64)
 IsWithinBounds command = Unit {0}

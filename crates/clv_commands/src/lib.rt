@@ -9,6 +9,7 @@ mod ended;
 mod loading;
 mod making;
 mod running;
+mod serving;
 mod showing;
 pub mod sums;
 mod top;

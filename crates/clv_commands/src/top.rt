@@ -4,8 +4,8 @@ ghost use Rattle.std.specs.Prelude.{◌≡◌, ◌<◌, ◌≤◌, ℕ, None, fa
 ghost use Rattle.clv_commands.specs.Kinds.{IsOfCommand};
 ghost use Rattle.clv_commands.specs.Disks.{ClosedBy, Makes};
 ghost use Rattle.clv_commands.specs.Sinks.{Took};
-ghost use Rattle.clv_commands.specs.Causes.{HasBytes, BreaksBy, BreaksScript, CountsSource, CountsSink, CountsDisks};
-ghost use Rattle.clv_commands.specs.Runs.{PromisedBy, OpensByCommand};
+ghost use Rattle.clv_commands.specs.Causes.{HasBytes, BreaksBy, BreaksScript, CountsSourceBy, CountsSinkBy, CountsDisks};
+ghost use Rattle.clv_commands.specs.Runs.{PromisedBy, ServedBy, OpensByCommand};
 ghost use Rattle.clv_commands.specs.Reading.{ReadsBy};
 ghost use Rattle.clv_commands.specs.Completing.{IsAccepted, NoneRose, IsCompleted};
 ghost use Rattle.clv_commands.specs.Top.{AreRefused, IsRefusedWords, HasCommand, IsWithinBounds};
@@ -14,6 +14,7 @@ use crate::ended::Ended;
 use crate::loading::{Work, load};
 use crate::making::make_logs;
 use crate::running;
+use crate::serving::serve;
 use crate::showing::show;
 use cluster_opening::opening_laws::good_logs_are_not_refused;
 use command_line::{Command, Status, command_of};
@@ -24,7 +25,7 @@ use std::sync::Wait;
 use std::thread::Threads;
 
 // Does a command.
-fn obey<R: Threads + Wait + Sync, S: Source, K: Sink, H: House, P: Pace + Sync>(
+fn obey<R: Threads + Wait + Sync, S: Source, K: Sink + Send, H: House, P: Pace + Sync>(
     rt: &R,
     alloc: Global,
     command: Command,
@@ -39,6 +40,7 @@ where
     requires bounds { IsWithinBounds command }
     ensures kind { IsOfCommand command result.status }
     ensures promised { IfSome result.history (PromisedBy command (S.left source.old) (H.story house.old) (H.story house.new) (H.faults house.old) (H.faults house.new) result.status) }
+    ensures served { IfSome result.history (ServedBy command (S.left source.old) (S.left source.new) (K.taken sink.old) (K.taken sink.new) (H.story house.old) (H.story house.new) (H.faults house.old) (H.faults house.new) result.status) }
     ensures opened { OpensByCommand command result.status result.history }
     ensures took { Took command result.status result.history (K.faults sink.old) (K.faults sink.new) (K.taken sink.old) (K.taken sink.new) }
     ensures closed { ClosedBy command result.status result.history (H.story house.old) (H.story house.new) }
@@ -47,8 +49,8 @@ where
     ensures exists { HasBytes command result.status (H.story house.old) (H.story house.new) }
     ensures logs { BreaksBy command result.status result.history (H.story house.old) }
     ensures script { BreaksScript result.status (S.left source.old) }
-    ensures source { CountsSource (S.faults source.old) (S.faults source.new) result.status }
-    ensures sink { CountsSink result.history (K.faults sink.old) (K.faults sink.new) result.status }
+    ensures source { CountsSourceBy command (S.faults source.old) (S.faults source.new) result.status }
+    ensures sink { CountsSinkBy command result.history (K.faults sink.old) (K.faults sink.new) result.status }
     ensures disks { CountsDisks result.history (H.faults house.old) (H.faults house.new) result.status }
     ensures back { (n : ℕ) → n < 16 → H.is_out house.new n ≡ false }
 {
@@ -73,6 +75,7 @@ where
             };
             load(rt, alloc, sink, house, pace, work)
         }
+        Command::Serve { sessions } => serve(rt, alloc, source, sink, house, pace, sessions),
     }
 }
 
@@ -80,7 +83,7 @@ where
 ///
 /// A clause on content says nothing of a source, a sink or a disk that doesn't tell it (standard input, standard output, a file). Want of
 /// memory may come at any time; what was done until then keeps every clause.
-pub fn run<R: Threads + Wait + Sync, S: Source, K: Sink, H: House, P: Pace + Sync>(
+pub fn run<R: Threads + Wait + Sync, S: Source, K: Sink + Send, H: House, P: Pace + Sync>(
     rt: &R,
     alloc: Global,
     words: &[&str],
@@ -106,7 +109,12 @@ where
     // the lowest such shard.
     ensures promised { HasCommand (map (λ w. w.now) words.now) (λ command. IfSome result.history (PromisedBy command (S.left source.old) (H.story house.old) (H.story house.new) (H.faults house.old) (H.faults house.new) result.status)) }
 
-    // Shards were opened where `run`, `show` or `load` was fine, and not by `make`.
+    // Of `serve` the entries of each session are those of the calls that its lines ask for, in order, each with its reply; a reply "committed" is of a transaction
+    // that the history acknowledges. Each session took a front of its lines of what was read, and the sink took the lines of replies, of each session's a front; where
+    // all was fine every line of the source was taken, and every reply written.
+    ensures served { HasCommand (map (λ w. w.now) words.now) (λ command. IfSome result.history (ServedBy command (S.left source.old) (S.left source.new) (K.taken sink.old) (K.taken sink.new) (H.story house.old) (H.story house.new) (H.faults house.old) (H.faults house.new) result.status)) }
+
+    // Shards were opened where `run`, `show`, `load` or `serve` was fine, and not by `make`.
     ensures opened { HasCommand (map (λ w. w.now) words.now) (λ command. OpensByCommand command result.status result.history) }
 
     // The sink took the whole text where all was fine; a front of it where the sink failed; where a disk failed or stamps were worn, of `run` that was
@@ -121,7 +129,7 @@ where
     // Words that are refused do nothing, whatever the status.
     ensures nothing { AreRefused (map (λ w. w.now) words.now) → (result.history ≡ None) × (source.new ≡ source.old) × (sink.new ≡ sink.old) × (house.new ≡ house.old) }
 
-    // `run` read all of the source, and it is a script, but where that was refused, the source failed or memory was wanting. No other command reads.
+    // `run` read all of the source, and it is a script, but where that was refused, the source failed or memory was wanting. No other command reads, but `serve`.
     ensures read { HasCommand (map (λ w. w.now) words.now) (λ command. ReadsBy command result.history result.status (S.left source.old) (S.left source.new)) }
 
     // Over disks and a source that tell what the command wants, and where no count of a fault rose, all was done, or stamps, runs or memory were
@@ -132,8 +140,8 @@ where
     ensures exists { HasCommand (map (λ w. w.now) words.now) (λ command. HasBytes command result.status (H.story house.old) (H.story house.new)) }
     ensures logs { HasCommand (map (λ w. w.now) words.now) (λ command. BreaksBy command result.status result.history (H.story house.old)) }
     ensures script { BreaksScript result.status (S.left source.old) }
-    ensures source { CountsSource (S.faults source.old) (S.faults source.new) result.status }
-    ensures sink { CountsSink result.history (K.faults sink.old) (K.faults sink.new) result.status }
+    ensures source { HasCommand (map (λ w. w.now) words.now) (λ command. CountsSourceBy command (S.faults source.old) (S.faults source.new) result.status) }
+    ensures sink { HasCommand (map (λ w. w.now) words.now) (λ command. CountsSinkBy command result.history (K.faults sink.old) (K.faults sink.new) result.status) }
     ensures disks { CountsDisks result.history (H.faults house.old) (H.faults house.new) result.status }
 
     // Every disk is back.

@@ -5,7 +5,7 @@ use Rattle.clv_base.specs.Shards.{are_splits}
 use Rattle.script_lang.specs.Grammar.{IsNumber}
 use Rattle.command_line.specs.Apps.{the_app}
 pub use Rattle.command_line.specs.declared.commands.Command.{Command}
-pub use Rattle.command_line.specs.declared.commands.Command.TheVariants.{Make, Run, Show, Load}
+pub use Rattle.command_line.specs.declared.commands.Command.TheVariants.{Make, Run, Show, Load, Serve}
 
 -- a value that was given is this number
 abbrev pub IsGiven : Option Text → ℕ → Type 0
@@ -16,6 +16,11 @@ IsGiven (Some word) n = IsNumber word n
 abbrev pub AreTries : Option Text → ℕ → Type 0
 AreTries None n = n ≡ 100
 AreTries (Some word) n = IsNumber word n × (1 ≤ n) × (n ≤ 1000)
+
+-- 1 to 64 sessions; 16 where nothing is given
+abbrev pub AreSessions : Option Text → ℕ → Type 0
+AreSessions None n = n ≡ 16
+AreSessions (Some word) n = IsNumber word n × (1 ≤ n) × (n ≤ 64)
 
 -- words that are these numbers, each of one
 abbrev pub AreNumbers : List Text → List ℕ → Type 0
@@ -37,6 +42,7 @@ Says name rows (Load seed sessions accounts transfers) =
     (name ≡ codes "load") × IsGiven (first_of (codes "seed") rows) seed × IsGiven (first_of (codes "sessions") rows) sessions
     × IsGiven (first_of (codes "accounts") rows) accounts × IsGiven (first_of (codes "transfers") rows) transfers
     × (1 ≤ sessions) × (sessions ≤ 64) × (2 ≤ accounts) × (accounts ≤ 10000) × (transfers ≤ 1000)
+Says name rows (Serve sessions) = (name ≡ codes "serve") × AreSessions (first_of (codes "sessions") rows) sessions
 
 -- `clap` finds no fault in the words, and takes them for a subcommand that is this command
 abbrev pub IsCommand : List Text → Command → Type 0

@@ -22,6 +22,10 @@ pub enum Command {
         accounts: u64,
         transfers: u64,
     },
+    /// Lets so many sessions live.
+    Serve {
+        sessions: u64,
+    },
 }
 
 /// Why words are no command.

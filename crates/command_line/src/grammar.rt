@@ -3,7 +3,7 @@
 ghost use Rattle.std.specs.Prelude.{◌≡◌, ◌≢◌, [], IfOk, IfErr, codes, true, false};
 ghost use Rattle.clap.specs.Words.{app_of, with_subcommand, rule_of, fault_of, subcommand_of, subcommand_rows_of};
 ghost use Rattle.clap.specs.declared.builder.Command.TheViews.{out-Command as fields_of};
-ghost use Rattle.command_line.specs.Apps.{with_required, make_app, run_app, load_app, bare_app, the_app};
+ghost use Rattle.command_line.specs.Apps.{with_required, make_app, run_app, load_app, serve_app, bare_app, the_app};
 ghost use Rattle.command_line.specs.Steps.{texts};
 
 use crate::commands::WordsError;
@@ -56,6 +56,15 @@ fn with_load<'a>(alloc: Global, program: Command<'a>) -> Result<Command<'a>, All
     program.subcommand(load)
 }
 
+// With one that lets sessions live: `serve [--sessions N]`.
+fn with_serve<'a>(alloc: Global, program: Command<'a>) -> Result<Command<'a>, AllocError>
+    ensures { IfOk result (λ c. app_of c ≡ with_subcommand (app_of program.entry) serve_app.top) }
+{
+    let sessions = Arg::new(alloc, "sessions").long("sessions");
+    let serve = Command::new(alloc, "serve").arg(sessions)?;
+    program.subcommand(serve)
+}
+
 // The program without its subcommands.
 fn bare<'a>(alloc: Global) -> Command<'a>
     ensures { app_of result ≡ bare_app }
@@ -71,7 +80,8 @@ fn program<'a>(alloc: Global) -> Result<Command<'a>, AllocError>
     let one = with_make(alloc, bare(alloc))?;
     let two = with_run(alloc, one)?;
     let three = two.subcommand(Command::new(alloc, "show"))?;
-    with_load(alloc, three)
+    let four = with_load(alloc, three)?;
+    with_serve(alloc, four)
 }
 
 // What `clap` makes of the words, where it finds no fault in them.

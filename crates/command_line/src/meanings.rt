@@ -4,7 +4,7 @@ ghost use Rattle.std.specs.Prelude.{◌≡◌, ◌≢◌, ◌≤◌, ℕ, List, 
 ghost use Rattle.clap.specs.Words.{first_of, all_of};
 ghost use Rattle.clv_base.specs.Shards.{are_splits};
 ghost use Rattle.command_line.specs.declared.commands.Command.{Command as ACommand};
-ghost use Rattle.command_line.specs.Commands.{IsGiven, AreTries, AreNumbers, listed, Says, IsCommand};
+ghost use Rattle.command_line.specs.Commands.{IsGiven, AreTries, AreSessions, AreNumbers, listed, Says, IsCommand};
 ghost use Rattle.command_line.specs.Steps.{texts, given_rows};
 
 use crate::commands::{Command, WordsError};
@@ -39,6 +39,26 @@ fn tries_of(given: &ArgMatches) -> Option<u64>
                 return None;
             }
             Some(tries)
+        }
+        None => None,
+    }
+}
+
+fn sessions_of(given: &ArgMatches) -> Option<u64>
+    ensures { MatchOption result ((n : ℕ) → AreSessions (first_of (codes "sessions") (given_rows given.now)) n → ⊥) (λ n. AreSessions (first_of (codes "sessions") (given_rows given.now)) n) }
+{
+    let Some(word) = given.get_str("sessions") else {
+        return Some(16);
+    };
+    match number_of(word.as_bytes()) {
+        Some(sessions) => {
+            if sessions == 0 {
+                return None;
+            }
+            if sessions > 64 {
+                return None;
+            }
+            Some(sessions)
         }
         None => None,
     }
@@ -145,6 +165,12 @@ fn read(alloc: Global, name: &str, given: &ArgMatches) -> Result<Command, WordsE
     if name == "load" {
         return match load_of(given) {
             Some(command) => Ok(command),
+            None => Err(WordsError::Usage),
+        };
+    }
+    if name == "serve" {
+        return match sessions_of(given) {
+            Some(sessions) => Ok(Command::Serve { sessions }),
             None => Err(WordsError::Usage),
         };
     }

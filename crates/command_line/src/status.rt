@@ -70,7 +70,7 @@ impl Status {
         match *self {
             Status::Fine => Ok(String::new(alloc)),
             Status::Usage => format!(in alloc;
-                "usage: clv_shell make [SPLIT].. | run [--tries N] | show | load --seed S --sessions N --accounts A --transfers T\n"
+                "usage: clv_shell make [SPLIT].. | run [--tries N] | show | load --seed S --sessions N --accounts A --transfers T | serve [--sessions N]\n"
             ),
             Status::Script { line } => format!(in alloc; "script line {line}\n"),
             Status::ReadFault => format!(in alloc; "read fault\n"),

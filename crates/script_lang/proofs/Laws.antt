@@ -1,2 +1,3 @@
 -- Lemmas that this crate offers to the proofs of the crates above it.
-pub use Rattle.script_lang.proofs.Words.{number_once}
+pub use Rattle.script_lang.proofs.Words.{number_once, number_has_no_space, parted_alike, not_parted}
+pub use Rattle.script_lang.proofs.Meanings.{one_meaning}

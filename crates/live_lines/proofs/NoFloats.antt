@@ -1,0 +1,42 @@
+-- No line has a float in it.
+use Rattle.std.proofs.Common.{◌≡◌, ℕ, false, ◌||◌, List, [], ◌∷◌, map, Some, None, refl, ap}
+use Rattle.serde_json.specs.View.{items_of}
+use Rattle.serde_json.specs.Written.{has_float, items_have_float}
+use Rattle.clv_base.specs.declared.ops.Op.{Op}
+use Rattle.clv_base.specs.declared.ops.Op.TheVariants.{Get, Put, Del, Scan}
+use Rattle.clv_base.specs.declared.ops.Answer.{Answer}
+use Rattle.clv_base.specs.declared.ops.Answer.TheVariants.{Value, Pairs}
+use Rattle.clv_base.specs.declared.causes.AbortCause.TheVariants as cause
+use Rattle.clv_base.specs.declared.causes.NoWhy.TheVariants.{Doomed, Restarted}
+use Rattle.live_lines.specs.declared.calls.Reply.{Reply}
+use Rattle.live_lines.specs.declared.calls.Reply.TheVariants.{Begun, Answered, Committed, Empty, Aborted, Down, Unsettled, Worn, Memory, Refused}
+use Rattle.live_lines.specs.Replies.{pair, answer, list, told}
+
+in_pairs : (ps : List (ℕ × ℕ)) → items_have_float (items_of (map pair ps)) ≡ false
+in_pairs [] = refl
+in_pairs (p ∷ ps) = in_pairs ps
+
+in_answer : (a : Answer) → has_float (answer a) ≡ false
+in_answer (Value None) = refl
+in_answer (Value (Some v)) = refl
+in_answer (Pairs ps) = in_pairs ps
+
+pub in_reply : (session : ℕ) (reply : Reply) → has_float (list (told session reply)) ≡ false
+in_reply session (Begun n) = refl
+in_reply session (Answered (Get k) a) = ap (λ b. b || false) (in_answer a)
+in_reply session (Answered (Put k v) a) = ap (λ b. b || false) (in_answer a)
+in_reply session (Answered (Del k) a) = ap (λ b. b || false) (in_answer a)
+in_reply session (Answered (Scan lo hi) a) = ap (λ b. b || false) (in_answer a)
+in_reply session (Committed n) = refl
+in_reply session (Empty n) = refl
+in_reply session (Aborted cause.Asked) = refl
+in_reply session (Aborted (cause.Died older)) = refl
+in_reply session (Aborted (cause.Predecessor tx)) = refl
+in_reply session (Aborted (cause.NoVote shard (Doomed tx))) = refl
+in_reply session (Aborted (cause.NoVote shard (Restarted seen now))) = refl
+in_reply session (Aborted (cause.Restarted shard seen now)) = refl
+in_reply session (Down n) = refl
+in_reply session (Unsettled n) = refl
+in_reply session (Worn n) = refl
+in_reply session Memory = refl
+in_reply session (Refused why) = refl

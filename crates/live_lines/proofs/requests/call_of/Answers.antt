@@ -1,0 +1,6 @@
+use Rattle.std.proofs.Common.{rules}
+use Rattle.live_lines.proofs.CallWords.{uncalled}
+use Rattle.live_lines.proofs.requests.call_of.Goals as goal
+
+pub returns-in-None : goal.returns-in-None
+returns-in-None c = uncalled c.args.words.now (search rules) (c.in-None.ensures)

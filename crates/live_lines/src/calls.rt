@@ -1,0 +1,66 @@
+// What a session is asked, and what it answers.
+
+use clv_base::causes::AbortCause;
+use clv_base::ops::{Answer, Op};
+
+/// A call of a session.
+#[derive(Clone, Copy, PartialEq, Eq)]
+pub enum Call {
+    Begin,
+    /// Begins another try of the last transaction, with its birth.
+    Retry,
+    Operate(Op),
+    Commit,
+    Abort,
+}
+
+/// What a line asks of the session that it names: a call, or nothing that a session knows.
+#[derive(Clone, Copy, PartialEq, Eq)]
+pub enum Asked {
+    Call(Call),
+    Unknown,
+}
+
+/// Why nothing was done.
+#[derive(Clone, Copy, PartialEq, Eq)]
+pub enum Refusal {
+    /// The line is no request.
+    Unknown,
+    /// It names no session.
+    NoSession,
+    /// A transaction is active.
+    Active,
+    /// None is active.
+    NoTx,
+    /// The last transaction didn't end by an abort.
+    NoRetry,
+    /// The session has ended.
+    Ended,
+    /// The line is too long.
+    TooLong,
+}
+
+/// What a session answers.
+#[derive(Drop)]
+pub enum Reply {
+    /// A transaction is active, under this serial.
+    Begun { serial: u64 },
+    /// An operation was answered.
+    Answered { op: Op, answer: Answer },
+    /// The transaction is acknowledged.
+    Committed { serial: u64 },
+    /// It had no operation.
+    Empty { serial: u64 },
+    /// It was aborted.
+    Aborted(AbortCause),
+    /// A shard is down. The transaction was dropped.
+    Down { shard: u32 },
+    /// A shard is down, and the transaction's request stands. The session has ended.
+    Unsettled { shard: u32 },
+    /// Stamps were wanting. The session has ended.
+    Worn { at: u64 },
+    /// Memory was wanting. The session has ended.
+    Memory,
+    /// Nothing was done.
+    Refused(Refusal),
+}

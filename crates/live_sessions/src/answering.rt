@@ -1,0 +1,308 @@
+// One line of a session.
+ghost use Rattle.std.specs.Prelude.{◌≡◌, true, Some, None};
+ghost use Rattle.live_lines.specs.declared.calls.Call.TheVariants as calls;
+ghost use Rattle.live_lines.specs.declared.calls.Asked.TheVariants as asks;
+ghost use Rattle.script_runs.specs.Seen.{Keeps};
+ghost use Rattle.script_runs.specs.Told.{has_range as ranges};
+ghost use Rattle.script_runs.specs.Tried.{OnStop};
+ghost use Rattle.script_runs.specs.Ran.{IsIdle};
+ghost use Rattle.live_sessions.specs.Served.{IsActive, IsLast, Goes, Did, Drops, EndTold, IsOtherEnd, reply_by};
+
+use clv_base::causes::AbortCause;
+use clv_base::ops::Op;
+use live_lines::{Asked, Call, Refusal, Reply};
+use script_runs::{SessionCalls, Stage, StopCause, TryEnd};
+use std::alloc::Global;
+
+/// How a session goes on: whether its last transaction may be tried again, and what it has ended by, if it has.
+#[derive(Clone, Copy)]
+pub struct Course {
+    pub may_retry: bool,
+    pub ended: Option<StopCause>,
+}
+
+/// What a line came to.
+#[derive(Drop)]
+pub struct Step {
+    pub reply: Reply,
+    pub course: Course,
+}
+
+// The session goes on.
+fn goes_on(reply: Reply, may_retry: bool) -> Step
+    ensures { (result.reply ≡ reply) × (result.course.may_retry ≡ may_retry) × (result.course.ended ≡ None) }
+{
+    Step {
+        reply,
+        course: Course {
+            may_retry,
+            ended: None,
+        },
+    }
+}
+
+// The session has ended by this.
+fn ends(reply: Reply, cause: StopCause) -> Step
+    ensures { (result.reply ≡ reply) × (result.course.ended ≡ Some cause) }
+{
+    Step {
+        reply,
+        course: Course {
+            may_retry: false,
+            ended: Some(cause),
+        },
+    }
+}
+
+// What is said of a cause.
+fn reply_of(cause: StopCause) -> Reply
+    ensures { result ≡ reply_by cause }
+{
+    match cause {
+        StopCause::Down { shard } => Reply::Down { shard },
+        StopCause::Unsettled { shard } => Reply::Unsettled { shard },
+        StopCause::Worn { at } => Reply::Worn { at },
+        StopCause::Memory => Reply::Memory,
+    }
+}
+
+fn stops(cause: StopCause) -> Step
+    ensures { (result.reply ≡ reply_by cause) × (result.course.ended ≡ Some cause) }
+{
+    ends(reply_of(cause), cause)
+}
+
+fn begin<C: SessionCalls>(session: &mut C) -> Step
+    requires session { C.holds session.old }
+    requires idle { IsIdle (C.seen session.old) }
+    ensures session { C.holds session.new }
+    ensures base { C.base session.new ≡ C.base session.old }
+    ensures misses { Keeps (C.missed session.old) (C.missed session.new) }
+    ensures did { Did (asks.Call calls.Begin) result.reply (C.seen session.old) (C.seen session.new) }
+    ensures course { Goes (C.grounds session.new) result.course (C.seen session.new) }
+{
+    match session.begin() {
+        Ok(()) => {
+            let serial = session.name().serial;
+            goes_on(Reply::Begun { serial }, false)
+        }
+        Err(cause) => stops(cause),
+    }
+}
+
+// The last transaction ended by an abort.
+fn retry<C: SessionCalls>(alloc: Global, session: &mut C) -> Step
+    requires session { C.holds session.old }
+    requires ended { IsLast (C.seen session.old) }
+    ensures session { C.holds session.new }
+    ensures base { C.base session.new ≡ C.base session.old }
+    ensures misses { Keeps (C.missed session.old) (C.missed session.new) }
+    ensures did { Did (asks.Call calls.Retry) result.reply (C.seen session.old) (C.seen session.new) }
+    ensures course { Goes (C.grounds session.new) result.course (C.seen session.new) }
+{
+    match session.retry(alloc) {
+        Ok(()) => {
+            let serial = session.name().serial;
+            goes_on(Reply::Begun { serial }, false)
+        }
+        Err(StopCause::Down { shard }) => goes_on(Reply::Down { shard }, false),
+        Err(cause) => stops(cause),
+    }
+}
+
+// Where a shard was down the active transaction is dropped, and the session goes on.
+fn drop_down<C: SessionCalls>(alloc: Global, session: &mut C, shard: u32) -> Step
+    requires session { C.holds session.old }
+    requires active { IsActive (C.seen session.old) }
+    ensures session { C.holds session.new }
+    ensures base { C.base session.new ≡ C.base session.old }
+    ensures misses { Keeps (C.missed session.old) (C.missed session.new) }
+    ensures reply { result.reply ≡ Reply.Down shard }
+    ensures dropped { Drops (C.seen session.old) (C.seen session.new) }
+    ensures course { Goes (C.grounds session.new) result.course (C.seen session.new) }
+{
+    match session.abort(alloc) {
+        Ok(()) => goes_on(Reply::Down { shard }, true),
+        Err(cause) => ends(Reply::Down { shard }, cause),
+    }
+}
+
+// A try that didn't end well.
+fn end_by<C: SessionCalls>(alloc: Global, session: &mut C, end: TryEnd) -> Step
+    requires session { C.holds session.old }
+    requires other { IsOtherEnd end (C.seen session.old) }
+    requires grounds { OnStop (C.grounds session.old) end }
+    ensures session { C.holds session.new }
+    ensures base { C.base session.new ≡ C.base session.old }
+    ensures misses { Keeps (C.missed session.old) (C.missed session.new) }
+    ensures ended { EndTold end result.reply (C.seen session.old) (C.seen session.new) }
+    ensures course { Goes (C.grounds session.new) result.course (C.seen session.new) }
+{
+    match end {
+        TryEnd::Aborted(cause) => goes_on(Reply::Aborted(cause), true),
+        TryEnd::Stopped(StopCause::Down { shard }) => drop_down(alloc, session, shard),
+        TryEnd::Stopped(cause) => stops(cause),
+        _ => unreachable!(),
+    }
+}
+
+fn operate<C: SessionCalls>(alloc: Global, session: &mut C, op: Op) -> Step
+    requires session { C.holds session.old }
+    requires active { IsActive (C.seen session.old) }
+    requires range { ranges op ≡ true }
+    ensures session { C.holds session.new }
+    ensures base { C.base session.new ≡ C.base session.old }
+    ensures misses { Keeps (C.missed session.old) (C.missed session.new) }
+    ensures did { Did (asks.Call (calls.Operate op)) result.reply (C.seen session.old) (C.seen session.new) }
+    ensures course { Goes (C.grounds session.new) result.course (C.seen session.new) }
+{
+    match session.operate(alloc, op) {
+        Ok(answer) => goes_on(Reply::Answered { op, answer }, false),
+        Err(end) => end_by(alloc, session, end),
+    }
+}
+
+fn commit<C: SessionCalls>(alloc: Global, session: &mut C) -> Step
+    requires session { C.holds session.old }
+    requires active { IsActive (C.seen session.old) }
+    ensures session { C.holds session.new }
+    ensures base { C.base session.new ≡ C.base session.old }
+    ensures misses { Keeps (C.missed session.old) (C.missed session.new) }
+    ensures did { Did (asks.Call calls.Commit) result.reply (C.seen session.old) (C.seen session.new) }
+    ensures course { Goes (C.grounds session.new) result.course (C.seen session.new) }
+{
+    let serial = session.name().serial;
+    match session.commit(alloc) {
+        TryEnd::Acknowledged => goes_on(Reply::Committed { serial }, false),
+        TryEnd::Empty => goes_on(Reply::Empty { serial }, false),
+        end => end_by(alloc, session, end),
+    }
+}
+
+fn abort<C: SessionCalls>(alloc: Global, session: &mut C) -> Step
+    requires session { C.holds session.old }
+    requires active { IsActive (C.seen session.old) }
+    ensures session { C.holds session.new }
+    ensures base { C.base session.new ≡ C.base session.old }
+    ensures misses { Keeps (C.missed session.old) (C.missed session.new) }
+    ensures did { Did (asks.Call calls.Abort) result.reply (C.seen session.old) (C.seen session.new) }
+    ensures course { Goes (C.grounds session.new) result.course (C.seen session.new) }
+{
+    match session.abort(alloc) {
+        Ok(()) => goes_on(Reply::Aborted(AbortCause::Asked), true),
+        Err(cause) => stops(cause),
+    }
+}
+
+// Nothing was done.
+fn refuse(refusal: Refusal, course: Course) -> Step
+    ensures { (result.reply ≡ Reply.Refused refusal) × (result.course ≡ course) }
+{
+    Step {
+        reply: Reply::Refused(refusal),
+        course,
+    }
+}
+
+// Where no transaction is active.
+fn call_at_rest<C: SessionCalls>(alloc: Global, session: &mut C, course: Course, call: Call) -> Step
+    requires session { C.holds session.old }
+    requires idle { IsIdle (C.seen session.old) }
+    requires live { course.ended ≡ None }
+    requires course { Goes (C.grounds session.old) course (C.seen session.old) }
+    ensures session { C.holds session.new }
+    ensures base { C.base session.new ≡ C.base session.old }
+    ensures misses { Keeps (C.missed session.old) (C.missed session.new) }
+    ensures did { Did (asks.Call call) result.reply (C.seen session.old) (C.seen session.new) }
+    ensures course { Goes (C.grounds session.new) result.course (C.seen session.new) }
+{
+    match call {
+        Call::Begin => begin(session),
+        Call::Retry => {
+            if course.may_retry {
+                retry(alloc, session)
+            } else {
+                refuse(Refusal::NoRetry, course)
+            }
+        }
+        _ => refuse(Refusal::NoTx, course),
+    }
+}
+
+// Whether the bounds of a scan rise.
+fn has_range(op: Op) -> bool
+    ensures { result ≡ ranges op }
+{
+    match op {
+        Op::Scan(low, high) => low <= high,
+        _ => true,
+    }
+}
+
+// Where one is.
+fn call_in_tx<C: SessionCalls>(alloc: Global, session: &mut C, course: Course, call: Call) -> Step
+    requires session { C.holds session.old }
+    requires active { IsActive (C.seen session.old) }
+    requires live { course.ended ≡ None }
+    requires course { Goes (C.grounds session.old) course (C.seen session.old) }
+    ensures session { C.holds session.new }
+    ensures base { C.base session.new ≡ C.base session.old }
+    ensures misses { Keeps (C.missed session.old) (C.missed session.new) }
+    ensures did { Did (asks.Call call) result.reply (C.seen session.old) (C.seen session.new) }
+    ensures course { Goes (C.grounds session.new) result.course (C.seen session.new) }
+{
+    match call {
+        Call::Operate(op) => {
+            if has_range(op) {
+                operate(alloc, session, op)
+            } else {
+                refuse(Refusal::Unknown, course)
+            }
+        }
+        Call::Commit => commit(alloc, session),
+        Call::Abort => abort(alloc, session),
+        _ => refuse(Refusal::Active, course),
+    }
+}
+
+// A call of a session that hasn't ended.
+fn call_of<C: SessionCalls>(alloc: Global, session: &mut C, course: Course, call: Call) -> Step
+    requires session { C.holds session.old }
+    requires live { course.ended ≡ None }
+    requires course { Goes (C.grounds session.old) course (C.seen session.old) }
+    ensures session { C.holds session.new }
+    ensures base { C.base session.new ≡ C.base session.old }
+    ensures misses { Keeps (C.missed session.old) (C.missed session.new) }
+    ensures did { Did (asks.Call call) result.reply (C.seen session.old) (C.seen session.new) }
+    ensures course { Goes (C.grounds session.new) result.course (C.seen session.new) }
+{
+    match session.stage() {
+        Stage::Idle => call_at_rest(alloc, session, course, call),
+        Stage::Active { .. } => call_in_tx(alloc, session, course, call),
+        Stage::Asked => refuse(Refusal::Ended, course),
+    }
+}
+
+/// Does what a line asks for, and answers it. Where the line is no call, is out of turn, or the session has ended, it is refused, and nothing is done.
+pub(crate) fn answer<C: SessionCalls>(
+    alloc: Global,
+    session: &mut C,
+    course: Course,
+    asked: Asked,
+) -> Step
+    requires session { C.holds session.old }
+    requires course { Goes (C.grounds session.old) course (C.seen session.old) }
+    ensures session { C.holds session.new }
+    ensures base { C.base session.new ≡ C.base session.old }
+    ensures misses { Keeps (C.missed session.old) (C.missed session.new) }
+    ensures did { Did asked result.reply (C.seen session.old) (C.seen session.new) }
+    ensures course { Goes (C.grounds session.new) result.course (C.seen session.new) }
+{
+    if course.ended.is_some() {
+        return refuse(Refusal::Ended, course);
+    }
+    match asked {
+        Asked::Call(call) => call_of(alloc, session, course, call),
+        Asked::Unknown => refuse(Refusal::Unknown, course),
+    }
+}

@@ -1,0 +1,494 @@
+#!/usr/bin/env python3
+"""Live sessions: `serve`, line by line.
+
+By hand: what each request is answered, in turn and out of turn, and how an input, an output and a peer end. At random: clients on threads, whose transactions
+have an order in which each answer is that of one behind another, which ends with what `show` tells; and stores that are killed, of which each line "committed" that
+came out is there. And the examples, as they stand.
+"""
+
+import contextlib
+import json
+import os
+import queue
+import random
+import signal
+import subprocess
+import sys
+import threading
+import time
+
+import logs
+from program import Checks, Folder, arguments, cases, seeded
+
+LIMIT = 60
+EXAMPLES = os.path.join(os.path.dirname(os.path.dirname(os.path.abspath(__file__))), "examples")
+sys.path.insert(0, EXAMPLES)
+import clv
+
+NO_ANSWER = "no answer in time"
+
+
+class Live:
+    """A store that serves, and the lines that it writes."""
+
+    def __init__(self, folder, *words):
+        self.process = folder.start("serve", *words, stdin=subprocess.PIPE, stdout=subprocess.PIPE, stderr=subprocess.PIPE)
+        self.lines = queue.SimpleQueue()
+        self.reader = threading.Thread(target=self.read, daemon=True)
+        self.reader.start()
+
+    def read(self):
+        with contextlib.suppress(ValueError, OSError):
+            for line in self.process.stdout:
+                self.lines.put(line.decode())
+        self.lines.put(None)
+
+    def send(self, text):
+        self.process.stdin.write(text.encode() if isinstance(text, str) else text)
+        self.process.stdin.flush()
+
+    def line(self, seconds=LIMIT):
+        """The next line; None at the end, and `NO_ANSWER` where there is none in time."""
+        try:
+            return self.lines.get(timeout=seconds)
+        except queue.Empty:
+            return NO_ANSWER
+
+    def ask(self, text):
+        self.send(text + "\n")
+        line = self.line()
+        return json.loads(line) if line not in (None, NO_ANSWER) else line
+
+    def end(self):
+        """Ends the input. The status, the lines that were left, and standard error."""
+        with contextlib.suppress(OSError):
+            self.process.stdin.close()
+        try:
+            status = self.process.wait(LIMIT)
+        except subprocess.TimeoutExpired:
+            self.process.kill()
+            status = None
+        self.reader.join()
+        left = []
+        while (line := self.lines.get()) is not None:
+            left.append(line)
+        return status, left, self.process.stderr.read().decode()
+
+
+def refused(session, text):
+    return [session, "refused", text]
+
+
+# One request after another, each with its answer.
+TRANSCRIPT = [
+    ("1 begin", [1, "begin", 1]),
+    ("1 put 1 100", [1, "put", 1, 100, None]),
+    ("1 get 1", [1, "get", 1, 100]),
+    ("1 put 11 5", [1, "put", 11, 5, None]),
+    ("1 get 12", [1, "get", 12, None]),
+    ("1 scan 0 20", [1, "scan", 0, 20, [[1, 100], [11, 5]]]),
+    ("1 del 11", [1, "del", 11, 5]),
+    ("1 put 11 6", [1, "put", 11, 6, None]),
+    ("1 commit", [1, "committed", 1]),
+    ("1 begin", [1, "begin", 2]),
+    ("1 commit", [1, "empty", 2]),
+    ("1 begin", [1, "begin", 3]),
+    ("1 put 1 7", [1, "put", 1, 7, 100]),
+    ("1 abort", [1, "aborted", "asked"]),
+    ("1 retry", [1, "begin", 4]),
+    ("1 get 1", [1, "get", 1, 100]),
+    ("1 commit", [1, "committed", 4]),
+    ("1 retry", refused(1, "nothing to try again")),
+    ("1 commit", refused(1, "no transaction is active")),
+    ("1 abort", refused(1, "no transaction is active")),
+    ("1 get 1", refused(1, "no transaction is active")),
+    ("2 retry", refused(2, "nothing to try again")),
+    ("2 begin", [2, "begin", 1]),
+    ("2 begin", refused(2, "a transaction is active")),
+    ("2 retry", refused(2, "a transaction is active")),
+    ("2 get", refused(2, "no request")),
+    ("2 scan 2 1", refused(2, "no request")),
+    ("2 move 1 2 3", refused(2, "no request")),
+    ("2  get 1", refused(2, "no request")),
+    ("2 get 18446744073709551616", refused(2, "no request")),
+    ("2 get 18446744073709551615", [2, "get", 18446744073709551615, None]),
+    ("2 session", refused(2, "no request")),
+    ("2 #", refused(2, "no request")),
+    ("17 begin", refused(0, "no session")),
+    ("0 begin", refused(0, "no session")),
+    ("02 commit", refused(0, "no session")),
+    ("begin", refused(0, "no session")),
+    ("2", refused(0, "no session")),
+    (" 2 commit", refused(0, "no session")),
+    ("#" + "x" * 4095 + "\n2 commit", [2, "committed", 1]),
+    ("#" + "x" * 4096, refused(0, "the line is too long")),
+    ("\n\n# a comment\n16 begin", [16, "begin", 1]),
+    # Whoever finds an older one in its way dies, and keeps its age.
+    ("3 begin", [3, "begin", 1]),
+    ("4 begin", [4, "begin", 1]),
+    ("3 put 5 1", [3, "put", 5, 1, None]),
+    ("4 put 5 2", [4, "aborted", "died", [1, 3, 1]]),
+    ("4 put 5 2", refused(4, "no transaction is active")),
+    ("4 retry", [4, "begin", 2]),
+    ("3 commit", [3, "committed", 1]),
+    ("4 put 5 2", [4, "put", 5, 2, 1]),
+    ("4 commit", [4, "committed", 2]),
+]
+
+
+def transcript(checks, program):
+    with Folder(program) as folder:
+        folder.run("make", "10")
+        live = Live(folder)
+        for asked, want in TRANSCRIPT:
+            got = live.ask(asked)
+            checks.check(f"{asked[:40]!r}", got == want, (got, want))
+        # An older one waits for a younger one.
+        live.ask("5 begin")
+        live.ask("6 begin")
+        live.ask("6 put 8 1")
+        live.send("5 get 8\n")
+        checks.check("it waits", live.line(0.3) == NO_ANSWER)
+        live.send("6 commit\n")
+        both = sorted(json.loads(live.line()) for _ in range(2))
+        checks.check("and goes on", both == [[5, "get", 8, 1], [6, "committed", 1]], both)
+        # The input ends with three transactions open.
+        status, left, err = live.end()
+        checks.check("end of input", (status, left, err) == (0, [], ""), (status, left, err))
+        shown = folder.run("show")
+        checks.check("what stands", shown.out == "[1,100]\n[5,2]\n[8,1]\n[11,6]\n", shown)
+
+
+def whole_input(checks, program):
+    """Lines that are there before the store is, many of them ahead of their answers, and an input that ends in the middle of a line or without a line feed."""
+    with Folder(program) as folder:
+        folder.run("make", "10")
+        asked, want = [], []
+        for number in range(1, 1001):
+            asked += ["1 begin", f"1 put {number % 20} {number}", "1 commit"]
+            want += [[1, "begin", number], [1, "put", number % 20, number, number - 20 if number > 20 else None], [1, "committed", number]]
+        got = folder.run("serve", "--sessions", "1", script="\n".join(asked).encode())
+        lines = [json.loads(it) for it in got.out.splitlines()]
+        checks.check("3,000 lines ahead", (got.status, got.err) == (0, "") and lines == want, (got, len(lines)))
+        got = folder.run("serve", script=b"1 begin\n1 put 1 5\n1 com")
+        checks.check("a line that is cut", got.is_fine() and got.out.splitlines()[-1] == '[1,"refused","no request"]', got)
+        got = folder.run("serve", script=b"1 begin\n1 put 2 5\n1 commit")
+        checks.check("no line feed", got.is_fine() and got.out == '[1,"begin",1]\n[1,"put",2,5,982]\n[1,"committed",1]\n', got)
+        got = folder.run("serve", script=b"")
+        checks.check("no line", got.is_fine() and got.out == "", got)
+        got = folder.run("serve", script=b"1 put \xff\xfe 5\n\xff\n")
+        checks.check("bytes", got.is_fine() and got.out in ('[1,"refused","no request"]\n[0,"refused","no session"]\n', '[0,"refused","no session"]\n[1,"refused","no request"]\n'), got)
+
+
+def words(checks, program):
+    with Folder(program) as folder:
+        for given in ("serve --sessions 0", "serve --sessions 65", "serve --sessions x", "serve 3", "serve --sessions"):
+            got = folder.run(*given.split())
+            checks.check(given, got.status == 2 and got.out == "" and got.err.startswith("usage: ") and got.err.endswith("| serve [--sessions N]\n"), got)
+        got = folder.run("serve", script=b"1 begin\n")
+        checks.check("no logs", got.is_refused(7, "shard 0: not a log at byte 0"), got)
+        folder.run("make")
+        for sessions in (1, 64):
+            got = folder.run("serve", "--sessions", str(sessions), script=f"{sessions} begin\n{sessions + 1} begin\n".encode())
+            lines = sorted(got.out.splitlines())
+            checks.check(f"{sessions} sessions", got.is_fine() and lines == ['[0,"refused","no session"]', f'[{sessions},"begin",1]'], got)
+
+
+def peers(checks, program):
+    """Whoever takes the answers goes away; whoever gives the lines is ended; a second program comes."""
+    with Folder(program) as folder:
+        folder.run("make", "10")
+        # Its answers are read by nobody but this thread, so that it can go away.
+        process = folder.start("serve", stdin=subprocess.PIPE, stdout=subprocess.PIPE, stderr=subprocess.PIPE, bufsize=0)
+        process.stdin.write(b"1 begin\n1 put 1 1\n")
+        got = b""
+        while got.count(b"\n") < 2:
+            got += process.stdout.read(1000)
+        other = folder.run("show")
+        checks.check("a second program", other.is_refused(6, "disk fault on shard 0"), other)
+        process.stdout.close()
+        with contextlib.suppress(OSError):
+            for _ in range(10):
+                process.stdin.write(b"2 begin\n")
+                time.sleep(0.05)
+        with contextlib.suppress(OSError):
+            process.stdin.close()
+        status = process.wait(LIMIT)
+        err = process.stderr.read().decode()
+        checks.check("nobody takes answers", (status, err) == (5, "write fault\n"), (status, err))
+        shown = folder.run("show")
+        checks.check("its transactions are aborted", shown.is_fine() and shown.out == "", shown)
+        with open("/dev/full", "wb") as full:
+            got = folder.run("serve", script=b"1 begin\n1 put 3 4\n1 commit\n" * 3, stdout=full)
+        checks.check("a full output", got.status == 5, got)
+
+
+# Clients at random.
+
+
+class Client:
+    """A client's transactions: what it was answered, and whether it was told that they are committed. Each value that is put is another one."""
+
+    def __init__(self, number):
+        self.number, self.value = number, 0
+        self.committed, self.unknown = [], []
+
+    def fresh(self):
+        self.value += 1
+        return self.number * 1_000_000 + self.value
+
+    def one(self, session, numbers, keys):
+        """One transaction, tried until it is committed; its operations with their answers."""
+        plan = [(numbers.choice(("get", "put", "put", "scan")), numbers.choice(keys), numbers.choice(keys)) for _ in range(numbers.randrange(1, 6))]
+        done = []
+
+        def work(t):
+            done.clear()
+            for word, key, other in plan:
+                if word == "get":
+                    done.append(("get", key, t.get(key)))
+                elif word == "put":
+                    value = self.fresh()
+                    done.append(("put", key, value, t.put(key, value)))
+                else:
+                    low, high = min(key, other), max(key, other)
+                    done.append(("scan", low, high, t.scan(low, high)))
+
+        session.run(work)
+        self.committed.append(list(done))
+
+
+class Wrong(Exception):
+    pass
+
+
+def versions(transactions):
+    """By key the values that were put, one after another, and by value the transaction; values are put once."""
+    behind, makers = {}, {}
+    for number, done in enumerate(transactions):
+        for op in done:
+            if op[0] == "put":
+                _, key, value, before = op
+                makers[value] = number
+                if (key, before) in behind:
+                    raise Wrong(f"{value} and {behind[key, before]} were both put over {before} at {key}")
+                behind[key, before] = value
+    chains = {}
+    for key in {it[0] for it in behind}:
+        chain, value = [], None
+        while (key, value) in behind:
+            value = behind[key, value]
+            chain.append(value)
+        chains[key] = chain
+    count = sum(map(len, chains.values()))
+    if count != len(behind):
+        raise Wrong(f"{len(behind)} values were put, and {count} stand behind each other")
+    return chains, makers
+
+
+def reads(done):
+    """What a transaction found that it didn't put itself: keys and values."""
+    own = {}
+    for op in done:
+        if op[0] == "put":
+            _, key, value, before = op
+            if key not in own:
+                yield key, before
+            elif own[key] != before:
+                raise Wrong(f"{op} behind its own {own[key]}")
+            own[key] = value
+        elif op[0] == "get":
+            if op[1] not in own:
+                yield op[1], op[2]
+            elif own[op[1]] != op[2]:
+                raise Wrong(f"{op} behind its own {own[op[1]]}")
+        else:
+            found = dict(op[3])
+            for key in (*found, *(it for it in own if op[1] <= it <= op[2])):
+                if key in own and found.get(key) != own[key]:
+                    raise Wrong(f"{op} behind its own {own[key]} at {key}")
+                if key not in own:
+                    yield key, found[key]
+
+
+def order(transactions, sessions, keys):
+    """Whether some order of them gives each answer: edges from who comes first, and none leads back. Gives the map at its end."""
+    chains, makers = versions(transactions)
+    later = {number: set() for number in range(len(transactions))}
+
+    def edge(first, second):
+        if first is not None and second is not None and first != second:
+            later[first].add(second)
+
+    places = {(key, value): at for key, chain in chains.items() for at, value in enumerate(chain)}
+    for number, done in enumerate(transactions):
+        found = list(reads(done))
+        for op in done:
+            if op[0] == "scan":
+                there = {it for it, _ in op[3]}
+                found += [(key, None) for key in keys if op[1] <= key <= op[2] and key not in there and not any(o[0] == "put" and o[1] == key for o in done)]
+        for key, value in found:
+            chain = chains.get(key, [])
+            if value is not None:
+                if (key, value) not in places:
+                    raise Wrong(f"{value} at {key} was never put")
+                edge(makers[value], number)
+            nth = 0 if value is None else places[key, value] + 1
+            # Behind its own puts stand those that come later.
+            while nth < len(chain) and makers[chain[nth]] == number:
+                nth += 1
+            if nth < len(chain):
+                edge(number, makers[chain[nth]])
+    for chain in chains.values():
+        for one, other in zip(chain, chain[1:]):
+            edge(makers[one], makers[other])
+    for mine in sessions:
+        for one, other in zip(mine, mine[1:]):
+            edge(one, other)
+    waits = {number: 0 for number in later}
+    for after in later.values():
+        for it in after:
+            waits[it] += 1
+    ready = [it for it, count in waits.items() if count == 0]
+    passed = 0
+    while ready:
+        passed += 1
+        for it in later[ready.pop()]:
+            waits[it] -= 1
+            if waits[it] == 0:
+                ready.append(it)
+    if passed != len(transactions):
+        raise Wrong(f"no order of {len(transactions) - passed} of {len(transactions)} transactions gives their answers")
+    return {key: chain[-1] for key, chain in chains.items()}
+
+
+def meets(checks, case, numbers, program):
+    """Clients that meet on a few keys."""
+    splits = sorted(numbers.sample(range(1, 20), numbers.randrange(4)))
+    keys = numbers.sample(range(20), numbers.randrange(3, 10))
+    clients = [Client(it + 1) for it in range(numbers.randrange(2, 9))]
+    each = numbers.randrange(5, 40)
+    with Folder(program) as folder:
+        folder.run("make", *map(str, splits))
+        store = clv.Store(os.path.abspath(program), folder.path, len(clients), stderr=subprocess.PIPE)
+        wrong = []
+
+        def work(client, own):
+            try:
+                with store.session() as session:
+                    for _ in range(each):
+                        client.one(session, own, keys)
+            except Exception as why:
+                wrong.append(repr(why))
+
+        threads = [threading.Thread(target=work, args=(it, random.Random(numbers.random()))) for it in clients]
+        for thread in threads:
+            thread.start()
+        for thread in threads:
+            thread.join(LIMIT)
+        checks.check(f"case {case}: all clients went through", not wrong and not any(it.is_alive() for it in threads), wrong, None, case)
+        if any(it.is_alive() for it in threads):
+            store.kill()
+            return
+        status = store.close()
+        err = store.process.stderr.read().decode()
+        checks.check(f"case {case}: status", (status, err) == (0, ""), (status, err), None, case)
+        transactions, sessions = [], []
+        for client in clients:
+            sessions.append(list(range(len(transactions), len(transactions) + len(client.committed))))
+            transactions += client.committed
+        try:
+            after = order(transactions, sessions, keys)
+        except Wrong as why:
+            checks.check(f"case {case}: an order", False, why, None, case)
+            return
+        checks.check(f"case {case}: an order", True)
+        found = logs.map_of(folder.logs())
+        checks.check(f"case {case}: what the logs stand for", found == after, (found, after), None, case)
+        shown = folder.run("show")
+        checks.check(f"case {case}: show", shown.is_fine() and shown.out == logs.shown(after), (shown, after), None, case)
+
+
+# Stores that are killed.
+
+
+def twins(t, client, nth, source, target):
+    """Two keys of the client's own, on shards of their own, get the number; and an account of all gives another one something."""
+    t.put(1000 + client, nth)
+    t.put(3000 + client, nth)
+    one = t.get(source)
+    if one > 0:
+        t.put(source, one - 1)
+        t.put(target, t.get(target) + 1)
+
+
+ACCOUNTS = [10, 11, 2010, 2011]
+
+
+def kills(checks, case, numbers, program):
+    """What was told as committed is there, whole, after `kill -9`; of the last transaction of each client all or nothing."""
+    count = numbers.randrange(1, 7)
+    told, tried = [0] * count, [0] * count
+    with Folder(program) as folder:
+        folder.run("make", "2000", "2500")
+        lines = ["1 begin", *(f"1 put {it} 100" for it in ACCOUNTS), *(f"1 put {place + it} 0" for it in range(count) for place in (1000, 3000)), "1 commit"]
+        folder.run("serve", script="\n".join(lines).encode())
+        for round_ in range(1, 5):
+            store = clv.Store(os.path.abspath(program), folder.path, count)
+
+            def work(client, own):
+                with contextlib.suppress(clv.Gone):
+                    with store.session() as session:
+                        while True:
+                            tried[client] = told[client] + 1
+                            source, target = own.sample(ACCOUNTS, 2)
+                            session.run(lambda t: twins(t, client, tried[client], source, target))
+                            told[client] = tried[client]
+
+            threads = [threading.Thread(target=work, args=(it, random.Random(numbers.random()))) for it in range(count)]
+            for thread in threads:
+                thread.start()
+            time.sleep(numbers.uniform(0.01, 0.5))
+            store.kill()
+            for thread in threads:
+                thread.join(LIMIT)
+            name = f"case {case}, round {round_}"
+            shown = folder.run("show")
+            pairs = {key: value for key, value in map(json.loads, shown.out.splitlines())}
+            checks.check(f"{name}: show", shown.is_fine(), shown, None, case)
+            money = sum(pairs.get(it, 0) for it in ACCOUNTS)
+            checks.check(f"{name}: the accounts", money == 100 * len(ACCOUNTS), pairs, None, case)
+            for client in range(count):
+                one, other = pairs.get(1000 + client), pairs.get(3000 + client)
+                is_right = one == other and one in (told[client], tried[client])
+                checks.check(f"{name}: client {client}", is_right, (one, other, told[client], tried[client]), None, case)
+                told[client] = one or 0
+    return sum(told)
+
+
+def examples(checks, program):
+    for words_ in (["ledger.py", "--clients", "4", "--transfers", "50"], ["jobs.py", "--jobs", "30", "--kills", "4"]):
+        with Folder(program) as folder:
+            folder.run("make", "10", "1000000")
+            name, *options = words_
+            told = subprocess.run([sys.executable, f"{EXAMPLES}/{name}", os.path.abspath(program), folder.path, *options], capture_output=True, timeout=600)
+            checks.check(f"examples/{name}", told.returncode == 0, (told.returncode, told.stdout, told.stderr))
+            print(told.stdout.decode().rstrip())
+
+
+def main():
+    told = arguments(__doc__, count=20)
+    checks = Checks(told)
+    if told.only is None:
+        for test in (transcript, whole_input, words, peers, examples):
+            test(checks, told.program)
+    made = 0
+    for case, numbers in cases(told):
+        meets(checks, case, numbers, told.program)
+        made += kills(checks, case, numbers, told.program)
+    print(f"{made} transactions were told as committed by stores that were killed")
+    checks.end()
+
+
+if __name__ == "__main__":
+    main()
