@@ -133,6 +133,22 @@ TRANSCRIPT = [
     ("3 commit", [3, "committed", 1]),
     ("4 put 5 2", [4, "put", 5, 2, 1]),
     ("4 commit", [4, "committed", 2]),
+    # A text is told as its digits.
+    ("7 bytes 9 00ff", refused(7, "no transaction is active")),
+    ("7 begin", [7, "begin", 1]),
+    ("7 bytes 9 00ff", [7, "put", 9, "00ff", None]),
+    ("7 bytes 13 -", [7, "put", 13, "", None]),
+    ("7 put 9 3", [7, "put", 9, 3, "00ff"]),
+    ("7 bytes 9 " + "ab" * 200, [7, "put", 9, "ab" * 200, 3]),
+    ("7 bytes 9 " + "ab" * 201, refused(7, "no request")),
+    ("7 bytes 9 0", refused(7, "no request")),
+    ("7 bytes 9 0A", refused(7, "no request")),
+    ("7 bytes 9", refused(7, "no request")),
+    ("7 get 9", [7, "get", 9, "ab" * 200]),
+    ("7 bytes 9 0d0a", [7, "put", 9, "0d0a", "ab" * 200]),
+    ("7 scan 8 20", [7, "scan", 8, 20, [[9, "0d0a"], [11, 6], [13, ""]]]),
+    ("7 del 13", [7, "del", 13, ""]),
+    ("7 commit", [7, "committed", 1]),
 ]
 
 
@@ -156,7 +172,7 @@ def transcript(checks, program):
         status, left, err = live.end()
         checks.check("end of input", (status, left, err) == (0, [], ""), (status, left, err))
         shown = folder.run("show")
-        checks.check("what stands", shown.out == "[1,100]\n[5,2]\n[8,1]\n[11,6]\n", shown)
+        checks.check("what stands", shown.out == "[1,100]\n[5,2]\n[8,1]\n[9,\"0d0a\"]\n[11,6]\n", shown)
 
 
 def whole_input(checks, program):

@@ -5,6 +5,7 @@
 
 pub mod causes;
 pub mod events;
+pub mod kept;
 pub mod lists;
 pub mod logs;
 pub mod messages;
@@ -15,4 +16,6 @@ pub mod parts;
 mod shard_lists;
 pub mod splits;
 pub mod state;
+pub mod texts;
+pub mod values;
 mod votes;

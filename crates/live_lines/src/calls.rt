@@ -1,21 +1,22 @@
 // What a session is asked, and what it answers.
 
 use clv_base::causes::AbortCause;
-use clv_base::ops::{Answer, Op};
+use clv_base::kept::KeptOp;
+use clv_base::ops::Answer;
 
 /// A call of a session.
-#[derive(Clone, Copy, PartialEq, Eq)]
+#[derive(Drop)]
 pub enum Call {
     Begin,
     /// Begins another try of the last transaction, with its birth.
     Retry,
-    Operate(Op),
+    Operate(KeptOp),
     Commit,
     Abort,
 }
 
 /// What a line asks of the session that it names: a call, or nothing that a session knows.
-#[derive(Clone, Copy, PartialEq, Eq)]
+#[derive(Drop)]
 pub enum Asked {
     Call(Call),
     Unknown,
@@ -46,7 +47,7 @@ pub enum Reply {
     /// A transaction is active, under this serial.
     Begun { serial: u64 },
     /// An operation was answered.
-    Answered { op: Op, answer: Answer },
+    Answered { op: KeptOp, answer: Answer },
     /// The transaction is acknowledged.
     Committed { serial: u64 },
     /// It had no operation.

@@ -4,6 +4,7 @@ use Rattle.std.specs.Prelude.{◌⊎◌, IsTrue}
 use Rattle.std.specs.Map.{lookup}
 use Rattle.std.proofs.lemmas.Bool.{both_ways, and_parts, leb-true, ltb-true, le-leb}
 use Rattle.std.proofs.lemmas.List.Folds.{list_any-append}
+use Rattle.clv_base.specs.declared.values.Value.{Value as ValueType}
 use Rattle.clv_base.specs.declared.names.TxId.{TxId}
 use Rattle.clv_base.specs.declared.names.Birth.{Birth}
 use Rattle.clv_base.specs.declared.names.Point.{Point}
@@ -450,7 +451,7 @@ module _ (M S G : Type 0) where
               (forgotten sh asked birth lo hi w p rise small has v q f.shard f.part f.answers f.walker f.middle s f.meets below a own
               (with_part sh asked birth lo hi w p rise small has f.shard f.part f.answers f.walker v f.middle q s f.meets a own))
 
-      at : (r : Result (List (ℕ × ℕ)) OpError) → PartsTold sh birth (p.nth + 1) lo hi w p r v q
+      at : (r : Result (List (ℕ × ValueType)) OpError) → PartsTold sh birth (p.nth + 1) lo hi w p r v q
           → OperateTold p.tx birth p.nth (touched_in p.touched) (Scan lo hi) (pairs_end r) (seen_as sh w asked (is_active p birth)) (seen_as sh v asked (unless_dead q birth (has_died r)))
       at (Ok pairs) (answers, made, is) =
           let s = subst (λ k. SoFar sh asked birth lo hi w p rise small has k answers v q) count (so_far sh asked birth lo hi w p rise small has (length sh.locks.items) answers v q made) in

@@ -3,4 +3,4 @@ use Rattle.script_lang.proofs.Meanings.{no_line}
 use Rattle.script_lang.proofs.lines.line_of.Goals as goal
 
 pub returns-in-None : goal.returns-in-None
-returns-in-None c = no_line c.args.bytes.now (search rules) (search rules) (search rules) c.in_default.ensures c.in-None.ensures
+returns-in-None c = no_line c.args.bytes.now (search rules) (search rules) (search rules) c.in_default.ensures (rw c.in-None.is at c.in_ok-action.ensures)

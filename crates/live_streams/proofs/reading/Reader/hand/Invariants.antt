@@ -6,4 +6,5 @@ abbrev pub invariant-loop : goal.invariant-loop
 invariant-loop g l = record {
   lines : l.self.lines ≡ l.fn.self.lines;
   own : l.self.own ≡ l.fn.self.own;
+  asked : l.asked ≡ l.fn.asked;
 }
