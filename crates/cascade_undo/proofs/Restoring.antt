@@ -13,7 +13,7 @@ use Rattle.ordered_store.proofs.Laws.{none_above}
 use Rattle.law_base.proofs.Bools.{by_bool as both}
 
 -- the records with another value at a key that is there
-abbrev pub set_back : ℕ → Option ℕ → Records → Records
+abbrev pub set_back : ℕ → Option ValueType → Records → Records
 set_back k v rs = map (λ r. (r.0, cond (r.0 == k) v r.1)) rs
 
 others_same : (k : ℕ) (v : Option ValueType) (rs : Records) → Above k rs → rs ≡ set_back k v rs

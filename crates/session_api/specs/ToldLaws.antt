@@ -30,7 +30,7 @@ use Rattle.session_api.specs.Seeing.{seen_as, touched_in, is_active, unless_dead
 -- an operation at this key
 pub data IsAt (key : ℕ) : Op → Type 0 where
   gets : IsAt key (Get key)
-  puts : (value : ℕ) → IsAt key (Put key value)
+  puts : (value : ValueType) → IsAt key (Put key value)
   dels : IsAt key (Del key)
 
 -- its entry is the operation's, if it was answered; else there is none, but where the transaction died of it, and then there are drops behind it

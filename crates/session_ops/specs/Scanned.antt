@@ -83,13 +83,13 @@ IsOfScan splits x t = (is_of_session t.event ≡ false) ⊎ (((n : ℕ) × IsPar
 
 -- what an error tells of the turns: the transaction died of a part, and its other parts were dropped; a shard that the range meets, or after a wait any, was
 -- found down; a stamp past the last was needed
-abbrev pub ScanFailed : List ℕ → ℕ → Range → List (ℕ × ValueType) → OpError → List Turn → Type 0
+abbrev pub ScanFailed : List ℕ → ℕ → Range → List (ℕ × ℕ) → OpError → List Turn → Type 0
 ScanFailed splits count x touched (Aborted cause) ts = (n : ℕ) × (AnyTurn (DiesOfScan splits x n cause) ts × DropsOthers count x.tx touched n ts)
 ScanFailed splits count x touched (Down m) ts = FoundDown m ts × ((is_some (part_on splits m x.lo x.hi) ≡ true) ⊎ AnyTurn (IsScanWait splits x) ts)
 ScanFailed splits count x touched (Worn at) ts = FoundWorn at ts
 ScanFailed splits count x touched Memory ts = ⊤
 
-abbrev pub ScanTold : List ℕ → ℕ → Range → List (ℕ × ValueType) → Result (List (ℕ × ValueType)) OpError → List Turn → Type 0
+abbrev pub ScanTold : List ℕ → ℕ → Range → List (ℕ × ℕ) → Result (List (ℕ × ValueType)) OpError → List Turn → Type 0
 ScanTold splits count x touched (Ok pairs) ts = Gathered splits x count pairs ts
 ScanTold splits count x touched (Err e) ts = ScanFailed splits count x touched e ts
 

@@ -79,7 +79,7 @@ set_twice k v w (r ∷ rs) = at (nat_cmp k r.0) refl (set_twice k v w rs)
 
 -- ---- records of a map
 
-pub records_set : (k v : ℕ) (m : KeyMap) → record_set k (Some v) (records_of m) ≡ records_of (put nat_cmp k v m)
+pub records_set : (k : ℕ) (v : ValueType) (m : KeyMap) → record_set k (Some v) (records_of m) ≡ records_of (put nat_cmp k v m)
 records_set k v [] = refl
 records_set k v (e ∷ es) = at (nat_cmp k e.0) (records_set k v es)
   where

@@ -46,7 +46,7 @@ kept_fold keep (Restart run epoch ∷ rs) m = kept_fold keep rs m
 -- ---- the value at one key
 
 -- what the last of the writes that pass leaves, or what was there before
-last_of : (Write → Bool) → List Write → Option ℕ → Option ℕ
+last_of : (Write → Bool) → List Write → Option ValueType → Option ValueType
 last_of p [] x = x
 last_of p (w ∷ ws) x = last_of p ws (cond (p w) w.after x)
 
