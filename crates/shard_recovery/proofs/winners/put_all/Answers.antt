@@ -10,5 +10,5 @@ pub loop-write-preserved : goal.loop-write-preserved
 loop-write-preserved g c =
     let writes = c.args.writes.now in let i = c.loop-write.write-index in
     let m : KeyMap = writes_after (take i writes) [] in
-    c.set.ensures.records m (c.reserve.ensures.records ∙ c.loop-write.invariant)
+    c.set.ensures.records m (c.reserve.ensures.records ∙ c.loop-write.invariant) ∙ ap (λ v. records_of (map_set _ v m)) c.value.ensures
     ∙ ap records_of (sym (writes_more (take i writes) (get_or writes i _) []) ∙ ap (λ l. writes_after l []) (sym (take_more writes i _ c.loop-write-test.true)))
