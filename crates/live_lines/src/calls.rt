@@ -1,8 +1,7 @@
 // What a session is asked, and what it answers.
 
 use clv_base::causes::AbortCause;
-use clv_base::kept::KeptOp;
-use clv_base::ops::Answer;
+use clv_base::ops::{Answer, Op};
 
 /// A call of a session.
 #[derive(Drop)]
@@ -10,7 +9,7 @@ pub enum Call {
     Begin,
     /// Begins another try of the last transaction, with its birth.
     Retry,
-    Operate(KeptOp),
+    Operate(Op),
     Commit,
     Abort,
 }
@@ -47,7 +46,7 @@ pub enum Reply {
     /// A transaction is active, under this serial.
     Begun { serial: u64 },
     /// An operation was answered.
-    Answered { op: KeptOp, answer: Answer },
+    Answered { op: Op, answer: Answer },
     /// The transaction is acknowledged.
     Committed { serial: u64 },
     /// It had no operation.

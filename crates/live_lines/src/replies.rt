@@ -223,7 +223,7 @@ fn told(alloc: Global, session: u64, reply: &Reply) -> Result<Vec<Value>, Memory
 {
     match reply {
         Reply::Begun { serial } => row(alloc, session, "begin", &[*serial]),
-        Reply::Answered { op, answer } => answered(alloc, session, &op.op(), answer),
+        Reply::Answered { op, answer } => answered(alloc, session, op, answer),
         Reply::Committed { serial } => row(alloc, session, "committed", &[*serial]),
         Reply::Empty { serial } => row(alloc, session, "empty", &[*serial]),
         Reply::Aborted(cause) => aborted(alloc, session, *cause),

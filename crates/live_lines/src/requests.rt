@@ -42,7 +42,7 @@ fn call_by(line: Line) -> Option<Call>
 {
     match line {
         Line::Begin => Some(Call::Begin),
-        Line::Act(Action::Do(op)) => Some(Call::Operate(op)),
+        Line::Act(Action::Do(op)) => Some(Call::Operate(op.op())),
         Line::End(Ending::Commit) => Some(Call::Commit),
         Line::End(Ending::Abort) => Some(Call::Abort),
         _ => None,

@@ -9,7 +9,6 @@ ghost use Rattle.script_runs.specs.Ran.{IsIdle};
 ghost use Rattle.live_sessions.specs.Served.{IsActive, IsLast, Goes, Did, Drops, EndTold, IsOtherEnd, reply_by};
 
 use clv_base::causes::AbortCause;
-use clv_base::kept::KeptOp;
 use clv_base::ops::Op;
 use live_lines::{Asked, Call, Refusal, Reply};
 use script_runs::{SessionCalls, Stage, StopCause, TryEnd};
@@ -147,18 +146,18 @@ fn end_by<C: SessionCalls>(alloc: Global, session: &mut C, end: TryEnd) -> Step
     }
 }
 
-fn operate<C: SessionCalls>(alloc: Global, session: &mut C, kept: KeptOp) -> Step
+fn operate<C: SessionCalls>(alloc: Global, session: &mut C, op: Op) -> Step
     requires session { C.holds session.old }
     requires active { IsActive (C.seen session.old) }
-    requires range { ranges kept ≡ true }
+    requires range { ranges op ≡ true }
     ensures session { C.holds session.new }
     ensures base { C.base session.new ≡ C.base session.old }
     ensures misses { Keeps (C.missed session.old) (C.missed session.new) }
-    ensures did { Did (asks.Call (calls.Operate kept)) result.reply (C.seen session.old) (C.seen session.new) }
+    ensures did { Did (asks.Call (calls.Operate op)) result.reply (C.seen session.old) (C.seen session.new) }
     ensures course { Goes (C.grounds session.new) result.course (C.seen session.new) }
 {
-    match session.operate(alloc, &kept.op()) {
-        Ok(answer) => goes_on(Reply::Answered { op: kept, answer }, false),
+    match session.operate(alloc, &op) {
+        Ok(answer) => goes_on(Reply::Answered { op, answer }, false),
         Err(end) => end_by(alloc, session, end),
     }
 }
@@ -253,9 +252,9 @@ fn call_in_tx<C: SessionCalls>(alloc: Global, session: &mut C, course: Course, c
     ensures course { Goes (C.grounds session.new) result.course (C.seen session.new) }
 {
     match call {
-        Call::Operate(kept) => {
-            if has_range(&kept.op()) {
-                operate(alloc, session, kept)
+        Call::Operate(op) => {
+            if has_range(&op) {
+                operate(alloc, session, op)
             } else {
                 refuse(Refusal::Unknown, course)
             }

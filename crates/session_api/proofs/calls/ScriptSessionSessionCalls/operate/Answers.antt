@@ -1,4 +1,4 @@
-use Rattle.std.proofs.Common.{ap}
+use Rattle.std.proofs.Common.{◌∙◌, ap, sym}
 use Rattle.clv_base.specs.declared.ops.Op.TheVariants.{Get, Put, Del}
 use Rattle.session_api.specs.ToldLaws.{gets, puts, dels}
 use Rattle.session_api.proofs.ScriptOperating.{point_answers, point_call, scan_answers, scan_call}
@@ -26,23 +26,23 @@ returns-in-Get-clause-grounds g c = let s = c.args.self.now.session in let z = c
 
 pub value_told-requires-in-Put : goal.value_told-requires-in-Put
 value_told-requires-in-Put g c = let s = c.args.self.now.session in let z = c.put.new.self in let e = c.put.ensures in
-    record { made = point_answers s.shards.now c.args.self.now.asked z.shards.now s.walker z.walker s.progress z.progress c.in-Put.key (Put c.in-Put.key c.in-Put.value) c.put.result (ap (λ x. x.now) e.shards) c.requires.session c.requires.active (puts c.in-Put.value) e.told e.session }
+    record { made = point_answers s.shards.now c.args.self.now.asked z.shards.now s.walker z.walker s.progress z.progress c.in-Put.key (Put c.in-Put.key c.copy.result) c.put.result (ap (λ x. x.now) e.shards) c.requires.session c.requires.active (puts c.copy.result) e.told e.session }
 
 pub returns-in-Put-clause-session : goal.returns-in-Put-clause-session
 returns-in-Put-clause-session g c = let s = c.args.self.now.session in let z = c.put.new.self in let e = c.put.ensures in
-    (point_call s.shards.now c.args.self.now.asked z.shards.now s.walker z.walker s.progress z.progress c.in-Put.key c.args.op.now (Put c.in-Put.key c.in-Put.value) c.put.result c.value_told-in-Put.result (ap (λ x. x.now) e.shards) c.in-Put.is c.requires.session c.requires.active (puts c.in-Put.value) e.told e.session c.value_told-in-Put.ensures.told).holds.holds
+    (point_call s.shards.now c.args.self.now.asked z.shards.now s.walker z.walker s.progress z.progress c.in-Put.key c.args.op.now (Put c.in-Put.key c.copy.result) c.put.result c.value_told-in-Put.result (ap (λ x. x.now) e.shards) (c.in-Put.is ∙ ap (λ v. Put c.in-Put.key v) (sym c.copy.ensures)) c.requires.session c.requires.active (puts c.copy.result) e.told e.session c.value_told-in-Put.ensures.told).holds.holds
 
 pub returns-in-Put-clause-misses : goal.returns-in-Put-clause-misses
 returns-in-Put-clause-misses g c = let s = c.args.self.now.session in let z = c.put.new.self in let e = c.put.ensures in
-    (point_call s.shards.now c.args.self.now.asked z.shards.now s.walker z.walker s.progress z.progress c.in-Put.key c.args.op.now (Put c.in-Put.key c.in-Put.value) c.put.result c.value_told-in-Put.result (ap (λ x. x.now) e.shards) c.in-Put.is c.requires.session c.requires.active (puts c.in-Put.value) e.told e.session c.value_told-in-Put.ensures.told).holds.misses
+    (point_call s.shards.now c.args.self.now.asked z.shards.now s.walker z.walker s.progress z.progress c.in-Put.key c.args.op.now (Put c.in-Put.key c.copy.result) c.put.result c.value_told-in-Put.result (ap (λ x. x.now) e.shards) (c.in-Put.is ∙ ap (λ v. Put c.in-Put.key v) (sym c.copy.ensures)) c.requires.session c.requires.active (puts c.copy.result) e.told e.session c.value_told-in-Put.ensures.told).holds.misses
 
 pub returns-in-Put-clause-told : goal.returns-in-Put-clause-told
 returns-in-Put-clause-told g c = let s = c.args.self.now.session in let z = c.put.new.self in let e = c.put.ensures in
-    (point_call s.shards.now c.args.self.now.asked z.shards.now s.walker z.walker s.progress z.progress c.in-Put.key c.args.op.now (Put c.in-Put.key c.in-Put.value) c.put.result c.value_told-in-Put.result (ap (λ x. x.now) e.shards) c.in-Put.is c.requires.session c.requires.active (puts c.in-Put.value) e.told e.session c.value_told-in-Put.ensures.told).told
+    (point_call s.shards.now c.args.self.now.asked z.shards.now s.walker z.walker s.progress z.progress c.in-Put.key c.args.op.now (Put c.in-Put.key c.copy.result) c.put.result c.value_told-in-Put.result (ap (λ x. x.now) e.shards) (c.in-Put.is ∙ ap (λ v. Put c.in-Put.key v) (sym c.copy.ensures)) c.requires.session c.requires.active (puts c.copy.result) e.told e.session c.value_told-in-Put.ensures.told).told
 
 pub returns-in-Put-clause-grounds : goal.returns-in-Put-clause-grounds
 returns-in-Put-clause-grounds g c = let s = c.args.self.now.session in let z = c.put.new.self in let e = c.put.ensures in
-    (point_call s.shards.now c.args.self.now.asked z.shards.now s.walker z.walker s.progress z.progress c.in-Put.key c.args.op.now (Put c.in-Put.key c.in-Put.value) c.put.result c.value_told-in-Put.result (ap (λ x. x.now) e.shards) c.in-Put.is c.requires.session c.requires.active (puts c.in-Put.value) e.told e.session c.value_told-in-Put.ensures.told).grounds
+    (point_call s.shards.now c.args.self.now.asked z.shards.now s.walker z.walker s.progress z.progress c.in-Put.key c.args.op.now (Put c.in-Put.key c.copy.result) c.put.result c.value_told-in-Put.result (ap (λ x. x.now) e.shards) (c.in-Put.is ∙ ap (λ v. Put c.in-Put.key v) (sym c.copy.ensures)) c.requires.session c.requires.active (puts c.copy.result) e.told e.session c.value_told-in-Put.ensures.told).grounds
 
 pub value_told-requires-in-Del : goal.value_told-requires-in-Del
 value_told-requires-in-Del g c = let s = c.args.self.now.session in let z = c.del.new.self in let e = c.del.ensures in
