@@ -1,5 +1,5 @@
 -- The entries of a tree, in the words of the definitions.
-use Rattle.std.proofs.Common.{◌≡◌, ℕ, ◌<◌, Bool, true, false, cond, ◌==◌, List, [], ◌∷◌, Some, None, nat_cmp, Less, refl, sym, ap, ap₂, subst, ◌∙◌, arith}
+use Rattle.std.proofs.Common.{◌≡◌, ℕ, ◌<◌, Bool, true, false, cond, ◌==◌, List, [], ◌∷◌, map, Some, None, nat_cmp, Less, refl, sym, ap, ap₂, subst, ◌∙◌, arith}
 use Rattle.std.specs.Ordering.{nat_cmp, match_ordering}
 use Rattle.std.specs.declared.cmp.Ordering.{Ordering}
 use Rattle.std.specs.declared.cmp.Ordering.TheVariants.{Less, Equal, Greater}
@@ -60,3 +60,8 @@ between_none low high lt [] = refl
 between_none low high lt (e ∷ es) =
     let none : lies_between low high e.0 ≡ false = grind (arith, nat_tests) in
     between_none low high lt es ∙ ap (λ b. cond b (e ∷ map_between low high es) (map_between low high es)) (sym none)
+
+-- a list of pairs, each as it is
+pub each_same : (es : List (ℕ × ValueType)) → map (λ (e : ℕ × ValueType). e) es ≡ es
+each_same [] = refl
+each_same (e ∷ es) = ap (λ l. e ∷ l) (each_same es)

@@ -39,6 +39,13 @@ fn take_at(pairs: &mut BTreeMap<u64, Value>, key: u64) -> Option<Value>
     pairs.remove(&key)
 }
 
+// An entry, once more.
+fn copied(pair: (&u64, &Value)) -> (u64, Value)
+    ensures { result ≡ (pair.entry.0.now, pair.entry.1.now) }
+{
+    (*pair.0, pair.1.copy())
+}
+
 fn range_of(
     alloc: Global,
     pairs: &BTreeMap<u64, Value>,
@@ -48,10 +55,7 @@ fn range_of(
     requires { low ≤ high }
     ensures { IfOk result (λ found. found.items ≡ entries_between nat_cmp (Included low) (Included high) pairs.now.entries) }
 {
-    pairs
-        .range(low..=high)
-        .map(|(key, value)| (*key, value.copy()))
-        .collect(alloc)
+    pairs.range(low..=high).map(copied).collect(alloc)
 }
 
 fn pairs_between(
@@ -71,10 +75,7 @@ fn pairs_between(
 fn pairs_of(alloc: Global, pairs: &BTreeMap<u64, Value>) -> Result<Vec<(u64, Value)>, AllocError>
     ensures { IfOk result (λ found. found.items ≡ pairs.now.entries) }
 {
-    pairs
-        .iter()
-        .map(|(key, value)| (*key, value.copy()))
-        .collect(alloc)
+    pairs.iter().map(copied).collect(alloc)
 }
 
 /// A map from keys to values.
