@@ -1,6 +1,6 @@
 use Rattle.std.proofs.Common.{[], take, get_or, sym, ap, ◌∙◌}
 use Rattle.std.proofs.lemmas.List.{take_more}
-use Rattle.clv_base.specs.Maps.{KeyMap}
+use Rattle.clv_base.specs.Maps.{KeyMap, map_set}
 use Rattle.clv_base.specs.Restarts.{records_of}
 use Rattle.shard_recovery.specs.Winning.{writes_after}
 use Rattle.shard_recovery.proofs.Sorted.{writes_more}
