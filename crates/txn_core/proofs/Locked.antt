@@ -100,7 +100,7 @@ before_held set k locks (w ∷ ws) a v e = at (value_before set k ws) e (before_
     here false t e = absurd cc
 
     at : (o : Option (Option ValueType)) → elim o [ Some b ↦ Some b | None ↦ cond (tx_in w.tx set && (k == w.key)) (Some w.before) None ] ≡ Some v
-        → ((u : Option ℕ) → o ≡ Some u → is_held_at k locks ≡ true) → is_held_at k locks ≡ true
+        → ((u : Option ValueType) → o ≡ Some u → is_held_at k locks ≡ true) → is_held_at k locks ≡ true
     at (Some b) e more = more b refl
     at None e more = here (tx_in w.tx set && (k == w.key)) refl e
 

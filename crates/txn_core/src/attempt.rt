@@ -43,8 +43,13 @@ pub fn fits(op: &Op)
 {
     match op {
         Op::Get(_) => {}
-        Op::Put(_key, value) => value.fits(),
-        Op::Del(_key) => {}
+        Op::Put(key, value) => {
+            let _key = *key;
+            value.fits();
+        }
+        Op::Del(key) => {
+            let _key = *key;
+        }
         Op::Scan(_, _) => {}
     }
 }
