@@ -124,11 +124,11 @@ module _ (shard : ℕ) (x : Index) (log : List LogRecord) (s : Sound log) (i : I
   -- ---- CLR
 
   -- but for the LSN that it names
-  abbrev undoes : ℕ → Option ℕ → Option Write → Bool
+  abbrev undoes : ℕ → Option ValueType → Option Write → Bool
   undoes key after None = false
   undoes key after (Some w) = (w.key == key) && same_optional_value w.before after && is_at w.lsn (top_at x.writes key)
 
-  abbrev undone : ℕ → Option ℕ → Option StandingUpdate → Bool
+  abbrev undone : ℕ → Option ValueType → Option StandingUpdate → Bool
   undone key after None = false
   undone key after (Some w) = (w.key == key) && same_optional_value w.before after && elim (newest_at key (standing log)) [ Some v ↦ v.lsn == w.lsn | None ↦ false ]
 
