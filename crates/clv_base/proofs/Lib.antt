@@ -4,3 +4,4 @@ pub mod Spans
 pub mod Settling
 pub mod Folding
 pub mod Grouping
+pub mod Fitting

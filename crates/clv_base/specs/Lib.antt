@@ -1,5 +1,7 @@
 pub mod Arrays
 pub mod Orders
+pub mod Texts
+pub mod Values
 pub mod Maps
 pub mod Folding
 pub mod Shards
@@ -14,6 +16,7 @@ pub mod Facts
 pub mod Participant
 pub mod Coordinator
 pub mod Needs
+pub mod Kept
 pub mod OneShard
 pub mod Due
 pub mod Settling

@@ -14,7 +14,8 @@ use Rattle.clv_base.specs.declared.modes.Anchor.TheVariants.{At}
 use Rattle.clv_base.specs.Orders.{Table, tx_in, tx_put}
 use Rattle.clv_base.specs.Maps.{KeyMap}
 use Rattle.clv_base.specs.Logs.{committed_in, aborted_in, place_from, ended_in, standing, writers, in_doubt, is_winner, fold_updates, prepare_of}
-use Rattle.clv_base.specs.LogRules.{same_list, same_record}
+use Rattle.clv_base.specs.Values.{same_list}
+use Rattle.clv_base.specs.LogRules.{same_record}
 use Rattle.clv_base.specs.Modes.{on_key}
 use Rattle.clv_base.specs.Locks.{Locks, take_one}
 use Rattle.clv_base.specs.State.{Closed, Held, Local, Shard}

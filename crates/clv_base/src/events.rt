@@ -1,10 +1,11 @@
 // Events of a shard, and their outcomes.
 
 use crate::causes::AbortCause;
+use crate::kept::KeptOp;
 use crate::lists::Touched;
 use crate::messages::Message;
 use crate::names::{Birth, TxId};
-use crate::ops::{Answer, Op};
+use crate::ops::Answer;
 
 /// One event of a shard.
 #[derive(Drop)]
@@ -15,7 +16,7 @@ pub enum Event {
         birth: Birth,
         nth: u64,
         seen: Option<u64>,
-        op: Op,
+        op: KeptOp,
     },
     /// A session asks its home to commit; `parts` are the touched shards with their epochs, rising.
     Request {
@@ -116,3 +117,6 @@ pub struct CoreStep {
     pub event: Event,
     pub kept: bool,
 }
+
+// An entry with numbers costs no more than one whose operations and answers were numbers alone.
+const _: () = prove!(size_of::<Entry>() == 184);

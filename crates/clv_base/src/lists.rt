@@ -2,35 +2,44 @@
 
 ghost use Rattle.std.specs.Prelude.{◌≡◌, ℕ, List, length};
 ghost use Rattle.clv_base.specs.declared.names.TxId.{TxId};
+ghost use Rattle.clv_base.specs.declared.values.Value.{Value as ValueType};
 ghost use Rattle.clv_base.specs.declared.causes.Vote.{Vote};
 ghost use Rattle.clv_base.specs.Arrays.{present_from};
 
 use crate::causes::Vote;
 use crate::names::TxId;
+use crate::values::Value;
 use std::marker::Model;
 
 /// Pairs of a key and its value.
 #[derive(Clone, Drop)]
 pub struct Pairs {
-    items: Vec<(u64, u64)>,
+    items: Vec<(u64, Value)>,
 }
 
 impl Model for Pairs {
-    ghost Value = { List (ℕ × ℕ) };
+    ghost Value = { List (ℕ × ValueType) };
 
     ghost view = { λ p. p.items.items };
 }
 
 impl Pairs {
     /// The list of the vector's pairs, in its order. Takes no memory.
-    pub fn new(items: Vec<(u64, u64)>) -> Self
+    pub fn new(items: Vec<(u64, Value)>) -> Self
         ensures { result ≡ items.items }
     {
         Pairs { items }
     }
 
+    /// The vector of the list's pairs, given back. Takes no memory.
+    pub fn into_vec(self) -> Vec<(u64, Value)>
+        ensures { result.items ≡ self }
+    {
+        self.items
+    }
+
     /// The pairs, in order.
-    pub fn as_slice(&self) -> &[(u64, u64)]
+    pub fn as_slice(&self) -> &[(u64, Value)]
         ensures { result.now ≡ self.now }
     {
         self.items.as_slice()

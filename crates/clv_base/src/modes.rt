@@ -1,6 +1,7 @@
 // Lock modes, anchors, needs and holders.
 
 use crate::names::{Birth, TxId};
+use crate::values::Value;
 
 /// What is held of a key or of a gap: nothing, a shared or an exclusive lock.
 #[derive(Clone, Copy, PartialEq, Eq)]
@@ -54,10 +55,10 @@ pub enum Decision {
 }
 
 /// What stands at a key.
-#[derive(Clone, Copy, PartialEq, Eq)]
+#[derive(PartialEq, Eq, Drop)]
 pub enum Found {
     /// A record with this value.
-    Live(u64),
+    Live(Value),
     /// A record that was deleted and that a lock may still need.
     Ghost,
     /// No record.

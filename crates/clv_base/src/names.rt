@@ -3,9 +3,6 @@
 /// A key of the store.
 pub type Key = u64;
 
-/// A value of the store.
-pub type Value = u64;
-
 /// A transaction: the run of the store that it belongs to (from 1), its session (1 to 64), and its number there (from 1).
 /// Transactions are ordered by these fields, in this order.
 #[derive(Clone, Copy, PartialEq, Eq, PartialOrd, Ord)]

@@ -5,6 +5,7 @@ use Rattle.std.specs.declared.cmp.Ordering.{Ordering}
 use Rattle.std.specs.declared.cmp.Ordering.TheVariants.{Less, Equal, Greater}
 use Rattle.std.specs.Ordering.{nat_cmp, match_ordering, is_lt}
 use Rattle.std.proofs.lemmas.Bool.{cases_Bool, both_ways, cond_both, cond-true, cond-false, ltb-true, ltb-false, lt-ltb, le-ltb, cases_lt, cases_eq, false_from_ne_true}
+use Rattle.clv_base.specs.declared.values.Value.{Value as ValueType}
 use Rattle.clv_base.specs.declared.names.TxId.{TxId}
 use Rattle.clv_base.specs.declared.modes.Anchor.{Anchor}
 use Rattle.clv_base.specs.declared.modes.Anchor.TheVariants.{Low, At}
@@ -15,7 +16,7 @@ use Rattle.law_base.proofs.Cells.{record_at}
 use Rattle.law_base.proofs.Lists.{all_mono}
 
 abbrev Row : Type 0
-Row = ℕ × Option ℕ
+Row = ℕ × Option ValueType
 
 -- keys rise
 abbrev pub AllAbove : ℕ → Records → Type 0
@@ -56,17 +57,17 @@ cmp_greater a b e =
 
 -- ---- the record at a key after a write
 
-two_at : (b c : Bool) (x y z : Option (Option ℕ)) → (b ≡ true → c ≡ true → ⊥) → cond c y (cond b x z) ≡ cond b x (cond c y z)
+two_at : (b c : Bool) (x y z : Option (Option ValueType)) → (b ≡ true → c ≡ true → ⊥) → cond c y (cond b x z) ≡ cond b x (cond c y z)
 two_at true true x y z h = absurd (h refl refl)
 two_at true false x y z h = refl
 two_at false true x y z h = refl
 two_at false false x y z h = refl
 
-over : (b : Bool) (x y z : Option (Option ℕ)) → cond b x z ≡ cond b x (cond b y z)
+over : (b : Bool) (x y z : Option (Option ValueType)) → cond b x z ≡ cond b x (cond b y z)
 over true x y z = refl
 over false x y z = refl
 
-set_case : (o : Ordering) (k q : ℕ) (v : Option ℕ) (r : Row) (rs ts : Records) → (o ≡ Equal → k ≡ r.0) → (o ≡ Greater → r.0 < k) → record_at q ts ≡ cond (q == k) (Some v) (record_at q rs)
+set_case : (o : Ordering) (k q : ℕ) (v : Option ValueType) (r : Row) (rs ts : Records) → (o ≡ Equal → k ≡ r.0) → (o ≡ Greater → r.0 < k) → record_at q ts ≡ cond (q == k) (Some v) (record_at q rs)
     → record_at q (match_ordering o ((k, v) ∷ r ∷ rs) ((r.0, v) ∷ rs) (r ∷ ts)) ≡ cond (q == k) (Some v) (record_at q (r ∷ rs))
 set_case Less k q v r rs ts same far ih = refl
 set_case Equal k q v r rs ts same far ih = subst (λ j. cond (q == j) (Some v) (record_at q rs) ≡ cond (q == k) (Some v) (cond (q == j) (Some r.1) (record_at q rs))) (same refl) (over (q == k) (Some v) (Some r.1) (record_at q rs))
@@ -74,25 +75,25 @@ set_case Greater k q v r rs ts same far ih =
     ap (cond (q == r.0) (Some r.1)) ih
     ∙ two_at (q == k) (q == r.0) (Some v) (Some r.1) (record_at q rs) (λ e f. let a : q ≡ k = eqb-true q k e in let b : q ≡ r.0 = eqb-true q r.0 f in let l = far refl in absurd (omega arith))
 
-pub record_at_set : (q k : ℕ) (v : Option ℕ) (rs : Records) → record_at q (record_set k v rs) ≡ cond (q == k) (Some v) (record_at q rs)
+pub record_at_set : (q k : ℕ) (v : Option ValueType) (rs : Records) → record_at q (record_set k v rs) ≡ cond (q == k) (Some v) (record_at q rs)
 record_at_set q k v [] = refl
 record_at_set q k v (r ∷ rs) = set_case (nat_cmp k r.0) k q v r rs (record_set k v rs) (cmp_equal k r.0) (cmp_greater k r.0) (record_at_set q k v rs)
 
-above_case : (o : Ordering) (j k : ℕ) (v : Option ℕ) (r : Row) (rs ts : Records) → j < k → AllAbove j (r ∷ rs) → AllAbove j ts → AllAbove j (match_ordering o ((k, v) ∷ r ∷ rs) ((r.0, v) ∷ rs) (r ∷ ts))
+above_case : (o : Ordering) (j k : ℕ) (v : Option ValueType) (r : Row) (rs ts : Records) → j < k → AllAbove j (r ∷ rs) → AllAbove j ts → AllAbove j (match_ordering o ((k, v) ∷ r ∷ rs) ((r.0, v) ∷ rs) (r ∷ ts))
 above_case Less j k v r rs ts l a ih = (l, a)
 above_case Equal j k v r rs ts l a ih = a
 above_case Greater j k v r rs ts l a ih = (a.0, ih)
 
-above_set : (j k : ℕ) (v : Option ℕ) (rs : Records) → j < k → AllAbove j rs → AllAbove j (record_set k v rs)
+above_set : (j k : ℕ) (v : Option ValueType) (rs : Records) → j < k → AllAbove j rs → AllAbove j (record_set k v rs)
 above_set j k v [] l a = (l, tt)
 above_set j k v (r ∷ rs) l a = above_case (nat_cmp k r.0) j k v r rs (record_set k v rs) l a (above_set j k v rs l a.1)
 
-rising_case : (o : Ordering) (k : ℕ) (v : Option ℕ) (r : Row) (rs ts : Records) → (o ≡ Less → k < r.0) → Rising (r ∷ rs) → (o ≡ Greater → AllAbove r.0 ts × Rising ts) → Rising (match_ordering o ((k, v) ∷ r ∷ rs) ((r.0, v) ∷ rs) (r ∷ ts))
+rising_case : (o : Ordering) (k : ℕ) (v : Option ValueType) (r : Row) (rs ts : Records) → (o ≡ Less → k < r.0) → Rising (r ∷ rs) → (o ≡ Greater → AllAbove r.0 ts × Rising ts) → Rising (match_ordering o ((k, v) ∷ r ∷ rs) ((r.0, v) ∷ rs) (r ∷ ts))
 rising_case Less k v r rs ts less h more = ((less refl, all_mono _ _ (λ q g. let l = less refl in omega arith) rs h.0), h)
 rising_case Equal k v r rs ts less h more = h
 rising_case Greater k v r rs ts less h more = more refl
 
-pub rising_set : (k : ℕ) (v : Option ℕ) (rs : Records) → Rising rs → Rising (record_set k v rs)
+pub rising_set : (k : ℕ) (v : Option ValueType) (rs : Records) → Rising rs → Rising (record_set k v rs)
 rising_set k v [] h = (tt, tt)
 rising_set k v (r ∷ rs) h = rising_case (nat_cmp k r.0) k v r rs (record_set k v rs) (cmp_less k r.0) h (λ e. (above_set r.0 k v rs (cmp_greater k r.0 e) h.0, rising_set k v rs h.1))
 
@@ -142,7 +143,7 @@ apart k a b (r ∷ rs) =
 abbrev Inserted : ℕ → ℕ → Anchor → Records → Records → Type 0
 Inserted q k a rs ts = (anchor_from q a ts ≡ anchor_from q a rs) ⊎ ((anchor_from q a ts ≡ At k) × (anchor_from q a rs ≡ anchor_from k a rs))
 
-insert_less : (q k : ℕ) (v : Option ℕ) (a : Anchor) (rs : Records) → k < q → AllByRecursion (λ r. k ≤ r.0) rs → Inserted q k a rs ((k, v) ∷ rs)
+insert_less : (q k : ℕ) (v : Option ValueType) (a : Anchor) (rs : Records) → k < q → AllByRecursion (λ r. k ≤ r.0) rs → Inserted q k a rs ((k, v) ∷ rs)
 insert_less q k v a rs l all =
     let start : anchor_from q a ((k, v) ∷ rs) ≡ anchor_from q (At k) rs = ap (λ b. anchor_from q (cond b (At k) a) rs) (lt-ltb k q l) in
     ⊎_elim
@@ -150,7 +151,7 @@ insert_less q k v a rs l all =
     (λ s. inr (start ∙ s.0, s.1 ∙ sym (none_below k a rs all)))
     (apart q (At k) a rs)
 
-insert_case : (o : Ordering) (q k : ℕ) (v : Option ℕ) (a : Anchor) (r : Row) (rs ts : Records) → k < q → (o ≡ Less → k < r.0) → (o ≡ Greater → r.0 < k) → Rising (r ∷ rs)
+insert_case : (o : Ordering) (q k : ℕ) (v : Option ValueType) (a : Anchor) (r : Row) (rs ts : Records) → k < q → (o ≡ Less → k < r.0) → (o ≡ Greater → r.0 < k) → Rising (r ∷ rs)
     → (o ≡ Equal → ⊥) → (o ≡ Greater → Inserted q k (At r.0) rs ts) → Inserted q k a (r ∷ rs) (match_ordering o ((k, v) ∷ r ∷ rs) ((r.0, v) ∷ rs) (r ∷ ts))
 insert_case Less q k v a r rs ts l less far h none ih = insert_less q k v a (r ∷ rs) l (let g = less refl in (omega arith, all_mono _ _ (λ x y. omega arith) rs h.0))
 insert_case Equal q k v a r rs ts l less far h none ih = absurd (none refl)
@@ -168,28 +169,28 @@ absent_head k r rs e = false_from_ne_true _ (λ t. let s = sym (cond-true (k == 
 absent_tail : (k : ℕ) (r : Row) (rs : Records) → record_at k (r ∷ rs) ≡ None → record_at k rs ≡ None
 absent_tail k r rs e = sym (cond-false (k == r.0) (Some r.1) (record_at k rs) (absent_head k r rs e)) ∙ e
 
-above_insert : (q k : ℕ) (v : Option ℕ) (a : Anchor) (rs : Records) → k < q → Rising rs → record_at k rs ≡ None → Inserted q k a rs (record_set k v rs)
+above_insert : (q k : ℕ) (v : Option ValueType) (a : Anchor) (rs : Records) → k < q → Rising rs → record_at k rs ≡ None → Inserted q k a rs (record_set k v rs)
 above_insert q k v a [] l h none = insert_less q k v a [] l tt
 above_insert q k v a (r ∷ rs) l h none =
     insert_case (nat_cmp k r.0) q k v a r rs (record_set k v rs) l (cmp_less k r.0) (cmp_greater k r.0) h
     (λ e. both_ways (k == r.0) (absent_head k r rs none) (eq-eqb k r.0 (cmp_equal k r.0 e)))
     (λ e. above_insert q k v (At r.0) rs l h.1 (absent_tail k r rs none))
 
-skip_case : (o : Ordering) (q k : ℕ) (v : Option ℕ) (a : Anchor) (r : Row) (rs ts : Records) → q ≤ k → (o ≡ Equal → k ≡ r.0) → ((b : Anchor) → anchor_from q b ts ≡ anchor_from q b rs) → anchor_from q a (match_ordering o ((k, v) ∷ r ∷ rs) ((r.0, v) ∷ rs) (r ∷ ts)) ≡ anchor_from q a (r ∷ rs)
+skip_case : (o : Ordering) (q k : ℕ) (v : Option ValueType) (a : Anchor) (r : Row) (rs ts : Records) → q ≤ k → (o ≡ Equal → k ≡ r.0) → ((b : Anchor) → anchor_from q b ts ≡ anchor_from q b rs) → anchor_from q a (match_ordering o ((k, v) ∷ r ∷ rs) ((r.0, v) ∷ rs) (r ∷ ts)) ≡ anchor_from q a (r ∷ rs)
 skip_case Less q k v a r rs ts l same ih = ap (λ b. anchor_from q (cond b (At k) a) (r ∷ rs)) (le-ltb k q l)
 skip_case Equal q k v a r rs ts l same ih = refl
 skip_case Greater q k v a r rs ts l same ih = ih (cond (nat_lt r.0 q) (At r.0) a)
 
-up_to_insert : (q k : ℕ) (v : Option ℕ) (a : Anchor) (rs : Records) → q ≤ k → anchor_from q a (record_set k v rs) ≡ anchor_from q a rs
+up_to_insert : (q k : ℕ) (v : Option ValueType) (a : Anchor) (rs : Records) → q ≤ k → anchor_from q a (record_set k v rs) ≡ anchor_from q a rs
 up_to_insert q k v a [] l = ap (λ b. cond b (At k) a) (le-ltb k q l)
 up_to_insert q k v a (r ∷ rs) l = skip_case (nat_cmp k r.0) q k v a r rs (record_set k v rs) l (cmp_equal k r.0) (λ b. up_to_insert q k v b rs l)
 
-pub lower_insert : (q k : ℕ) (v : Option ℕ) (rs : Records) → Rising rs → record_at k rs ≡ None
+pub lower_insert : (q k : ℕ) (v : Option ValueType) (rs : Records) → Rising rs → record_at k rs ≡ None
     → (lower_anchor q (record_set k v rs) ≡ lower_anchor q rs) ⊎ ((lower_anchor q (record_set k v rs) ≡ At k) × (lower_anchor q rs ≡ lower_anchor k rs))
 lower_insert q k v rs h none = ⊎_elim (λ l. above_insert q k v Low rs l h none) (λ g. inl (up_to_insert q k v Low rs g)) (cases_lt k q)
 
 -- a write where a record stands
-present_case : (o : Ordering) (q k : ℕ) (v : Option ℕ) (a : Anchor) (r : Row) (rs ts : Records) → (o ≡ Less → ⊥) → ((b : Anchor) → o ≡ Greater → anchor_from q b ts ≡ anchor_from q b rs) → anchor_from q a (match_ordering o ((k, v) ∷ r ∷ rs) ((r.0, v) ∷ rs) (r ∷ ts)) ≡ anchor_from q a (r ∷ rs)
+present_case : (o : Ordering) (q k : ℕ) (v : Option ValueType) (a : Anchor) (r : Row) (rs ts : Records) → (o ≡ Less → ⊥) → ((b : Anchor) → o ≡ Greater → anchor_from q b ts ≡ anchor_from q b rs) → anchor_from q a (match_ordering o ((k, v) ∷ r ∷ rs) ((r.0, v) ∷ rs) (r ∷ ts)) ≡ anchor_from q a (r ∷ rs)
 present_case Less q k v a r rs ts less ih = absurd (less refl)
 present_case Equal q k v a r rs ts less ih = refl
 present_case Greater q k v a r rs ts less ih = ih (cond (nat_lt r.0 q) (At r.0) a) refl
@@ -198,13 +199,13 @@ pub absent_above : (k : ℕ) (rs : Records) → AllAbove k rs → record_at k rs
 absent_above k [] all = refl
 absent_above k (r ∷ rs) all = cond-false (k == r.0) (Some r.1) (record_at k rs) (ne_eqb k r.0 (λ e. let l = all.0 in absurd (omega arith))) ∙ absent_above k rs all.1
 
-present_tail : (k : ℕ) (w : Option ℕ) (r : Row) (rs : Records) → r.0 < k → record_at k (r ∷ rs) ≡ Some w → record_at k rs ≡ Some w
+present_tail : (k : ℕ) (w : Option ValueType) (r : Row) (rs : Records) → r.0 < k → record_at k (r ∷ rs) ≡ Some w → record_at k rs ≡ Some w
 present_tail k w r rs l e = sym (cond-false (k == r.0) (Some r.1) (record_at k rs) (ne_eqb k r.0 (λ s. absurd (omega arith)))) ∙ e
 
-some_none : (o : Option (Option ℕ)) (w : Option ℕ) → o ≡ None → o ≡ Some w → ⊥
+some_none : (o : Option (Option ValueType)) (w : Option ValueType) → o ≡ None → o ≡ Some w → ⊥
 some_none o w e f = absurd cc
 
-pub anchor_present : (q k : ℕ) (v w : Option ℕ) (a : Anchor) (rs : Records) → Rising rs → record_at k rs ≡ Some w → anchor_from q a (record_set k v rs) ≡ anchor_from q a rs
+pub anchor_present : (q k : ℕ) (v w : Option ValueType) (a : Anchor) (rs : Records) → Rising rs → record_at k rs ≡ Some w → anchor_from q a (record_set k v rs) ≡ anchor_from q a rs
 anchor_present q k v w a [] h e = absurd (some_none None w refl e)
 anchor_present q k v w a (r ∷ rs) h e =
     present_case (nat_cmp k r.0) q k v a r rs (record_set k v rs)
@@ -213,7 +214,7 @@ anchor_present q k v w a (r ∷ rs) h e =
 
 -- ---- a purge
 
-pub record_kept : (p : Row → Bool) (k : ℕ) (rs : Records) → ((v : Option ℕ) → p (k, v) ≡ true) → record_at k (filter p rs) ≡ record_at k rs
+pub record_kept : (p : Row → Bool) (k : ℕ) (rs : Records) → ((v : Option ValueType) → p (k, v) ≡ true) → record_at k (filter p rs) ≡ record_at k rs
 record_kept p k [] h = refl
 record_kept p k (r ∷ rs) h =
     ⊎_elim
@@ -246,7 +247,7 @@ anchor_kept p k a b (r ∷ rs) h e =
 -- ---- the record below a key of a scan: that below its low end, where no record stands, or one from there on
 
 pub scan_below : (lo k : ℕ) (a : Anchor) (rs : Records) → lo ≤ k → Rising rs → record_at k rs ≡ None
-    → ((anchor_from k a rs ≡ anchor_from lo a rs) × (record_at lo rs ≡ None)) ⊎ ((j : ℕ) × (v : Option ℕ) × (anchor_from k a rs ≡ At j) × (record_at j rs ≡ Some v) × (lo ≤ j) × (j < k))
+    → ((anchor_from k a rs ≡ anchor_from lo a rs) × (record_at lo rs ≡ None)) ⊎ ((j : ℕ) × (v : Option ValueType) × (anchor_from k a rs ≡ At j) × (record_at j rs ≡ Some v) × (lo ≤ j) × (j < k))
 scan_below lo k a [] le h none = inl (refl, refl)
 scan_below lo k a (r ∷ rs) le h none =
     ⊎_elim

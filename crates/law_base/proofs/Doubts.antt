@@ -4,6 +4,7 @@ use Rattle.std.specs.List.{list_any, list_all}
 use Rattle.std.proofs.lemmas.List.Folds.{list_any-append}
 use Rattle.std.proofs.lemmas.Bool.{both_ways}
 use Rattle.std.proofs.Math.Bool.{or-false}
+use Rattle.clv_base.specs.declared.values.Value.{Value as ValueType}
 use Rattle.clv_base.specs.declared.names.TxId.{TxId}
 use Rattle.clv_base.specs.declared.logs.LogRecord.{LogRecord}
 use Rattle.clv_base.specs.declared.logs.LogRecord.TheVariants.{Update, Clr, Prepare, Commit, Abort, End, Restart}
@@ -39,7 +40,7 @@ no_doubt_abort t log shard (Abort tx ∷ rs) so_far = no_doubt_abort t log shard
 no_doubt_abort t log shard (End tx ∷ rs) so_far = no_doubt_abort t log shard rs so_far
 no_doubt_abort t log shard (Restart run epoch ∷ rs) so_far = no_doubt_abort t log shard rs so_far
 
-no_doubt_clr : (t : TxId) (u : Option ℕ) (k : ℕ) (a : Option ℕ) (log : List LogRecord) (shard : ℕ) (rs : List LogRecord) (so_far : List TxId) → in_doubt_from log shard (rs ++ Clr t u k a ∷ []) so_far ≡ in_doubt_from log shard rs so_far
+no_doubt_clr : (t : TxId) (u : Option ℕ) (k : ℕ) (a : Option ValueType) (log : List LogRecord) (shard : ℕ) (rs : List LogRecord) (so_far : List TxId) → in_doubt_from log shard (rs ++ Clr t u k a ∷ []) so_far ≡ in_doubt_from log shard rs so_far
 no_doubt_clr t u k a log shard [] so_far = refl
 no_doubt_clr t u k a log shard (Update tx j b c ∷ rs) so_far = no_doubt_clr t u k a log shard rs so_far
 no_doubt_clr t u k a log shard (Clr tx v j c ∷ rs) so_far = no_doubt_clr t u k a log shard rs so_far
@@ -69,7 +70,7 @@ nobody u = false
 pub abort_unlike : (t : TxId) → Unlike (is_it t) (Abort t)
 abort_unlike t = record { no_commit = λ u. refl; aborts = λ u. refl; no_doubt = no_doubt_abort t }
 
-pub clr_unlike : (t : TxId) (u : Option ℕ) (k : ℕ) (a : Option ℕ) → Unlike nobody (Clr t u k a)
+pub clr_unlike : (t : TxId) (u : Option ℕ) (k : ℕ) (a : Option ValueType) → Unlike nobody (Clr t u k a)
 clr_unlike t u k a = record { no_commit = λ v. refl; aborts = λ v. refl; no_doubt = no_doubt_clr t u k a }
 
 pub restart_unlike : (run epoch : ℕ) → Unlike nobody (Restart run epoch)

@@ -1,5 +1,6 @@
 -- Lemmas of names, locks and parts.
 use Rattle.std.proofs.Common.{◌≡◌, Option, Some, List, ◌∷◌, None, [], ap, true, ℕ, map, ◌==◌, refl, ◌∙◌, eq-eqb, false, subst, ◌<◌, sym, cond, Bool, ◌⊎◌, ⊎_elim, ◌||◌, ◌++◌, not, ◌&&◌, length, ◌≤◌, arith, eqb-true}
+use Rattle.clv_base.specs.declared.values.Value.{Value as ValueType}
 use Rattle.clv_base.specs.declared.names.Birth.{Birth}
 use Rattle.clv_base.specs.declared.names.TxId.{TxId}
 use Rattle.clv_base.specs.Orders.{tx_cmp, tx_same, tx_in, Table, tx_get, tx_insert, pair_cmp, pair_insert, anchor_same, anchor_cmp, birth_cmp}
@@ -74,10 +75,10 @@ own_in (t ∷ ts) = (or_left (tx_same t t) (tx_in t ts) (tx_self t), all_mono (�
 abbrev pub by_state : TxId → ℕ → RequestState → List Message
 by_state tx shard st = elim st [ Committed parts ↦ map (λ p. Decide p tx shard true) parts | Undecided ↦ [] | Finished ↦ [] | Refused cause ↦ [] ]
 
-pub set_has : (k : ℕ) (v : Option ℕ) (rs : Records) → is_there (found_at k (record_set k v rs)) ≡ true
+pub set_has : (k : ℕ) (v : Option ValueType) (rs : Records) → is_there (found_at k (record_set k v rs)) ≡ true
 set_has k v rs = ap (λ o. is_there (found_by o)) (record_at_set k k v rs ∙ cond-true (k == k) (Some v) (record_at k rs) (eq-eqb k k refl)) ∙ some v
   where
-    some : (v : Option ℕ) → is_there (found_by (Some v)) ≡ true
+    some : (v : Option ValueType) → is_there (found_by (Some v)) ≡ true
     some None = refl
     some (Some u) = refl
 
@@ -195,7 +196,7 @@ above_not_in x [] a = refl
 above_not_in x (y ∷ ys) a =
     false_from_ne_true _ (λ e. ⊎_elim (λ s. both_ways _ (ap is_eq a.0) (ap is_eq (ap (tx_cmp x) (tx_true y x s)) ∙ tx_self x)) (λ m. both_ways _ (above_not_in x ys a.1) m) (or_cases (tx_same y x) (tx_in x ys) e))
 
-abbrev pub set_by : Ordering → ℕ → Option ℕ → ℕ × Option ℕ → Records → Records
+abbrev pub set_by : Ordering → ℕ → Option ValueType → ℕ × Option ValueType → Records → Records
 set_by o k v r rs = match_ordering o ((k, v) ∷ r ∷ rs) ((r.0, v) ∷ rs) (r ∷ record_set k v rs)
 
 abbrev pub MayStand : Table Held → TxId → Birth → Type 0
@@ -253,7 +254,7 @@ restored_there (x ∷ xs) t i = at (tx_same t x) refl (restored_there xs t)
 abbrev pub IsThere : ℕ → Records → Type 0
 IsThere q rs = record_at q rs ≡ None → ⊥
 
-pub set_some : (q k : ℕ) (rs : Records) (b : Bool) (o : Option (Option ℕ)) → (b ≡ false → o ≡ None → ⊥) → cond b (Some None) o ≡ None → ⊥
+pub set_some : (q k : ℕ) (rs : Records) (b : Bool) (o : Option (Option ValueType)) → (b ≡ false → o ≡ None → ⊥) → cond b (Some None) o ≡ None → ⊥
 set_some q k rs true o h e = absurd cc
 set_some q k rs false o h e = h refl e
 

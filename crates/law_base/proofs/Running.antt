@@ -2,6 +2,7 @@
 use Rattle.std.proofs.Common.{◌≡◌, ℕ, ◌⊎◌, inl, inr, ⊎_elim, Bool, true, false, cond, List, [], ◌∷◌, ◌++◌, Option, Some, None, ◌==◌, refl, sym, ap, subst, ◌∙◌, eqb-true, eq-eqb}
 use Rattle.std.specs.List.{AllByRecursion, filter}
 use Rattle.std.proofs.lemmas.Bool.{cases_Bool, both_ways, cond_both}
+use Rattle.clv_base.specs.declared.values.Value.{Value as ValueType}
 use Rattle.clv_base.specs.declared.ops.Op.{Op}
 use Rattle.clv_base.specs.declared.ops.Op.TheVariants.{Get, Put, Del, Scan}
 use Rattle.clv_base.specs.declared.ops.Answer.TheVariants.{Value, Pairs}
@@ -19,16 +20,16 @@ use Rattle.law_base.specs.Items.{Item, told, wrote, is_write_at, writes, meets, 
 use Rattle.law_base.proofs.Lists.{all_mono}
 
 -- the value at a key after a write
-abbrev pub with_write : Option (ℕ × Option ℕ × Option ℕ) → ℕ → Option ℕ → Option ℕ
+abbrev pub with_write : Option (ℕ × Option ValueType × Option ValueType) → ℕ → Option ValueType → Option ValueType
 with_write None q old = old
 with_write (Some w) q old = cond (q == w.0) w.2 old
 
-none_there : (b : Bool) (f : Option ℕ) → (b ≡ true → f ≡ None) → cond b None f ≡ f
+none_there : (b : Bool) (f : Option ValueType) → (b ≡ true → f ≡ None) → cond b None f ≡ f
 none_there true f h = sym (h refl)
 none_there false f h = refl
 
 -- a Del of what is not there
-del_value : (k q : ℕ) (m : KeyMap) (f : Option ℕ) → map_get k m ≡ f → map_get q (map_set k None m) ≡ with_write (writes_of (Del k) f) q (map_get q m)
+del_value : (k q : ℕ) (m : KeyMap) (f : Option ValueType) → map_get k m ≡ f → map_get q (map_set k None m) ≡ with_write (writes_of (Del k) f) q (map_get q m)
 del_value k q m None e = get_set q k None m ∙ none_there (q == k) (map_get q m) (λ h. ap (λ j. map_get j m) (eqb-true q k h) ∙ e)
 del_value k q m (Some v) e = get_set q k None m
 
@@ -41,7 +42,7 @@ op_value (Scan lo hi) m q = refl
 pub item_value : (x : Item) (m : KeyMap) (q : ℕ) → x.answer ≡ op_answer x.op m → map_get q (op_after x.op m) ≡ with_write (wrote x) q (map_get q m)
 item_value x m q e = subst (λ a. map_get q (op_after x.op m) ≡ with_write (writes_of x.op (told a)) q (map_get q m)) (sym e) (op_value x.op m q)
 
-between_same : (b : Bool) (f g : Option ℕ) → (b ≡ true → f ≡ g) → cond b f None ≡ cond b g None
+between_same : (b : Bool) (f g : Option ValueType) → (b ≡ true → f ≡ g) → cond b f None ≡ cond b g None
 between_same true f g h = h refl
 between_same false f g h = refl
 
@@ -53,7 +54,7 @@ same_answer (Scan lo hi) m n h g e =
     ap Pairs (same_map (map_between lo hi m) (map_between lo hi n) (rising_between lo hi m h) (rising_between lo hi n g)
     (λ q. find_between lo hi q m ∙ between_same (lies_between lo hi q) (map_get q m) (map_get q n) (e q) ∙ sym (find_between lo hi q n)))
 
-write_case : (w : Option (ℕ × Option ℕ × Option ℕ)) (q : ℕ) (f g : Option ℕ) → (is_write_at w q ≡ false → f ≡ g) → with_write w q f ≡ with_write w q g
+write_case : (w : Option (ℕ × Option ValueType × Option ValueType)) (q : ℕ) (f g : Option ValueType) → (is_write_at w q ≡ false → f ≡ g) → with_write w q f ≡ with_write w q g
 write_case None q f g h = h refl
 write_case (Some w) q f g h = at (q == w.0) h
   where
@@ -61,7 +62,7 @@ write_case (Some w) q f g h = at (q == w.0) h
     at true h = refl
     at false h = h refl
 
-no_write : (w : Option (ℕ × Option ℕ × Option ℕ)) (q : ℕ) (f : Option ℕ) → is_write_at w q ≡ false → with_write w q f ≡ f
+no_write : (w : Option (ℕ × Option ValueType × Option ValueType)) (q : ℕ) (f : Option ValueType) → is_write_at w q ≡ false → with_write w q f ≡ f
 no_write None q f h = refl
 no_write (Some w) q f h = ap (λ b. cond b w.2 f) h
 
@@ -110,11 +111,11 @@ runs_push (y ∷ ys) x m r e = (r.0, runs_push ys x (op_after y.op m) r.1 e)
 
 -- ---- the value at a key is what the newest write left
 
-abbrev pub after_of : Option StandingUpdate → Option ℕ
+abbrev pub after_of : Option StandingUpdate → Option ValueType
 after_of None = None
 after_of (Some w) = w.after
 
-abbrev pub top_value : ℕ → List StandingUpdate → Option ℕ
+abbrev pub top_value : ℕ → List StandingUpdate → Option ValueType
 top_value k ws = after_of (newest_at k ws)
 
 top_cond : (b : Bool) (w : StandingUpdate) (o : Option StandingUpdate) → after_of (cond b (Some w) o) ≡ cond b w.after (after_of o)
@@ -124,7 +125,7 @@ top_cond false w o = refl
 pub on_top_value : (x : Item) (ws : List StandingUpdate) (k : ℕ) → top_value k (on_top x.tx x.lsn (wrote x) ws) ≡ with_write (wrote x) k (top_value k ws)
 on_top_value x ws k = at (wrote x)
   where
-    at : (w : Option (ℕ × Option ℕ × Option ℕ)) → top_value k (on_top x.tx x.lsn w ws) ≡ with_write w k (top_value k ws)
+    at : (w : Option (ℕ × Option ValueType × Option ValueType)) → top_value k (on_top x.tx x.lsn w ws) ≡ with_write w k (top_value k ws)
     at None = refl
     at (Some w) = top_cond (k == w.0) _ (newest_at k ws)
 
@@ -137,7 +138,7 @@ pub pile_push : (xs : List Item) (x : Item) (ws : List StandingUpdate) → pile 
 pile_push [] x ws = refl
 pile_push (y ∷ ys) x ws = pile_push ys x (on_top y.tx y.lsn (wrote y) ws)
 
-pub value_top : (o : Option StandingUpdate) → ◌≡◌ {A = Option ℕ} (elim o [ Some w ↦ w.after | None ↦ None ]) (after_of o)
+pub value_top : (o : Option StandingUpdate) → ◌≡◌ {A = Option ValueType} (elim o [ Some w ↦ w.after | None ↦ None ]) (after_of o)
 value_top None = refl
 value_top (Some w) = refl
 

@@ -2,6 +2,7 @@
 use Rattle.std.proofs.Common.{◌≡◌, ℕ, suc, ◌+◌, ⊎_elim, Bool, true, false, cond, not, ◌&&◌, List, [], ◌∷◌, ◌++◌, map, length, Option, Some, None, unwrap_or, ◌==◌, refl, sym, ap, subst, ◌∙◌, eqb-true, eq-eqb, arith, append_assoc}
 use Rattle.std.specs.List.{AllByRecursion, filter}
 use Rattle.std.proofs.lemmas.Bool.{cases_Bool, both_ways, cond-true, cond-false, not-true}
+use Rattle.clv_base.specs.declared.values.Value.{Value as ValueType}
 use Rattle.clv_base.specs.declared.names.TxId.{TxId}
 use Rattle.clv_base.specs.declared.ops.Op.{Op}
 use Rattle.clv_base.specs.declared.ops.Op.TheVariants.{Get, Put, Del, Scan}
@@ -75,7 +76,7 @@ abbrev pub Upward : List TxId → List StandingUpdate → Type 0
 Upward set [] = Unit {0}
 Upward set (w ∷ ws) = (tx_in w.tx set ≡ false → AllByRecursion (λ v. v.key ≡ w.key → tx_in v.tx set ≡ false) ws) × Upward set ws
 
-abbrev before_with : Option (Option ℕ) → Bool → Option ℕ → Option (Option ℕ)
+abbrev before_with : Option (Option ValueType) → Bool → Option ValueType → Option (Option ValueType)
 before_with o b v = elim o [ Some x ↦ Some x | None ↦ cond b (Some v) None ]
 
 nothing_before : (set : List TxId) (k : ℕ) (ws : List StandingUpdate) → AllByRecursion (λ v. v.key ≡ k → tx_in v.tx set ≡ false) ws → value_before set k ws ≡ None
@@ -89,7 +90,7 @@ nothing_before set k (w ∷ ws) all =
     at true false h = refl
     at false b h = refl
 
-before_none : (o : Option (Option ℕ)) (v : Option ℕ) → before_with o false v ≡ o
+before_none : (o : Option (Option ValueType)) (v : Option ValueType) → before_with o false v ≡ o
 before_none None v = refl
 before_none (Some x) v = refl
 
@@ -98,7 +99,7 @@ undone_here set k w ws same chain up ih true e =
     in_set (value_before set k ws)
     ∙ ap (unwrap_or (value_before set k ws)) (chain.0 ∙ ap (λ j. top_value j ws) (sym same)) ∙ ih
   where
-    in_set : (o : Option (Option ℕ)) → unwrap_or (before_with o true w.before) w.after ≡ unwrap_or o w.before
+    in_set : (o : Option (Option ValueType)) → unwrap_or (before_with o true w.before) w.after ≡ unwrap_or o w.before
     in_set None = refl
     in_set (Some x) = refl
 undone_here set k w ws same chain up ih false e =
@@ -123,7 +124,7 @@ undone_value set k (w ∷ ws) chain up =
 
 -- ---- the records after it
 
-abbrev pub reset : Option (Option ℕ) → Option (Option ℕ) → Option (Option ℕ)
+abbrev pub reset : Option (Option ValueType) → Option (Option ValueType) → Option (Option ValueType)
 reset b None = None
 reset b (Some v) = Some (unwrap_or b v)
 
@@ -143,7 +144,7 @@ record_undone set ws (r ∷ rs) k =
 abbrev pub HaveRecords : Records → List TxId → List StandingUpdate → Type 0
 HaveRecords rs set ws = AllByRecursion (λ v. tx_in v.tx set ≡ true → record_at v.key rs ≡ None → ⊥) ws
 
-live_case : (b o : Option (Option ℕ)) (t u : Option ℕ) → live_by o ≡ t → (o ≡ None → b ≡ None) → unwrap_or b t ≡ u → live_by (reset b o) ≡ u
+live_case : (b o : Option (Option ValueType)) (t u : Option ValueType) → live_by o ≡ t → (o ≡ None → b ≡ None) → unwrap_or b t ≡ u → live_by (reset b o) ≡ u
 live_case b None t u e none h = e ∙ sym (ap (λ x. unwrap_or x t) (none refl)) ∙ h
 live_case b (Some v) t u e none h = live_some (unwrap_or b v) ∙ ap (unwrap_or b) (sym (live_some v) ∙ e) ∙ h
 
@@ -159,7 +160,7 @@ values_undone set ws rs k chain up have e =
 abbrev pub keeps_of : List TxId → Item → Bool
 keeps_of set x = not (tx_in x.tx set)
 
-filter_top : (set : List TxId) (tx : TxId) (lsn : ℕ) (w : Option (ℕ × Option ℕ × Option ℕ)) (ws : List StandingUpdate) → filter (stays_of set) (on_top tx lsn w ws) ≡ cond (not (tx_in tx set)) (on_top tx lsn w (filter (stays_of set) ws)) (filter (stays_of set) ws)
+filter_top : (set : List TxId) (tx : TxId) (lsn : ℕ) (w : Option (ℕ × Option ValueType × Option ValueType)) (ws : List StandingUpdate) → filter (stays_of set) (on_top tx lsn w ws) ≡ cond (not (tx_in tx set)) (on_top tx lsn w (filter (stays_of set) ws)) (filter (stays_of set) ws)
 filter_top set tx lsn None ws = at (tx_in tx set)
   where
     at : (b : Bool) → filter (stays_of set) ws ≡ cond (not b) (filter (stays_of set) ws) (filter (stays_of set) ws)
@@ -182,7 +183,7 @@ pile_filter set (x ∷ xs) ws =
 pub write_met : (x : Item) (k : ℕ) → writes x k ≡ true → meets x k ≡ true
 write_met x k e = at x.op (told x.answer) e
   where
-    at : (o : Op) (b : Option ℕ) → is_write_at (writes_of o b) k ≡ true → meets_key o k ≡ true
+    at : (o : Op) (b : Option ValueType) → is_write_at (writes_of o b) k ≡ true → meets_key o k ≡ true
     at (Get j) b e = absurd (both_ways false refl e)
     at (Put j v) b e = eq-eqb j k (sym (eqb-true k j e))
     at (Del j) (Some v) e = eq-eqb j k (sym (eqb-true k j e))

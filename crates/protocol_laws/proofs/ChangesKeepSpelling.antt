@@ -5,6 +5,8 @@ mod ListsAreSpelled
 use Rattle.std.proofs.Common.{◌≡◌, ◌<◌, ◌^◌, refl, sym, subst, ℕ, Bool, true, false, not, List, [], ◌∷◌, ◌++◌, length, Option, Some, None, arith}
 use Rattle.std.specs.List.{AllByRecursion, filter, list_all}
 use Rattle.std.proofs.lemmas.Bool.{cond_both, and_parts, and_from}
+use Rattle.clv_base.specs.Values.{fits_value}
+use Rattle.clv_base.specs.declared.values.Value.{Value as ValueType}
 use Rattle.clv_base.specs.declared.names.TxId.{TxId}
 use Rattle.clv_base.specs.declared.names.Birth.{Birth}
 use Rattle.clv_base.specs.declared.ops.Op.{Op}
@@ -29,14 +31,14 @@ use Rattle.law_base.proofs.Logs.{spelled_append as all_append}
 
 -- ---- an operation
 
-IsFitWrite : Option (ℕ × Option ℕ × Option ℕ) → Type 0
+IsFitWrite : Option (ℕ × Option ValueType × Option ValueType) → Type 0
 IsFitWrite None = Unit {0}
 IsFitWrite (Some w) = (is_64_bits w.0 ≡ true) × (is_value w.1 ≡ true) × (is_value w.2 ≡ true)
 
-write_fits : (op : Op) (before : Option ℕ) → fits_op op ≡ true → is_value before ≡ true → IsFitWrite (writes_of op before)
+write_fits : (op : Op) (before : Option ValueType) → fits_op op ≡ true → is_value before ≡ true → IsFitWrite (writes_of op before)
 unfolding IsFitWrite
 write_fits (Get k) before h b = tt
-write_fits (Put k v) before h b = let two = and_parts (is_64_bits k) (is_64_bits v) h in (two.0, b, two.1)
+write_fits (Put k v) before h b = let two = and_parts (is_64_bits k) (fits_value v) h in (two.0, b, two.1)
 write_fits (Del k) None h b = tt
 write_fits (Del k) (Some w) h b = (h, b, refl)
 write_fits (Scan lo hi) before h b = tt
@@ -50,7 +52,7 @@ locked_spelled tx birth op l n s = record {
   values = s.values;
 }
 
-written_spelled : (tx : TxId) (w : Option (ℕ × Option ℕ × Option ℕ)) (l : Local) → tx_has_spelling tx ≡ true → IsFitWrite w → IsSpelled l → IsSpelled (written tx w l)
+written_spelled : (tx : TxId) (w : Option (ℕ × Option ValueType × Option ValueType)) (l : Local) → tx_has_spelling tx ≡ true → IsFitWrite w → IsSpelled l → IsSpelled (written tx w l)
 unfolding IsFitWrite
 written_spelled tx None l n f s = s
 written_spelled tx (Some w) l n f s = record {

@@ -6,6 +6,7 @@ use Rattle.std.specs.Map.{keys_of}
 use Rattle.std.specs.declared.cmp.Ordering.{Ordering}
 use Rattle.std.specs.declared.cmp.Ordering.TheVariants.{Less, Equal, Greater}
 use Rattle.std.specs.Ordering.{match_ordering, is_eq}
+use Rattle.clv_base.specs.declared.values.Value.{Value as ValueType}
 use Rattle.clv_base.specs.declared.names.TxId.{TxId}
 use Rattle.clv_base.specs.declared.names.Birth.{Birth}
 use Rattle.clv_base.specs.declared.ops.Op.{Op}
@@ -106,7 +107,7 @@ entered tx birth ps parts pairs None e a =
     add_all (λ p. HasPart more p.0) tx ps pairs (λ v. put_has tx (active_part birth) parts) (all_mono (λ p. HasPart parts p.0) (λ p. HasPart more p.0) (λ p h. put_keeps tx (active_part birth) p.0 parts h) pairs a)
 entered tx birth ps parts pairs (Some h) e a = add_all (λ p. HasPart parts p.0) tx ps pairs (λ v. get_has tx h parts e) a
 
-written_keeps : (tx : TxId) (w : Option (ℕ × Option ℕ × Option ℕ)) (l : Local) → DependentsHaveParts l → DependentsHaveParts (written tx w l)
+written_keeps : (tx : TxId) (w : Option (ℕ × Option ValueType × Option ValueType)) (l : Local) → DependentsHaveParts l → DependentsHaveParts (written tx w l)
 written_keeps tx None l d = d
 written_keeps tx (Some w) l d = d
 

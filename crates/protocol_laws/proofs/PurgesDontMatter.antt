@@ -2,6 +2,7 @@
 use Rattle.std.proofs.Common.{◌≡◌, refl, sym, ap, subst, ◌∙◌, ℕ, zero, suc, ⊎_elim, Bool, true, false, cond, not, ◌&&◌, ◌==◌, List, [], ◌∷◌, ◌++◌, Option, Some, None, unwrap_or, eqb-true}
 use Rattle.std.proofs.lemmas.Bool.{both_ways, or_cases, and_parts, cond_both, cond-true, cond-false, false_from_ne_true}
 use Rattle.std.specs.List.{AllByRecursion, filter}
+use Rattle.clv_base.specs.declared.values.Value.{Value as ValueType}
 use Rattle.clv_base.specs.declared.names.TxId.{TxId}
 use Rattle.clv_base.specs.declared.causes.Vote.{Vote}
 use Rattle.clv_base.specs.declared.causes.Vote.TheVariants.{Yes, Read, No}
@@ -62,10 +63,10 @@ twice true = refl
 twice false = refl
 
 -- what stays with fewer locks stays with all
-stays_more : (set : List TxId) (locks : Locks) (r : ℕ × Option ℕ) → is_locked_or_live (release set locks) r ≡ true → is_locked_or_live locks r ≡ true
+stays_more : (set : List TxId) (locks : Locks) (r : ℕ × Option ValueType) → is_locked_or_live (release set locks) r ≡ true → is_locked_or_live locks r ≡ true
 stays_more set locks r h = at r.1 h
   where
-    at : (v : Option ℕ) → is_locked_or_live (release set locks) (r.0, v) ≡ true → is_locked_or_live locks (r.0, v) ≡ true
+    at : (v : Option ValueType) → is_locked_or_live (release set locks) (r.0, v) ≡ true → is_locked_or_live locks (r.0, v) ≡ true
     at (Some v) h = refl
     at None h = twice (is_held_at r.0 locks) ∙ release_held set r.0 locks (sym (twice (is_held_at r.0 (release set locks))) ∙ h)
 
@@ -94,7 +95,7 @@ alike_released set locks rs qs h =
 abbrev AreHeld : List TxId → Locks → List StandingUpdate → Type 0
 AreHeld set locks ws = AllByRecursion (λ (w : StandingUpdate). tx_in w.tx set ≡ true → is_held_at w.key locks ≡ true) ws
 
-before_held : (set : List TxId) (k : ℕ) (locks : Locks) (ws : List StandingUpdate) → AreHeld set locks ws → (v : Option ℕ) → value_before set k ws ≡ Some v → is_held_at k locks ≡ true
+before_held : (set : List TxId) (k : ℕ) (locks : Locks) (ws : List StandingUpdate) → AreHeld set locks ws → (v : Option ValueType) → value_before set k ws ≡ Some v → is_held_at k locks ≡ true
 before_held set k locks [] a v e = absurd cc
 before_held set k locks (w ∷ ws) a v e = at (value_before set k ws) e (before_held set k locks ws a.1)
   where
@@ -102,26 +103,26 @@ before_held set k locks (w ∷ ws) a v e = at (value_before set k ws) e (before_
     here true t e = let p = and_parts (tx_in w.tx set) (k == w.key) t in subst (λ j. is_held_at j locks ≡ true) (sym (eqb-true k w.key p.1)) (a.0 p.0)
     here false t e = absurd cc
 
-    at : (o : Option (Option ℕ)) → elim o [ Some b ↦ Some b | None ↦ cond (tx_in w.tx set && (k == w.key)) (Some w.before) None ] ≡ Some v
-        → ((u : Option ℕ) → o ≡ Some u → is_held_at k locks ≡ true) → is_held_at k locks ≡ true
+    at : (o : Option (Option ValueType)) → elim o [ Some b ↦ Some b | None ↦ cond (tx_in w.tx set && (k == w.key)) (Some w.before) None ] ≡ Some v
+        → ((u : Option ValueType) → o ≡ Some u → is_held_at k locks ≡ true) → is_held_at k locks ≡ true
     at (Some b) e more = more b refl
     at None e more = here (tx_in w.tx set && (k == w.key)) refl e
 
-abbrev undone : List TxId → List StandingUpdate → ℕ × Option ℕ → ℕ × Option ℕ
+abbrev undone : List TxId → List StandingUpdate → ℕ × Option ValueType → ℕ × Option ValueType
 undone set ws r = (r.0, unwrap_or (value_before set r.0 ws) r.1)
 
 -- a ghost without a lock is one after the undo
-gone_still : (set : List TxId) (locks : Locks) (ws : List StandingUpdate) → AreHeld set locks ws → (r : ℕ × Option ℕ) → is_locked_or_live locks r ≡ false → is_locked_or_live (release set locks) (undone set ws r) ≡ false
+gone_still : (set : List TxId) (locks : Locks) (ws : List StandingUpdate) → AreHeld set locks ws → (r : ℕ × Option ValueType) → is_locked_or_live locks r ≡ false → is_locked_or_live (release set locks) (undone set ws r) ≡ false
 gone_still set locks ws a r h = at r.1 h
   where
-    at : (v : Option ℕ) → is_locked_or_live locks (r.0, v) ≡ false → is_locked_or_live (release set locks) (r.0, unwrap_or (value_before set r.0 ws) v) ≡ false
+    at : (v : Option ValueType) → is_locked_or_live locks (r.0, v) ≡ false → is_locked_or_live (release set locks) (r.0, unwrap_or (value_before set r.0 ws) v) ≡ false
     at (Some v) h = absurd (both_ways _ h refl)
     at None h = by (value_before set r.0 ws) refl
       where
         free : is_held_at r.0 locks ≡ false
         free = sym (twice (is_held_at r.0 locks)) ∙ h
 
-        by : (o : Option (Option ℕ)) → value_before set r.0 ws ≡ o → is_locked_or_live (release set locks) (r.0, unwrap_or o None) ≡ false
+        by : (o : Option (Option ValueType)) → value_before set r.0 ws ≡ o → is_locked_or_live (release set locks) (r.0, unwrap_or o None) ≡ false
         by None e = false_from_ne_true _ (λ s. both_ways _ free (release_held set r.0 locks (sym (twice (is_held_at r.0 (release set locks))) ∙ s)))
         by (Some v) e = absurd (both_ways _ free (before_held set r.0 locks ws a v e))
 

@@ -5,6 +5,7 @@ use Rattle.std.specs.declared.cmp.Ordering.{Ordering}
 use Rattle.std.specs.declared.cmp.Ordering.TheVariants.{Less, Equal, Greater}
 use Rattle.std.specs.Ordering.{nat_cmp, ordering_then, is_eq, match_ordering}
 use Rattle.std.proofs.lemmas.Bool.{both_ways, and_parts, or_cases, not-true, cond_both, or_left, or_right}
+use Rattle.clv_base.specs.declared.values.Value.{Value as ValueType}
 use Rattle.clv_base.specs.declared.names.TxId.{TxId}
 use Rattle.clv_base.specs.declared.logs.LogRecord.{LogRecord}
 use Rattle.clv_base.specs.declared.logs.LogRecord.TheVariants.{Update, Clr, Prepare, Commit, Abort, End, Restart}
@@ -199,7 +200,7 @@ keys_held txs (Restart run epoch ∷ log) locks = (tt, keys_held txs log locks)
 locked_ghost : (locks : Locks) (k : ℕ) → held_at (At k) locks ≡ true → is_locked_or_live locks (k, None) ≡ true
 locked_ghost locks k e = ap (λ b. not (not b)) e
 
-set_case : (o : Ordering) (locks : Locks) (k : ℕ) (r : ℕ × Option ℕ) (rs more : Records) → held_at (At k) locks ≡ true → (o ≡ Equal → k ≡ r.0) → Stays locks (r ∷ rs) → Stays locks more
+set_case : (o : Ordering) (locks : Locks) (k : ℕ) (r : ℕ × Option ValueType) (rs more : Records) → held_at (At k) locks ≡ true → (o ≡ Equal → k ≡ r.0) → Stays locks (r ∷ rs) → Stays locks more
     → Stays locks (match_ordering o ((k, None) ∷ r ∷ rs) ((r.0, None) ∷ rs) (r ∷ more))
 set_case Less locks k r rs more e s h m = (locked_ghost locks k e, h)
 set_case Equal locks k r rs more e s h m = (locked_ghost locks r.0 (subst (λ j. held_at (At j) locks ≡ true) (s refl) e), h.1)

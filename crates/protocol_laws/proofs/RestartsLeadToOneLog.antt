@@ -6,11 +6,12 @@ use Rattle.std.proofs.lemmas.Bool.{both_ways, leb-true, le-leb, cond-true, and_p
 use Rattle.clv_base.specs.declared.logs.LogRecord.{LogRecord}
 use Rattle.clv_base.specs.declared.logs.LogRecord.TheVariants.{Update, Clr, Prepare, Commit, Abort, End, Restart}
 use Rattle.clv_base.specs.Orders.{tx_same}
-use Rattle.clv_base.specs.LogRules.{same_option, same_list, same_record}
+use Rattle.clv_base.specs.Values.{same_list, same_optional_value}
+use Rattle.clv_base.specs.LogRules.{same_option, same_record}
 use Rattle.clv_base.specs.State.{Shard}
 use Rattle.clv_base.specs.Restarts.{undo_records, restart_records, log_after_restart, greatest_epoch, next_epoch, log_left, FailedRestarts, untouched, failed_first, Restarts, restarts_up, log_up_to_epoch, is_log_up_to, agrees_up_to, misfit}
 use Rattle.clv_base.proofs.SameNames.{tx_true, tx_self}
-use Rattle.law_base.proofs.Options.{option_true, option_self}
+use Rattle.law_base.proofs.Options.{option_true, option_self, optional_value_true, optional_value_self, list_true, list_self}
 use Rattle.protocol_laws.specs.RestartLaws.{RestartsLeadToOne, RestartsReach, MisfitIsExact}
 use Rattle.protocol_laws.proofs.RestartsLeadToOneLog.UndoRecordByRecord.{Stepped, stepped, after_restart, greatest_more}
 
@@ -148,29 +149,17 @@ restarts_reach s found epoch le = reach_by s (epoch - next_epoch s found) epoch 
 
 -- ---- a test of logs
 
-list_true : {X : Type 0} (same : X → X → Bool) → ((x y : X) → same x y ≡ true → x ≡ y) → (xs ys : List X) → same_list same xs ys ≡ true → xs ≡ ys
-list_true same h [] [] e = refl
-list_true same h (x ∷ xs) (y ∷ ys) e =
-    let p = and_parts (same x y) (same_list same xs ys) e in
-    ap (λ z. z ∷ xs) (h x y p.0) ∙ ap (λ l. y ∷ l) (list_true same h xs ys p.1)
-list_true same h [] (y ∷ ys) e = absurd (both_ways false refl e)
-list_true same h (x ∷ xs) [] e = absurd (both_ways false refl e)
-
-list_self : {X : Type 0} (same : X → X → Bool) → ((x : X) → same x x ≡ true) → (xs : List X) → same_list same xs xs ≡ true
-list_self same h [] = refl
-list_self same h (x ∷ xs) = and_from _ _ (h x) (list_self same h xs)
-
 pub record_true : (a b : LogRecord) → same_record a b ≡ true → a ≡ b
 record_true (Update tx k b a) (Update ux j c d) e =
-    let p = and_parts (tx_same tx ux && (k == j) && same_option b c) (same_option a d) e in
-    let q = and_parts (tx_same tx ux && (k == j)) (same_option b c) p.0 in
+    let p = and_parts (tx_same tx ux && (k == j) && same_optional_value b c) (same_optional_value a d) e in
+    let q = and_parts (tx_same tx ux && (k == j)) (same_optional_value b c) p.0 in
     let r = and_parts (tx_same tx ux) (k == j) q.0 in
-    let f = tx_true tx ux r.0 in let g = eqb-true k j r.1 in let h = option_true b c q.1 in let i = option_true a d p.1 in cc
+    let f = tx_true tx ux r.0 in let g = eqb-true k j r.1 in let h = optional_value_true b c q.1 in let i = optional_value_true a d p.1 in cc
 record_true (Clr tx u k a) (Clr ux v j d) e =
-    let p = and_parts (tx_same tx ux && same_option u v && (k == j)) (same_option a d) e in
+    let p = and_parts (tx_same tx ux && same_option u v && (k == j)) (same_optional_value a d) e in
     let q = and_parts (tx_same tx ux && same_option u v) (k == j) p.0 in
     let r = and_parts (tx_same tx ux) (same_option u v) q.0 in
-    let f = tx_true tx ux r.0 in let g = option_true u v r.1 in let h = eqb-true k j q.1 in let i = option_true a d p.1 in cc
+    let f = tx_true tx ux r.0 in let g = option_true u v r.1 in let h = eqb-true k j q.1 in let i = optional_value_true a d p.1 in cc
 record_true (Prepare tx home ps) (Prepare ux house qs) e =
     let p = and_parts (tx_same tx ux && (home == house)) (same_list tx_same ps qs) e in
     let q = and_parts (tx_same tx ux) (home == house) p.0 in
@@ -186,8 +175,8 @@ record_true (Restart run epoch) (Restart r e') e =
 record_true _ _ e = absurd (both_ways false refl e)
 
 pub record_self : (a : LogRecord) → same_record a a ≡ true
-record_self (Update tx k b a) = and_from _ _ (and_from _ _ (and_from _ _ (tx_self tx) (eq-eqb k k refl)) (option_self b)) (option_self a)
-record_self (Clr tx u k a) = and_from _ _ (and_from _ _ (and_from _ _ (tx_self tx) (option_self u)) (eq-eqb k k refl)) (option_self a)
+record_self (Update tx k b a) = and_from _ _ (and_from _ _ (and_from _ _ (tx_self tx) (eq-eqb k k refl)) (optional_value_self b)) (optional_value_self a)
+record_self (Clr tx u k a) = and_from _ _ (and_from _ _ (and_from _ _ (tx_self tx) (option_self u)) (eq-eqb k k refl)) (optional_value_self a)
 record_self (Prepare tx home ps) = and_from _ _ (and_from _ _ (tx_self tx) (eq-eqb home home refl)) (list_self tx_same tx_self ps)
 record_self (Commit tx ps) = and_from _ _ (tx_self tx) (list_self (◌==◌) (λ n. eq-eqb n n refl) ps)
 record_self (Abort tx) = tx_self tx

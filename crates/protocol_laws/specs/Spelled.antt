@@ -1,6 +1,7 @@
 -- The state of a shard's transactions in which each record of the log has a spelling, and what keeps it.
 use Rattle.std.specs.Prelude.{◌≡◌, ℕ, ◌<◌, ◌≤◌, ◌^◌, Bool, true, ◌&&◌, List, length, Option}
 use Rattle.std.specs.List.{AllByRecursion, list_all}
+use Rattle.clv_base.specs.Values.{fits_value}
 use Rattle.clv_base.specs.declared.names.TxId.{TxId}
 use Rattle.clv_base.specs.declared.names.Birth.{Birth}
 use Rattle.clv_base.specs.declared.ops.Op.{Op}
@@ -14,17 +15,17 @@ use Rattle.clv_base.specs.OneShard.{performed, close_part, purge, drop_part}
 use Rattle.clv_base.specs.Due.{append_log}
 use Rattle.clv_base.specs.Restarts.{local_after}
 
--- each record of the log has a spelling; so have the names of those who hold locks, and of predecessors; and values have 64 bits
+-- each record of the log has a spelling; so have the names of those who hold locks, and of predecessors; and values fit their types
 pub record IsSpelled (l : Local) : Type 0 where
   pub log : list_all has_spelling l.log ≡ true
   pub holders : AllByRecursion (λ r. tx_has_spelling (r.1).tx ≡ true) l.locks
   pub predecessors : AllByRecursion (λ p. tx_has_spelling p.1 ≡ true) l.pairs
   pub values : AllByRecursion (λ r. is_value r.1 ≡ true) l.records
 
--- the keys and values that an operation writes have 64 bits
+-- the keys and values that an operation writes fit their types
 abbrev pub fits_op : Op → Bool
 fits_op (Get k) = true
-fits_op (Put k v) = is_64_bits k && is_64_bits v
+fits_op (Put k v) = is_64_bits k && fits_value v
 fits_op (Del k) = is_64_bits k
 fits_op (Scan lo hi) = true
 

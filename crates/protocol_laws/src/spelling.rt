@@ -1,7 +1,7 @@
 //! What each change keeps.
 ghost use Rattle.protocol_laws.specs.Spelled.{AbortsKeep, ClosingsKeep, DropsKeep, EndsKeep, OperationsKeep, PurgesKeep, RecordsKeep, RestartsAreSpelled};
 
-/// A granted operation of a transaction with a spelling, on keys and values of 64 bits.
+/// A granted operation of a transaction with a spelling, on keys and numbers of 64 bits and texts of at most 200 bytes.
 pub fn operations_keep()
     ensures { OperationsKeep }
 {}

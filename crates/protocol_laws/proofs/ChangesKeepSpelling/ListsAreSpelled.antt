@@ -9,6 +9,8 @@ use Rattle.std.specs.Ordering.{nat_cmp, is_lt, match_ordering}
 use Rattle.std.proofs.lemmas.Bool.{both_ways, cond_both, or_cases, and_parts, and_from}
 use Rattle.std.proofs.lemmas.Bool.Decides.{nat_tests}
 use Rattle.std.proofs.lemmas.List.Kept.{IsStrictlySortedBy-filter}
+use Rattle.clv_base.specs.Values.{fits_value}
+use Rattle.clv_base.specs.declared.values.Value.{Value as ValueType}
 use Rattle.clv_base.specs.declared.names.TxId.{TxId}
 use Rattle.clv_base.specs.declared.logs.LogRecord.{LogRecord}
 use Rattle.clv_base.specs.declared.logs.LogRecord.TheVariants.{Update, Clr, Prepare, Commit, Abort, End, Restart}
@@ -133,9 +135,9 @@ restored_seconds log (t ∷ ts) h = seconds_append (pairs_of_listed log t (prepa
 -- ---- the records after a restart
 
 abbrev Fits : KeyMap → Type 0
-Fits m = AllByRecursion (λ e. is_64_bits e.1 ≡ true) m
+Fits m = AllByRecursion (λ e. fits_value e.1 ≡ true) m
 
-put_fits : (k v : ℕ) (m : KeyMap) → is_64_bits v ≡ true → Fits m → Fits (put nat_cmp k v m)
+put_fits : (k : ℕ) (v : ValueType) (m : KeyMap) → fits_value v ≡ true → Fits m → Fits (put nat_cmp k v m)
 put_fits k v [] n all = (n, tt)
 put_fits k v (e ∷ es) n all = at (nat_cmp k e.0) (put_fits k v es n all.1)
   where
@@ -144,8 +146,8 @@ put_fits k v (e ∷ es) n all = at (nat_cmp k e.0) (put_fits k v es n all.1)
     at Equal more = (n, all.1)
     at Greater more = (all.0, more)
 
-set_fits : (k : ℕ) (v : Option ℕ) (m : KeyMap) → is_value v ≡ true → Fits m → Fits (map_set k v m)
-set_fits k None m n all = all_filter (λ e. is_64_bits e.1 ≡ true) (λ e. not (e.0 == k)) m all
+set_fits : (k : ℕ) (v : Option ValueType) (m : KeyMap) → is_value v ≡ true → Fits m → Fits (map_set k v m)
+set_fits k None m n all = all_filter (λ e. fits_value e.1 ≡ true) (λ e. not (e.0 == k)) m all
 set_fits k (Some v) m n all = put_fits k v m n all
 
 fold_fits : (keep : TxId → Bool) (log : List LogRecord) (m : KeyMap) → list_all has_spelling log ≡ true → Fits m → Fits (fold_updates keep log m)

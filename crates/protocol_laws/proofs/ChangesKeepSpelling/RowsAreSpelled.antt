@@ -6,6 +6,7 @@ use Rattle.std.specs.declared.cmp.Ordering.{Ordering}
 use Rattle.std.specs.declared.cmp.Ordering.TheVariants.{Less, Equal, Greater}
 use Rattle.std.specs.Ordering.{nat_cmp, match_ordering}
 use Rattle.std.proofs.lemmas.Bool.{cond_both, and_parts}
+use Rattle.clv_base.specs.declared.values.Value.{Value as ValueType}
 use Rattle.clv_base.specs.declared.names.TxId.{TxId}
 use Rattle.clv_base.specs.declared.names.Birth.{Birth}
 use Rattle.clv_base.specs.declared.logs.LogRecord.{LogRecord}
@@ -110,7 +111,7 @@ add_seconds tx (q ∷ qs) ps n all = add_seconds tx qs (pair_insert (tx, q) ps) 
 abbrev pub Values : Records → Type 0
 Values rs = AllByRecursion (λ r. is_value r.1 ≡ true) rs
 
-pub set_value : (k : ℕ) (v : Option ℕ) (rs : Records) → is_value v ≡ true → Values rs → Values (record_set k v rs)
+pub set_value : (k : ℕ) (v : Option ValueType) (rs : Records) → is_value v ≡ true → Values rs → Values (record_set k v rs)
 set_value k v [] n all = (n, tt)
 set_value k v (r ∷ rs) n all = at (nat_cmp k r.0) (set_value k v rs n all.1)
   where
@@ -123,7 +124,7 @@ found_value : (k : ℕ) (rs : Records) → Values rs → is_value (live_of (foun
 found_value k [] all = refl
 found_value k (r ∷ rs) all = at (k == r.0) (found_value k rs all.1)
   where
-    of : (v : Option ℕ) → is_value v ≡ true → is_value (live_of (found_by (Some v))) ≡ true
+    of : (v : Option ValueType) → is_value v ≡ true → is_value (live_of (found_by (Some v))) ≡ true
     of None n = refl
     of (Some v) n = n
 
@@ -134,13 +135,13 @@ found_value k (r ∷ rs) all = at (k == r.0) (found_value k rs all.1)
 pub value_fits : (k : ℕ) (rs : Records) → Values rs → is_value (value_at k rs) ≡ true
 value_fits k rs all = found_value k rs all
 
-before_fits : (set : List TxId) (k n : ℕ) (ws : List StandingUpdate) (v : Option ℕ) → AreFit n ws → is_value v ≡ true → is_value (unwrap_or (value_before set k ws) v) ≡ true
+before_fits : (set : List TxId) (k n : ℕ) (ws : List StandingUpdate) (v : Option ValueType) → AreFit n ws → is_value v ≡ true → is_value (unwrap_or (value_before set k ws) v) ≡ true
 before_fits set k n [] v f h = h
 before_fits set k n (w ∷ ws) v f h = at (value_before set k ws) (before_fits set k n ws v f.1 h)
   where
-    at : (o : Option (Option ℕ)) → is_value (unwrap_or o v) ≡ true → is_value (unwrap_or (elim o [ Some b ↦ Some b | None ↦ cond (tx_in w.tx set && (k == w.key)) (Some w.before) None ]) v) ≡ true
+    at : (o : Option (Option ValueType)) → is_value (unwrap_or o v) ≡ true → is_value (unwrap_or (elim o [ Some b ↦ Some b | None ↦ cond (tx_in w.tx set && (k == w.key)) (Some w.before) None ]) v) ≡ true
     at (Some b) more = more
-    at None more = cond_both (tx_in w.tx set && (k == w.key)) (Some w.before) None (λ (o : Option (Option ℕ)). is_value (unwrap_or o v) ≡ true) (λ e. f.0.3) (λ e. h)
+    at None more = cond_both (tx_in w.tx set && (k == w.key)) (Some w.before) None (λ (o : Option (Option ValueType)). is_value (unwrap_or o v) ≡ true) (λ e. f.0.3) (λ e. h)
 
 pub undone_values : (set : List TxId) (n : ℕ) (ws : List StandingUpdate) (rs : Records) → AreFit n ws → Values rs → Values (records_without set ws rs)
 undone_values set n ws [] f all = tt

@@ -4,6 +4,7 @@ use Rattle.std.specs.List.{filter, list_any}
 use Rattle.std.proofs.lemmas.Bool.{both_ways, or_cases, or_parts, or_from, and_parts, cond-false, false_from_ne_true}
 use Rattle.std.proofs.lemmas.List.Folds.{list_any-append}
 use Rattle.std.proofs.Math.Bool.{or-false}
+use Rattle.clv_base.specs.declared.values.Value.{Value as ValueType}
 use Rattle.clv_base.specs.declared.names.TxId.{TxId}
 use Rattle.clv_base.specs.declared.names.Birth.{Birth}
 use Rattle.clv_base.specs.declared.logs.LogRecord.{LogRecord}
@@ -116,7 +117,7 @@ pub record Silent (more : List LogRecord) (x : TxId) : Type 0 where
   pub commits : committed_in more x ≡ false
 
 -- records more, of which none is the transaction's or a predecessor's COMMIT
-same_more : (l : Local) (more : List LogRecord) (x : TxId) (locks : Locks) (parts : Table Held) (pairs : List (TxId × TxId)) (records : List (ℕ × Option ℕ))
+same_more : (l : Local) (more : List LogRecord) (x : TxId) (locks : Locks) (parts : Table Held) (pairs : List (TxId × TxId)) (records : List (ℕ × Option ValueType))
     → stage_by (tx_get x parts) ≡ stage_of l x → is_restored_by (tx_get x parts) ≡ is_restored_by (tx_get x l.parts) → predecessors_of pairs x ≡ predecessors_of l.pairs x
     → Silent more x → ((p : TxId) → tx_in p (predecessors_of l.pairs x) ≡ true → committed_in more p ≡ false)
     → Same l (record { records = records; locks = locks; parts = parts; pairs = pairs; log = l.log ++ more; epoch = l.epoch }) x
@@ -151,7 +152,7 @@ aborts_none : (f : LogRecord → Bool) → ((t : TxId) → f (Abort t) ≡ false
 aborts_none f h [] = refl
 aborts_none f h (t ∷ ts) = or_from _ _ (h t) (aborts_none f h ts)
 
-clrs_none : (f : LogRecord → Bool) → ((t : TxId) (u : Option ℕ) (k : ℕ) (a : Option ℕ) → f (Clr t u k a) ≡ false) → (set : List TxId) (ws : List StandingUpdate) → list_any f (clrs_of set ws) ≡ false
+clrs_none : (f : LogRecord → Bool) → ((t : TxId) (u : Option ℕ) (k : ℕ) (a : Option ValueType) → f (Clr t u k a) ≡ false) → (set : List TxId) (ws : List StandingUpdate) → list_any f (clrs_of set ws) ≡ false
 clrs_none f h set [] = refl
 clrs_none f h set (w ∷ ws) = at (tx_in w.tx set) (clrs_none f h set ws)
   where
@@ -159,7 +160,7 @@ clrs_none f h set (w ∷ ws) = at (tx_in w.tx set) (clrs_none f h set ws)
     at true more = or_from _ _ (h w.tx (newest_lsn w.tx ws) w.key w.before) more
     at false more = more
 
-pub undone_none : (f : LogRecord → Bool) → ((t : TxId) → f (Abort t) ≡ false) → ((t : TxId) (u : Option ℕ) (k : ℕ) (a : Option ℕ) → f (Clr t u k a) ≡ false)
+pub undone_none : (f : LogRecord → Bool) → ((t : TxId) → f (Abort t) ≡ false) → ((t : TxId) (u : Option ℕ) (k : ℕ) (a : Option ValueType) → f (Clr t u k a) ≡ false)
     → (log : List LogRecord) (set : List TxId) (ws : List StandingUpdate) → list_any f (aborts_of log set ++ clrs_of set ws) ≡ false
 undone_none f a b log set ws = list_any-append f (aborts_of log set) (clrs_of set ws) ∙ or_from _ _ (aborts_none f a (filter (wrote_in log) set)) (clrs_none f b set ws)
 
@@ -240,7 +241,7 @@ new_other : (x tx : TxId) (birth : Birth) (o : Option Held) (parts : Table Held)
 new_other x tx birth None parts other = get_put tx x (active_part birth) parts ∙ cond-false (tx_same x tx) (Some (active_part birth)) (tx_get x parts) other
 new_other x tx birth (Some h) parts other = refl
 
-written_changes : (l : Local) (tx x : TxId) (w : Option (ℕ × Option ℕ × Option ℕ)) (durable : ℕ) → tx_same x tx ≡ false → facts_in (written tx w l) durable x ≡ facts_in l durable x
+written_changes : (l : Local) (tx x : TxId) (w : Option (ℕ × Option ValueType × Option ValueType)) (durable : ℕ) → tx_same x tx ≡ false → facts_in (written tx w l) durable x ≡ facts_in l durable x
 written_changes l tx x None durable other = refl
 written_changes l tx x (Some w) durable other =
     facts_same l _ x durable

@@ -3,6 +3,7 @@ use Rattle.std.proofs.Common.{◌≡◌, ⊎_elim, refl, sym, ap, subst, ◌∙�
 use Rattle.std.specs.List.{AllByRecursion, filter, list_any}
 use Rattle.std.proofs.lemmas.Bool.{cases_Bool, both_ways, cond_both, cond-true, cond-false, not-true, false_from_ne_true, and_from, lt-ltb}
 use Rattle.std.proofs.lemmas.Option.{same_Some}
+use Rattle.clv_base.specs.declared.values.Value.{Value as ValueType}
 use Rattle.clv_base.specs.declared.names.TxId.{TxId}
 use Rattle.clv_base.specs.declared.logs.LogRecord.{LogRecord}
 use Rattle.clv_base.specs.declared.logs.LogRecord.TheVariants.{Update, Clr, Prepare, Commit, Abort, End, Restart}
@@ -13,7 +14,7 @@ use Rattle.clv_base.proofs.SameNames.{or_left, or_right, tx_true, tx_self}
 use Rattle.law_base.proofs.Lists.{all_mono, all_both, filter_passes}
 use Rattle.law_base.proofs.Running.{top_value, after_of, value_top}
 use Rattle.law_base.proofs.Undoing.{Chain}
-use Rattle.law_base.proofs.Options.{option_true}
+use Rattle.law_base.proofs.Options.{optional_value_true}
 use Rattle.protocol_laws.specs.Order.{LieOnThese}
 use Rattle.protocol_laws.proofs.LogsInOrder.OneRecordMore.{push_cases, push_right, push_same}
 use Rattle.law_base.proofs.Bools.{and_first as front, and_second as last}
@@ -99,7 +100,7 @@ newest_by : (u : StandingUpdate) (key : ℕ) (o : Option StandingUpdate) → eli
 newest_by u key None e = absurd (both_ways false refl e)
 newest_by u key (Some v) e = (v, refl, eqb-true v.lsn u.lsn e)
 
-compensated : (log : List LogRecord) (tx : TxId) (next : Option ℕ) (key : ℕ) (after : Option ℕ) (o : Option StandingUpdate) → newest_of tx (standing log) ≡ o → compensates log tx next key after o ≡ true → Falling (standing log) → Chain (standing log)
+compensated : (log : List LogRecord) (tx : TxId) (next : Option ℕ) (key : ℕ) (after : Option ValueType) (o : Option StandingUpdate) → newest_of tx (standing log) ≡ o → compensates log tx next key after o ≡ true → Falling (standing log) → Chain (standing log)
     → Chain (without_newest tx (standing log))
 compensated log tx next key after None e c f k = absurd (both_ways false refl c)
 compensated log tx next key after (Some u) e c f k =
@@ -157,7 +158,7 @@ writes_step shard log (Update tx key before after) m k =
     let r = Update tx key before after in
     let q = quiet log r (standing log) (λ t. refl) k in
     record {
-      chain = (option_true before (value_in log key) (last _ _ (front _ _ (front _ _ m))) ∙ value_top (newest_at key (standing log)), k.chain);
+      chain = (optional_value_true before (value_in log key) (last _ _ (front _ _ (front _ _ m))) ∙ value_top (newest_at key (standing log)), k.chain);
       falls = (k.low, k.falls);
       low = (omega arith, q.low);
       lie = ((λ c. absurd (both_ways _ (sym (push_same (is_commit_of tx) log r refl) ∙ not-true _ (last _ _ (front _ _ (front _ _ (front _ _ (front _ _ (front _ _ m))))))) c)), q.lie);

@@ -17,6 +17,7 @@ use Rattle.law_base.proofs.Sets.{Rise, writers_rise, without_first, filter_alike
 use Rattle.law_base.proofs.Doubts.{Unlike, is_it, nobody, abort_unlike, clr_unlike, restart_unlike, aborted_more, winners_more, standing_more}
 use Rattle.law_base.proofs.Names.{other_name as other_writer}
 use Rattle.std.specs.List.Sorted.{IsStrictlySortedBy}
+use Rattle.clv_base.specs.declared.values.Value.{Value as ValueType}
 
 -- the losers that have no ABORT
 abbrev pub unaborted : ℕ → List LogRecord → List TxId
@@ -78,7 +79,7 @@ after_abort shard log t ts e =
 -- the first CLR of a set's writes, and those of what stands after it
 abbrev pub FirstClr : List TxId → List StandingUpdate → LogRecord → List LogRecord → Type 0
 FirstClr set ws c cs =
-    (t : TxId) × (u : Option ℕ) × (k : ℕ) × (a : Option ℕ) × (c ≡ Clr t u k a) × (tx_in t set ≡ true) × (clrs_of set (without_newest t ws) ≡ cs)
+    (t : TxId) × (u : Option ℕ) × (k : ℕ) × (a : Option ValueType) × (c ≡ Clr t u k a) × (tx_in t set ≡ true) × (clrs_of set (without_newest t ws) ≡ cs)
 
 abbrev clrs_if : Bool → List TxId → StandingUpdate → List StandingUpdate → List LogRecord
 clrs_if b set w ws = cond b (Clr w.tx (newest_lsn w.tx ws) w.key w.before ∷ clrs_of set ws) (clrs_of set ws)
@@ -135,7 +136,7 @@ still_none shard log t u none i =
     let p = in_filter (loses shard log) u (writers (without_newest t (standing log))) i in
     none_passed (λ x. not (aborted_in log x)) u (losers shard log) none (filter_in (loses shard log) u (writers (standing log)) (writers_without t u (standing log) p.0) p.1)
 
-pub after_clr : (shard : ℕ) (log : List LogRecord) (t : TxId) (u : Option ℕ) (k : ℕ) (a : Option ℕ) → unaborted shard log ≡ []
+pub after_clr : (shard : ℕ) (log : List LogRecord) (t : TxId) (u : Option ℕ) (k : ℕ) (a : Option ValueType) → unaborted shard log ≡ []
     → undo_records shard (log ++ Clr t u k a ∷ []) ≡ clrs_of (losers shard log) (without_newest t (standing log))
 after_clr shard log t u k a none =
     let stand : standing (log ++ Clr t u k a ∷ []) ≡ without_newest t (standing log) = standing_more log (Clr t u k a) in
