@@ -1,13 +1,14 @@
 -- How long batches are.
-use Rattle.std.proofs.Common.{◌≡◌, refl, ℕ, zero, suc, ◌+◌, ◌-◌, ◌≤◌, ◌<◌, Bool, true, false, nat_lt, List, [], ◌∷◌, length, get_or, take, arith, length-append}
+use Rattle.std.proofs.Common.{◌≡◌, refl, ℕ, zero, suc, ◌+◌, ◌-◌, ◌≤◌, ◌<◌, Bool, true, false, ◌&&◌, nat_lt, Option, Some, None, List, [], ◌∷◌, length, get_or, take, arith, length-append}
 use Rattle.std.proofs.lemmas.Bool.{and_parts}
 use Rattle.std.proofs.lemmas.Bool.Decides.{nat_tests}
 use Rattle.std.proofs.lemmas.List.Folds.{length-flat_map-take}
 use Rattle.std.specs.List.{list_all}
 use Rattle.clv_base.specs.declared.logs.LogRecord.{LogRecord}
 use Rattle.clv_base.specs.declared.logs.LogRecord.TheVariants.{Update, Clr, Prepare, Commit, Abort, End, Restart}
-use Rattle.clv_base.specs.Logs.{record_size, fitting}
-use Rattle.clv_base.specs.FileRules.{has_spelling}
+use Rattle.clv_base.specs.Logs.{optional_size, record_size, fitting}
+use Rattle.clv_base.specs.declared.values.Value.{Value as ValueType}
+use Rattle.clv_base.specs.FileRules.{tx_has_spelling, is_64_bits, is_undo_next, is_value, has_spelling}
 use Rattle.log_records.specs.Spelling.{spelling}
 use Rattle.log_records.specs.Laws.{LengthIsSize}
 use Rattle.log_buffer.specs.Batches.{spellings}
@@ -17,10 +18,17 @@ use Rattle.law_base.proofs.Options.{option_small}
 pub size_is : LengthIsSize → (r : LogRecord) → has_spelling r ≡ true → length (spelling r) ≡ record_size r
 size_is law r h = law r (spelling r) (record { in_bounds = h; is = refl })
 
+value_small : (v : Option ValueType) → is_value v ≡ true → optional_size v ≤ 202
+value_small None h = omega arith
+value_small (Some v) h = option_small (Some v) h
+
 -- a record fits a batch
 pub is_small : (r : LogRecord) → has_spelling r ≡ true → record_size r ≤ 1048576
-is_small (Update tx key before after) h = omega (arith, option_small before, option_small after)
-is_small (Clr tx undo_next key after) h = omega (arith, option_small after)
+is_small (Update tx key before after) h =
+    let p = and_parts (tx_has_spelling tx && is_64_bits key && is_value before) (is_value after) h in
+    let q = and_parts (tx_has_spelling tx && is_64_bits key) (is_value before) p.0 in
+    omega (arith, value_small before q.1, value_small after p.1)
+is_small (Clr tx undo_next key after) h = omega (arith, value_small after (and_parts (tx_has_spelling tx && is_undo_next undo_next && is_64_bits key) (is_value after) h).1)
 is_small (Prepare tx home predecessors) h = grind (arith, nat_tests, h)
 is_small (Commit tx parts) h = grind (arith, nat_tests, h)
 is_small (Abort tx) h = omega arith

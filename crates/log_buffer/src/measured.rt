@@ -1,11 +1,12 @@
 //! What a buffer asks of its records.
-ghost use Rattle.std.specs.Prelude.{◌≡◌, ℕ};
+ghost use Rattle.std.specs.Prelude.{◌≡◌, ◌≤◌, ℕ};
 ghost use Rattle.clv_base.specs.Logs.{optional_size, record_size};
 ghost use Rattle.log_buffer.specs.declared.measured.Link.{Link as LinkTo};
 ghost use Rattle.log_buffer.specs.Links.{link_of};
 
 use clv_base::logs::LogRecord;
 use clv_base::names::TxId;
+use clv_base::values::Value;
 
 /// What a record is to the writes of a transaction.
 #[derive(Clone, Copy, PartialEq, Eq)]
@@ -35,12 +36,14 @@ pub trait Measured {
         ensures { result ≡ link self.now };
 }
 
-fn value_size(value: Option<u64>) -> usize
-    ensures { result ≡ optional_size value }
+fn value_size(value: &Option<Value>) -> usize
+    ensures size { result ≡ optional_size value.now }
+    ensures small { result ≤ 202 }
 {
     match value {
         None => 1,
-        Some(_) => 9,
+        Some(Value::Num(_)) => 9,
+        Some(Value::Bytes(text)) => 2 + text.as_slice().len(),
     }
 }
 
@@ -51,10 +54,8 @@ impl Measured for LogRecord {
 
     fn size(&self) -> usize {
         match self {
-            LogRecord::Update { before, after, .. } => 25
-                + value_size(*before)
-                + value_size(*after),
-            LogRecord::Clr { after, .. } => 33 + value_size(*after),
+            LogRecord::Update { before, after, .. } => 25 + value_size(before) + value_size(after),
+            LogRecord::Clr { after, .. } => 33 + value_size(after),
             LogRecord::Prepare { predecessors, .. } => 25 + 16 * predecessors.as_slice().len(),
             LogRecord::Commit { parts, .. } => 21 + 4 * parts.as_slice().len(),
             LogRecord::Abort { .. } => 17,

@@ -1,9 +1,11 @@
 -- Reading from left to right: a value and the bytes after it, or none where no value of its kind is spelled.
-use Rattle.std.specs.Prelude.{◌≡◌, ℕ, zero, suc, ◌-◌, ◌^◌, List, [], ◌∷◌, length, drop, Option, Some, None, Result, Ok, Err, nat_lt, nat_le, ◌==◌, if◌then◌else◌}
+use Rattle.std.specs.Prelude.{◌≡◌, ℕ, zero, suc, ◌-◌, ◌^◌, List, [], ◌∷◌, length, take, drop, Option, Some, None, Result, Ok, Err, nat_lt, nat_le, ◌==◌, ◌&&◌, if◌then◌else◌}
 use Rattle.byteorder.specs.Endian.{little_number}
 use Rattle.clv_base.specs.declared.names.TxId.{TxId}
 use Rattle.clv_base.specs.declared.logs.LogRecord.{LogRecord}
 use Rattle.clv_base.specs.declared.logs.LogRecord.TheVariants.{Update, Clr, Prepare, Commit, Abort, End, Restart}
+use Rattle.clv_base.specs.declared.values.Value.{Value}
+use Rattle.clv_base.specs.declared.values.Value.TheVariants.{Num, Bytes}
 use Rattle.clv_base.specs.FileRules.{has_spelling}
 use Rattle.log_records.specs.declared.error.DecodeError.{DecodeError}
 use Rattle.log_records.specs.declared.error.DecodeError.TheVariants as errors
@@ -33,13 +35,21 @@ transaction_at bytes = do
   serial ← number_at 8 session.1
   Some (record { run = run.0; session = session.0; serial = serial.0 }, serial.1)
 
-unfoldable pub optional_at : List ℕ → Option (Option ℕ × List ℕ)
+-- at most 200 bytes, behind their count
+unfoldable pub text_at : List ℕ → Option (List ℕ × List ℕ)
+text_at [] = None
+text_at (count ∷ rest) = if nat_le count 200 && nat_le count (length rest) then Some (take count rest, drop count rest) else None
+
+unfoldable pub optional_at : List ℕ → Option (Option Value × List ℕ)
 optional_at [] = None
 optional_at (zero ∷ rest) = Some (None, rest)
 optional_at (suc zero ∷ rest) = do
   n ← number_at 8 rest
-  Some (Some n.0, n.1)
-optional_at (suc (suc b) ∷ rest) = None
+  Some (Some (Num n.0), n.1)
+optional_at (suc (suc zero) ∷ rest) = do
+  text ← text_at rest
+  Some (Some (Bytes text.0), text.1)
+optional_at (suc (suc (suc b)) ∷ rest) = None
 
 -- the greatest number is none
 abbrev pub unless_greatest : ℕ → Option ℕ

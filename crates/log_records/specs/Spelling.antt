@@ -5,6 +5,8 @@ use Rattle.byteorder.specs.Endian.{little_bytes}
 use Rattle.clv_base.specs.declared.names.TxId.{TxId}
 use Rattle.clv_base.specs.declared.logs.LogRecord.{LogRecord}
 use Rattle.clv_base.specs.declared.logs.LogRecord.TheVariants.{Update, Clr, Prepare, Commit, Abort, End, Restart}
+use Rattle.clv_base.specs.declared.values.Value.{Value}
+use Rattle.clv_base.specs.declared.values.Value.TheVariants.{Num, Bytes}
 use Rattle.clv_base.specs.FileRules.{has_spelling}
 
 -- a number in so many bytes
@@ -15,10 +17,11 @@ number width n = little_bytes width n
 unfoldable pub transaction : TxId → List ℕ
 transaction tx = number 4 tx.run ++ (number 4 tx.session ++ number 8 tx.serial)
 
--- a number that may be none: the byte 0, or the byte 1 and the number
-unfoldable pub optional : Option ℕ → List ℕ
+-- a value that may be none: the byte 0; the byte 1 and the number; or the byte 2, how many bytes there are, and these
+unfoldable pub optional : Option Value → List ℕ
 optional None = 0 ∷ []
-optional (Some n) = 1 ∷ number 8 n
+optional (Some (Num n)) = 1 ∷ number 8 n
+optional (Some (Bytes bytes)) = 2 ∷ length bytes ∷ bytes
 
 -- the LSN that is undone next: the greatest number is none
 unfoldable pub undo_next : Option ℕ → List ℕ

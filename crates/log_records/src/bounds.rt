@@ -2,11 +2,12 @@
 
 ghost use Rattle.std.specs.Prelude.{◌≡◌, ◌≤◌, ◌<◌, ◌^◌, ◌&&◌, length, IsTrue, nat_le, nat_lt};
 ghost use Rattle.std.specs.List.{list_all};
-ghost use Rattle.clv_base.specs.FileRules.{has_spelling as in_bounds, tx_has_spelling, txs_rise as txs_are_rising, numbers_rise, is_undo_next};
+ghost use Rattle.clv_base.specs.FileRules.{has_spelling as in_bounds, tx_has_spelling, txs_rise as txs_are_rising, numbers_rise, is_undo_next, is_value};
 ghost use Rattle.clv_base.specs.Logs.{optional_size, record_size as size_of_record};
 
 use clv_base::logs::LogRecord;
 use clv_base::names::TxId;
+use clv_base::values::Value;
 
 fn tx_is_named(tx: TxId) -> bool
     ensures { result ≡ tx_has_spelling tx }
@@ -74,16 +75,26 @@ fn lsn_fits(lsn: Option<u64>) -> bool
     lsn != Some(u64::MAX)
 }
 
-fn update_fits(tx: TxId, key: u64, before: Option<u64>, after: Option<u64>) -> bool
-    ensures { result ≡ in_bounds (LogRecord.Update tx key before after) }
+/// What a value's type tells: a text has at most 200 bytes.
+fn value_fits(value: &Option<Value>) -> bool
+    ensures { result ≡ is_value value.now }
 {
-    tx_is_named(tx)
+    if let Some(value) = value {
+        value.fits();
+    }
+    true
 }
 
-fn clr_fits(tx: TxId, undo_next: Option<u64>, key: u64, after: Option<u64>) -> bool
-    ensures { result ≡ in_bounds (LogRecord.Clr tx undo_next key after) }
+fn update_fits(tx: TxId, key: u64, before: &Option<Value>, after: &Option<Value>) -> bool
+    ensures { result ≡ in_bounds (LogRecord.Update tx key before.now after.now) }
 {
-    tx_is_named(tx) && lsn_fits(undo_next)
+    tx_is_named(tx) && value_fits(before) && value_fits(after)
+}
+
+fn clr_fits(tx: TxId, undo_next: Option<u64>, key: u64, after: &Option<Value>) -> bool
+    ensures { result ≡ in_bounds (LogRecord.Clr tx undo_next key after.now) }
+{
+    tx_is_named(tx) && lsn_fits(undo_next) && value_fits(after)
 }
 
 fn restart_fits(run: u32, epoch: u64) -> bool
@@ -104,13 +115,13 @@ pub fn has_spelling(r: &LogRecord) -> bool
             key,
             before,
             after,
-        } => update_fits(*tx, *key, *before, *after),
+        } => update_fits(*tx, *key, before, after),
         LogRecord::Clr {
             tx,
             undo_next,
             key,
             after,
-        } => clr_fits(*tx, *undo_next, *key, *after),
+        } => clr_fits(*tx, *undo_next, *key, after),
         LogRecord::Prepare {
             tx,
             home,
@@ -123,13 +134,14 @@ pub fn has_spelling(r: &LogRecord) -> bool
     }
 }
 
-fn value_size(value: Option<u64>) -> usize
-    ensures size { result ≡ optional_size value }
-    ensures small { result ≤ 9 }
+fn value_size(value: &Option<Value>) -> usize
+    ensures size { result ≡ optional_size value.now }
+    ensures small { result ≤ 202 }
 {
     match value {
         None => 1,
-        Some(_) => 9,
+        Some(Value::Num(_)) => 9,
+        Some(Value::Bytes(text)) => 2 + text.as_slice().len(),
     }
 }
 
@@ -139,8 +151,8 @@ pub fn record_size(r: &LogRecord) -> usize
     ensures { result ≡ size_of_record r.now }
 {
     match r {
-        LogRecord::Update { before, after, .. } => 25 + value_size(*before) + value_size(*after),
-        LogRecord::Clr { after, .. } => 33 + value_size(*after),
+        LogRecord::Update { before, after, .. } => 25 + value_size(before) + value_size(after),
+        LogRecord::Clr { after, .. } => 33 + value_size(after),
         LogRecord::Prepare { predecessors, .. } => 25 + 16 * predecessors.as_slice().len(),
         LogRecord::Commit { parts, .. } => 21 + 4 * parts.as_slice().len(),
         LogRecord::Abort { .. } => 17,

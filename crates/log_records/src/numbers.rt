@@ -1,13 +1,17 @@
 // Numbers and names of transactions as bytes.
 
-ghost use Rattle.std.specs.Prelude.{◌≡◌, ◌≤◌, ◌+◌, ◌++◌, [], ◌∷◌, length, vec_len, vec_capacity};
+ghost use Rattle.std.specs.Prelude.{◌≡◌, ◌≤◌, ◌+◌, ◌++◌, [], ◌∷◌, Some, length, vec_len, vec_capacity};
+ghost use Rattle.clv_base.specs.declared.values.Value.{Value as ValueType};
 ghost use Rattle.clv_base.specs.Logs.{optional_size};
-ghost use Rattle.log_records.specs.Reading.{Gives, number_at, optional_at, transaction_at, undo_next_at};
+ghost use Rattle.log_records.specs.Reading.{Gives, number_at, optional_at, text_at, transaction_at, undo_next_at};
 ghost use Rattle.log_records.specs.Spelling.{number, optional, transaction, undo_next};
 
 use crate::error::DecodeError;
 use byteorder::{ByteOrder, LittleEndian};
 use clv_base::names::TxId;
+use clv_base::texts::ByteText;
+use clv_base::values::Value;
+use std::alloc::Global;
 
 // The LSN that stands for none.
 const NONE: u64 = u64::MAX;
@@ -47,16 +51,36 @@ pub fn tx_at(bytes: &[u8]) -> Result<(TxId, &[u8]), DecodeError>
     Ok((tx, rest))
 }
 
+/// A text of at most 200 bytes, behind their count.
+#[tactic(auto, unfolding(crate::specs::Reading::text_at))]
+fn text_at(alloc: Global, bytes: &[u8]) -> Result<(ByteText, &[u8]), DecodeError>
+    ensures { Gives (λ x. (x.0, x.1.now)) result (text_at bytes.now) }
+{
+    let [count, rest @ ..] = bytes else {
+        return Err(DecodeError::Bad);
+    };
+    let count = *count as usize;
+    if count > 200 || count > rest.len() {
+        return Err(DecodeError::Bad);
+    }
+    let text = ByteText::new(alloc, &rest[..count])?;
+    Ok((text, &rest[count..]))
+}
+
 #[tactic(auto, unfolding(crate::specs::Reading::optional_at))]
-pub fn value_at(bytes: &[u8]) -> Result<(Option<u64>, &[u8]), DecodeError>
+pub fn value_at(alloc: Global, bytes: &[u8]) -> Result<(Option<Value>, &[u8]), DecodeError>
     ensures { Gives (λ x. (x.0, x.1.now)) result (optional_at bytes.now) }
 {
     match bytes {
         [] => Err(DecodeError::Bad),
         [0, rest @ ..] => Ok((None, rest)),
         [1, rest @ ..] => {
-            let (value, rest) = u64_at(rest)?;
-            Ok((Some(value), rest))
+            let (number, rest) = u64_at(rest)?;
+            Ok((Some(Value::Num(number)), rest))
+        }
+        [2, rest @ ..] => {
+            let (text, rest) = text_at(alloc, rest)?;
+            Ok((Some(Value::Bytes(text)), rest))
         }
         [_, ..] => Err(DecodeError::Bad),
     }
@@ -129,18 +153,32 @@ pub fn put_tx(out: &mut Vec<u8>, tx: TxId)
 }
 
 #[tactic(auto, unfolding(crate::specs::Spelling::optional))]
-pub fn put_value(out: &mut Vec<u8>, value: Option<u64>)
-    requires { vec_len out.old + optional_size value ≤ vec_capacity out.old }
-    ensures items { out.new.items ≡ out.old.items ++ optional value }
-    ensures len { vec_len out.new ≡ vec_len out.old + optional_size value }
+fn put_text(out: &mut Vec<u8>, text: &ByteText)
+    requires { vec_len out.old + (2 + length text.now) ≤ vec_capacity out.old }
+    ensures items { out.new.items ≡ out.old.items ++ optional (Some (ValueType.Bytes text.now)) }
+    ensures len { vec_len out.new ≡ vec_len out.old + (2 + length text.now) }
+    ensures room { vec_capacity out.old ≤ vec_capacity out.new }
+{
+    let bytes = text.as_slice();
+    put_byte(out, 2);
+    put_byte(out, bytes.len() as u8);
+    put(out, bytes);
+}
+
+#[tactic(auto, unfolding(crate::specs::Spelling::optional))]
+pub fn put_value(out: &mut Vec<u8>, value: &Option<Value>)
+    requires { vec_len out.old + optional_size value.now ≤ vec_capacity out.old }
+    ensures items { out.new.items ≡ out.old.items ++ optional value.now }
+    ensures len { vec_len out.new ≡ vec_len out.old + optional_size value.now }
     ensures room { vec_capacity out.old ≤ vec_capacity out.new }
 {
     match value {
         None => put_byte(out, 0),
-        Some(n) => {
+        Some(Value::Num(number)) => {
             put_byte(out, 1);
-            put_u64(out, n);
+            put_u64(out, *number);
         }
+        Some(Value::Bytes(text)) => put_text(out, text),
     }
 }
 

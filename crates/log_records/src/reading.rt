@@ -14,13 +14,13 @@ use clv_base::logs::LogRecord;
 use std::alloc::Global;
 
 #[tactic(auto, unfolding(crate::specs::Reading::update_at))]
-fn update_of(bytes: &[u8]) -> Result<(LogRecord, &[u8]), DecodeError>
+fn update_of(alloc: Global, bytes: &[u8]) -> Result<(LogRecord, &[u8]), DecodeError>
     ensures { Gives (λ x. (x.0, x.1.now)) result (update_at bytes.now) }
 {
     let (tx, rest) = tx_at(bytes)?;
     let (key, rest) = u64_at(rest)?;
-    let (before, rest) = value_at(rest)?;
-    let (after, rest) = value_at(rest)?;
+    let (before, rest) = value_at(alloc, rest)?;
+    let (after, rest) = value_at(alloc, rest)?;
     let record = LogRecord::Update {
         tx,
         key,
@@ -31,13 +31,13 @@ fn update_of(bytes: &[u8]) -> Result<(LogRecord, &[u8]), DecodeError>
 }
 
 #[tactic(auto, unfolding(crate::specs::Reading::clr_at))]
-fn clr_of(bytes: &[u8]) -> Result<(LogRecord, &[u8]), DecodeError>
+fn clr_of(alloc: Global, bytes: &[u8]) -> Result<(LogRecord, &[u8]), DecodeError>
     ensures { Gives (λ x. (x.0, x.1.now)) result (clr_at bytes.now) }
 {
     let (tx, rest) = tx_at(bytes)?;
     let (undo_next, rest) = lsn_at(rest)?;
     let (key, rest) = u64_at(rest)?;
-    let (after, rest) = value_at(rest)?;
+    let (after, rest) = value_at(alloc, rest)?;
     let record = LogRecord::Clr {
         tx,
         undo_next,
@@ -100,8 +100,8 @@ fn fields_of(alloc: Global, kind: u8, bytes: &[u8]) -> Result<(LogRecord, &[u8])
     ensures { Gives (λ x. (x.0, x.1.now)) result (fields_at kind bytes.now) }
 {
     match kind {
-        1 => update_of(bytes),
-        2 => clr_of(bytes),
+        1 => update_of(alloc, bytes),
+        2 => clr_of(alloc, bytes),
         3 => prepare_of(alloc, bytes),
         4 => commit_of(bytes),
         5 => abort_of(bytes),

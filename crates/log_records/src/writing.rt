@@ -11,12 +11,13 @@ use crate::lists::{put_shards, put_txs};
 use crate::numbers::{put_byte, put_lsn, put_tx, put_u32, put_u64, put_value};
 use clv_base::logs::LogRecord;
 use clv_base::names::TxId;
+use clv_base::values::Value;
 use std::alloc::Global;
 
 #[tactic(auto, unfolding(crate::specs::Spelling::fields))]
-fn put_update(out: &mut Vec<u8>, tx: TxId, key: u64, before: Option<u64>, after: Option<u64>)
-    requires { vec_len out.old + size_of_record (LogRecord.Update tx key before after) ≤ vec_capacity out.old }
-    ensures items { out.new.items ≡ out.old.items ++ spelling (LogRecord.Update tx key before after) }
+fn put_update(out: &mut Vec<u8>, tx: TxId, key: u64, before: &Option<Value>, after: &Option<Value>)
+    requires { vec_len out.old + size_of_record (LogRecord.Update tx key before.now after.now) ≤ vec_capacity out.old }
+    ensures items { out.new.items ≡ out.old.items ++ spelling (LogRecord.Update tx key before.now after.now) }
     ensures room { vec_capacity out.old ≤ vec_capacity out.new }
 {
     put_byte(out, 1);
@@ -27,9 +28,9 @@ fn put_update(out: &mut Vec<u8>, tx: TxId, key: u64, before: Option<u64>, after:
 }
 
 #[tactic(auto, unfolding(crate::specs::Spelling::fields))]
-fn put_clr(out: &mut Vec<u8>, tx: TxId, undo_next: Option<u64>, key: u64, after: Option<u64>)
-    requires { vec_len out.old + size_of_record (LogRecord.Clr tx undo_next key after) ≤ vec_capacity out.old }
-    ensures items { out.new.items ≡ out.old.items ++ spelling (LogRecord.Clr tx undo_next key after) }
+fn put_clr(out: &mut Vec<u8>, tx: TxId, undo_next: Option<u64>, key: u64, after: &Option<Value>)
+    requires { vec_len out.old + size_of_record (LogRecord.Clr tx undo_next key after.now) ≤ vec_capacity out.old }
+    ensures items { out.new.items ≡ out.old.items ++ spelling (LogRecord.Clr tx undo_next key after.now) }
     ensures room { vec_capacity out.old ≤ vec_capacity out.new }
 {
     put_byte(out, 2);
@@ -107,13 +108,13 @@ fn put_record(out: &mut Vec<u8>, r: &LogRecord)
             key,
             before,
             after,
-        } => put_update(out, *tx, *key, *before, *after),
+        } => put_update(out, *tx, *key, before, after),
         LogRecord::Clr {
             tx,
             undo_next,
             key,
             after,
-        } => put_clr(out, *tx, *undo_next, *key, *after),
+        } => put_clr(out, *tx, *undo_next, *key, after),
         LogRecord::Prepare {
             tx,
             home,

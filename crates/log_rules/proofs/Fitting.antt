@@ -1,11 +1,13 @@
 -- What fits behind an index is what may follow its records.
 use Rattle.std.proofs.Common.{◌≡◌, ℕ, Bool, true, false, cond, not, ◌&&◌, ◌||◌, ◌==◌, List, [], ◌∷◌, length, take, Option, Some, None, is_some, unwrap_or, refl, sym, ap, ◌∙◌}
 use Rattle.std.specs.List.{list_all}
+use Rattle.clv_base.specs.declared.values.Value.{Value as ValueType}
 use Rattle.clv_base.specs.declared.names.TxId.{TxId}
 use Rattle.clv_base.specs.declared.logs.LogRecord.{LogRecord}
 use Rattle.clv_base.specs.declared.logs.LogRecord.TheVariants.{Update, Clr, Prepare, Commit, Abort, End, Restart}
 use Rattle.clv_base.specs.Orders.{tx_same, tx_in}
 use Rattle.clv_base.specs.Logs.{StandingUpdate, is_update_of, is_prepare_of, is_commit_of, wrote_in, committed_in, prepared_in, aborted_in, ended_in, prepare_of, commit_parts, standing, newest_at, newest_of, without_newest, value_in}
+use Rattle.clv_base.specs.Values.{same_optional_value}
 use Rattle.clv_base.specs.LogRules.{same_option, some_parts, last_restart, above_restarts, before_restart, since_restart, in_last_run, may_cover, may_follow, writes_below, listed_in, commit_by_prepare, compensates}
 use Rattle.log_analysis.specs.Lists.{home_at, listed_at, parts_at}
 use Rattle.log_analysis.proofs.Laws.Bools.{all_same}
@@ -95,7 +97,7 @@ module _ (shard : ℕ) (x : Index) (log : List LogRecord) (s : Sound log) (i : I
   cover_is : (tx : TxId) (k : ℕ) → may_be_covered x tx (write_at x.writes (top_at x.writes k)) ≡ may_cover log tx (newest_at k (standing log))
   cover_is tx k = ap (may_be_covered x tx) (top_link k) ∙ by_link (may_be_covered x tx) (may_cover log tx) refl (λ w ws. ap (λ b. tx_same tx w.tx || b) (cover_fate w.tx)) k (standing log)
 
-  update_is : (tx : TxId) (key : ℕ) (before after : Option ℕ) → update_fits x tx key before after ≡ may_follow shard log (Update tx key before after)
+  update_is : (tx : TxId) (key : ℕ) (before after : Option ValueType) → update_fits x tx key before after ≡ may_follow shard log (Update tx key before after)
   update_is tx key before after =
       let a : is_last_run tx.run x.last && has_no_fate x tx ≡ in_last_run log tx && not (prepared_in log tx) && not (committed_in log tx) && not (aborted_in log tx) =
       ap (λ b. b && has_no_fate x tx) (last_run tx) ∙ ap (λ b. in_last_run log tx && b) (no_fate tx) ∙ and_assoc4 (in_last_run log tx) (not (prepared_in log tx)) (not (committed_in log tx)) (not (aborted_in log tx)) in
@@ -122,22 +124,22 @@ module _ (shard : ℕ) (x : Index) (log : List LogRecord) (s : Sound log) (i : I
   -- ---- CLR
 
   -- but for the LSN that it names
-  abbrev undoes : ℕ → Option ℕ → Option Write → Bool
+  abbrev undoes : ℕ → Option ValueType → Option Write → Bool
   undoes key after None = false
-  undoes key after (Some w) = (w.key == key) && same_option w.before after && is_at w.lsn (top_at x.writes key)
+  undoes key after (Some w) = (w.key == key) && same_optional_value w.before after && is_at w.lsn (top_at x.writes key)
 
-  abbrev undone : ℕ → Option ℕ → Option StandingUpdate → Bool
+  abbrev undone : ℕ → Option ValueType → Option StandingUpdate → Bool
   undone key after None = false
-  undone key after (Some w) = (w.key == key) && same_option w.before after && elim (newest_at key (standing log)) [ Some v ↦ v.lsn == w.lsn | None ↦ false ]
+  undone key after (Some w) = (w.key == key) && same_optional_value w.before after && elim (newest_at key (standing log)) [ Some v ↦ v.lsn == w.lsn | None ↦ false ]
 
-  undoes_is : (tx : TxId) (undo_next : Option ℕ) (key : ℕ) (after : Option ℕ) (o : Option Write) → compensates_write x tx undo_next key after o ≡ undoes key after o && same_option undo_next (earlier_of o)
+  undoes_is : (tx : TxId) (undo_next : Option ℕ) (key : ℕ) (after : Option ValueType) (o : Option Write) → compensates_write x tx undo_next key after o ≡ undoes key after o && same_option undo_next (earlier_of o)
   undoes_is tx undo_next key after None = refl
   undoes_is tx undo_next key after (Some w) = refl
 
   abbrev left : TxId → Option ℕ
   left tx = elim (newest_of tx (without_newest tx (standing log))) [ Some v ↦ Some v.lsn | None ↦ None ]
 
-  undone_is : (tx : TxId) (undo_next : Option ℕ) (key : ℕ) (after : Option ℕ) (o : Option StandingUpdate) → compensates log tx undo_next key after o ≡ undone key after o && same_option undo_next (left tx)
+  undone_is : (tx : TxId) (undo_next : Option ℕ) (key : ℕ) (after : Option ValueType) (o : Option StandingUpdate) → compensates log tx undo_next key after o ≡ undone key after o && same_option undo_next (left tx)
   undone_is tx undo_next key after None = refl
   undone_is tx undo_next key after (Some w) = refl
 
@@ -152,18 +154,18 @@ module _ (shard : ℕ) (x : Index) (log : List LogRecord) (s : Sound log) (i : I
   top_is : (n key : ℕ) → is_at n (top_at x.writes key) ≡ elim (newest_at key (standing log)) [ Some v ↦ v.lsn == n | None ↦ false ]
   top_is n key = ap (is_at n) (i.tops key) ∙ at_is n (newest_at key (standing log))
 
-  pub compensates_is : (tx : TxId) (undo_next : Option ℕ) (key : ℕ) (after : Option ℕ)
+  pub compensates_is : (tx : TxId) (undo_next : Option ℕ) (key : ℕ) (after : Option ValueType)
       → compensates_write x tx undo_next key after (write_at x.writes (newest_by x.writes tx)) ≡ compensates log tx undo_next key after (newest_of tx (standing log))
   compensates_is tx undo_next key after =
       let ws = standing log in
       let base : undoes key after (link_newest tx ws) ≡ undone key after (newest_of tx ws) =
-      by_newest (undoes key after) (undone key after) refl (λ w vs. ap (λ b. (w.key == key) && same_option w.before after && b) (top_is w.lsn key)) tx ws in
+      by_newest (undoes key after) (undone key after) refl (λ w vs. ap (λ b. (w.key == key) && same_optional_value w.before after && b) (top_is w.lsn key)) tx ws in
       let next : earlier_of (link_newest tx ws) ≡ left tx = earlier_is_left tx ws ∙ lsn_is (newest_of tx (without_newest tx ws)) in
       ap (compensates_write x tx undo_next key after) (newest_link tx) ∙ undoes_is tx undo_next key after (link_newest tx ws)
       ∙ ap (λ b. b && same_option undo_next (earlier_of (link_newest tx ws))) base ∙ ap (λ o. undone key after (newest_of tx ws) && same_option undo_next o) next
       ∙ sym (undone_is tx undo_next key after (newest_of tx ws))
 
-  clr_is : (tx : TxId) (undo_next : Option ℕ) (key : ℕ) (after : Option ℕ) → clr_fits x tx undo_next key after ≡ may_follow shard log (Clr tx undo_next key after)
+  clr_is : (tx : TxId) (undo_next : Option ℕ) (key : ℕ) (after : Option ValueType) → clr_fits x tx undo_next key after ≡ may_follow shard log (Clr tx undo_next key after)
   clr_is tx undo_next key after = rw (any_restart, is_aborted tx, compensates_is tx undo_next key after) refl
 
 -- ---- COMMIT and END, which read what earlier records list

@@ -3,6 +3,7 @@ use Rattle.std.proofs.Common.{◌≡◌, ℕ, ◌<◌, Bool, true, false, cond, 
 use Rattle.std.specs.Prelude.{slice_get}
 use Rattle.std.specs.List.{list_any, list_all}
 use Rattle.std.proofs.lemmas.Bool.{lt-ltb, ltb-true, or_cases, ne_eqb}
+use Rattle.clv_base.specs.declared.values.Value.{Value as ValueType}
 use Rattle.clv_base.specs.declared.names.TxId.{TxId}
 use Rattle.clv_base.specs.declared.logs.LogRecord.{LogRecord}
 use Rattle.clv_base.specs.declared.logs.LogRecord.TheVariants.{Update, Clr, Prepare, Commit, Abort, End, Restart}
@@ -271,7 +272,7 @@ module _ (shard : ℕ) (x y : Index) (log : List LogRecord) (s : Sound log) (i :
 
   -- ---- UPDATE
 
-  bars_writer : (tx : TxId) (key : ℕ) (before after : Option ℕ) → may_follow shard log (Update tx key before after) ≡ true → bars shard (log ++ Update tx key before after ∷ []) tx ≡ true
+  bars_writer : (tx : TxId) (key : ℕ) (before after : Option ValueType) → may_follow shard log (Update tx key before after) ≡ true → bars shard (log ++ Update tx key before after ∷ []) tx ≡ true
   bars_writer tx key before after may =
       let r : LogRecord = Update tx key before after in
       let rule = update_rule shard log tx key before after may in
@@ -282,7 +283,7 @@ module _ (shard : ℕ) (x y : Index) (log : List LogRecord) (s : Sound log) (i :
       ap (λ b. b && not (committed_in (log ++ r ∷ []) tx) && not (is_held shard (log ++ r ∷ []) tx)) stands ∙ ap (λ b. true && not b && not (is_held shard (log ++ r ∷ []) tx)) uncommitted
       ∙ ap (λ b. true && true && not b) unheld
 
-  after_update : (tx : TxId) (key : ℕ) (before after : Option ℕ) → slice_get x.writes.records.now (length log) ≡ Some (Update tx key before after)
+  after_update : (tx : TxId) (key : ℕ) (before after : Option ValueType) → slice_get x.writes.records.now (length log) ≡ Some (Update tx key before after)
       → may_follow shard log (Update tx key before after) ≡ true → (z : Index) → AddsUpdate x z (length log) tx key → Knows y.facts (log ++ Update tx key before after ∷ []) → IsIndexOf shard (record z { facts = y.facts }) (log ++ Update tx key before after ∷ [])
   after_update tx key before after at may z a knows =
       let r : LogRecord = Update tx key before after in
@@ -313,7 +314,7 @@ module _ (shard : ℕ) (x y : Index) (log : List LogRecord) (s : Sound log) (i :
   -- ---- CLR
 
   -- the rule finds the newest write of both the transaction and its key
-  compensated : (tx : TxId) (undo_next : Option ℕ) (key : ℕ) (after : Option ℕ) (o : Option StandingUpdate) → newest_of tx (standing log) ≡ o → compensates log tx undo_next key after o ≡ true → (w : StandingUpdate) × IsTop tx w (standing log)
+  compensated : (tx : TxId) (undo_next : Option ℕ) (key : ℕ) (after : Option ValueType) (o : Option StandingUpdate) → newest_of tx (standing log) ≡ o → compensates log tx undo_next key after o ≡ true → (w : StandingUpdate) × IsTop tx w (standing log)
   compensated tx undo_next key after None is e = absurd cc
   compensated tx undo_next key after (Some w) is e =
       let a = and_first _ _ e in
@@ -356,7 +357,7 @@ module _ (shard : ℕ) (x y : Index) (log : List LogRecord) (s : Sound log) (i :
             (λ _ other. i.newest t ∙ ap lsn_of (sym (of_other tx t (standing log) other))) refl,
       )
 
-  bars_undone : (tx : TxId) (undo_next : Option ℕ) (key : ℕ) (after : Option ℕ) (w : StandingUpdate) → IsTop tx w (standing log) → (z : Index) → newest_by z.writes tx ≡ lsn_of (newest_of tx (without_newest tx (standing log)))
+  bars_undone : (tx : TxId) (undo_next : Option ℕ) (key : ℕ) (after : Option ValueType) (w : StandingUpdate) → IsTop tx w (standing log) → (z : Index) → newest_by z.writes tx ≡ lsn_of (newest_of tx (without_newest tx (standing log)))
       → is_some (newest_by z.writes tx) && tx_in tx x.barring ≡ bars shard (log ++ Clr tx undo_next key after ∷ []) tx
   bars_undone tx undo_next key after w top z left =
       let r : LogRecord = Clr tx undo_next key after in
@@ -378,7 +379,7 @@ module _ (shard : ℕ) (x y : Index) (log : List LogRecord) (s : Sound log) (i :
       joined true c h = refl
       joined false c h = refl
 
-  after_clr : (tx : TxId) (undo_next : Option ℕ) (key : ℕ) (after : Option ℕ) → may_follow shard log (Clr tx undo_next key after) ≡ true → (z : Index) → AddsClr x z tx
+  after_clr : (tx : TxId) (undo_next : Option ℕ) (key : ℕ) (after : Option ValueType) → may_follow shard log (Clr tx undo_next key after) ≡ true → (z : Index) → AddsClr x z tx
       → Knows y.facts (log ++ Clr tx undo_next key after ∷ []) → IsIndexOf shard (record z { facts = y.facts }) (log ++ Clr tx undo_next key after ∷ [])
   after_clr tx undo_next key after may z a knows =
       let r : LogRecord = Clr tx undo_next key after in

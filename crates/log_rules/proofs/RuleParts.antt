@@ -1,6 +1,7 @@
 -- What the rule of each kind of record says, part by part.
 use Rattle.std.proofs.Common.{◌≡◌, ℕ, true, false, not, ◌&&◌, List, [], Option}
 use Rattle.std.specs.List.{list_all}
+use Rattle.clv_base.specs.declared.values.Value.{Value as ValueType}
 use Rattle.clv_base.specs.declared.names.TxId.{TxId}
 use Rattle.clv_base.specs.declared.logs.LogRecord.{LogRecord}
 use Rattle.clv_base.specs.declared.logs.LogRecord.TheVariants.{Update, Clr, Prepare, Commit, Abort}
@@ -32,11 +33,11 @@ pub record AbortRule (log : List LogRecord) (tx : TxId) : Type 0 where
   pub uncommitted : committed_in log tx ≡ false
   pub unaborted : aborted_in log tx ≡ false
 
-pub record ClrRule (log : List LogRecord) (tx : TxId) (undo_next : Option ℕ) (key : ℕ) (after : Option ℕ) : Type 0 where
+pub record ClrRule (log : List LogRecord) (tx : TxId) (undo_next : Option ℕ) (key : ℕ) (after : Option ValueType) : Type 0 where
   pub aborted : aborted_in log tx ≡ true
   pub compensates : compensates log tx undo_next key after (newest_of tx (standing log)) ≡ true
 
-pub update_rule : (shard : ℕ) (log : List LogRecord) (tx : TxId) (key : ℕ) (before after : Option ℕ) → may_follow shard log (Update tx key before after) ≡ true → UpdateRule log tx
+pub update_rule : (shard : ℕ) (log : List LogRecord) (tx : TxId) (key : ℕ) (before after : Option ValueType) → may_follow shard log (Update tx key before after) ≡ true → UpdateRule log tx
 update_rule shard log tx key before after e =
     let a = and_first _ _ (and_first _ _ (and_first _ _ (and_first _ _ e))) in
     record {
@@ -68,5 +69,5 @@ abort_rule shard log tx e =
     let a = and_first _ _ e in
     record { wrote = and_second _ _ (and_first _ _ a); uncommitted = not_true _ (and_second _ _ a); unaborted = not_true _ (and_second _ _ e) }
 
-pub clr_rule : (shard : ℕ) (log : List LogRecord) (tx : TxId) (undo_next : Option ℕ) (key : ℕ) (after : Option ℕ) → may_follow shard log (Clr tx undo_next key after) ≡ true → ClrRule log tx undo_next key after
+pub clr_rule : (shard : ℕ) (log : List LogRecord) (tx : TxId) (undo_next : Option ℕ) (key : ℕ) (after : Option ValueType) → may_follow shard log (Clr tx undo_next key after) ≡ true → ClrRule log tx undo_next key after
 clr_rule shard log tx undo_next key after e = record { aborted = and_second _ _ (and_first _ _ e); compensates = and_second _ _ e }

@@ -1,10 +1,12 @@
 -- The order rules by an index of the records so far.
 use Rattle.std.specs.Prelude.{ℕ, zero, suc, Bool, true, false, not, ◌&&◌, ◌||◌, ◌==◌, nat_lt, List, [], ◌∷◌, Option, Some, None, is_some}
 use Rattle.std.specs.List.{list_all}
+use Rattle.clv_base.specs.declared.values.Value.{Value as ValueType}
 use Rattle.clv_base.specs.declared.names.TxId.{TxId}
 use Rattle.clv_base.specs.declared.logs.LogRecord.{LogRecord}
 use Rattle.clv_base.specs.declared.logs.LogRecord.TheVariants.{Update, Clr, Prepare, Commit, Abort, End, Restart}
 use Rattle.clv_base.specs.Orders.{tx_same, tx_in, nat_in}
+use Rattle.clv_base.specs.Values.{same_optional_value}
 use Rattle.clv_base.specs.LogRules.{same_option, some_parts}
 use Rattle.log_analysis.specs.declared.facts.TxFacts.{TxFacts}
 use Rattle.log_analysis.specs.Facts.{known}
@@ -32,7 +34,7 @@ is_since at None = false
 is_since at (Some n) = not (nat_lt n at)
 
 -- the value that a write leaves
-abbrev pub value_of : Option Write → Option ℕ
+abbrev pub value_of : Option Write → Option ValueType
 value_of None = None
 value_of (Some w) = w.after
 
@@ -88,10 +90,10 @@ is_empty (t ∷ ts) = false
 abbrev pub restart_fits : Index → ℕ → ℕ → Bool
 restart_fits x run epoch = is_above run epoch x.last && is_empty x.barring
 
-abbrev pub update_fits : Index → TxId → ℕ → Option ℕ → Option ℕ → Bool
+abbrev pub update_fits : Index → TxId → ℕ → Option ValueType → Option ValueType → Bool
 update_fits x tx key before after =
     is_last_run tx.run x.last && has_no_fate x tx && not (is_before x.restart_at (facts_in x tx).first_update)
-    && same_option before (value_of (write_at x.writes (top_at x.writes key))) && (is_some before || is_some after)
+    && same_optional_value before (value_of (write_at x.writes (top_at x.writes key))) && (is_some before || is_some after)
     && may_be_covered x tx (write_at x.writes (top_at x.writes key))
 
 -- the list and the set of those whom a PREPARE lists
@@ -120,12 +122,12 @@ abbrev pub is_at : ℕ → Option ℕ → Bool
 is_at n None = false
 is_at n (Some m) = m == n
 
-abbrev pub compensates_write : Index → TxId → Option ℕ → ℕ → Option ℕ → Option Write → Bool
+abbrev pub compensates_write : Index → TxId → Option ℕ → ℕ → Option ValueType → Option Write → Bool
 compensates_write x tx undo_next key after None = false
 compensates_write x tx undo_next key after (Some w) =
-    (w.key == key) && same_option w.before after && is_at w.lsn (top_at x.writes key) && same_option undo_next w.earlier
+    (w.key == key) && same_optional_value w.before after && is_at w.lsn (top_at x.writes key) && same_option undo_next w.earlier
 
-abbrev pub clr_fits : Index → TxId → Option ℕ → ℕ → Option ℕ → Bool
+abbrev pub clr_fits : Index → TxId → Option ℕ → ℕ → Option ValueType → Bool
 clr_fits x tx undo_next key after =
     is_some x.last && (facts_in x tx).is_aborted && compensates_write x tx undo_next key after (write_at x.writes (newest_by x.writes tx))
 

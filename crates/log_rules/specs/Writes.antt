@@ -1,6 +1,7 @@
 -- Tables of UPDATEs, read as functions.
 use Rattle.std.specs.Prelude.{◌≡◌, ℕ, Bool, true, false, not, List, Option, Some, None, unwrap_or, slice_get, slice_index_or, if◌then◌else◌, ◌==◌, ◌-◌}
 use Rattle.std.specs.HashMap as hash
+use Rattle.clv_base.specs.declared.values.Value.{Value as ValueType}
 use Rattle.clv_base.specs.declared.names.TxId.{TxId}
 use Rattle.clv_base.specs.declared.logs.LogRecord.{LogRecord}
 use Rattle.clv_base.specs.declared.logs.LogRecord.TheVariants.{Update}
@@ -68,7 +69,7 @@ covers_foreign tx None = false
 covers_foreign tx (Some w) = not (tx_same tx w.tx)
 
 -- an UPDATE that is written now, with its links
-abbrev pub linked : Writes → ℕ → TxId → ℕ → Option ℕ → Option ℕ → Write
+abbrev pub linked : Writes → ℕ → TxId → ℕ → Option ValueType → Option ValueType → Write
 linked m lsn tx key before after =
     record {
       lsn = lsn;
@@ -84,7 +85,7 @@ linked m lsn tx key before after =
 
 -- the row of an UPDATE that is written now, whatever its LSN and its values: with it the record is read with its links
 abbrev pub RowOver : Writes → TxId → ℕ → Row → Type 0
-RowOver m tx key row = (lsn : ℕ) (before after : Option ℕ) → write_in lsn row (Update tx key before after) ≡ Some (linked m lsn tx key before after)
+RowOver m tx key row = (lsn : ℕ) (before after : Option ValueType) → write_in lsn row (Update tx key before after) ≡ Some (linked m lsn tx key before after)
 
 -- with one UPDATE more
 pub record Pushes (old new : Writes) (w : Write) : Type 0 where
@@ -95,7 +96,7 @@ pub record Pushes (old new : Writes) (w : Write) : Type 0 where
 -- with the UPDATE that is the record at an LSN
 abbrev pub PushesAt : Writes → Writes → ℕ → TxId → ℕ → Type 0
 PushesAt old new lsn tx key =
-    (before after : Option ℕ) → slice_get old.records.now lsn ≡ Some (Update tx key before after) → Pushes old new (linked old lsn tx key before after)
+    (before after : Option ValueType) → slice_get old.records.now lsn ≡ Some (Update tx key before after) → Pushes old new (linked old lsn tx key before after)
 
 -- without a transaction's newest one
 pub record PopsWrite (old new : Writes) (tx : TxId) (w : Write) : Type 0 where

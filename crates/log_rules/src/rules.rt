@@ -9,6 +9,7 @@ use crate::index::Index;
 use crate::writes::Write;
 use clv_base::logs::LogRecord;
 use clv_base::names::TxId;
+use clv_base::values::{Value, are_same, copy_of};
 use log_analysis::TxSet;
 use log_analysis::facts::TxFacts;
 use log_analysis::lists::{home_at, listed_at, parts_at};
@@ -51,12 +52,12 @@ fn is_since(at: usize, lsn: Option<usize>) -> bool
     }
 }
 
-fn value_of(top: Option<Write>) -> Option<u64>
-    ensures { result ≡ value_left top }
+fn value_of(top: &Option<Write>) -> Option<Value>
+    ensures { result ≡ value_left top.now }
 {
     match top {
         None => None,
-        Some(w) => w.after,
+        Some(w) => copy_of(&w.after),
     }
 }
 
@@ -93,8 +94,8 @@ impl<'a> Index<'a> {
         facts.prepare.is_none() && facts.commit.is_none() && !facts.is_aborted
     }
 
-    fn may_cover(&self, tx: TxId, top: Option<Write>) -> bool
-        ensures { result ≡ may_be_covered self.now tx top }
+    fn may_cover(&self, tx: TxId, top: &Option<Write>) -> bool
+        ensures { result ≡ may_be_covered self.now tx top.now }
     {
         match top {
             None => true,
@@ -146,8 +147,8 @@ impl<'a> Index<'a> {
     }
 
     // So below a write of the transaction. Where its own write lies right below, that one is asked in its place.
-    fn is_clear_under(&self, lsn: usize, tx: TxId, listed: &TxSet, w: Write) -> bool
-        ensures { result ≡ is_clear_under self.now tx listed.now lsn w }
+    fn is_clear_under(&self, lsn: usize, tx: TxId, listed: &TxSet, w: &Write) -> bool
+        ensures { result ≡ is_clear_under self.now tx listed.now lsn w.now }
     {
         !w.covers || self.is_clear(lsn, tx, listed, w.foreign)
     }
@@ -162,7 +163,7 @@ impl<'a> Index<'a> {
             let Some(w) = self.writes.at(at) else {
                 return true;
             };
-            if !self.is_clear_under(lsn, tx, listed, w) {
+            if !self.is_clear_under(lsn, tx, listed, &w) {
                 return false;
             }
             at = w.earlier;
@@ -176,16 +177,22 @@ impl<'a> Index<'a> {
         is_above(run, epoch, self.last) && self.barring.is_empty()
     }
 
-    fn takes_update(&self, tx: TxId, key: u64, before: Option<u64>, after: Option<u64>) -> bool
-        ensures { result ≡ update_fits self.now tx key before after }
+    fn takes_update(
+        &self,
+        tx: TxId,
+        key: u64,
+        before: &Option<Value>,
+        after: &Option<Value>,
+    ) -> bool
+        ensures { result ≡ update_fits self.now tx key before.now after.now }
     {
         let top = self.writes.at(self.writes.top(key));
         is_last_run(tx.run, self.last)
             && self.is_open(tx)
             && !is_before(self.restart_at, self.facts.get(tx).first_update)
-            && before == value_of(top)
+            && are_same(before, &value_of(&top))
             && (before.is_some() || after.is_some())
-            && self.may_cover(tx, top)
+            && self.may_cover(tx, &top)
     }
 
     fn allows_prepare(&self, lsn: usize, tx: TxId, predecessors: &[TxId], listed: &TxSet) -> bool
@@ -253,8 +260,8 @@ impl<'a> Index<'a> {
             && !facts.is_aborted
     }
 
-    fn takes_clr(&self, tx: TxId, undo_next: Option<u64>, key: u64, after: Option<u64>) -> bool
-        ensures { result ≡ clr_fits self.now tx undo_next key after }
+    fn takes_clr(&self, tx: TxId, undo_next: Option<u64>, key: u64, after: &Option<Value>) -> bool
+        ensures { result ≡ clr_fits self.now tx undo_next key after.now }
     {
         let Some(w) = self.writes.at(self.writes.newest_of(tx)) else {
             return false;
@@ -262,7 +269,7 @@ impl<'a> Index<'a> {
         self.last.is_some()
             && self.facts.get(tx).is_aborted
             && w.key == key
-            && w.before == after
+            && are_same(&w.before, after)
             && self.writes.top(key) == Some(w.lsn)
             && undo_next == w.earlier
     }
@@ -291,13 +298,13 @@ impl<'a> Index<'a> {
                 key,
                 before,
                 after,
-            } => self.takes_update(*tx, *key, *before, *after),
+            } => self.takes_update(*tx, *key, before, after),
             LogRecord::Clr {
                 tx,
                 undo_next,
                 key,
                 after,
-            } => self.takes_clr(*tx, *undo_next, *key, *after),
+            } => self.takes_clr(*tx, *undo_next, *key, after),
             LogRecord::Prepare {
                 tx,
                 predecessors,

@@ -5,18 +5,19 @@ ghost use Rattle.log_rules.specs.Writes.{foreign_below, covers_foreign, lsn_in, 
 
 use clv_base::logs::LogRecord;
 use clv_base::names::TxId;
+use clv_base::values::{Value, copy_of};
 use std::alloc::{AllocError, Global};
 use std::collections::HashMap;
 use tx_table::TxTable;
 
 // An UPDATE, and where others of its key and of its transaction stand when it is written.
-#[derive(Clone, Copy)]
+#[derive(Drop)]
 pub struct Write {
     pub lsn: u64,
     pub tx: TxId,
     pub key: u64,
-    pub before: Option<u64>,
-    pub after: Option<u64>,
+    pub before: Option<Value>,
+    pub after: Option<Value>,
     // The UPDATE right below it at its key; the first one down that is another transaction's; whether that is the same one.
     pub below: Option<u64>,
     pub foreign: Option<u64>,
@@ -56,8 +57,8 @@ pub struct Writes<'a> {
 }
 
 // The first one down that isn't this transaction's.
-fn foreign_of(tx: TxId, below: Option<Write>) -> Option<u64>
-    ensures { result ≡ foreign_below tx below }
+fn foreign_of(tx: TxId, below: &Option<Write>) -> Option<u64>
+    ensures { result ≡ foreign_below tx below.now }
 {
     match below {
         None => None,
@@ -65,8 +66,8 @@ fn foreign_of(tx: TxId, below: Option<Write>) -> Option<u64>
     }
 }
 
-fn is_foreign(tx: TxId, below: Option<Write>) -> bool
-    ensures { result ≡ covers_foreign tx below }
+fn is_foreign(tx: TxId, below: &Option<Write>) -> bool
+    ensures { result ≡ covers_foreign tx below.now }
 {
     match below {
         None => false,
@@ -104,8 +105,8 @@ fn write_of(lsn: u64, covers: bool, links: Links, record: &LogRecord) -> Option<
             lsn,
             tx: *tx,
             key: *key,
-            before: *before,
-            after: *after,
+            before: copy_of(before),
+            after: copy_of(after),
             below: lsn_of(links.below),
             foreign: lsn_of(links.foreign),
             covers,
@@ -253,8 +254,8 @@ impl<'a> Writes<'a> {
     {
         let below = self.top(key);
         let under = self.at(below);
-        let links = links_to(below, foreign_of(tx, under), self.newest_of(tx))?;
-        if is_foreign(tx, under) {
+        let links = links_to(below, foreign_of(tx, &under), self.newest_of(tx))?;
+        if is_foreign(tx, &under) {
             Ok(Row::OverOther(links))
         } else {
             Ok(Row::OverOwn(links))

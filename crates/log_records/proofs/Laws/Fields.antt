@@ -3,15 +3,18 @@ use Rattle.std.proofs.Common.{◌≡◌, ℕ, zero, suc, ◌+◌, ◌-◌, ◌*�
 use Rattle.std.specs.List.{flat_map, list_all}
 use Rattle.std.specs.Int.{byte_at, bytes_low_first}
 use Rattle.std.proofs.Math.Nat.{div-div-eq-div-mul, pow-succ'}
-use Rattle.std.proofs.lemmas.Bool.{ltb-false, ltb-true, le-ltb, eqb-true}
+use Rattle.std.proofs.lemmas.Bool.{ltb-false, ltb-true, le-ltb, eqb-true, leb-true, le-leb}
 use Rattle.std.proofs.lemmas.Bool.Decides.{nat_tests}
-use Rattle.std.proofs.lemmas.List.{drop_at, take-append-drop, length-append}
+use Rattle.std.proofs.Math.Seq.{take-append_seam}
+use Rattle.std.proofs.lemmas.List.{drop_at, take-append-drop, length-append, length-take-le}
 use Rattle.std.proofs.lemmas.List.Concat.{flat_map-cons}
 use Rattle.byteorder.specs.Endian.{little_bytes, little_from, little_number}
 use Rattle.byteorder.specs.Numbers.{little_number-reads_back, little_from-cons, length-bytes_low_first}
 use Rattle.clv_base.specs.declared.names.TxId.{TxId}
+use Rattle.clv_base.specs.declared.values.Value.{Value}
+use Rattle.clv_base.specs.declared.values.Value.TheVariants.{Num, Bytes}
 use Rattle.clv_base.specs.FileRules.{tx_has_spelling, is_value, is_undo_next}
-use Rattle.log_records.specs.Reading.{◌>>=◌, number_at, transaction_at, optional_at, undo_next_at, each_at, several_at, unless_greatest}
+use Rattle.log_records.specs.Reading.{◌>>=◌, number_at, transaction_at, text_at, optional_at, undo_next_at, each_at, several_at, unless_greatest}
 use Rattle.log_records.specs.Spelling.{number, transaction, optional, undo_next, several}
 use Rattle.law_base.proofs.Lists.{IsBytes, bytes_drop as IsBytes-drop}
 
@@ -123,23 +126,46 @@ transaction_again tx rest fits =
     let regrouped : (number 4 tx.run ++ (number 4 tx.session ++ number 8 tx.serial)) ++ rest ≡ number 4 tx.run ++ (number 4 tx.session ++ (number 8 tx.serial ++ rest)) = simp append_assoc in
     ap transaction_at regrouped ∙ rw (number_again 4 tx.run (number 4 tx.session ++ (number 8 tx.serial ++ rest)) run, number_again 4 tx.session (number 8 tx.serial ++ rest) session, number_again 8 tx.serial rest serial) refl
 
--- ---- numbers that may be none
+-- ---- values that may be none
 
-pub optional_takes : (bytes : List ℕ) (o : Option ℕ) (rest : List ℕ) → IsBytes bytes → optional_at bytes ≡ Some (o, rest) → Takes bytes (optional o) rest
+text_takes : (bytes text rest : List ℕ) → IsBytes bytes → text_at bytes ≡ Some (text, rest) → Takes bytes (length text ∷ text) rest
+unfolding text_at
+text_takes [] text rest fits e = absurd cc
+text_takes (count ∷ bytes) text rest fits e =
+    let g = guard_some (leb count 200 && leb count (length bytes)) (take count bytes, drop count bytes) (text, rest) e in
+    let within : count ≤ length bytes = leb-true count (length bytes) (both_true (leb count 200) (leb count (length bytes)) g.0).1 in
+    let text_is : take count bytes ≡ text = ap (λ (p : List ℕ × List ℕ). p.0) g.1 in
+    let rest_is : drop count bytes ≡ rest = ap (λ (p : List ℕ × List ℕ). p.1) g.1 in
+    let count_is : length text ≡ count = ap length (sym text_is) ∙ length-take-le count bytes within in
+    let parts : bytes ≡ text ++ rest = sym (take-append-drop count bytes) ∙ ap (λ (t : List ℕ). t ++ drop count bytes) text_is ∙ ap (λ (t : List ℕ). text ++ t) rest_is in
+    record { parts = ap (λ (n : ℕ). n ∷ bytes) (sym count_is) ∙ ap (λ (t : List ℕ). length text ∷ t) parts; rest_fits = rw (← rest_is) (IsBytes-drop count bytes (IsBytes-rest count bytes fits)) }
+
+text_again : (text rest : List ℕ) → leb (length text) 200 ≡ true → text_at (length text ∷ (text ++ rest)) ≡ Some (text, rest)
+unfolding text_at
+text_again text rest h =
+    let within : leb (length text) (length (text ++ rest)) ≡ true = le-leb (length text) (length (text ++ rest)) (omega (arith, length-append text rest)) in
+    rw (h, within, take-append_seam text rest, drop_at text rest (length text) refl) refl
+
+pub optional_takes : (bytes : List ℕ) (o : Option Value) (rest : List ℕ) → IsBytes bytes → optional_at bytes ≡ Some (o, rest) → Takes bytes (optional o) rest
 unfolding optional_at optional
 optional_takes [] o rest fits e = absurd cc
 optional_takes (zero ∷ bytes) o rest fits e =
-    subst (λ (x : Option ℕ × List ℕ). Takes (0 ∷ bytes) (optional x.0) x.1) (some_is (None, bytes) (o, rest) e) (record { parts = refl; rest_fits = IsBytes-rest 0 bytes fits })
+    subst (λ (x : Option Value × List ℕ). Takes (0 ∷ bytes) (optional x.0) x.1) (some_is (None, bytes) (o, rest) e) (record { parts = refl; rest_fits = IsBytes-rest 0 bytes fits })
 optional_takes (suc zero ∷ bytes) o rest fits e =
-    let b = bind_some (number_at 8 bytes) (λ n. Some (Some n.0, n.1)) (o, rest) e in
+    let b = bind_some (number_at 8 bytes) (λ n. Some (Some (Num n.0), n.1)) (o, rest) e in
     let t = number_takes 8 bytes b.0.0 b.0.1 (IsBytes-rest 1 bytes fits) b.1 in
-    subst (λ (x : Option ℕ × List ℕ). Takes (1 ∷ bytes) (optional x.0) x.1) (some_is (Some b.0.0, b.0.1) (o, rest) b.2) (record { parts = ap (λ (w : List ℕ). 1 ∷ w) t.parts; rest_fits = t.rest_fits })
-optional_takes (suc (suc b) ∷ bytes) o rest fits e = absurd cc
+    subst (λ (x : Option Value × List ℕ). Takes (1 ∷ bytes) (optional x.0) x.1) (some_is (Some (Num b.0.0), b.0.1) (o, rest) b.2) (record { parts = ap (λ (w : List ℕ). 1 ∷ w) t.parts; rest_fits = t.rest_fits })
+optional_takes (suc (suc zero) ∷ bytes) o rest fits e =
+    let b = bind_some (text_at bytes) (λ t. Some (Some (Bytes t.0), t.1)) (o, rest) e in
+    let t = text_takes bytes b.0.0 b.0.1 (IsBytes-rest 2 bytes fits) b.1 in
+    subst (λ (x : Option Value × List ℕ). Takes (2 ∷ bytes) (optional x.0) x.1) (some_is (Some (Bytes b.0.0), b.0.1) (o, rest) b.2) (record { parts = ap (λ (w : List ℕ). 2 ∷ w) t.parts; rest_fits = t.rest_fits })
+optional_takes (suc (suc (suc b)) ∷ bytes) o rest fits e = absurd cc
 
-pub optional_again : (o : Option ℕ) (rest : List ℕ) → is_value o ≡ true → optional_at (optional o ++ rest) ≡ Some (o, rest)
+pub optional_again : (o : Option Value) (rest : List ℕ) → is_value o ≡ true → optional_at (optional o ++ rest) ≡ Some (o, rest)
 unfolding optional_at optional
 optional_again None rest h = refl
-optional_again (Some n) rest h = let lt : n < 256 ^ 8 = ltb-true n (2 ^ 64) h in rw (number_again 8 n rest lt) refl
+optional_again (Some (Num n)) rest h = let lt : n < 256 ^ 8 = ltb-true n (2 ^ 64) h in rw (number_again 8 n rest lt) refl
+optional_again (Some (Bytes text)) rest h = rw (text_again text rest (both_true (leb (length text) 200) (list_all (λ b. ltb b 256) text) h).0) refl
 
 -- the greatest number is none, read or written
 written_lsn : (n : ℕ) → undo_next (unless_greatest n) ≡ number 8 n

@@ -5,6 +5,8 @@ use Rattle.std.proofs.lemmas.List.{length-append, drop_at}
 use Rattle.std.proofs.lemmas.List.Concat.{flat_map-cons}
 use Rattle.byteorder.specs.Numbers.{length-bytes_low_first}
 use Rattle.clv_base.specs.declared.names.TxId.{TxId}
+use Rattle.clv_base.specs.declared.values.Value.{Value}
+use Rattle.clv_base.specs.declared.values.Value.TheVariants.{Num, Bytes}
 use Rattle.clv_base.specs.declared.logs.LogRecord.{LogRecord}
 use Rattle.clv_base.specs.declared.logs.LogRecord.TheVariants.{Update, Clr, Prepare, Commit, Abort, End, Restart}
 use Rattle.clv_base.specs.Logs.{optional_size, record_size}
@@ -25,10 +27,11 @@ unfolding transaction
 length-transaction tx =
     omega (arith, length-append (number 4 tx.run) (number 4 tx.session ++ number 8 tx.serial), length-append (number 4 tx.session) (number 8 tx.serial), length-number 4 tx.run, length-number 4 tx.session, length-number 8 tx.serial)
 
-pub length-optional : (o : Option ℕ) → length (optional o) ≡ optional_size o
+pub length-optional : (o : Option Value) → length (optional o) ≡ optional_size o
 unfolding optional
 length-optional None = refl
-length-optional (Some n) = omega (arith, length-number 8 n)
+length-optional (Some (Num n)) = omega (arith, length-number 8 n)
+length-optional (Some (Bytes bytes)) = omega arith
 
 pub length-undo_next : (o : Option ℕ) → length (undo_next o) ≡ 8
 unfolding undo_next
