@@ -8,17 +8,22 @@ ghost use Rattle.clv_base.specs.Maps.{map_get, map_set, map_between, op_answer, 
 
 use clv_base::lists::Pairs;
 use clv_base::ops::{Answer, Op};
+use clv_base::values::Value;
 use std::alloc::{AllocError, Global};
 use std::collections::BTreeMap;
 use std::marker::Model;
 
-fn value_at(pairs: &BTreeMap<u64, u64>, key: u64) -> Option<u64>
+fn value_at(pairs: &BTreeMap<u64, Value>, key: u64) -> Option<Value>
     ensures { result ≡ map_get key pairs.now.entries }
 {
-    pairs.get(&key).copied()
+    pairs.get(&key).map(|value| value.copy())
 }
 
-fn put_at(pairs: &mut BTreeMap<u64, u64>, key: u64, value: u64) -> Result<Option<u64>, AllocError>
+fn put_at(
+    pairs: &mut BTreeMap<u64, Value>,
+    key: u64,
+    value: Value,
+) -> Result<Option<Value>, AllocError>
     ensures before { IfOk result (λ before. before ≡ map_get key pairs.old.entries) }
     ensures set { OnOk result (pairs.new.entries ≡ map_set key (Some value) pairs.old.entries) }
     ensures err { OnErr result (pairs.new.entries ≡ pairs.old.entries) }
@@ -26,7 +31,7 @@ fn put_at(pairs: &mut BTreeMap<u64, u64>, key: u64, value: u64) -> Result<Option
     Ok(pairs.insert(key, value)?)
 }
 
-fn take_at(pairs: &mut BTreeMap<u64, u64>, key: u64) -> Option<u64>
+fn take_at(pairs: &mut BTreeMap<u64, Value>, key: u64) -> Option<Value>
     ensures before { result ≡ map_get key pairs.old.entries }
     ensures removed { pairs.new.entries ≡ map_set key None pairs.old.entries }
 {
@@ -34,27 +39,31 @@ fn take_at(pairs: &mut BTreeMap<u64, u64>, key: u64) -> Option<u64>
     pairs.remove(&key)
 }
 
+// An entry, once more.
+fn copied(pair: (&u64, &Value)) -> (u64, Value)
+    ensures { result ≡ (pair.entry.0.now, pair.entry.1.now) }
+{
+    (*pair.0, pair.1.copy())
+}
+
 fn range_of(
     alloc: Global,
-    pairs: &BTreeMap<u64, u64>,
+    pairs: &BTreeMap<u64, Value>,
     low: u64,
     high: u64,
-) -> Result<Vec<(u64, u64)>, AllocError>
+) -> Result<Vec<(u64, Value)>, AllocError>
     requires { low ≤ high }
     ensures { IfOk result (λ found. found.items ≡ entries_between nat_cmp (Included low) (Included high) pairs.now.entries) }
 {
-    pairs
-        .range(low..=high)
-        .map(|(key, value)| (*key, *value))
-        .collect(alloc)
+    pairs.range(low..=high).map(copied).collect(alloc)
 }
 
 fn pairs_between(
     alloc: Global,
-    pairs: &BTreeMap<u64, u64>,
+    pairs: &BTreeMap<u64, Value>,
     low: u64,
     high: u64,
-) -> Result<Vec<(u64, u64)>, AllocError>
+) -> Result<Vec<(u64, Value)>, AllocError>
     ensures { IfOk result (λ found. found.items ≡ map_between low high pairs.now.entries) }
 {
     if high < low {
@@ -63,19 +72,16 @@ fn pairs_between(
     range_of(alloc, pairs, low, high)
 }
 
-fn pairs_of(alloc: Global, pairs: &BTreeMap<u64, u64>) -> Result<Vec<(u64, u64)>, AllocError>
+fn pairs_of(alloc: Global, pairs: &BTreeMap<u64, Value>) -> Result<Vec<(u64, Value)>, AllocError>
     ensures { IfOk result (λ found. found.items ≡ pairs.now.entries) }
 {
-    pairs
-        .iter()
-        .map(|(key, value)| (*key, *value))
-        .collect(alloc)
+    pairs.iter().map(copied).collect(alloc)
 }
 
 /// A map from keys to values.
 #[derive(Drop)]
 pub struct KeyMap {
-    pairs: BTreeMap<u64, u64>,
+    pairs: BTreeMap<u64, Value>,
 }
 
 impl Model for KeyMap {
@@ -97,14 +103,14 @@ impl KeyMap {
     }
 
     /// The value at a key.
-    pub fn get(&self, key: u64) -> Option<u64>
+    pub fn get(&self, key: u64) -> Option<Value>
         ensures { result ≡ map_get key self.now }
     {
         value_at(&self.pairs, key)
     }
 
     /// Sets the value at a key, and answers the one before. An `Err` changes nothing.
-    pub fn set(&mut self, key: u64, value: u64) -> Result<Option<u64>, AllocError>
+    pub fn set(&mut self, key: u64, value: Value) -> Result<Option<Value>, AllocError>
         ensures before { IfOk result (λ before. before ≡ map_get key self.old) }
         ensures set { OnOk result (self.new ≡ map_set key (Some value) self.old) }
         ensures err { OnErr result (self.new ≡ self.old) }
@@ -113,7 +119,7 @@ impl KeyMap {
     }
 
     /// Takes a key away, and answers the value before. Takes no memory.
-    pub fn remove(&mut self, key: u64) -> Option<u64>
+    pub fn remove(&mut self, key: u64) -> Option<Value>
         ensures before { result ≡ map_get key self.old }
         ensures removed { self.new ≡ map_set key None self.old }
     {
@@ -121,30 +127,35 @@ impl KeyMap {
     }
 
     /// The pairs from a key to another, both in, by rising keys.
-    pub fn between(&self, alloc: Global, low: u64, high: u64) -> Result<Vec<(u64, u64)>, AllocError>
+    pub fn between(
+        &self,
+        alloc: Global,
+        low: u64,
+        high: u64,
+    ) -> Result<Vec<(u64, Value)>, AllocError>
         ensures { IfOk result (λ pairs. pairs.items ≡ map_between low high self.now) }
     {
         pairs_between(alloc, &self.pairs, low, high)
     }
 
     /// All pairs, by rising keys.
-    pub fn pairs(&self, alloc: Global) -> Result<Vec<(u64, u64)>, AllocError>
+    pub fn pairs(&self, alloc: Global) -> Result<Vec<(u64, Value)>, AllocError>
         ensures { IfOk result (λ pairs. pairs.items ≡ self.now) }
     {
         pairs_of(alloc, &self.pairs)
     }
 
     /// Does an operation, and gives its answer. An `Err` changes nothing.
-    pub fn apply(&mut self, alloc: Global, op: Op) -> Result<Answer, AllocError>
-        ensures answer { IfOk result (λ answer. answer ≡ op_answer op self.old) }
-        ensures after { OnOk result (self.new ≡ op_after op self.old) }
+    pub fn apply(&mut self, alloc: Global, op: &Op) -> Result<Answer, AllocError>
+        ensures answer { IfOk result (λ answer. answer ≡ op_answer op.now self.old) }
+        ensures after { OnOk result (self.new ≡ op_after op.now self.old) }
         ensures err { OnErr result (self.new ≡ self.old) }
     {
         match op {
-            Op::Get(key) => Ok(Answer::Value(self.get(key))),
-            Op::Put(key, value) => Ok(Answer::Value(self.set(key, value)?)),
-            Op::Del(key) => Ok(Answer::Value(self.remove(key))),
-            Op::Scan(low, high) => Ok(Answer::Pairs(Pairs::new(self.between(alloc, low, high)?))),
+            Op::Get(key) => Ok(Answer::Value(self.get(*key))),
+            Op::Put(key, value) => Ok(Answer::Value(self.set(*key, value.copy())?)),
+            Op::Del(key) => Ok(Answer::Value(self.remove(*key))),
+            Op::Scan(low, high) => Ok(Answer::Pairs(Pairs::new(self.between(alloc, *low, *high)?))),
         }
     }
 }

@@ -18,7 +18,7 @@ fn run_operations(
 {
     let mut answers = Vec::new(alloc);
     for operation in operations {
-        answers.push(pairs.apply(alloc, *operation)?)?;
+        answers.push(pairs.apply(alloc, operation)?)?;
     }
     Ok(answers)
 }

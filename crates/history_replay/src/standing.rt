@@ -9,6 +9,7 @@ ghost use Rattle.history_replay.specs.Transactions.{has_member};
 use crate::transactions::TxSet;
 use crate::{KeyMap, Memory};
 use clv_base::logs::LogRecord;
+use clv_base::values::Value;
 use std::alloc::Global;
 
 // The transactions with a COMMIT in this log join the set.
@@ -35,12 +36,12 @@ fn committed(alloc: Global, logs: &[Vec<LogRecord>]) -> Result<TxSet, Memory>
 }
 
 // The value that a key has from now on, or none.
-fn set_to(pairs: &mut KeyMap, key: u64, after: Option<u64>) -> Result<(), Memory>
-    ensures { OnOk result (pairs.new ≡ map_set key after pairs.old) }
+fn set_to(pairs: &mut KeyMap, key: u64, after: &Option<Value>) -> Result<(), Memory>
+    ensures { OnOk result (pairs.new ≡ map_set key after.now pairs.old) }
 {
     match after {
         Some(value) => {
-            pairs.set(key, value)?;
+            pairs.set(key, value.copy())?;
         }
         None => {
             pairs.remove(key);
@@ -56,7 +57,7 @@ fn fold(pairs: &mut KeyMap, set: &TxSet, log: &[LogRecord]) -> Result<(), Memory
     for record in log {
         if let LogRecord::Update { tx, key, after, .. } = record {
             if set.contains(*tx) {
-                set_to(pairs, *key, *after)?;
+                set_to(pairs, *key, after)?;
             }
         }
     }

@@ -5,6 +5,7 @@ use Rattle.std.specs.Map.{lookup}
 use Rattle.std.specs.Ordering.{nat_cmp}
 use Rattle.std.specs.FinMap.{is_sorted}
 use Rattle.std.proofs.Math.Nat.{pow-le-pow_right}
+use Rattle.clv_base.specs.declared.values.Value.{Value as ValueType}
 use Rattle.clv_base.specs.declared.modes.Found.TheVariants.{Absent}
 use Rattle.clv_base.specs.Needs.{Records, found_at, found_by}
 use Rattle.ordered_store.proofs.Rising.{Rises, rises_from, above_at}
@@ -15,34 +16,34 @@ use Rattle.ordered_store.proofs.Chains.{point_reached, reached_slot, rest_is}
 
 -- ---- the rows of one block
 
-rows_rise : (rs : Records) → Rises rs → (i j : ℕ) (d : ℕ × Option ℕ) → i < j → j < length rs → (get_or rs i d).0 < (get_or rs j d).0
+rows_rise : (rs : Records) → Rises rs → (i j : ℕ) (d : ℕ × Option ValueType) → i < j → j < length rs → (get_or rs i d).0 < (get_or rs j d).0
 rows_rise [] h i j d l m = absurd (omega arith)
 rows_rise (r ∷ rs) h zero zero d l m = absurd (omega arith)
 rows_rise (r ∷ rs) h zero (suc j) d l m = above_at r.0 rs j d h.0 (omega arith)
 rows_rise (r ∷ rs) h (suc i) zero d l m = absurd (omega arith)
 rows_rise (r ∷ rs) h (suc i) (suc j) d l m = rows_rise rs h.1 i j d (omega arith) (omega arith)
 
-pub sorted_rise : (rs : Records) → is_sorted nat_cmp rs ≡ true → (i j : ℕ) (d : ℕ × Option ℕ) → i < j → j < length rs → (get_or rs i d).0 < (get_or rs j d).0
+pub sorted_rise : (rs : Records) → is_sorted nat_cmp rs ≡ true → (i j : ℕ) (d : ℕ × Option ValueType) → i < j → j < length rs → (get_or rs i d).0 < (get_or rs j d).0
 sorted_rise rs h = rows_rise rs (rises_from rs h)
 
-lookup_here : (k : ℕ) (rs : Records) (i : ℕ) (d : ℕ × Option ℕ) → Rises rs → i < length rs → (get_or rs i d).0 ≡ k → lookup (◌==◌ k) rs ≡ Some (get_or rs i d).1
+lookup_here : (k : ℕ) (rs : Records) (i : ℕ) (d : ℕ × Option ValueType) → Rises rs → i < length rs → (get_or rs i d).0 ≡ k → lookup (◌==◌ k) rs ≡ Some (get_or rs i d).1
 lookup_here k [] i d h l e = absurd (omega arith)
 lookup_here k (r ∷ rs) zero d h l e = ap (λ b. cond b (Some r.1) (lookup (◌==◌ k) rs)) (eq-eqb k r.0 (sym e))
 lookup_here k (r ∷ rs) (suc i) d h l e =
     let up : r.0 < (get_or rs i d).0 = above_at r.0 rs i d h.0 (omega arith) in
     ap (λ b. cond b (Some r.1) (lookup (◌==◌ k) rs)) (ne_eqb k r.0 (λ q. absurd (omega (arith, up, e, q)))) ∙ lookup_here k rs i d h.1 (omega arith) e
 
-lookup_none : (k : ℕ) (rs : Records) → ((j : ℕ) (d : ℕ × Option ℕ) → j < length rs → (get_or rs j d).0 ≡ k → ⊥) → lookup (◌==◌ k) rs ≡ None
+lookup_none : (k : ℕ) (rs : Records) → ((j : ℕ) (d : ℕ × Option ValueType) → j < length rs → (get_or rs j d).0 ≡ k → ⊥) → lookup (◌==◌ k) rs ≡ None
 lookup_none k [] n = refl
 lookup_none k (r ∷ rs) n = ap (λ b. cond b (Some r.1) (lookup (◌==◌ k) rs)) (ne_eqb k r.0 (λ q. n 0 r (omega arith) (sym q))) ∙ lookup_none k rs (λ j d l e. n (suc j) d (omega arith) e)
 
-pub found_row : (k : ℕ) (rs : Records) (i : ℕ) (d : ℕ × Option ℕ) → is_sorted nat_cmp rs ≡ true → i < length rs → (get_or rs i d).0 ≡ k → found_by (Some (get_or rs i d).1) ≡ found_at k rs
+pub found_row : (k : ℕ) (rs : Records) (i : ℕ) (d : ℕ × Option ValueType) → is_sorted nat_cmp rs ≡ true → i < length rs → (get_or rs i d).0 ≡ k → found_by (Some (get_or rs i d).1) ≡ found_at k rs
 found_row k rs i d h l e = ap found_by (sym (lookup_here k rs i d (rises_from rs h) l e))
 
-pub absent_row : (k : ℕ) (rs : Records) (i : ℕ) → ((j : ℕ) (d : ℕ × Option ℕ) → j < i → (get_or rs j d).0 < k) → ((j : ℕ) (d : ℕ × Option ℕ) → i ≤ j → j < length rs → k < (get_or rs j d).0) → Absent ≡ found_at k rs
+pub absent_row : (k : ℕ) (rs : Records) (i : ℕ) → ((j : ℕ) (d : ℕ × Option ValueType) → j < i → (get_or rs j d).0 < k) → ((j : ℕ) (d : ℕ × Option ValueType) → i ≤ j → j < length rs → k < (get_or rs j d).0) → Absent ≡ found_at k rs
 absent_row k rs i below above = ap found_by (sym (lookup_none k rs (λ j d l e. by_test j d l e (nat_lt j i) refl)))
   where
-    by_test : (j : ℕ) (d : ℕ × Option ℕ) → j < length rs → (get_or rs j d).0 ≡ k → (b : Bool) → nat_lt j i ≡ b → ⊥
+    by_test : (j : ℕ) (d : ℕ × Option ValueType) → j < length rs → (get_or rs j d).0 ≡ k → (b : Bool) → nat_lt j i ≡ b → ⊥
     by_test j d l e true w = let q = below j d (ltb-true j i w) in omega (arith, q, e)
     by_test j d l e false w = let q = above j d (ltb-false j i w) l in omega (arith, q, e)
 

@@ -2,6 +2,7 @@
 use Rattle.std.proofs.Common.{◌≡◌, ℕ, zero, suc, ◌<◌, ◌≤◌, Bool, true, false, cond, ◌==◌, nat_lt, [], ◌∷◌, length, get_or, Option, Some, None, refl, sym, ap, ◌∙◌, arith}
 use Rattle.std.proofs.lemmas.Bool.{ltb-true, ltb-false, le-ltb, eq-eqb}
 use Rattle.std.specs.Map.{lookup}
+use Rattle.clv_base.specs.declared.values.Value.{Value as ValueType}
 use Rattle.clv_base.specs.declared.modes.Anchor.{Anchor}
 use Rattle.clv_base.specs.declared.modes.Anchor.TheVariants.{Low, At}
 use Rattle.clv_base.specs.Needs.{Records, anchor_from, lower_anchor}
@@ -13,7 +14,7 @@ pub none_above : (k : ℕ) (rs : Records) → Above k rs → lookup (◌==◌ k)
 none_above k [] h = refl
 none_above k (r ∷ rs) h = ap (λ b. cond b (Some r.1) (lookup (◌==◌ k) rs)) (other k r.0 (λ e. let l : k < r.0 = h.0 in absurd (omega arith))) ∙ none_above k rs h.1
 
-module _ (k : ℕ) (d : ℕ × Option ℕ) where
+module _ (k : ℕ) (d : ℕ × Option ValueType) where
   -- the record at the place of the key is the key's
   pub found_there : (rs : Records) → lows k rs < length rs → (get_or rs (lows k rs) d).0 ≡ k → lookup (◌==◌ k) rs ≡ Some (get_or rs (lows k rs) d).1
   found_there [] l e = absurd (omega arith)
@@ -58,7 +59,7 @@ anchor_from-place k a (r ∷ rs) h = at (nat_lt r.0 k) refl (anchor_from-place k
     at true w more = more
     at false w more = not_below k a rs (above_less k r.0 rs (ltb-false r.0 k w) h.0)
 
-anchor_at-suc : (a : Anchor) (rs : Records) (n : ℕ) (d : ℕ × Option ℕ) → n < length rs → anchor_at a rs (suc n) ≡ At (get_or rs n d).0
+anchor_at-suc : (a : Anchor) (rs : Records) (n : ℕ) (d : ℕ × Option ValueType) → n < length rs → anchor_at a rs (suc n) ≡ At (get_or rs n d).0
 anchor_at-suc a [] n d l = absurd (omega arith)
 anchor_at-suc a (r ∷ rs) zero d l = refl
 anchor_at-suc a (r ∷ rs) (suc n) d l = anchor_at-suc (At r.0) rs n d (omega arith)
@@ -66,5 +67,5 @@ anchor_at-suc a (r ∷ rs) (suc n) d l = anchor_at-suc (At r.0) rs n d (omega ar
 pub anchor_low : (k : ℕ) (rs : Records) → Rises rs → lows k rs ≡ 0 → Low ≡ lower_anchor k rs
 anchor_low k rs h e = sym (anchor_from-place k Low rs h ∙ ap (anchor_at Low rs) e)
 
-pub anchor_before : (k n : ℕ) (rs : Records) (d : ℕ × Option ℕ) → Rises rs → lows k rs ≡ suc n → n < length rs → At (get_or rs n d).0 ≡ lower_anchor k rs
+pub anchor_before : (k n : ℕ) (rs : Records) (d : ℕ × Option ValueType) → Rises rs → lows k rs ≡ suc n → n < length rs → At (get_or rs n d).0 ≡ lower_anchor k rs
 anchor_before k n rs d h e l = sym (anchor_from-place k Low rs h ∙ (ap (anchor_at Low rs) e ∙ anchor_at-suc Low rs n d l))

@@ -5,6 +5,7 @@ use Rattle.std.specs.Ordering.{nat_cmp, is_lt}
 use Rattle.std.specs.FinMap.{is_sorted}
 use Rattle.std.specs.FinMap.Entries.{below_all}
 use Rattle.std.specs.List.Sorted.{IsPartitionedBy, IsPartitionPoint}
+use Rattle.clv_base.specs.declared.values.Value.{Value as ValueType}
 use Rattle.clv_base.specs.Needs.{Records}
 use Rattle.ordered_store.specs.Places.{count_below}
 use Rattle.law_base.proofs.Numbers.{lt_from}
@@ -50,12 +51,12 @@ pub count_below-lows : (k : ℕ) (rs : Records) → count_below k rs ≡ lows k 
 count_below-lows k [] = refl
 count_below-lows k (r ∷ rs) = let e : 1 + count_below k rs ≡ suc (lows k rs) = let h = count_below-lows k rs in omega arith in ap (λ n. cond (nat_lt r.0 k) n 0) e
 
-pub above_at : (k : ℕ) (rs : Records) (j : ℕ) (d : ℕ × Option ℕ) → Above k rs → j < length rs → k < (get_or rs j d).0
+pub above_at : (k : ℕ) (rs : Records) (j : ℕ) (d : ℕ × Option ValueType) → Above k rs → j < length rs → k < (get_or rs j d).0
 above_at k [] j d h l = absurd (omega arith)
 above_at k (r ∷ rs) zero d h l = h.0
 above_at k (r ∷ rs) (suc j) d h l = above_at k rs j d h.1 (omega arith)
 
-keys_rise : (rs : Records) (i j : ℕ) (d : ℕ × Option ℕ) → Rises rs → i ≤ j → j < length rs → (get_or rs i d).0 ≤ (get_or rs j d).0
+keys_rise : (rs : Records) (i j : ℕ) (d : ℕ × Option ValueType) → Rises rs → i ≤ j → j < length rs → (get_or rs i d).0 ≤ (get_or rs j d).0
 keys_rise [] i j d h l m = absurd (omega arith)
 keys_rise (r ∷ rs) zero zero d h l m = omega arith
 keys_rise (r ∷ rs) zero (suc j) d h l m = let a : r.0 < (get_or rs j d).0 = above_at r.0 rs j d h.0 (omega arith) in omega arith
@@ -63,10 +64,10 @@ keys_rise (r ∷ rs) (suc i) zero d h l m = absurd (omega arith)
 keys_rise (r ∷ rs) (suc i) (suc j) d h l m = keys_rise rs i j d h.1 (omega arith) (omega arith)
 
 -- no record below the key comes after one that isn't
-pub partitioned : (k : ℕ) (rs : Records) → Rises rs → IsPartitionedBy (λ (r : ℕ × Option ℕ). nat_lt r.0 k) rs
+pub partitioned : (k : ℕ) (rs : Records) → Rises rs → IsPartitionedBy (λ (r : ℕ × Option ValueType). nat_lt r.0 k) rs
 partitioned k rs h i j d l m e = let low = ltb-true (get_or rs j d).0 k e in let up = keys_rise rs i j d h l m in lt-ltb (get_or rs i d).0 k (omega arith)
 
-pub point_is_place : (k : ℕ) (rs : Records) (i : ℕ) → i ≤ length rs → IsPartitionPoint (λ (r : ℕ × Option ℕ). nat_lt r.0 k ≡ true) (λ (r : ℕ × Option ℕ). nat_lt r.0 k ≡ false) rs i → i ≡ lows k rs
+pub point_is_place : (k : ℕ) (rs : Records) (i : ℕ) → i ≤ length rs → IsPartitionPoint (λ (r : ℕ × Option ValueType). nat_lt r.0 k ≡ true) (λ (r : ℕ × Option ValueType). nat_lt r.0 k ≡ false) rs i → i ≡ lows k rs
 point_is_place k [] i l h = omega arith
 point_is_place k (r ∷ rs) zero l h = ap (λ b. cond b (suc (lows k rs)) zero) (sym (h.1 0 r (omega arith) (omega arith)))
 point_is_place k (r ∷ rs) (suc i) l h =

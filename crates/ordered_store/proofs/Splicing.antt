@@ -9,6 +9,7 @@ use Rattle.std.specs.declared.cmp.Ordering.TheVariants.{Less, Equal, Greater}
 use Rattle.std.specs.Ordering.{nat_cmp, match_ordering}
 use Rattle.std.specs.FinMap.{is_sorted}
 use Rattle.std.proofs.lemmas.Bool.Decides.{nat_tests}
+use Rattle.clv_base.specs.declared.values.Value.{Value as ValueType}
 use Rattle.clv_base.specs.Needs.{Records, found_at, record_set}
 use Rattle.ordered_store.proofs.Rising.{Above, Rises, rises_from, rises_to}
 use Rattle.ordered_store.specs.declared.block.Block.{Block}
@@ -72,21 +73,21 @@ module _ (k : ℕ) (f : Records → Records) (local : IsLocal k f) (d : Block) (
 
 -- ---- a value set
 
-set_past : (k : ℕ) (v : Option ℕ) (j : ℕ) (xs ys : Records) → Under j xs → j ≤ k → record_set k v (xs ++ ys) ≡ xs ++ record_set k v ys
+set_past : (k : ℕ) (v : Option ValueType) (j : ℕ) (xs ys : Records) → Under j xs → j ≤ k → record_set k v (xs ++ ys) ≡ xs ++ record_set k v ys
 set_past k v j [] ys u l = refl
 set_past k v j (x ∷ xs) ys u l = ap (λ o. match_ordering o ((k, v) ∷ x ∷ (xs ++ ys)) ((x.0, v) ∷ (xs ++ ys)) (x ∷ record_set k v (xs ++ ys))) (greater (omega (arith, u.0))) ∙ ap (λ rs. x ∷ rs) (set_past k v j xs ys u.1 l)
   where
     greater : x.0 < k → nat_cmp k x.0 ≡ Greater
     greater s = grind (arith, nat_tests)
 
-first_new : (k : ℕ) (v : Option ℕ) (ys : Records) → Above k ys → record_set k v ys ≡ (k, v) ∷ ys
+first_new : (k : ℕ) (v : Option ValueType) (ys : Records) → Above k ys → record_set k v ys ≡ (k, v) ∷ ys
 first_new k v [] h = refl
 first_new k v (y ∷ ys) h = ap (λ o. match_ordering o ((k, v) ∷ y ∷ ys) ((y.0, v) ∷ ys) (y ∷ record_set k v ys)) (less h.0)
   where
     less : k < y.0 → nat_cmp k y.0 ≡ Less
     less s = grind (arith, nat_tests)
 
-set_before : (k : ℕ) (v : Option ℕ) (xs ys : Records) → Above k ys → record_set k v (xs ++ ys) ≡ record_set k v xs ++ ys
+set_before : (k : ℕ) (v : Option ValueType) (xs ys : Records) → Above k ys → record_set k v (xs ++ ys) ≡ record_set k v xs ++ ys
 set_before k v [] ys h = first_new k v ys h
 set_before k v (x ∷ xs) ys h = at (nat_cmp k x.0) (set_before k v xs ys h)
   where
@@ -96,21 +97,21 @@ set_before k v (x ∷ xs) ys h = at (nat_cmp k x.0) (set_before k v xs ys h)
     at Equal more = refl
     at Greater more = ap (λ rs. x ∷ rs) more
 
-pub set_local : (k : ℕ) (v : Option ℕ) → IsLocal k (record_set k v)
+pub set_local : (k : ℕ) (v : Option ValueType) → IsLocal k (record_set k v)
 set_local k v = record { past = set_past k v; before = set_before k v }
 
 -- ---- a record taken away
 
-stay_under : (k j : ℕ) (xs : Records) → Under j xs → j ≤ k → filter (λ (r : ℕ × Option ℕ). not (r.0 == k)) xs ≡ xs
+stay_under : (k j : ℕ) (xs : Records) → Under j xs → j ≤ k → filter (λ (r : ℕ × Option ValueType). not (r.0 == k)) xs ≡ xs
 stay_under k j [] u l = refl
 stay_under k j (x ∷ xs) u l =
-    ap (λ b. cond (not b) (x ∷ filter (λ (r : ℕ × Option ℕ). not (r.0 == k)) xs) (filter (λ (r : ℕ × Option ℕ). not (r.0 == k)) xs)) (ne_eqb x.0 k (λ e. absurd (omega (arith, u.0))))
+    ap (λ b. cond (not b) (x ∷ filter (λ (r : ℕ × Option ValueType). not (r.0 == k)) xs) (filter (λ (r : ℕ × Option ValueType). not (r.0 == k)) xs)) (ne_eqb x.0 k (λ e. absurd (omega (arith, u.0))))
     ∙ ap (λ rs. x ∷ rs) (stay_under k j xs u.1 l)
 
-pub take_local : (k : ℕ) → IsLocal k (filter (λ (r : ℕ × Option ℕ). not (r.0 == k)))
+pub take_local : (k : ℕ) → IsLocal k (filter (λ (r : ℕ × Option ValueType). not (r.0 == k)))
 take_local k = record {
-  past = λ j xs ys u l. filter-append (λ (r : ℕ × Option ℕ). not (r.0 == k)) xs ys ∙ ap (λ rs. rs ++ filter (λ (r : ℕ × Option ℕ). not (r.0 == k)) ys) (stay_under k j xs u l);
-  before = λ xs ys h. filter-append (λ (r : ℕ × Option ℕ). not (r.0 == k)) xs ys ∙ ap (λ rs. filter (λ (r : ℕ × Option ℕ). not (r.0 == k)) xs ++ rs) (all_others k ys h);
+  past = λ j xs ys u l. filter-append (λ (r : ℕ × Option ValueType). not (r.0 == k)) xs ys ∙ ap (λ rs. rs ++ filter (λ (r : ℕ × Option ValueType). not (r.0 == k)) ys) (stay_under k j xs u l);
+  before = λ xs ys h. filter-append (λ (r : ℕ × Option ValueType). not (r.0 == k)) xs ys ∙ ap (λ rs. filter (λ (r : ℕ × Option ValueType). not (r.0 == k)) xs ++ rs) (all_others k ys h);
 }
 
 -- ---- order
@@ -225,7 +226,7 @@ module _ (k : ℕ) (f : Records → Records) (unders : (j : ℕ) (rs : Records) 
 
 -- ---- what the two changes keep
 
-pub under_set : (k : ℕ) (v : Option ℕ) (j : ℕ) (rs : Records) → k < j → Under j rs → Under j (record_set k v rs)
+pub under_set : (k : ℕ) (v : Option ValueType) (j : ℕ) (rs : Records) → k < j → Under j rs → Under j (record_set k v rs)
 under_set k v j [] l u = (l, tt)
 under_set k v j (r ∷ rs) l u = at (nat_cmp k r.0) (under_set k v j rs l u.1)
   where
@@ -234,7 +235,7 @@ under_set k v j (r ∷ rs) l u = at (nat_cmp k r.0) (under_set k v j rs l u.1)
     at Equal more = u
     at Greater more = (u.0, more)
 
-pub least_set : (k : ℕ) (v : Option ℕ) (j : ℕ) (rs : Records) → j ≤ k → Least j rs → Least j (record_set k v rs)
+pub least_set : (k : ℕ) (v : Option ValueType) (j : ℕ) (rs : Records) → j ≤ k → Least j rs → Least j (record_set k v rs)
 least_set k v j [] l u = (l, tt)
 least_set k v j (r ∷ rs) l u = at (nat_cmp k r.0) (least_set k v j rs l u.1)
   where
@@ -243,11 +244,11 @@ least_set k v j (r ∷ rs) l u = at (nat_cmp k r.0) (least_set k v j rs l u.1)
     at Equal more = u
     at Greater more = (u.0, more)
 
-pub under_filter : (p : ℕ × Option ℕ → Bool) (j : ℕ) (rs : Records) → Under j rs → Under j (filter p rs)
+pub under_filter : (p : ℕ × Option ValueType → Bool) (j : ℕ) (rs : Records) → Under j rs → Under j (filter p rs)
 under_filter p j [] u = tt
 under_filter p j (r ∷ rs) u = cond_both (p r) (r ∷ filter p rs) (filter p rs) (Under j) (λ e. (u.0, under_filter p j rs u.1)) (λ e. under_filter p j rs u.1)
 
-pub least_filter : (p : ℕ × Option ℕ → Bool) (j : ℕ) (rs : Records) → Least j rs → Least j (filter p rs)
+pub least_filter : (p : ℕ × Option ValueType → Bool) (j : ℕ) (rs : Records) → Least j rs → Least j (filter p rs)
 least_filter p j [] u = tt
 least_filter p j (r ∷ rs) u = cond_both (p r) (r ∷ filter p rs) (filter p rs) (Least j) (λ e. (u.0, least_filter p j rs u.1)) (λ e. least_filter p j rs u.1)
 
@@ -302,7 +303,7 @@ cut_chain b c rs s e g =
     let rises : Rises (b.rows.items ++ c.rows.items) = subst Rises (sym e ∙ ap (λ zs. b.rows.items ++ zs) (append-nil c.rows.items)) (rises_from rs s) in
     (rises_to b.rows.items (rises_front b.rows.items c.rows.items rises), (cut_under c.fence b.rows.items c.rows.items rises g, (g, rises_to c.rows.items (rises_back b.rows.items c.rows.items rises))))
 
-pub empties_last : {Z : Type 0} (es : List (Vec (ℕ × Option ℕ) Z)) (e : Vec (ℕ × Option ℕ) Z) → Empties (es ++ e ∷ []) → Empties es × ((length e.items ≡ 0) × (65 ≤ vec_capacity e))
+pub empties_last : {Z : Type 0} (es : List (Vec (ℕ × Option ValueType) Z)) (e : Vec (ℕ × Option ValueType) Z) → Empties (es ++ e ∷ []) → Empties es × ((length e.items ≡ 0) × (65 ≤ vec_capacity e))
 empties_last [] e h = (tt, h.0)
 empties_last (f ∷ es) e h = let p = empties_last es e h.1 in ((h.0, p.0), p.1)
 
@@ -315,7 +316,7 @@ module _ (k : ℕ) (bs : List Block) (i : ℕ) (old b : Block) (chained : Chaine
   pub same_found : found_at k old.rows.items ≡ found_at k (flat bs)
   same_found = ap (λ (o : Block). found_at k o.rows.items) here ∙ lookup_among k bs old chained
 
-  pub after_put : (v : Option ℕ) (us : List Block) → Chain b us → Begins b.fence b.rows.items → flat (b ∷ us) ≡ record_set k v old.rows.items → Sized (b ∷ us)
+  pub after_put : (v : Option ValueType) (us : List Block) → Chain b us → Begins b.fence b.rows.items → flat (b ∷ us) ≡ record_set k v old.rows.items → Sized (b ∷ us)
       → (flat (splice bs i (b ∷ us)) ≡ record_set k v (flat bs)) × (Chained (splice bs i (b ∷ us)) × Sized (splice bs i (b ∷ us)))
   after_put v us chain begins parts size = (
     ap (λ j. flat (splice bs j (b ∷ us))) at ∙ changed k (record_set k v) (set_local k v) old (b ∷ us) bs chained (parts ∙ ap (λ (o : Block). record_set k v o.rows.items) here),
@@ -325,27 +326,27 @@ module _ (k : ℕ) (bs : List Block) (i : ℕ) (old b : Block) (chained : Chaine
     ),
   )
 
-  pub after_take : is_sorted nat_cmp b.rows.items ≡ true → Starts b.fence b.rows.items → b.rows.items ≡ filter (λ (r : ℕ × Option ℕ). not (r.0 == k)) old.rows.items → (vec_len b.rows ≤ 64) × (65 ≤ vec_capacity b.rows)
-      → (flat (splice bs i (b ∷ [])) ≡ filter (λ (r : ℕ × Option ℕ). not (r.0 == k)) (flat bs)) × Sized (splice bs i (b ∷ []))
+  pub after_take : is_sorted nat_cmp b.rows.items ≡ true → Starts b.fence b.rows.items → b.rows.items ≡ filter (λ (r : ℕ × Option ValueType). not (r.0 == k)) old.rows.items → (vec_len b.rows ≤ 64) × (65 ≤ vec_capacity b.rows)
+      → (flat (splice bs i (b ∷ [])) ≡ filter (λ (r : ℕ × Option ValueType). not (r.0 == k)) (flat bs)) × Sized (splice bs i (b ∷ []))
   after_take sorted starts parts size = (
     ap (λ j. flat (splice bs j (b ∷ []))) at
-        ∙ changed k (filter (λ (r : ℕ × Option ℕ). not (r.0 == k))) (take_local k) old (b ∷ []) bs chained
-        (append-nil b.rows.items ∙ (parts ∙ ap (λ (o : Block). filter (λ (r : ℕ × Option ℕ). not (r.0 == k)) o.rows.items) here)),
+        ∙ changed k (filter (λ (r : ℕ × Option ValueType). not (r.0 == k))) (take_local k) old (b ∷ []) bs chained
+        (append-nil b.rows.items ∙ (parts ∙ ap (λ (o : Block). filter (λ (r : ℕ × Option ValueType). not (r.0 == k)) o.rows.items) here)),
     sized_splice bs i (b ∷ []) sized (size, tt),
   )
 
-  pub chained_take : is_sorted nat_cmp b.rows.items ≡ true → Starts b.fence b.rows.items → b.rows.items ≡ filter (λ (r : ℕ × Option ℕ). not (r.0 == k)) old.rows.items → (length b.rows.items ≡ 0 → ⊥) → Chained (splice bs i (b ∷ []))
+  pub chained_take : is_sorted nat_cmp b.rows.items ≡ true → Starts b.fence b.rows.items → b.rows.items ≡ filter (λ (r : ℕ × Option ValueType). not (r.0 == k)) old.rows.items → (length b.rows.items ≡ 0 → ⊥) → Chained (splice bs i (b ∷ []))
   chained_take sorted starts parts some = subst (λ j. Chained (splice bs j (b ∷ []))) (sym at)
-      (renewed k (filter (λ (r : ℕ × Option ℕ). not (r.0 == k))) (λ j rs l u. under_filter (λ (r : ℕ × Option ℕ). not (r.0 == k)) j rs u) (λ j rs l u. least_filter (λ (r : ℕ × Option ℕ). not (r.0 == k)) j rs u)
+      (renewed k (filter (λ (r : ℕ × Option ValueType). not (r.0 == k))) (λ j rs l u. under_filter (λ (r : ℕ × Option ValueType). not (r.0 == k)) j rs u) (λ j rs l u. least_filter (λ (r : ℕ × Option ValueType). not (r.0 == k)) j rs u)
       b [] old sorted (starts_begins b.fence b.rows.items starts some) (append-nil b.rows.items ∙ parts) bs old chained here)
 
   -- a block with no record left goes
-  pub after_gone : filter (λ (r : ℕ × Option ℕ). not (r.0 == k)) old.rows.items ≡ [] → 1 < length bs
-      → (flat (splice bs i []) ≡ filter (λ (r : ℕ × Option ℕ). not (r.0 == k)) (flat bs)) × (Chained (splice bs i []) × Sized (splice bs i []))
+  pub after_gone : filter (λ (r : ℕ × Option ValueType). not (r.0 == k)) old.rows.items ≡ [] → 1 < length bs
+      → (flat (splice bs i []) ≡ filter (λ (r : ℕ × Option ValueType). not (r.0 == k)) (flat bs)) × (Chained (splice bs i []) × Sized (splice bs i []))
   after_gone none more = (
     ap (λ j. flat (splice bs j [])) at
-        ∙ changed k (filter (λ (r : ℕ × Option ℕ). not (r.0 == k))) (take_local k) old [] bs chained
-        (sym none ∙ ap (λ (o : Block). filter (λ (r : ℕ × Option ℕ). not (r.0 == k)) o.rows.items) here),
+        ∙ changed k (filter (λ (r : ℕ × Option ValueType). not (r.0 == k))) (take_local k) old [] bs chained
+        (sym none ∙ ap (λ (o : Block). filter (λ (r : ℕ × Option ValueType). not (r.0 == k)) o.rows.items) here),
     (
       subst (λ j. Chained (splice bs j [])) (sym at) (spliced k [] old bs chained (fits (get_or bs (slot_of k bs) old)) (first bs more (get_or bs (slot_of k bs) old))),
       sized_splice bs i [] sized tt,
@@ -378,7 +379,7 @@ pub none_left : (rs : Records) → length rs ≡ 0 → rs ≡ []
 none_left [] e = refl
 none_left (r ∷ rs) e = absurd (omega arith)
 
-pub empties_more : {Z : Type 0} (es : List (Vec (ℕ × Option ℕ) Z)) (e : Vec (ℕ × Option ℕ) Z) → Empties es → length e.items ≡ 0 → 65 ≤ vec_capacity e → Empties (es ++ e ∷ [])
+pub empties_more : {Z : Type 0} (es : List (Vec (ℕ × Option ValueType) Z)) (e : Vec (ℕ × Option ValueType) Z) → Empties es → length e.items ≡ 0 → 65 ≤ vec_capacity e → Empties (es ++ e ∷ [])
 empties_more [] e h n l = ((n, l), tt)
 empties_more (f ∷ es) e h n l = (h.0, empties_more es e h.1 n l)
 

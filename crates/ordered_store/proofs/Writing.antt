@@ -6,15 +6,16 @@ use Rattle.std.specs.List.{filter, insert, remove}
 use Rattle.std.specs.declared.cmp.Ordering.{Ordering}
 use Rattle.std.specs.declared.cmp.Ordering.TheVariants.{Less, Equal, Greater}
 use Rattle.std.specs.Ordering.{nat_cmp, match_ordering}
+use Rattle.clv_base.specs.declared.values.Value.{Value as ValueType}
 use Rattle.clv_base.specs.Needs.{Records, record_set}
 use Rattle.ordered_store.proofs.Rising.{Above, Rises, above_less, lows}
 use Rattle.law_base.proofs.Names.{set_by as by_cmp}
 use Rattle.clv_base.proofs.Arrays.{is_equal, is_less, is_greater}
 
-abbrev first_with : Option ℕ → Records → ℕ → Records
+abbrev first_with : Option ValueType → Records → ℕ → Records
 first_with v rs j = (j, v) ∷ rs
 
-module _ (k : ℕ) (v : Option ℕ) (d : ℕ × Option ℕ) where
+module _ (k : ℕ) (v : Option ValueType) (d : ℕ × Option ValueType) where
   -- a key that is there keeps its place
   pub record_set-there : (rs : Records) → lows k rs < length rs → (get_or rs (lows k rs) d).0 ≡ k → set rs (lows k rs) (k, v) ≡ record_set k v rs
   record_set-there [] l e = absurd (omega arith)
@@ -42,7 +43,7 @@ module _ (k : ℕ) (v : Option ℕ) (d : ℕ × Option ℕ) where
 
 -- ---- order
 
-above_set : (j k : ℕ) (v : Option ℕ) (rs : Records) → j < k → Above j rs → Above j (record_set k v rs)
+above_set : (j k : ℕ) (v : Option ValueType) (rs : Records) → j < k → Above j rs → Above j (record_set k v rs)
 above_set j k v [] l h = (l, tt)
 above_set j k v (r ∷ rs) l h = at (nat_cmp k r.0) (above_set j k v rs l h.1)
   where
@@ -51,7 +52,7 @@ above_set j k v (r ∷ rs) l h = at (nat_cmp k r.0) (above_set j k v rs l h.1)
     at Equal more = h
     at Greater more = (h.0, more)
 
-pub rises_set : (k : ℕ) (v : Option ℕ) (rs : Records) → Rises rs → Rises (record_set k v rs)
+pub rises_set : (k : ℕ) (v : Option ValueType) (rs : Records) → Rises rs → Rises (record_set k v rs)
 rises_set k v [] h = (tt, tt)
 rises_set k v (r ∷ rs) h = at (nat_cmp k r.0) refl (rises_set k v rs h.1)
   where
@@ -60,33 +61,33 @@ rises_set k v (r ∷ rs) h = at (nat_cmp k r.0) refl (rises_set k v rs h.1)
     at Equal e more = h
     at Greater e more = let l : r.0 < k = grind (arith, nat_tests) in (above_set r.0 k v rs l h.0, more)
 
-above_filter : (p : ℕ × Option ℕ → Bool) (j : ℕ) (rs : Records) → Above j rs → Above j (filter p rs)
+above_filter : (p : ℕ × Option ValueType → Bool) (j : ℕ) (rs : Records) → Above j rs → Above j (filter p rs)
 above_filter p j [] h = tt
 above_filter p j (r ∷ rs) h = cond_both (p r) (r ∷ filter p rs) (filter p rs) (Above j) (λ e. (h.0, above_filter p j rs h.1)) (λ e. above_filter p j rs h.1)
 
-pub rises_filter : (p : ℕ × Option ℕ → Bool) (rs : Records) → Rises rs → Rises (filter p rs)
+pub rises_filter : (p : ℕ × Option ValueType → Bool) (rs : Records) → Rises rs → Rises (filter p rs)
 rises_filter p [] h = tt
 rises_filter p (r ∷ rs) h = cond_both (p r) (r ∷ filter p rs) (filter p rs) Rises (λ e. (above_filter p r.0 rs h.0, rises_filter p rs h.1)) (λ e. rises_filter p rs h.1)
 
 -- ---- taking away
 
-pub all_others : (k : ℕ) (rs : Records) → Above k rs → filter (λ (r : ℕ × Option ℕ). not (r.0 == k)) rs ≡ rs
+pub all_others : (k : ℕ) (rs : Records) → Above k rs → filter (λ (r : ℕ × Option ValueType). not (r.0 == k)) rs ≡ rs
 all_others k [] h = refl
 all_others k (r ∷ rs) h =
-    ap (λ b. cond (not b) (r ∷ filter (λ (r : ℕ × Option ℕ). not (r.0 == k)) rs) (filter (λ (r : ℕ × Option ℕ). not (r.0 == k)) rs)) (ne_eqb r.0 k (λ e. let l : k < r.0 = h.0 in absurd (omega arith)))
+    ap (λ b. cond (not b) (r ∷ filter (λ (r : ℕ × Option ValueType). not (r.0 == k)) rs) (filter (λ (r : ℕ × Option ValueType). not (r.0 == k)) rs)) (ne_eqb r.0 k (λ e. let l : k < r.0 = h.0 in absurd (omega arith)))
     ∙ ap (λ ys. r ∷ ys) (all_others k rs h.1)
 
 -- the record at its place goes, and no other
-pub remove-filter : (k : ℕ) (d : ℕ × Option ℕ) (rs : Records) → Rises rs → lows k rs < length rs → (get_or rs (lows k rs) d).0 ≡ k → remove rs (lows k rs) ≡ filter (λ (r : ℕ × Option ℕ). not (r.0 == k)) rs
+pub remove-filter : (k : ℕ) (d : ℕ × Option ValueType) (rs : Records) → Rises rs → lows k rs < length rs → (get_or rs (lows k rs) d).0 ≡ k → remove rs (lows k rs) ≡ filter (λ (r : ℕ × Option ValueType). not (r.0 == k)) rs
 remove-filter k d [] h l e = absurd (omega arith)
 remove-filter k d (r ∷ rs) h l e = at (nat_lt r.0 k) refl (remove-filter k d rs h.1) l e
   where
-    at : (b : Bool) → nat_lt r.0 k ≡ b → (lows k rs < length rs → (get_or rs (lows k rs) d).0 ≡ k → remove rs (lows k rs) ≡ filter (λ (r : ℕ × Option ℕ). not (r.0 == k)) rs)
+    at : (b : Bool) → nat_lt r.0 k ≡ b → (lows k rs < length rs → (get_or rs (lows k rs) d).0 ≡ k → remove rs (lows k rs) ≡ filter (λ (r : ℕ × Option ValueType). not (r.0 == k)) rs)
         → cond b (suc (lows k rs)) zero < length (r ∷ rs) → (get_or (r ∷ rs) (cond b (suc (lows k rs)) zero) d).0 ≡ k
-        → remove (r ∷ rs) (cond b (suc (lows k rs)) zero) ≡ cond (not (r.0 == k)) (r ∷ filter (λ (r : ℕ × Option ℕ). not (r.0 == k)) rs) (filter (λ (r : ℕ × Option ℕ). not (r.0 == k)) rs)
+        → remove (r ∷ rs) (cond b (suc (lows k rs)) zero) ≡ cond (not (r.0 == k)) (r ∷ filter (λ (r : ℕ × Option ValueType). not (r.0 == k)) rs) (filter (λ (r : ℕ × Option ValueType). not (r.0 == k)) rs)
     at true w more l e =
         ap (λ ys. r ∷ ys) (more (omega arith) e)
-        ∙ ap (λ b. cond (not b) (r ∷ filter (λ (r : ℕ × Option ℕ). not (r.0 == k)) rs) (filter (λ (r : ℕ × Option ℕ). not (r.0 == k)) rs)) (sym (ne_eqb r.0 k (λ q. let s = ltb-true r.0 k w in absurd (omega arith))))
+        ∙ ap (λ b. cond (not b) (r ∷ filter (λ (r : ℕ × Option ValueType). not (r.0 == k)) rs) (filter (λ (r : ℕ × Option ValueType). not (r.0 == k)) rs)) (sym (ne_eqb r.0 k (λ q. let s = ltb-true r.0 k w in absurd (omega arith))))
     at false w more l e =
         sym (all_others k rs (subst (λ j. Above j rs) e h.0))
-        ∙ ap (λ b. cond (not b) (r ∷ filter (λ (r : ℕ × Option ℕ). not (r.0 == k)) rs) (filter (λ (r : ℕ × Option ℕ). not (r.0 == k)) rs)) (sym (eq-eqb r.0 k e))
+        ∙ ap (λ b. cond (not b) (r ∷ filter (λ (r : ℕ × Option ValueType). not (r.0 == k)) rs) (filter (λ (r : ℕ × Option ValueType). not (r.0 == k)) rs)) (sym (eq-eqb r.0 k e))

@@ -3,6 +3,7 @@ use Rattle.std.specs.Prelude.{Vec, Option, max, ◌+◌, ◌-◌, ◌*◌, ◌�
 use Rattle.std.specs.Coded.{×_prop, Unit-prop, le_prop, Coded-set, coded_ℕ, coded_bool}
 use Rattle.std.specs.Ordering.{nat_cmp}
 use Rattle.std.specs.FinMap.{is_sorted}
+use Rattle.clv_base.specs.declared.values.Value.{Value as ValueType}
 use Rattle.clv_base.specs.Needs.{Records}
 use Rattle.ordered_store.specs.declared.block.Block.{Block}
 use Rattle.ordered_store.specs.Records.{Under, Begins, Starts}
@@ -41,7 +42,7 @@ abbrev pub room_of : List Block → ℕ → ℕ
 room_of bs spares = max spares (32 * spares + 31 - excess bs)
 
 -- rows with no record, and room for 65
-abbrev pub Empties : {Z : Type 0} → List (Vec (ℕ × Option ℕ) Z) → Type 0
+abbrev pub Empties : {Z : Type 0} → List (Vec (ℕ × Option ValueType) Z) → Type 0
 Empties [] = Unit {0}
 Empties (e ∷ es) = ((length e.items ≡ 0) × (65 ≤ vec_capacity e)) × Empties es
 
@@ -96,6 +97,6 @@ pub Sized-prop : (bs : List Block) → IsProp (Sized bs)
 Sized-prop [] = Unit-prop
 Sized-prop (b ∷ bs) = ×_prop (×_prop le_prop le_prop) (Sized-prop bs)
 
-pub Empties-prop : {Z : Type 0} (es : List (Vec (ℕ × Option ℕ) Z)) → IsProp (Empties es)
+pub Empties-prop : {Z : Type 0} (es : List (Vec (ℕ × Option ValueType) Z)) → IsProp (Empties es)
 Empties-prop [] = Unit-prop
 Empties-prop (e ∷ es) = ×_prop (×_prop (Coded-set coded_ℕ (length e.items) 0) le_prop) (Empties-prop es)

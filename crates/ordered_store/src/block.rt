@@ -7,6 +7,7 @@ ghost use Rattle.clv_base.specs.Needs.{found_at, is_there, value_at, record_set}
 ghost use Rattle.ordered_store.specs.Records.{Begins, Starts};
 
 use crate::rows::{self, Row};
+use clv_base::values::Value;
 
 /// How many records a block may have. It has room for one more.
 pub(crate) const MOST: usize = 64;
@@ -30,7 +31,7 @@ fn least(rows: &[Row]) -> u64
 }
 
 /// Puts a value or a ghost at a key, and gives the live value before.
-pub(crate) fn put_in(block: &mut Block, key: u64, value: Option<u64>) -> Option<u64>
+pub(crate) fn put_in(block: &mut Block, key: u64, value: Option<Value>) -> Option<Value>
     requires rising { is_sorted nat_cmp block.old.rows.items ≡ true }
     requires room { vec_len block.old.rows < vec_capacity block.old.rows }
     ensures before { result ≡ value_at key block.old.rows.items }
@@ -75,9 +76,7 @@ pub(crate) fn cut_off(block: &mut Block, mut spare: Vec<Row>) -> Block
     ensures sizes { (vec_len block.new.rows ≡ 33) × (vec_len result.rows ≡ 32) }
     ensures room { (vec_capacity block.new.rows ≡ vec_capacity block.old.rows) × (65 ≤ vec_capacity result.rows) }
 {
-    let Ok(()) = spare.extend_from_slice(&block.rows[LOWER..]) else {
-        unreachable!()
-    };
+    rows::copy_to(&mut spare, &block.rows[LOWER..]);
     block.rows.truncate(LOWER);
     Block {
         fence: least(&spare),

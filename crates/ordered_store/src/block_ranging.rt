@@ -7,6 +7,7 @@ use crate::block::Block;
 use crate::block_finding::slot;
 use crate::rows;
 use clv_base::modes::Found;
+use clv_base::values::Value;
 use std::alloc::{AllocError, Global};
 
 /// The records from a key to another, both in.
@@ -25,14 +26,14 @@ pub(crate) fn between(
         if block.fence > high {
             break;
         }
-        let part = rows::between(alloc, &block.rows, low, high)?;
-        found.extend_from_slice(&part)?;
+        let mut part = rows::between(alloc, &block.rows, low, high)?;
+        found.append(&mut part)?;
     }
     Ok(found)
 }
 
 /// The live pairs go behind those of a list.
-pub(crate) fn add_live(pairs: &mut Vec<(u64, u64)>, blocks: &[Block]) -> Result<(), AllocError>
+pub(crate) fn add_live(pairs: &mut Vec<(u64, Value)>, blocks: &[Block]) -> Result<(), AllocError>
     ensures { OnOk result (pairs.new.items ≡ pairs.old.items ++ live_pairs (flat blocks.now)) }
 {
     for block in blocks {

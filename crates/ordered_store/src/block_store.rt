@@ -16,6 +16,7 @@ use crate::growing::make_room;
 use crate::rows::Row;
 use crate::steps::Steps;
 use clv_base::modes::{Anchor, Found};
+use clv_base::values::Value;
 use std::alloc::{AllocError, Global};
 use std::sync::ledger::Ledger;
 
@@ -51,7 +52,7 @@ impl BlockStore {
 
 impl BlockStore {
     /// The live pairs of these stores, store by store, each one's by rising keys. Takes time linear in the records.
-    pub fn live_pairs(alloc: Global, stores: &[BlockStore]) -> Result<Vec<(u64, u64)>, AllocError>
+    pub fn live_pairs(alloc: Global, stores: &[BlockStore]) -> Result<Vec<(u64, Value)>, AllocError>
         ensures { IfOk result (λ pairs. pairs.items ≡ live_in_turn (map (λ s. ⟦<BlockStore as Store>⟧.records s) stores.now)) }
     {
         let mut pairs = Vec::new(alloc);
@@ -94,7 +95,7 @@ impl Store for BlockStore {
         make_room(self.alloc, &mut self.blocks, &mut self.spares, count)
     }
 
-    fn set(&mut self, key: u64, value: u64) -> Option<u64> {
+    fn set(&mut self, key: u64, value: Value) -> Option<Value> {
         put(&mut self.blocks, &mut self.spares, key, Some(value))
     }
 

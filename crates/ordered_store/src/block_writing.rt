@@ -10,14 +10,15 @@ ghost use Rattle.ordered_store.specs.Blocks.{Chain, Chained, Sized, Empties, exc
 use crate::block::{Block, MOST, cut_off, put_in, take_out};
 use crate::block_finding::slot;
 use crate::rows::Row;
+use clv_base::values::Value;
 
 /// Puts a value or a ghost at a key, and gives the live value before. The 65th record cuts the block, and the upper part is given.
 fn put_and_cut(
     block: &mut Block,
     spares: &mut Vec<Vec<Row>>,
     key: u64,
-    value: Option<u64>,
-) -> (Option<u64>, Option<Block>)
+    value: Option<Value>,
+) -> (Option<Value>, Option<Block>)
     requires rising { is_sorted nat_cmp block.old.rows.items ≡ true }
     requires size { (vec_len block.old.rows ≤ 64) × (65 ≤ vec_capacity block.old.rows) }
     requires empties { Empties spares.old.items }
@@ -48,8 +49,8 @@ pub(crate) fn put(
     blocks: &mut Vec<Block>,
     spares: &mut Vec<Vec<Row>>,
     key: u64,
-    value: Option<u64>,
-) -> Option<u64>
+    value: Option<Value>,
+) -> Option<Value>
     requires chained { Chained blocks.old.items }
     requires sized { Sized blocks.old.items }
     requires empties { Empties spares.old.items }

@@ -6,7 +6,7 @@ ghost use Rattle.clv_base.specs.Needs.{found_at};
 ghost use Rattle.ordered_store.specs.Blocks.{Chained, Sized, flat, slot_of};
 
 use crate::block::Block;
-use crate::rows::{Row, found};
+use crate::rows::Row;
 use crate::search::search;
 use crate::steps::Steps;
 use clv_base::modes::Found;
@@ -32,7 +32,7 @@ fn row_counting<L: Ledger>(rows: &[Row], key: u64, steps: &mut Steps<L>) -> Foun
     ensures cost { (steps.old ≤ steps.new) × (2 ^ (steps.new - steps.old) ≤ 2 * length rows.now + 1) }
 {
     match search(rows, key, steps) {
-        Ok(at) => found(rows[at].1),
+        Ok(at) => rows[at].1.found(),
         Err(_) => Found::Absent,
     }
 }

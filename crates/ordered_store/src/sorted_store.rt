@@ -6,6 +6,7 @@ ghost use Rattle.std.specs.FinMap.{is_sorted};
 use crate::rows::{Row, anchor_below, between, get, put, take};
 use crate::store::Store;
 use clv_base::modes::{Anchor, Found};
+use clv_base::values::Value;
 use std::alloc::{AllocError, Global};
 
 /// All records in one list, by rising keys. A look-up is a binary search; a new key, and one that goes, move what lies above.
@@ -43,7 +44,7 @@ impl Store for SortedStore {
         self.rows.reserve(count)
     }
 
-    fn set(&mut self, key: u64, value: u64) -> Option<u64> {
+    fn set(&mut self, key: u64, value: Value) -> Option<Value> {
         put(&mut self.rows, key, Some(value))
     }
 

@@ -6,6 +6,7 @@ ghost use Rattle.std.specs.FinMap.{is_sorted};
 ghost use Rattle.clv_base.specs.Needs.{Records, found_at, found_by, is_there, value_at, record_set, lower_anchor, records_between};
 
 use clv_base::modes::{Anchor, Found};
+use clv_base::values::Value;
 use std::alloc::{AllocError, Global};
 
 /// Records by rising keys. A record is live, with a value, or a ghost.
@@ -31,7 +32,7 @@ pub trait Store: Sized {
         ensures records { records self.new ≡ records self.old };
 
     /// Sets the value at a key, and gives the live value before. Takes no memory.
-    fn set(&mut self, key: u64, value: u64) -> Option<u64>
+    fn set(&mut self, key: u64, value: Value) -> Option<Value>
         requires { IsTrue (is_there (found_at key (records self.old)) || nat_lt 0 (room self.old)) }
         ensures before { result ≡ value_at key (records self.old) }
         ensures records { records self.new ≡ record_set key (Some value) (records self.old) }

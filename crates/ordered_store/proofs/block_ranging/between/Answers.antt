@@ -2,6 +2,7 @@ use Rattle.std.proofs.Common.{◌≡◌, ◌∙◌, ◌++◌, ◌-◌, ◌<◌, 
 use Rattle.std.proofs.lemmas.List.{append-nil}
 use Rattle.std.specs.Ordering.{nat_cmp}
 use Rattle.std.specs.FinMap.{is_sorted}
+use Rattle.clv_base.specs.declared.values.Value.{Value as ValueType}
 use Rattle.clv_base.specs.declared.modes.Found.{Found}
 use Rattle.clv_base.specs.Needs.{Records, found_by, records_between}
 use Rattle.ordered_store.specs.declared.block.Block.{Block}
@@ -12,8 +13,8 @@ use Rattle.ordered_store.proofs.block_ranging.between.Goals.{else-loop-block-tes
 
 pub loop-block-init : goal.loop-block-init
 loop-block-init c = let blocks = c.args.blocks.now in let from = c.slot-from.result in
-    ap (λ (ys : List (ℕ × Found)). ys ++ map (λ (r : ℕ × Option ℕ). (r.0, found_by (Some r.1))) (records_between c.args.low c.args.high (flat (take (length blocks - from) (drop from blocks))))) c.new-found.ensures.items
-    ∙ ap (λ (rs : Records). map (λ (r : ℕ × Option ℕ). (r.0, found_by (Some r.1))) rs) (between_from c.args.low c.args.high blocks from c.requires c.slot-from.ensures.slot)
+    ap (λ (ys : List (ℕ × Found)). ys ++ map (λ (r : ℕ × Option ValueType). (r.0, found_by (Some r.1))) (records_between c.args.low c.args.high (flat (take (length blocks - from) (drop from blocks))))) c.new-found.ensures.items
+    ∙ ap (λ (rs : Records). map (λ (r : ℕ × Option ValueType). (r.0, found_by (Some r.1))) rs) (between_from c.args.low c.args.high blocks from c.requires c.slot-from.ensures.slot)
 
 pub between-requires : goal.between-requires
 between-requires c = let blocks = c.args.blocks.now in let from = c.slot-from.result in let xs = take (length blocks - from) (drop from blocks) in
@@ -26,4 +27,4 @@ returns c = let blocks = c.args.blocks.now in let from = c.slot-from.result in l
       | then-loop-block-test+then-block-high w ↦ none_from c.args.low c.args.high xs c.loop-block.block-index w.block-item.result (laid_rest blocks from c.requires) w.loop-block-test.true
           (subst (λ (b : Block). c.args.high < b.fence) w.block-item.is w.if-block-high.true)
     ] in
-    sym (append-nil c.loop-block.found.items) ∙ (ap (λ (rs : Records). c.loop-block.found.items ++ map (λ (r : ℕ × Option ℕ). (r.0, found_by (Some r.1))) rs) (sym none) ∙ c.loop-block.invariant)
+    sym (append-nil c.loop-block.found.items) ∙ (ap (λ (rs : Records). c.loop-block.found.items ++ map (λ (r : ℕ × Option ValueType). (r.0, found_by (Some r.1))) rs) (sym none) ∙ c.loop-block.invariant)

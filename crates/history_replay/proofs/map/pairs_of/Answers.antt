@@ -1,0 +1,16 @@
+use Rattle.std.proofs.Common.{◌≡◌, ◌∙◌, ℕ, List, IfOk, length, ap, subst, rules}
+use Rattle.std.specs.Map.Iter.{TakesFirst, deref_pair}
+use Rattle.std.proofs.lemmas.Iterator.{YieldsList-from_map, items_from_collect}
+use Rattle.std.proofs.lemmas.Iterator.Consumers.{YieldsList-at, YieldsList-from_shown}
+use Rattle.clv_base.specs.declared.values.Value.{Value as ValueType}
+use Rattle.history_replay.proofs.Trees.{each_same}
+use Rattle.history_replay.proofs.map.pairs_of.Goals as goal
+
+pub returns : goal.returns
+returns c =
+    let entries : List (ℕ × ValueType) = c.args.pairs.now.entries in
+    subst (λ (l : List (ℕ × ValueType)). IfOk c.collect.result (λ found. found.items ≡ l)) (each_same entries)
+    (items_from_collect c.collect.result c.collect.ensures.ran
+    (YieldsList-from_map _ (λ (x : ℕ × ValueType). x)
+    (YieldsList-at (c.map.ensures.source ∙ c.iter.ensures.rest) (YieldsList-from_shown (TakesFirst (deref_pair {K = ℕ} {X = ValueType})) (deref_pair {K = ℕ} {X = ValueType}) (λ s. s) (λ s t k. ap length k.0) (λ s x t k. k) entries))
+    c.map.ensures.closure (λ x r q k. search rules)))
