@@ -6,6 +6,7 @@ use Rattle.std.specs.declared.cmp.Ordering.{Ordering}
 use Rattle.std.specs.declared.cmp.Ordering.TheVariants.{Less, Equal, Greater}
 use Rattle.std.specs.Ordering.{nat_cmp, match_ordering}
 use Rattle.std.proofs.lemmas.Bool.{both_ways}
+use Rattle.clv_base.specs.declared.values.Value.{Value as ValueType}
 use Rattle.clv_base.specs.declared.names.TxId.{TxId}
 use Rattle.clv_base.specs.declared.logs.LogRecord.{LogRecord}
 use Rattle.clv_base.specs.declared.logs.LogRecord.TheVariants.{Update, Abort}
@@ -22,7 +23,7 @@ use Rattle.law_base.proofs.Names.{set_has as set_is_there, falls_length}
 use Rattle.law_base.proofs.Lists.{all_mono}
 
 -- a record that is there stays so when one is set
-pub there_set : (k j : ℕ) (v : Option ℕ) (rs : Records) → is_there (found_at j rs) ≡ true → is_there (found_at j (record_set k v rs)) ≡ true
+pub there_set : (k j : ℕ) (v : Option ValueType) (rs : Records) → is_there (found_at j rs) ≡ true → is_there (found_at j (record_set k v rs)) ≡ true
 there_set k j v [] e = absurd (both_ways false refl e)
 there_set k j v (r ∷ rs) e = at (nat_cmp k r.0) (k == j) (j == r.0) refl e (there_set k j v rs)
   where
@@ -36,7 +37,7 @@ there_set k j v (r ∷ rs) e = at (nat_cmp k r.0) (k == j) (j == r.0) refl e (th
     at Greater b false q h more = ap (λ d. is_there (found_by (cond d (Some r.1) (lookup (◌==◌ j) (record_set k v rs))))) q ∙ more h
 
 -- so each write has its record when one more is made
-pub have_more : (set : List TxId) (log after : List LogRecord) (rs qs : Records) (tx : TxId) (key : ℕ) (v before x : Option ℕ) → HaveRecords set (standing log) rs
+pub have_more : (set : List TxId) (log after : List LogRecord) (rs qs : Records) (tx : TxId) (key : ℕ) (v before x : Option ValueType) → HaveRecords set (standing log) rs
     → after ≡ log ++ Update tx key before x ∷ [] → qs ≡ record_set key v rs → HaveRecords set (standing after) qs
 have_more set log after rs qs tx key v before x have e q =
     subst (λ l. HaveRecords set l qs) (sym (ap standing e ∙ standing_more log (Update tx key before x)))

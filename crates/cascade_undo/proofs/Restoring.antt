@@ -6,22 +6,23 @@ use Rattle.std.specs.Map.{lookup}
 use Rattle.std.specs.declared.cmp.Ordering.{Ordering}
 use Rattle.std.specs.declared.cmp.Ordering.TheVariants.{Less, Equal, Greater}
 use Rattle.std.specs.Ordering.{nat_cmp, match_ordering}
+use Rattle.clv_base.specs.declared.values.Value.{Value as ValueType}
 use Rattle.clv_base.specs.Needs.{Records, found_at, found_by, is_there, record_set}
 use Rattle.ordered_store.proofs.Laws.{Above, Rises, above_less}
 use Rattle.ordered_store.proofs.Laws.{none_above}
 use Rattle.law_base.proofs.Bools.{by_bool as both}
 
 -- the records with another value at a key that is there
-abbrev pub set_back : ℕ → Option ℕ → Records → Records
+abbrev pub set_back : ℕ → Option ValueType → Records → Records
 set_back k v rs = map (λ r. (r.0, cond (r.0 == k) v r.1)) rs
 
-others_same : (k : ℕ) (v : Option ℕ) (rs : Records) → Above k rs → rs ≡ set_back k v rs
+others_same : (k : ℕ) (v : Option ValueType) (rs : Records) → Above k rs → rs ≡ set_back k v rs
 others_same k v [] h = refl
 others_same k v (r ∷ rs) h =
     ap (λ l. r ∷ l) (others_same k v rs h.1)
     ∙ ap (λ b. (r.0, cond b v r.1) ∷ set_back k v rs) (sym (ne_eqb r.0 k (λ e. let l : k < r.0 = h.0 in absurd (omega arith))))
 
-pub set_there : (k : ℕ) (v : Option ℕ) (rs : Records) → Rises rs → is_there (found_at k rs) ≡ true → record_set k v rs ≡ set_back k v rs
+pub set_there : (k : ℕ) (v : Option ValueType) (rs : Records) → Rises rs → is_there (found_at k rs) ≡ true → record_set k v rs ≡ set_back k v rs
 set_there k v [] h e = absurd (both_ways false refl e)
 set_there k v (r ∷ rs) h e = at (nat_cmp k r.0) refl (set_there k v rs h.1)
   where
@@ -41,12 +42,12 @@ set_there k v (r ∷ rs) h e = at (nat_cmp k r.0) refl (set_there k v rs h.1)
         let there : is_there (found_at k rs) ≡ true = ap (λ b. is_there (found_by (cond b (Some r.1) (lookup (◌==◌ k) rs)))) (sym past) ∙ e in
         ap (λ l. r ∷ l) (more there) ∙ ap (λ b. (r.0, cond b v r.1) ∷ set_back k v rs) (sym (ne_eqb r.0 k (λ q. absurd (omega arith))))
 
-pub there_by : (v : Option ℕ) → is_there (found_by (Some v)) ≡ true
+pub there_by : (v : Option ValueType) → is_there (found_by (Some v)) ≡ true
 there_by None = refl
 there_by (Some x) = refl
 
 -- which keys are there stays
-pub there_stays : (k : ℕ) (v : Option ℕ) (rs : Records) (j : ℕ) → is_there (found_at j (set_back k v rs)) ≡ is_there (found_at j rs)
+pub there_stays : (k : ℕ) (v : Option ValueType) (rs : Records) (j : ℕ) → is_there (found_at j (set_back k v rs)) ≡ is_there (found_at j rs)
 there_stays k v [] j = refl
 there_stays k v (r ∷ rs) j =
     both (λ b. is_there (found_by (cond b (Some (cond (r.0 == k) v r.1)) (lookup (◌==◌ j) (set_back k v rs)))) ≡ is_there (found_by (cond b (Some r.1) (lookup (◌==◌ j) rs)))) (j == r.0)

@@ -2,6 +2,7 @@
 use Rattle.std.proofs.Common.{◌≡◌, ℕ, suc, Bool, true, false, cond, ◌&&◌, ◌==◌, List, [], ◌∷◌, ◌++◌, length, Option, Some, None, unwrap_or, refl, sym, ap, subst, ◌∙◌}
 use Rattle.std.specs.List.{AllByRecursion}
 use Rattle.std.proofs.lemmas.Bool.{both_ways, cond-true, cond-false}
+use Rattle.clv_base.specs.declared.values.Value.{Value as ValueType}
 use Rattle.clv_base.specs.declared.names.TxId.{TxId}
 use Rattle.clv_base.specs.declared.logs.LogRecord.TheVariants.{Clr}
 use Rattle.clv_base.specs.Orders.{tx_in}
@@ -50,10 +51,10 @@ module _ (set : List TxId) where
   writes_above [] ws h = refl
   writes_above (v ∷ vs) ws h = cond-false _ _ _ h.0 ∙ writes_above vs ws h.1
 
-  abbrev before_with : Option (Option ℕ) → Bool → Option ℕ → Option (Option ℕ)
+  abbrev before_with : Option (Option ValueType) → Bool → Option ValueType → Option (Option ValueType)
   before_with o b v = elim o [ Some x ↦ Some x | None ↦ cond b (Some v) None ]
 
-  before_none : (o : Option (Option ℕ)) (v : Option ℕ) → before_with o false v ≡ o
+  before_none : (o : Option (Option ValueType)) (v : Option ValueType) → before_with o false v ≡ o
   before_none None v = refl
   before_none (Some x) v = refl
 
@@ -97,14 +98,14 @@ module _ (set : List TxId) where
     writes_with_it = ap length (writes_above above (w ∷ rest) h ∙ cond-true _ _ _ i) ∙ ap (λ l. suc (length l)) (sym (writes_above above rest h))
 
     -- the value before at a key, from what was set back at its own key
-    pub before_with_it : (k : ℕ) (v : Option ℕ) → unwrap_or (value_before set k (above ++ rest)) (cond (k == w.key) w.before v) ≡ unwrap_or (value_before set k (above ++ w ∷ rest)) v
+    pub before_with_it : (k : ℕ) (v : Option ValueType) → unwrap_or (value_before set k (above ++ rest)) (cond (k == w.key) w.before v) ≡ unwrap_or (value_before set k (above ++ w ∷ rest)) v
     before_with_it k v =
         ap (λ o. unwrap_or o (cond (k == w.key) w.before v)) (before_above k above rest h)
         ∙ at (value_before set k rest) (k == w.key)
         ∙ ap (λ b. unwrap_or (before_with (value_before set k rest) (b && (k == w.key)) w.before) v) (sym i)
         ∙ ap (λ o. unwrap_or o v) (sym (before_above k above (w ∷ rest) h))
       where
-        at : (o : Option (Option ℕ)) (b : Bool) → unwrap_or o (cond b w.before v) ≡ unwrap_or (before_with o (true && b) w.before) v
+        at : (o : Option (Option ValueType)) (b : Bool) → unwrap_or o (cond b w.before v) ≡ unwrap_or (before_with o (true && b) w.before) v
         at (Some x) b = refl
         at None true = refl
         at None false = refl

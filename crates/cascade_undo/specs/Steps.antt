@@ -1,5 +1,6 @@
 -- An undo of a set of transactions, step by step from the newest write down.
 use Rattle.std.specs.Prelude.{◌≡◌, ℕ, ◌+◌, ◌<◌, ◌≤◌, cond, List, [], ◌∷◌, ◌++◌, length, Option, Some, None, IfSome}
+use Rattle.clv_base.specs.declared.values.Value.{Value as ValueType}
 use Rattle.clv_base.specs.declared.names.TxId.{TxId}
 use Rattle.clv_base.specs.declared.logs.LogRecord.{LogRecord}
 use Rattle.clv_base.specs.declared.logs.LogRecord.TheVariants.{Update}
@@ -30,7 +31,7 @@ write_in lsn _ = None
 -- the write is the newest one of the set
 abbrev pub IsNewestIn : List TxId → List StandingUpdate → Write → Type 0
 IsNewestIn set ws w =
-    (after : Option ℕ) × (newest_in set ws ≡ Some (record { lsn = w.lsn; tx = w.tx; key = w.key; before = w.before; after = after }))
+    (after : Option ValueType) × (newest_in set ws ≡ Some (record { lsn = w.lsn; tx = w.tx; key = w.key; before = w.before; after = after }))
 
 -- the CLRs appended here are those that were still to be appended there
 pub record Advances (set : List TxId) (b c : Buffer LogRecord) : Type 0 where

@@ -39,7 +39,7 @@ pub fn compensate(buffer: &mut LogBuffer<LogRecord>, set: &[TxId])
 {
     let mut below = buffer.end();
     while let Some(write) = newest_write(buffer, set, below) {
-        append_clr(buffer, write);
         below = write.lsn;
+        append_clr(buffer, write);
     }
 }

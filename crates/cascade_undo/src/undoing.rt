@@ -12,11 +12,12 @@ use crate::compensating::append_clr;
 use crate::write::{Write, newest_write};
 use clv_base::logs::LogRecord;
 use clv_base::names::TxId;
+use clv_base::values::{Value, copy_of};
 use log_buffer::LogBuffer;
 use ordered_store::Store;
 
 /// Sets the record at a key back to a value, or to a ghost.
-fn restore<S: Store>(store: &mut S, key: u64, before: Option<u64>)
+fn restore<S: Store>(store: &mut S, key: u64, before: Option<Value>)
     requires { IsTrue (is_there (found_at key (S.records store.old))) }
     ensures records { S.records store.new ≡ record_set key before (S.records store.old) }
     ensures room { S.room store.old ≤ S.room store.new }
@@ -39,7 +40,7 @@ fn undo_write<S: Store>(store: &mut S, buffer: &mut LogBuffer<LogRecord>, write:
     ensures room { buffer.old.room ≤ buffer.new.room + 1 }
     ensures store_room { S.room store.old ≤ S.room store.new }
 {
-    restore(store, write.key, write.before);
+    restore(store, write.key, copy_of(&write.before));
     append_clr(buffer, write);
 }
 
@@ -65,8 +66,8 @@ pub fn undo_writes<S: Store>(
     let end = buffer.end();
     let mut below = end;
     while let Some(write) = newest_write(buffer, set, below) {
-        undo_write(store, buffer, write);
         below = write.lsn;
+        undo_write(store, buffer, write);
     }
     (buffer.end() - end) as usize
 }

@@ -8,15 +8,16 @@ ghost use Rattle.cascade_undo.specs.Steps.{newest_in, AreBelow, IsNewestIn, writ
 use crate::marks::{contains, greatest_lsn};
 use clv_base::logs::LogRecord;
 use clv_base::names::TxId;
+use clv_base::values::{Value, copy_of};
 use log_buffer::LogBuffer;
 
 /// An UPDATE at its LSN: the transaction, the key, and its value before.
-#[derive(Clone, Copy, PartialEq, Eq)]
+#[derive(Drop)]
 pub(crate) struct Write {
     pub(crate) lsn: u64,
     pub(crate) tx: TxId,
     pub(crate) key: u64,
-    pub(crate) before: Option<u64>,
+    pub(crate) before: Option<Value>,
 }
 
 /// What the record at an LSN writes.
@@ -33,7 +34,7 @@ fn write_of(lsn: u64, found: &LogRecord) -> Option<Write>
             lsn,
             tx: *tx,
             key: *key,
-            before: *before,
+            before: copy_of(before),
         }),
         _ => None,
     }

@@ -1,5 +1,6 @@
 -- The state after a granted operation, by its plan.
 use Rattle.std.proofs.Common.{◌≡◌, ℕ, List, Option, Some, None, refl}
+use Rattle.clv_base.specs.declared.values.Value.{Value as ValueType}
 use Rattle.clv_base.specs.declared.names.TxId.{TxId}
 use Rattle.clv_base.specs.declared.names.Birth.{Birth}
 use Rattle.clv_base.specs.declared.modes.Need.{Need}
@@ -20,7 +21,7 @@ locked_by tx birth needs preds new l =
     }
 
 by_cases :
-    (tx : TxId) (birth : Birth) (needs : List Need) (preds : List TxId) (new : Option ℕ) (write : Option (ℕ × Option ℕ × Option ℕ)) (l : Local)
+    (tx : TxId) (birth : Birth) (needs : List Need) (preds : List TxId) (new : Option ℕ) (write : Option (ℕ × Option ValueType × Option ValueType)) (l : Local)
     → written tx write (locked_by tx birth needs preds new l) ≡ performed_by tx birth needs (insert_by l.records new) (write_by write) preds l
 unfolding locked_by
 by_cases tx birth needs preds None None l = refl

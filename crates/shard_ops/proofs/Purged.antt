@@ -3,6 +3,7 @@ use Rattle.std.proofs.Common.{◌≡◌, refl, sym, ap, subst, ◌∙◌, ⊎_el
 use Rattle.std.proofs.lemmas.Bool.{both_ways, cond_both, cond-true, false_from_ne_true, or_cases}
 use Rattle.std.specs.List.{AllByRecursion, filter, list_any}
 use Rattle.std.specs.Map.{lookup}
+use Rattle.clv_base.specs.declared.values.Value.{Value as ValueType}
 use Rattle.clv_base.specs.declared.names.TxId.{TxId}
 use Rattle.clv_base.specs.declared.modes.Anchor.{Anchor}
 use Rattle.clv_base.specs.declared.modes.Anchor.TheVariants.{Low, At}
@@ -63,7 +64,7 @@ module _ {A : Type 0} where
 
 -- ---- fewer locks
 
-stays_by : (few locks : Locks) → ((a : Anchor) → held_on a few ≡ true → held_on a locks ≡ true) → (k : ℕ) (v : Option ℕ) → is_locked_or_live few (k, v) ≡ true → is_locked_or_live locks (k, v) ≡ true
+stays_by : (few locks : Locks) → ((a : Anchor) → held_on a few ≡ true → held_on a locks ≡ true) → (k : ℕ) (v : Option ValueType) → is_locked_or_live few (k, v) ≡ true → is_locked_or_live locks (k, v) ≡ true
 stays_by few locks h k (Some v) e = refl
 stays_by few locks h k None e = ap (λ b. not (not b)) (h (At k) (twice (held_on (At k) few) e))
   where
@@ -108,7 +109,7 @@ purged_on_anchor tx a locks rs locked =
     (all_weaker (λ r. is_locked_or_live locks r ≡ true) (λ r. (not (anchor_same a (At r.0)) || is_locked_or_live (without_lock tx a locks) r) ≡ is_locked_or_live (without_lock tx a locks) r)
     (λ r e. at r.0 (anchor_same a (At r.0)) refl r.1 e) rs (all_pass (is_locked_or_live locks) rs locked))
   where
-    at : (k : ℕ) (b : Bool) → anchor_same a (At k) ≡ b → (v : Option ℕ) → is_locked_or_live locks (k, v) ≡ true
+    at : (k : ℕ) (b : Bool) → anchor_same a (At k) ≡ b → (v : Option ValueType) → is_locked_or_live locks (k, v) ≡ true
         → (not b || is_locked_or_live (without_lock tx a locks) (k, v)) ≡ is_locked_or_live (without_lock tx a locks) (k, v)
     at k true s v e = refl
     at k false s (Some v) e = refl
@@ -136,15 +137,15 @@ found_each k (r ∷ rs) h = (
     here : (k == r.0) ≡ true → found_at k (r ∷ rs) ≡ found_by (Some r.1)
     here e = ap (λ b. found_by (cond b (Some r.1) (lookup (◌==◌ k) rs))) e
 
-    later : (q : ℕ × Option ℕ) → (k == r.0) ≡ false → found_at k rs ≡ found_by (Some q.1) → found_at k (r ∷ rs) ≡ found_by (Some q.1)
+    later : (q : ℕ × Option ValueType) → (k == r.0) ≡ false → found_at k rs ≡ found_by (Some q.1) → found_at k (r ∷ rs) ≡ found_by (Some q.1)
     later q e f = ap (λ b. found_by (cond b (Some r.1) (lookup (◌==◌ k) rs))) e ∙ f
 
-    both : (P Q R : ℕ × Option ℕ → Type 0) → ((x : ℕ × Option ℕ) → P x → Q x → R x) → (xs : Records) → AllByRecursion P xs → AllByRecursion Q xs → AllByRecursion R xs
+    both : (P Q R : ℕ × Option ValueType → Type 0) → ((x : ℕ × Option ValueType) → P x → Q x → R x) → (xs : Records) → AllByRecursion P xs → AllByRecursion Q xs → AllByRecursion R xs
     both P Q R g [] a b = tt
     both P Q R g (x ∷ xs) a b = (g x a.0 b.0, both P Q R g xs a.1 b.1)
 
 -- whether a record stays, where the ghost on the anchor goes if it bears no lock
-abbrev stays : Anchor → Locks → ℕ × Option ℕ → Bool
+abbrev stays : Anchor → Locks → ℕ × Option ValueType → Bool
 stays a locks r = not (anchor_same a (At r.0)) || is_locked_or_live locks r
 
 -- below the first record there is no ghost
@@ -155,7 +156,7 @@ none_low locks rs = all_stay (stays Low locks) rs (all_of (λ r. stays Low locks
 pub held_stays : (k : ℕ) (locks : Locks) (rs : Records) → is_free (At k) locks ≡ false → without_ghost_on (At k) locks rs ≡ rs
 held_stays k locks rs held = all_stay (stays (At k) locks) rs (all_of (λ r. stays (At k) locks r ≡ true) (λ r. at (anchor_same (At k) (At r.0)) r.0 r.1 (λ s. nat_cmp_true k r.0 s)) rs)
   where
-    at : (b : Bool) (j : ℕ) (v : Option ℕ) → (b ≡ true → k ≡ j) → (not b || is_locked_or_live locks (j, v)) ≡ true
+    at : (b : Bool) (j : ℕ) (v : Option ValueType) → (b ≡ true → k ≡ j) → (not b || is_locked_or_live locks (j, v)) ≡ true
     at false j v same = refl
     at true j (Some u) same = refl
     at true j None same = subst (λ x. not (is_free (At x) locks) ≡ true) (same refl) (ap not held)
@@ -172,7 +173,7 @@ module _ (k : ℕ) (locks : Locks) (rs : Records) (rises : Rises rs) where
       all_stay (stays (At k) locks) rs
       (all_weaker (λ r. anchor_same (At k) (At r.0) ≡ true → found_at k rs ≡ found_by (Some r.1)) (λ r. stays (At k) locks r ≡ true) (λ r h. at (anchor_same (At k) (At r.0)) r.0 r.1 h) rs found)
     where
-      at : (b : Bool) (j : ℕ) (v : Option ℕ) → (b ≡ true → found_at k rs ≡ found_by (Some v)) → (not b || is_locked_or_live locks (j, v)) ≡ true
+      at : (b : Bool) (j : ℕ) (v : Option ValueType) → (b ≡ true → found_at k rs ≡ found_by (Some v)) → (not b || is_locked_or_live locks (j, v)) ≡ true
       at false j v h = refl
       at true j (Some u) h = refl
       at true j None h = absurd (both_ways true (sym (ap is_ghost (h refl)) ∙ other) refl)
@@ -190,7 +191,7 @@ module _ (k : ℕ) (locks : Locks) (rs : Records) (rises : Rises rs) where
       own : (j : ℕ) → anchor_same (At k) (At j) ≡ true → not (j == k) ≡ not (is_free (At j) locks)
       own j s = let same = nat_cmp_true k j s in ap not (eq-eqb j k (sym same)) ∙ ap not (sym (subst (λ x. is_free (At x) locks ≡ true) same free))
 
-      at : (b : Bool) (j : ℕ) → anchor_same (At k) (At j) ≡ b → (v : Option ℕ) → (b ≡ true → found_at k rs ≡ found_by (Some v)) → not (j == k) ≡ (not b || is_locked_or_live locks (j, v))
+      at : (b : Bool) (j : ℕ) → anchor_same (At k) (At j) ≡ b → (v : Option ValueType) → (b ≡ true → found_at k rs ≡ found_by (Some v)) → not (j == k) ≡ (not b || is_locked_or_live locks (j, v))
       at false j s v h = ap not (apart j s)
       at true j s (Some u) h = absurd (both_ways false refl (sym (ap is_ghost (h refl)) ∙ ghost))
       at true j s None h = own j s

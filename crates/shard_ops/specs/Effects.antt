@@ -1,5 +1,6 @@
 -- What a granted operation does to each part of a shard's state, by what it needs, inserts and writes.
 use Rattle.std.specs.Prelude.{◌≡◌, ℕ, ◌+◌, ◌<◌, ◌≤◌, IsTrue, cond, List, [], ◌∷◌, ◌++◌, length, Option, Some, None}
+use Rattle.clv_base.specs.declared.values.Value.{Value as ValueType}
 use Rattle.clv_base.specs.declared.names.TxId.{TxId}
 use Rattle.clv_base.specs.declared.names.Birth.{Birth}
 use Rattle.clv_base.specs.declared.ops.Op.{Op}
@@ -57,7 +58,7 @@ new_records None rs = 0
 new_records (Some w) rs = new_at w.key rs
 
 -- a value wants room for a record; a delete wants the record
-abbrev pub CanSet : ℕ → Option ℕ → ℕ → Records → Type 0
+abbrev pub CanSet : ℕ → Option ValueType → ℕ → Records → Type 0
 CanSet k (Some v) room rs = 0 < room
 CanSet k None room rs = IsTrue (is_there (found_at k rs))
 

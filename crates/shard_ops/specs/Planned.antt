@@ -1,5 +1,6 @@
 -- What an operation inserts and writes, by the records.
 use Rattle.std.specs.Prelude.{◌≡◌, ℕ, List, [], ◌∷◌, Option, Some, None}
+use Rattle.clv_base.specs.declared.values.Value.{Value as ValueType}
 use Rattle.clv_base.specs.declared.ops.Op.{Op}
 use Rattle.clv_base.specs.declared.modes.Part.{Part}
 use Rattle.clv_base.specs.declared.modes.Anchor.TheVariants.{At}
@@ -21,12 +22,12 @@ lock_at k rs on_record beside Ghost = need (At k) (on_key on_record)
 lock_at k rs on_record beside Absent = need (lower_anchor k rs) (on_gap beside)
 
 -- a row's pair, where it is live
-abbrev pub pair_at : ℕ → Found → Option (ℕ × ℕ)
+abbrev pub pair_at : ℕ → Found → Option (ℕ × ValueType)
 pair_at k (Live v) = Some (k, v)
 pair_at k Ghost = None
 pair_at k Absent = None
 
-abbrev pub pair_of : ℕ × Found → Option (ℕ × ℕ)
+abbrev pub pair_of : ℕ × Found → Option (ℕ × ValueType)
 pair_of r = pair_at r.0 r.1
 
 -- the new record, with the anchor whose gap it splits
@@ -38,7 +39,7 @@ abbrev pub insert_of : Op → Records → Option Insert
 insert_of op rs = insert_by rs (inserts op (found_at (key_of op) rs))
 
 -- the key that is written, with its value before and after
-abbrev pub write_by : Option (ℕ × Option ℕ × Option ℕ) → Option Write
+abbrev pub write_by : Option (ℕ × Option ValueType × Option ValueType) → Option Write
 write_by None = None
 write_by (Some w) = Some (record { key = w.0; before = w.1; after = w.2 })
 

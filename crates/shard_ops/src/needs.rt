@@ -1,5 +1,6 @@
 //! The lock that an operation on one key needs.
-ghost use Rattle.std.specs.Prelude.{◌≡◌, ℕ, [], ◌∷◌};
+ghost use Rattle.std.specs.Prelude.{◌≡◌, [], ◌∷◌};
+ghost use Rattle.clv_base.specs.declared.values.Value.{Value as ValueType};
 ghost use Rattle.clv_base.specs.Modes.{on_key as key_mode, on_gap as gap_mode, on_both as both_mode};
 ghost use Rattle.clv_base.specs.Needs.{needs_by};
 ghost use Rattle.shard_ops.specs.Planned.{lock_at as lock_by};
@@ -39,8 +40,8 @@ pub(crate) fn on_both(part: Part) -> Mode
 }
 
 /// A lock on the record at a key, where there is one, else on the gap that the key lies in.
-fn lock_at<S: Store>(store: &S, key: u64, found: Found, there: Part, beside: Part) -> Need
-    ensures { result ≡ lock_by key (S.records store.now) there beside found }
+fn lock_at<S: Store>(store: &S, key: u64, found: &Found, there: Part, beside: Part) -> Need
+    ensures { result ≡ lock_by key (S.records store.now) there beside found.now }
 {
     match found {
         Found::Live(_) | Found::Ghost => Need {
@@ -55,22 +56,22 @@ fn lock_at<S: Store>(store: &S, key: u64, found: Found, there: Part, beside: Par
 }
 
 /// What a read of a key needs, by what stands there.
-pub(crate) fn get_need<S: Store>(store: &S, key: u64, found: Found) -> Need
-    ensures { result ∷ [] ≡ needs_by (Op.Get key) (S.records store.now) found }
+pub(crate) fn get_need<S: Store>(store: &S, key: u64, found: &Found) -> Need
+    ensures { result ∷ [] ≡ needs_by (Op.Get key) (S.records store.now) found.now }
 {
     lock_at(store, key, found, Part::S, Part::S)
 }
 
 /// What putting a value at a key needs.
-pub(crate) fn put_need<S: Store>(store: &S, key: u64, found: Found) -> Need
-    ensures { (value : ℕ) → result ∷ [] ≡ needs_by (Op.Put key value) (S.records store.now) found }
+pub(crate) fn put_need<S: Store>(store: &S, key: u64, found: &Found) -> Need
+    ensures { (value : ValueType) → result ∷ [] ≡ needs_by (Op.Put key value) (S.records store.now) found.now }
 {
     lock_at(store, key, found, Part::X, Part::X)
 }
 
 /// What deleting a key needs: it writes a live record alone.
-pub(crate) fn del_need<S: Store>(store: &S, key: u64, found: Found) -> Need
-    ensures { result ∷ [] ≡ needs_by (Op.Del key) (S.records store.now) found }
+pub(crate) fn del_need<S: Store>(store: &S, key: u64, found: &Found) -> Need
+    ensures { result ∷ [] ≡ needs_by (Op.Del key) (S.records store.now) found.now }
 {
     let there = match found {
         Found::Live(_) => Part::X,

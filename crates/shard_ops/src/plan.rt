@@ -1,5 +1,6 @@
 //! All that an operation does, before it does anything.
-ghost use Rattle.std.specs.Prelude.{◌≡◌, ℕ, IfOk};
+ghost use Rattle.std.specs.Prelude.{◌≡◌, IfOk};
+ghost use Rattle.clv_base.specs.declared.values.Value.{Value as ValueType};
 ghost use Rattle.clv_base.specs.Needs.{needs_of, answer_of, live_of, inserts, writes_of};
 ghost use Rattle.shard_ops.specs.Planned.{needed, insert_of, write_of, insert_by, write_by, IsPlanOf};
 
@@ -8,6 +9,7 @@ use crate::scan::{pairs_of, scan_needs};
 use clv_base::lists::Pairs;
 use clv_base::modes::{Anchor, Found, Need};
 use clv_base::ops::{Answer, Op};
+use clv_base::values::{Value, copy_of};
 use lock_table::Memory;
 use ordered_store::Store;
 use std::alloc::{AllocError, Global};
@@ -21,11 +23,11 @@ pub struct Insert {
 }
 
 /// A key that is written, with its value before and after.
-#[derive(Clone, Copy, PartialEq, Eq)]
+#[derive(PartialEq, Eq, Drop)]
 pub struct Write {
     pub key: u64,
-    pub before: Option<u64>,
-    pub after: Option<u64>,
+    pub before: Option<Value>,
+    pub after: Option<Value>,
 }
 
 /// The locks that an operation needs, in order. One on a key needs one lock, for which no list is made.
@@ -33,6 +35,19 @@ pub struct Write {
 pub enum Needs {
     One(Need),
     Several(Vec<Need>),
+}
+
+impl Write {
+    /// The same write once more. Takes no memory.
+    pub fn copy(&self) -> Write
+        ensures { result ≡ self.now }
+    {
+        Write {
+            key: self.key,
+            before: copy_of(&self.before),
+            after: copy_of(&self.after),
+        }
+    }
 }
 
 impl Needs {
@@ -56,7 +71,7 @@ pub struct Plan {
     pub write: Option<Write>,
 }
 
-fn live(found: Found) -> Option<u64>
+fn live(found: Found) -> Option<Value>
     ensures { result ≡ live_of found }
 {
     match found {
@@ -70,7 +85,7 @@ fn plan_get<S: Store>(store: &S, key: u64) -> Plan
 {
     let found = store.get(key);
     Plan {
-        needs: Needs::One(get_need(store, key, found)),
+        needs: Needs::One(get_need(store, key, &found)),
         answer: Answer::Value(live(found)),
         insert: None,
         write: None,
@@ -78,8 +93,8 @@ fn plan_get<S: Store>(store: &S, key: u64) -> Plan
 }
 
 /// The record that a Put inserts, where there is none.
-fn put_insert<S: Store>(store: &S, key: u64, found: Found) -> Option<Insert>
-    ensures { (value : ℕ) → result ≡ insert_by (S.records store.now) (inserts (Op.Put key value) found) }
+fn put_insert<S: Store>(store: &S, key: u64, found: &Found) -> Option<Insert>
+    ensures { (value : ValueType) → result ≡ insert_by (S.records store.now) (inserts (Op.Put key value) found.now) }
 {
     match found {
         Found::Live(_) | Found::Ghost => None,
@@ -90,31 +105,33 @@ fn put_insert<S: Store>(store: &S, key: u64, found: Found) -> Option<Insert>
     }
 }
 
-fn plan_put<S: Store>(store: &S, key: u64, value: u64) -> Plan
-    ensures { IsPlanOf (Op.Put key value) (S.records store.now) result }
+fn plan_put<S: Store>(store: &S, key: u64, value: &Value) -> Plan
+    ensures { IsPlanOf (Op.Put key value.now) (S.records store.now) result }
 {
     let found = store.get(key);
+    let need = put_need(store, key, &found);
+    let insert = put_insert(store, key, &found);
     let before = live(found);
     Plan {
-        needs: Needs::One(put_need(store, key, found)),
-        answer: Answer::Value(before),
-        insert: put_insert(store, key, found),
+        needs: Needs::One(need),
+        answer: Answer::Value(copy_of(&before)),
+        insert,
         write: Some(Write {
             key,
             before,
-            after: Some(value),
+            after: Some(value.copy()),
         }),
     }
 }
 
 /// What a Del writes, where there is a value.
-fn del_write(key: u64, before: Option<u64>) -> Option<Write>
+fn del_write(key: u64, before: Option<Value>) -> Option<Write>
     ensures { result ≡ write_by (writes_of (Op.Del key) before) }
 {
     match before {
-        Some(_) => Some(Write {
+        Some(value) => Some(Write {
             key,
-            before,
+            before: Some(value),
             after: None,
         }),
         None => None,
@@ -125,10 +142,11 @@ fn plan_del<S: Store>(store: &S, key: u64) -> Plan
     ensures { IsPlanOf (Op.Del key) (S.records store.now) result }
 {
     let found = store.get(key);
+    let need = del_need(store, key, &found);
     let before = live(found);
     Plan {
-        needs: Needs::One(del_need(store, key, found)),
-        answer: Answer::Value(before),
+        needs: Needs::One(need),
+        answer: Answer::Value(copy_of(&before)),
         insert: None,
         write: del_write(key, before),
     }
@@ -148,23 +166,23 @@ fn plan_scan<S: Store>(alloc: Global, store: &S, low: u64, high: u64) -> Result<
     })
 }
 
-fn plan_by<S: Store>(alloc: Global, store: &S, op: Op) -> Result<Plan, AllocError>
-    ensures { IfOk result (IsPlanOf op (S.records store.now)) }
+fn plan_by<S: Store>(alloc: Global, store: &S, op: &Op) -> Result<Plan, AllocError>
+    ensures { IfOk result (IsPlanOf op.now (S.records store.now)) }
 {
     match op {
-        Op::Get(key) => Ok(plan_get(store, key)),
-        Op::Put(key, value) => Ok(plan_put(store, key, value)),
-        Op::Del(key) => Ok(plan_del(store, key)),
-        Op::Scan(low, high) => plan_scan(alloc, store, low, high),
+        Op::Get(key) => Ok(plan_get(store, *key)),
+        Op::Put(key, value) => Ok(plan_put(store, *key, value)),
+        Op::Del(key) => Ok(plan_del(store, *key)),
+        Op::Scan(low, high) => plan_scan(alloc, store, *low, *high),
     }
 }
 
 /// What an operation comes to on these records, where it is granted. The store isn't changed; the only error is want of memory, of a scan alone.
-pub fn plan_of<S: Store>(alloc: Global, store: &S, op: Op) -> Result<Plan, Memory>
-    ensures needs { IfOk result (λ p. needed p.needs ≡ needs_of op (S.records store.now)) }
-    ensures answer { IfOk result (λ p. p.answer ≡ answer_of op (S.records store.now)) }
-    ensures insert { IfOk result (λ p. p.insert ≡ insert_of op (S.records store.now)) }
-    ensures write { IfOk result (λ p. p.write ≡ write_of op (S.records store.now)) }
+pub fn plan_of<S: Store>(alloc: Global, store: &S, op: &Op) -> Result<Plan, Memory>
+    ensures needs { IfOk result (λ p. needed p.needs ≡ needs_of op.now (S.records store.now)) }
+    ensures answer { IfOk result (λ p. p.answer ≡ answer_of op.now (S.records store.now)) }
+    ensures insert { IfOk result (λ p. p.insert ≡ insert_of op.now (S.records store.now)) }
+    ensures write { IfOk result (λ p. p.write ≡ write_of op.now (S.records store.now)) }
 {
     match plan_by(alloc, store, op) {
         Ok(plan) => Ok(plan),

@@ -9,6 +9,7 @@ ghost use Rattle.shard_ops.specs.Planned.{pair_of};
 
 use crate::needs::{on_both, on_gap};
 use clv_base::modes::{Anchor, Found, Need, Part};
+use clv_base::values::Value;
 use lock_table::Memory;
 use ordered_store::Store;
 use std::alloc::{AllocError, Global};
@@ -63,17 +64,20 @@ pub(crate) fn scan_needs<S: Store>(
 }
 
 /// A row's pair, where it is live.
-fn live_pair(row: &(u64, Found)) -> Option<(u64, u64)>
+fn live_pair(row: &(u64, Found)) -> Option<(u64, Value)>
     ensures { result ≡ pair_of row.now }
 {
-    match row.1 {
-        Found::Live(value) => Some((row.0, value)),
+    match &row.1 {
+        Found::Live(value) => Some((row.0, value.copy())),
         Found::Ghost | Found::Absent => None,
     }
 }
 
 /// The pairs of the live rows.
-pub(crate) fn pairs_of(alloc: Global, rows: &[(u64, Found)]) -> Result<Vec<(u64, u64)>, AllocError>
+pub(crate) fn pairs_of(
+    alloc: Global,
+    rows: &[(u64, Found)],
+) -> Result<Vec<(u64, Value)>, AllocError>
     ensures { IfOk result (λ pairs. pairs.items ≡ filter_map pair_of rows.now) }
 {
     rows.iter().filter_map(live_pair).collect(alloc)

@@ -9,6 +9,7 @@ use Rattle.std.specs.FinMap.{put}
 use Rattle.std.specs.FinMap.Entries.{by_order}
 use Rattle.std.proofs.lemmas.Bool.{ne_eqb}
 use Rattle.std.proofs.lemmas.Bool.Decides.{nat_tests}
+use Rattle.clv_base.specs.declared.values.Value.{Value as ValueType}
 use Rattle.clv_base.specs.declared.names.TxId.{TxId}
 use Rattle.clv_base.specs.declared.logs.LogRecord.{LogRecord}
 use Rattle.clv_base.specs.declared.logs.LogRecord.TheVariants.{Update, Clr, Prepare, Commit, Abort, End, Restart}
@@ -28,10 +29,10 @@ use Rattle.law_base.proofs.Names.{set_by}
 
 -- ---- a record taken away
 
-abbrev is_other : ℕ → ℕ × Option ℕ → Bool
+abbrev is_other : ℕ → ℕ × Option ValueType → Bool
 is_other k r = not (r.0 == k)
 
-some_found : (v : Option ℕ) → found_by (Some v) ≡ Absent → ⊥
+some_found : (v : Option ValueType) → found_by (Some v) ≡ Absent → ⊥
 some_found None e = absurd cc
 some_found (Some x) e = absurd cc
 
@@ -42,7 +43,7 @@ none_gone k (r ∷ rs) e =
     (λ _ _ h. absurd (some_found r.1 h))
     (λ _ o h. ap (λ l. r ∷ l) (none_gone k rs h) ∙ ap (λ b. cond (not b) (r ∷ filter (is_other k) rs) (filter (is_other k) rs)) (sym (apart k r.0 o))) refl e
 
-pub found_set : (k : ℕ) (v : Option ℕ) (rs : Records) → lookup (◌==◌ k) (record_set k v rs) ≡ Some v
+pub found_set : (k : ℕ) (v : Option ValueType) (rs : Records) → lookup (◌==◌ k) (record_set k v rs) ≡ Some v
 found_set k v [] = ap (λ b. cond b (Some v) None) (eq-eqb k k refl)
 found_set k v (r ∷ rs) = at (nat_cmp k r.0) refl (found_set k v rs)
   where
@@ -51,7 +52,7 @@ found_set k v (r ∷ rs) = at (nat_cmp k r.0) refl (found_set k v rs)
     at Equal e more = let same : k ≡ r.0 = grind (arith, nat_tests) in ap (λ b. cond b (Some v) (lookup (◌==◌ k) rs)) (eq-eqb k r.0 same)
     at Greater e more = let l : r.0 < k = grind (arith, nat_tests) in ap (λ b. cond b (Some r.1) (lookup (◌==◌ k) (record_set k v rs))) (ne_eqb k r.0 (λ s. absurd (omega arith))) ∙ more
 
-pub set_gone : (k : ℕ) (v : Option ℕ) (rs : Records) → filter (λ r. not (r.0 == k)) (record_set k v rs) ≡ filter (λ r. not (r.0 == k)) rs
+pub set_gone : (k : ℕ) (v : Option ValueType) (rs : Records) → filter (λ r. not (r.0 == k)) (record_set k v rs) ≡ filter (λ r. not (r.0 == k)) rs
 set_gone k v [] = ap (λ b. cond (not b) ((k, v) ∷ []) []) (eq-eqb k k refl)
 set_gone k v (r ∷ rs) = at (nat_cmp k r.0) refl (set_gone k v rs)
   where
@@ -67,7 +68,7 @@ set_gone k v (r ∷ rs) = at (nat_cmp k r.0) refl (set_gone k v rs)
 self : (k : ℕ) → nat_cmp k k ≡ Equal
 self k = grind (arith, nat_tests)
 
-pub set_twice : (k : ℕ) (v w : Option ℕ) (rs : Records) → record_set k v (record_set k w rs) ≡ record_set k v rs
+pub set_twice : (k : ℕ) (v w : Option ValueType) (rs : Records) → record_set k v (record_set k w rs) ≡ record_set k v rs
 set_twice k v w [] = ap (λ o. set_by o k v (k, w) []) (self k)
 set_twice k v w (r ∷ rs) = at (nat_cmp k r.0) refl (set_twice k v w rs)
   where
@@ -78,7 +79,7 @@ set_twice k v w (r ∷ rs) = at (nat_cmp k r.0) refl (set_twice k v w rs)
 
 -- ---- records of a map
 
-pub records_set : (k v : ℕ) (m : KeyMap) → record_set k (Some v) (records_of m) ≡ records_of (put nat_cmp k v m)
+pub records_set : (k : ℕ) (v : ValueType) (m : KeyMap) → record_set k (Some v) (records_of m) ≡ records_of (put nat_cmp k v m)
 records_set k v [] = refl
 records_set k v (e ∷ es) = at (nat_cmp k e.0) (records_set k v es)
   where

@@ -4,7 +4,8 @@ use Rattle.std.proofs.lemmas.Bool.Decides.{nat_tests}
 use Rattle.std.proofs.lemmas.List.{append_assoc, length-append, take_at}
 use Rattle.std.specs.List.{common_prefix_len, slice_range}
 use Rattle.clv_base.specs.declared.logs.LogRecord.{LogRecord}
-use Rattle.clv_base.specs.LogRules.{same_list, same_record as same}
+use Rattle.clv_base.specs.Values.{same_list}
+use Rattle.clv_base.specs.LogRules.{same_record as same}
 use Rattle.clv_base.specs.State.{Shard}
 use Rattle.clv_base.specs.Restarts.{greatest_epoch, next_epoch, undo_records, restarts_up, log_up_to_epoch, is_log_up_to, agrees_up_to}
 use Rattle.shard_recovery.specs.Fallen.{IsOf}

@@ -5,7 +5,8 @@ use Rattle.std.specs.List.{common_prefix_len}
 use Rattle.std.proofs.lemmas.List.{at_drop_more}
 use Rattle.clv_base.specs.declared.logs.LogRecord.{LogRecord}
 use Rattle.clv_base.specs.declared.logs.LogRecord.TheVariants.{Restart}
-use Rattle.clv_base.specs.LogRules.{same_list, same_record}
+use Rattle.clv_base.specs.Values.{same_list}
+use Rattle.clv_base.specs.LogRules.{same_record}
 use Rattle.clv_base.specs.Restarts.{restarts_up}
 
 module _ {X : Type 0} (e : X → X → Bool) where

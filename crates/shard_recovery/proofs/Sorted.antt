@@ -7,6 +7,7 @@ use Rattle.std.specs.FinMap.{find}
 use Rattle.std.proofs.lemmas.List.{take_more}
 use Rattle.std.proofs.lemmas.List.Elements.{filter_map-append}
 use Rattle.std.proofs.lemmas.Bool.Decides.{nat_tests}
+use Rattle.clv_base.specs.declared.values.Value.{Value as ValueType}
 use Rattle.clv_base.specs.declared.names.TxId.{TxId}
 use Rattle.clv_base.specs.declared.logs.LogRecord.{LogRecord}
 use Rattle.clv_base.specs.declared.logs.LogRecord.TheVariants.{Update, Clr, Prepare, Commit, Abort, End, Restart}
@@ -45,7 +46,7 @@ kept_fold keep (Restart run epoch ∷ rs) m = kept_fold keep rs m
 -- ---- the value at one key
 
 -- what the last of the writes that pass leaves, or what was there before
-last_of : (Write → Bool) → List Write → Option ℕ → Option ℕ
+last_of : (Write → Bool) → List Write → Option ValueType → Option ValueType
 last_of p [] x = x
 last_of p (w ∷ ws) x = last_of p ws (cond (p w) w.after x)
 
@@ -54,17 +55,17 @@ unfolding last_of
 found_after q [] m = refl
 found_after q (w ∷ ws) m = found_after q ws (map_set w.key w.after m) ∙ ap (last_of (λ v. q == v.key) ws) (get_set q w.key w.after m)
 
-last_alike : (p r : Write → Bool) → ((w : Write) → p w ≡ r w) → (ws : List Write) (x : Option ℕ) → last_of p ws x ≡ last_of r ws x
+last_alike : (p r : Write → Bool) → ((w : Write) → p w ≡ r w) → (ws : List Write) (x : Option ValueType) → last_of p ws x ≡ last_of r ws x
 unfolding last_of
 last_alike p r same [] x = refl
 last_alike p r same (w ∷ ws) x = ap (λ b. last_of p ws (cond b w.after x)) (same w) ∙ last_alike p r same ws (cond (r w) w.after x)
 
-last_kept : (p : Write → Bool) (ws : List Write) (x : Option ℕ) → last_of p ws x ≡ last_of (λ w. true) (filter p ws) x
+last_kept : (p : Write → Bool) (ws : List Write) (x : Option ValueType) → last_of p ws x ≡ last_of (λ w. true) (filter p ws) x
 unfolding last_of
 last_kept p [] x = refl
 last_kept p (w ∷ ws) x = at (last_kept p ws) (p w)
   where
-    at : ((y : Option ℕ) → last_of p ws y ≡ last_of (λ v. true) (filter p ws) y) → (b : Bool)
+    at : ((y : Option ValueType) → last_of p ws y ≡ last_of (λ v. true) (filter p ws) y) → (b : Bool)
         → last_of p ws (cond b w.after x) ≡ last_of (λ v. true) (cond b (w ∷ filter p ws) (filter p ws)) x
     at more true = more w.after
     at more false = more x

@@ -6,6 +6,7 @@ use clv_base::lists::TxList;
 use clv_base::logs::LogRecord;
 use clv_base::names::TxId;
 use clv_base::parts::ShardList;
+use clv_base::values::copy_of;
 use std::alloc::{AllocError, Global};
 
 fn copy_txs(alloc: Global, list: &[TxId]) -> Result<Vec<TxId>, AllocError>
@@ -40,8 +41,8 @@ fn copy_record(alloc: Global, found: &LogRecord) -> Result<LogRecord, AllocError
         } => LogRecord::Update {
             tx: *tx,
             key: *key,
-            before: *before,
-            after: *after,
+            before: copy_of(before),
+            after: copy_of(after),
         },
         LogRecord::Clr {
             tx,
@@ -52,7 +53,7 @@ fn copy_record(alloc: Global, found: &LogRecord) -> Result<LogRecord, AllocError
             tx: *tx,
             undo_next: *undo_next,
             key: *key,
-            after: *after,
+            after: copy_of(after),
         },
         LogRecord::Prepare {
             tx,

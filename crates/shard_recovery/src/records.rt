@@ -1,11 +1,13 @@
 // Records compared.
 ghost use Rattle.std.specs.Prelude.{◌≡◌, ◌==◌};
 ghost use Rattle.clv_base.specs.Orders.{tx_same};
-ghost use Rattle.clv_base.specs.LogRules.{same_list, same_record as same};
+ghost use Rattle.clv_base.specs.Values.{same_list};
+ghost use Rattle.clv_base.specs.LogRules.{same_record as same};
 
 use clv_base::lists::TxList;
 use clv_base::logs::LogRecord;
 use clv_base::parts::ShardList;
+use clv_base::values::are_same;
 
 fn same_transactions(a: &TxList, b: &TxList) -> bool
     ensures { result ≡ same_list tx_same a.now b.now }
@@ -37,7 +39,7 @@ pub(crate) fn same_record(a: &LogRecord, b: &LogRecord) -> bool
                 before: old,
                 after: new,
             },
-        ) => tx == other && key == at && before == old && after == new,
+        ) => tx == other && key == at && are_same(before, old) && are_same(after, new),
         (
             LogRecord::Clr {
                 tx,
@@ -51,7 +53,7 @@ pub(crate) fn same_record(a: &LogRecord, b: &LogRecord) -> bool
                 key: at,
                 after: new,
             },
-        ) => tx == other && undo_next == next && key == at && after == new,
+        ) => tx == other && undo_next == next && key == at && are_same(after, new),
         (
             LogRecord::Prepare {
                 tx,

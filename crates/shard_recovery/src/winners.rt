@@ -3,7 +3,7 @@ ghost use Rattle.std.specs.Prelude.{◌≡◌, ◌≤◌, ◌<◌, ◌+◌, ◌=
 ghost use Rattle.std.specs.List.{filter};
 ghost use Rattle.clv_base.specs.Maps.{KeyMap, map_set};
 ghost use Rattle.clv_base.specs.Logs.{fold_updates, in_doubt};
-ghost use Rattle.clv_base.specs.Needs.{record_set};
+ghost use Rattle.clv_base.specs.Needs.{record_set, is_there};
 ghost use Rattle.clv_base.specs.Restarts.{records_of, with_ghosts};
 ghost use Rattle.log_analysis.specs.Facts.{Knows};
 ghost use Rattle.shard_recovery.specs.Winning.{wins_in, writes_after, records_after};
@@ -12,6 +12,7 @@ use crate::writes::{Write, by_key};
 use clv_base::logs::LogRecord;
 use clv_base::modes::Found;
 use clv_base::names::TxId;
+use clv_base::values::Value;
 use log_analysis::{LogFacts, TxSet};
 use ordered_store::Store;
 use std::alloc::{AllocError, Global};
@@ -32,7 +33,7 @@ fn remove<S: Store>(store: &mut S, key: u64)
 }
 
 /// Sets the value at a key, or takes its record away.
-fn set<S: Store>(store: &mut S, key: u64, value: Option<u64>)
+fn set<S: Store>(store: &mut S, key: u64, value: Option<Value>)
     requires { 0 < S.room store.old }
     ensures records { (m : KeyMap) → S.records store.old ≡ records_of m → S.records store.new ≡ records_of (map_set key value m) }
     ensures room { S.room store.old ≤ S.room store.new + 1 }
@@ -52,7 +53,7 @@ fn put_all<S: Store>(store: &mut S, writes: &[Write]) -> Result<(), AllocError>
 {
     for write in writes {
         store.reserve(1)?;
-        set(store, write.key, write.after);
+        set(store, write.key, write.after.value());
     }
     Ok(())
 }
@@ -79,8 +80,18 @@ fn hide<S: Store>(store: &mut S, key: u64)
     ensures records { S.records store.new ≡ record_set key None (S.records store.old) }
     ensures room { S.room store.old ≤ S.room store.new + 1 }
 {
-    store.set(key, 0);
+    store.set(key, Value::Num(0));
     store.hide(key);
+}
+
+/// Whether no record stands there.
+fn is_absent(found: &Found) -> bool
+    ensures { result ≡ not (is_there found.now) }
+{
+    match found {
+        Found::Absent => true,
+        Found::Live(_) | Found::Ghost => false,
+    }
 }
 
 /// Makes a ghost at the key of an UPDATE of one of these, where there is no record.
@@ -91,7 +102,7 @@ fn haunt_one<S: Store>(store: &mut S, doubtful: &TxSet, found: &LogRecord)
 {
     match found {
         LogRecord::Update { tx, key, .. } => {
-            if doubtful.contains(*tx) && store.get(*key) == Found::Absent {
+            if doubtful.contains(*tx) && is_absent(&store.get(*key)) {
                 hide(store, *key);
             }
         }

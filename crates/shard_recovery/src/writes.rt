@@ -6,16 +6,18 @@ ghost use Rattle.clv_base.specs.declared.logs.LogRecord.{LogRecord as Record};
 ghost use Rattle.log_analysis.specs.Facts.{Knows};
 ghost use Rattle.shard_recovery.specs.Winning.{wins_in, kept_write, kept_writes, writes_after};
 
+use clv_base::kept::Kept;
 use clv_base::logs::LogRecord;
 use clv_base::names::TxId;
+use clv_base::values::copy_of;
 use log_analysis::{LogFacts, TxSet};
 use std::alloc::{AllocError, Global};
 
 /// The value that an UPDATE leaves at its key, if it leaves one.
-#[derive(Clone, Copy)]
+#[derive(Drop)]
 pub(crate) struct Write {
     pub key: u64,
-    pub after: Option<u64>,
+    pub after: Kept,
 }
 
 /// Whether the transaction is committed in the log that is known, or one of those in doubt.
@@ -34,7 +36,7 @@ fn written(facts: &LogFacts, doubtful: &TxSet, found: &LogRecord) -> Option<Writ
             if wins(facts, doubtful, *tx) {
                 return Some(Write {
                     key: *key,
-                    after: *after,
+                    after: Kept::new(copy_of(after)),
                 });
             }
             None

@@ -1,6 +1,7 @@
 -- What holds of the state after a restart: each part in doubt can be taken away.
 use Rattle.std.proofs.Common.{◌≡◌, ◌≤◌, ⊎_elim, refl, ap, ◌∙◌, ℕ, Bool, true, false, ◌&&◌, ◌||◌, List, [], ◌∷◌, Option, Some, None, arith}
 use Rattle.std.proofs.lemmas.Bool.{both_ways, cases_Bool}
+use Rattle.clv_base.specs.declared.values.Value.{Value as ValueType}
 use Rattle.clv_base.specs.declared.names.TxId.{TxId}
 use Rattle.clv_base.specs.declared.logs.LogRecord.{LogRecord}
 use Rattle.clv_base.specs.declared.modes.Anchor.TheVariants.{At}
@@ -37,7 +38,7 @@ lock_from t k (r ∷ rs) h = at (row_holds true X (At k) t r) refl h (lock_from 
     at true e i more = or_left _ _ (first_two (anchor_same (At k) r.0) (tx_same t (r.1).tx) _ e)
     at false e i more = or_right (anchor_same (At k) r.0 && tx_same t (r.1).tx) _ (more i)
 
-there_by : (o : Option (Option ℕ)) → (o ≡ None → ⊥) → is_there (found_by o) ≡ true
+there_by : (o : Option (Option ValueType)) → (o ≡ None → ⊥) → is_there (found_by o) ≡ true
 there_by None h = absurd (h refl)
 there_by (Some None) h = refl
 there_by (Some (Some v)) h = refl

@@ -2,6 +2,7 @@
 use Rattle.std.proofs.Common.{◌≡◌, ℕ, ◌+◌, ◌≤◌, ⊎_elim, Bool, true, false, cond, not, ◌||◌, List, [], ◌∷◌, ◌++◌, length, Option, Some, None, refl, sym, ap, subst, ◌∙◌, arith}
 use Rattle.std.proofs.lemmas.Bool.{both_ways, cases_Bool, false_from_ne_true}
 use Rattle.std.specs.List.{AllByRecursion, list_any}
+use Rattle.clv_base.specs.declared.values.Value.{Value as ValueType}
 use Rattle.clv_base.specs.declared.names.TxId.{TxId}
 use Rattle.clv_base.specs.declared.logs.LogRecord.{LogRecord}
 use Rattle.clv_base.specs.declared.logs.LogRecord.TheVariants.{Prepare, Commit, End}
@@ -103,7 +104,7 @@ held_alike : (tx : TxId) (a : Anchor) (locks : Locks) → list_any (λ r. anchor
 held_alike tx a [] = refl
 held_alike tx a (r ∷ rs) = ap (λ b. anchor_same a r.0 || b) (held_alike tx a rs)
 
-stays_alike : (tx : TxId) (locks : Locks) (k : ℕ) (v : Option ℕ) → is_locked_or_live (close_locks tx locks) (k, v) ≡ is_locked_or_live locks (k, v)
+stays_alike : (tx : TxId) (locks : Locks) (k : ℕ) (v : Option ValueType) → is_locked_or_live (close_locks tx locks) (k, v) ≡ is_locked_or_live locks (k, v)
 stays_alike tx locks k (Some v) = refl
 stays_alike tx locks k None = ap (λ b. not (not b)) (held_alike tx (At k) locks)
 

@@ -7,6 +7,7 @@ use Rattle.std.specs.BTreeSet.{insert_key}
 use Rattle.std.specs.declared.cmp.Ordering.{Ordering}
 use Rattle.std.specs.declared.cmp.Ordering.TheVariants.{Less, Equal, Greater}
 use Rattle.std.specs.Ordering.{match_ordering}
+use Rattle.clv_base.specs.declared.values.Value.{Value as ValueType}
 use Rattle.clv_base.specs.declared.names.TxId.{TxId}
 use Rattle.clv_base.specs.declared.names.Birth.{Birth}
 use Rattle.clv_base.specs.declared.ops.Op.{Op}
@@ -91,10 +92,10 @@ wrote_by log w i = any_at (is_update_of w.tx) log w.lsn (Update w.tx w.key w.bef
 
 -- ---- records and locks stay
 
-set_keeps : (q k : ℕ) (v : Option ℕ) (rs : Records) → is_there (found_at q rs) ≡ true → is_there (found_at q (record_set k v rs)) ≡ true
+set_keeps : (q k : ℕ) (v : Option ValueType) (rs : Records) → is_there (found_at q rs) ≡ true → is_there (found_at q (record_set k v rs)) ≡ true
 set_keeps q k v rs h = ap (λ o. is_there (found_by o)) (record_at_set q k v rs) ∙ at (q == k) v
   where
-    at : (b : Bool) (v : Option ℕ) → is_there (found_by (cond b (Some v) (record_at q rs))) ≡ true
+    at : (b : Bool) (v : Option ValueType) → is_there (found_by (cond b (Some v) (record_at q rs))) ≡ true
     at true None = refl
     at true (Some u) = refl
     at false v = h
@@ -241,7 +242,7 @@ pub can_write : (write : Option Write) (room : ℕ) (rs : Records) → record_co
 can_write None room rs enough can = can
 can_write (Some w) room rs enough can = at w.after can
   where
-    at : (v : Option ℕ) → CanSet w.key v 1 rs → CanSet w.key v room rs
+    at : (v : Option ValueType) → CanSet w.key v 1 rs → CanSet w.key v room rs
     at (Some v) can = omega (arith, enough)
     at None can = can
 

@@ -5,6 +5,7 @@ use Rattle.std.specs.List.{AllByRecursion}
 use Rattle.std.specs.declared.cmp.Ordering.{Ordering}
 use Rattle.std.specs.declared.cmp.Ordering.TheVariants.{Less, Equal, Greater}
 use Rattle.std.specs.Ordering.{nat_cmp, is_eq, match_ordering}
+use Rattle.clv_base.specs.declared.values.Value.{Value as ValueType}
 use Rattle.clv_base.specs.declared.names.TxId.{TxId}
 use Rattle.clv_base.specs.declared.names.Birth.{Birth}
 use Rattle.clv_base.specs.declared.modes.Anchor.TheVariants.{At}
@@ -33,7 +34,7 @@ use Rattle.txn_core.proofs.Doing.{locks_keep, covered_lock}
 use Rattle.law_base.proofs.Names.{Stays as AllStay, is_held_at}
 use Rattle.law_base.proofs.Lists.{all_mono as all_weaker}
 
-held_stays : (locks : Locks) (k : ℕ) → is_held_at k locks ≡ true → (v : Option ℕ) → is_locked_or_live locks (k, v) ≡ true
+held_stays : (locks : Locks) (k : ℕ) → is_held_at k locks ≡ true → (v : Option ValueType) → is_locked_or_live locks (k, v) ≡ true
 held_stays locks k h (Some v) = refl
 held_stays locks k h None = ap (λ b. not (not b)) h
 
@@ -52,7 +53,7 @@ holder_at k (r ∷ rs) e =
 
 -- ---- what is granted
 
-set_all : (locks : Locks) (k : ℕ) (v : Option ℕ) (rs : Records) → is_held_at k locks ≡ true → AllStay locks rs → AllStay locks (record_set k v rs)
+set_all : (locks : Locks) (k : ℕ) (v : Option ValueType) (rs : Records) → is_held_at k locks ≡ true → AllStay locks rs → AllStay locks (record_set k v rs)
 set_all locks k v [] h a = (held_stays locks k h v, tt)
 set_all locks k v (r ∷ rs) h a = at (nat_cmp k r.0) (λ e. nat_cmp_true k r.0 (ap is_eq e)) (set_all locks k v rs h a.1)
   where
@@ -68,7 +69,7 @@ module _ (tx : TxId) (birth : Birth) (needs : List Need) (insert : Option Insert
   held_still : (k : ℕ) → is_held_at k locks ≡ true → is_held_at k granted ≡ true
   held_still k h = let t = holder_at k locks h in not-false _ (held_not_free true N (At k) t.0 granted (locks_keep tx birth needs locks insert t.0 k t.1))
 
-  stays_still : (k : ℕ) (v : Option ℕ) → is_locked_or_live locks (k, v) ≡ true → is_locked_or_live granted (k, v) ≡ true
+  stays_still : (k : ℕ) (v : Option ValueType) → is_locked_or_live locks (k, v) ≡ true → is_locked_or_live granted (k, v) ≡ true
   stays_still k (Some v) e = refl
   stays_still k None e = ap (λ b. not (not b)) (held_still k (twice (is_held_at k locks) e))
     where
@@ -90,7 +91,7 @@ module _ (tx : TxId) (birth : Birth) (needs : List Need) (insert : Option Insert
 
 -- a key of which a value before was found is one that the set wrote
 before_held : (set : List TxId) (k : ℕ) (locks : Locks) (ws : List StandingUpdate) → AllByRecursion (λ (w : StandingUpdate). tx_in w.tx set ≡ true → is_held_at w.key locks ≡ true) ws
-    → (v : Option ℕ) → value_before set k ws ≡ Some v → is_held_at k locks ≡ true
+    → (v : Option ValueType) → value_before set k ws ≡ Some v → is_held_at k locks ≡ true
 before_held set k locks [] a v e = absurd cc
 before_held set k locks (w ∷ ws) a v e = at (value_before set k ws) e (before_held set k locks ws a.1)
   where
@@ -98,8 +99,8 @@ before_held set k locks (w ∷ ws) a v e = at (value_before set k ws) e (before_
     here true t e = let p = and_parts (tx_in w.tx set) (k == w.key) t in subst (λ j. is_held_at j locks ≡ true) (sym (eqb-true k w.key p.1)) (a.0 p.0)
     here false t e = absurd cc
 
-    at : (o : Option (Option ℕ)) → elim o [ Some b ↦ Some b | None ↦ cond (tx_in w.tx set && (k == w.key)) (Some w.before) None ] ≡ Some v
-        → ((u : Option ℕ) → o ≡ Some u → is_held_at k locks ≡ true) → is_held_at k locks ≡ true
+    at : (o : Option (Option ValueType)) → elim o [ Some b ↦ Some b | None ↦ cond (tx_in w.tx set && (k == w.key)) (Some w.before) None ] ≡ Some v
+        → ((u : Option ValueType) → o ≡ Some u → is_held_at k locks ≡ true) → is_held_at k locks ≡ true
     at (Some b) e more = more b refl
     at None e more = here (tx_in w.tx set && (k == w.key)) refl e
 
@@ -108,7 +109,7 @@ undone_all : (set : List TxId) (ws : List StandingUpdate) (locks : Locks) (rs : 
 undone_all set ws locks [] held a = tt
 undone_all set ws locks (r ∷ rs) held a = (at (value_before set r.0 ws) (before_held set r.0 locks ws held), undone_all set ws locks rs held a.1)
   where
-    at : (o : Option (Option ℕ)) → ((v : Option ℕ) → o ≡ Some v → is_held_at r.0 locks ≡ true) → is_locked_or_live locks (r.0, unwrap_or o r.1) ≡ true
+    at : (o : Option (Option ValueType)) → ((v : Option ValueType) → o ≡ Some v → is_held_at r.0 locks ≡ true) → is_locked_or_live locks (r.0, unwrap_or o r.1) ≡ true
     at None h = a.0
     at (Some v) h = held_stays locks r.0 (h v refl) v
 

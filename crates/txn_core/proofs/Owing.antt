@@ -4,6 +4,7 @@ use Rattle.std.proofs.lemmas.Bool.{both_ways, cond_both}
 use Rattle.std.proofs.lemmas.List.{length-map}
 use Rattle.std.specs.List.{filter}
 use Rattle.std.specs.List.Sorted.{IsStrictlySortedBy}
+use Rattle.clv_base.specs.declared.values.Value.{Value as ValueType}
 use Rattle.clv_base.specs.declared.names.TxId.{TxId}
 use Rattle.clv_base.specs.declared.logs.LogRecord.{LogRecord}
 use Rattle.clv_base.specs.declared.logs.LogRecord.TheVariants.{Update, Clr, Prepare, Commit, Abort, End, Restart}
@@ -56,7 +57,7 @@ pub owed-still : (test : TxId → Bool) (log more : List LogRecord) → NoUpdate
 owed-still test log more h = let a = updates-append test log more in let b = h test in let c = writers-still test log more h in omega (arith, a, b, c)
 
 -- two more by the first UPDATE of a transaction, one by each later one
-pub owed-one : (test : TxId → Bool) (log : List LogRecord) (tx : TxId) (k : ℕ) (before after : Option ℕ)
+pub owed-one : (test : TxId → Bool) (log : List LogRecord) (tx : TxId) (k : ℕ) (before after : Option ValueType)
     → owed_by test (log ++ Update tx k before after ∷ []) ≤ owed_by test log + cond (wrote_in log tx) 1 2
 owed-one test log tx k before after =
     let a = updates-append test log (Update tx k before after ∷ []) in let b = count-first (is_update_by test) (Update tx k before after) [] in let c = one_at_most (test tx) in
@@ -67,7 +68,7 @@ owed-one test log tx k before after =
     at false t = let one = one_at_most t in omega (arith, one)
 
 -- and no fewer where the transaction passes
-pub owed-own : (test : TxId → Bool) (log : List LogRecord) (tx : TxId) (k : ℕ) (before after : Option ℕ) → test tx ≡ true
+pub owed-own : (test : TxId → Bool) (log : List LogRecord) (tx : TxId) (k : ℕ) (before after : Option ValueType) → test tx ≡ true
     → owed_by test log + cond (wrote_in log tx) 1 2 ≤ owed_by test (log ++ Update tx k before after ∷ [])
 owed-own test log tx k before after own =
     let a = updates-append test log (Update tx k before after ∷ []) in let b = count-first (is_update_by test) (Update tx k before after) [] in let c = ap one_if own in

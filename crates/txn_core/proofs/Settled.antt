@@ -1,6 +1,7 @@
 -- An UPDATE more, and the records of an undo, leave the places of the COMMITs.
 use Rattle.std.proofs.Common.{◌≡◌, ℕ, suc, Bool, true, false, cond, ◌||◌, List, [], ◌∷◌, ◌++◌, map, Option, Some, None, refl, ap, ◌∙◌}
 use Rattle.std.specs.List.{list_any, filter}
+use Rattle.clv_base.specs.declared.values.Value.{Value as ValueType}
 use Rattle.clv_base.specs.declared.names.TxId.{TxId}
 use Rattle.clv_base.specs.declared.logs.LogRecord.{LogRecord}
 use Rattle.clv_base.specs.declared.logs.LogRecord.TheVariants.{Update, Clr, Abort}
@@ -11,7 +12,7 @@ use Rattle.shard_ops.specs.declared.plan.Write.{Write}
 use Rattle.shard_ops.specs.Effects.{log_after}
 use Rattle.law_base.proofs.Logs.{place_more as place_from-more}
 
-place_from-update : (n : ℕ) (t tx : TxId) (k : ℕ) (before after : Option ℕ) (log : List LogRecord)
+place_from-update : (n : ℕ) (t tx : TxId) (k : ℕ) (before after : Option ValueType) (log : List LogRecord)
     → place_from n (is_commit_of t) (log ++ Update tx k before after ∷ []) ≡ place_from n (is_commit_of t) log
 place_from-update n t tx k before after [] = refl
 place_from-update n t tx k before after (r ∷ rs) = ap (λ p. cond (is_commit_of t r) (Some n) p) (place_from-update (suc n) t tx k before after rs)

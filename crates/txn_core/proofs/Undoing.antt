@@ -6,6 +6,7 @@ use Rattle.std.specs.List.Sorted.{IsStrictlySortedBy}
 use Rattle.std.specs.declared.cmp.Ordering.{Ordering}
 use Rattle.std.specs.declared.cmp.Ordering.TheVariants.{Less, Equal, Greater}
 use Rattle.std.specs.Ordering.{match_ordering}
+use Rattle.clv_base.specs.declared.values.Value.{Value as ValueType}
 use Rattle.clv_base.specs.declared.names.TxId.{TxId}
 use Rattle.clv_base.specs.declared.modes.Anchor.TheVariants.{At}
 use Rattle.clv_base.specs.declared.modes.Part.TheVariants.{N}
@@ -179,7 +180,7 @@ lock_is_held t k (r ∷ rs) = ap (λ b. b || has_lock t k rs) (sym (and_true (an
 pub release_keeps : (set : List TxId) (t : TxId) (k : ℕ) (locks : Locks) → tx_in t set ≡ false → has_lock t k locks ≡ true → has_lock t k (release set locks) ≡ true
 release_keeps set t k locks out h = lock_is_held t k (release set locks) ∙ release_holds set true N (At k) t locks out (sym (lock_is_held t k locks) ∙ h)
 
-reset_keeps : (b o : Option (Option ℕ)) → is_there (found_by o) ≡ true → is_there (found_by (reset b o)) ≡ true
+reset_keeps : (b o : Option (Option ValueType)) → is_there (found_by o) ≡ true → is_there (found_by (reset b o)) ≡ true
 reset_keeps b None e = e
 reset_keeps None (Some None) e = refl
 reset_keeps None (Some (Some v)) e = refl
@@ -240,13 +241,13 @@ pub sound_more : (l m : Local) (spare left : ℕ) → m ≡ l → spare ≤ left
 sound_more l m spare left same more sound = subst (λ (x : Local). IsSound x left) (sym same) (record { successors = sound.successors; writes = sound.writes; room = let r = sound.room in omega (arith, r, more) })
 
 -- equal parts make equal states
-abbrev loc : List (ℕ × Option ℕ) → Locks → Table Held → List (TxId × TxId) → List LogRecord → ℕ → Local
+abbrev loc : List (ℕ × Option ValueType) → Locks → Table Held → List (TxId × TxId) → List LogRecord → ℕ → Local
 loc rs ks ps qs lg n = record { records = rs; locks = ks; parts = ps; pairs = qs; log = lg; epoch = n }
 
 abbrev state : ℕ → Local → ℕ → ℕ → ℕ → ℕ → TxState
 state n l d t r p = record { shard = n; local = l; durable = d; taken = t; room = r; pairs_room = p }
 
-pub local_same : (rs : List (ℕ × Option ℕ)) (ks : Locks) (ps : Table Held) (qs : List (TxId × TxId)) (lg : List LogRecord) (l : Local) → rs ≡ l.records → ks ≡ l.locks → ps ≡ l.parts → qs ≡ l.pairs → lg ≡ l.log
+pub local_same : (rs : List (ℕ × Option ValueType)) (ks : Locks) (ps : Table Held) (qs : List (TxId × TxId)) (lg : List LogRecord) (l : Local) → rs ≡ l.records → ks ≡ l.locks → ps ≡ l.parts → qs ≡ l.pairs → lg ≡ l.log
     → ◌≡◌ {A = Local} (record { records = rs; locks = ks; parts = ps; pairs = qs; log = lg; epoch = l.epoch }) l
 local_same rs ks ps qs lg l a b c d e =
     ap (λ r. loc r ks ps qs lg l.epoch) a ∙ ap (λ k. loc l.records k ps qs lg l.epoch) b ∙ ap (λ p. loc l.records l.locks p qs lg l.epoch) c

@@ -3,6 +3,7 @@ use Rattle.std.proofs.Common.{◌≡◌, ℕ, Option, ◌+◌, ◌≤◌, ⊎_el
 use Rattle.std.proofs.lemmas.Bool.{both_ways, or_cases}
 use Rattle.std.specs.List.{filter}
 use Rattle.std.specs.List.Sorted.{IsStrictlySortedBy}
+use Rattle.clv_base.specs.declared.values.Value.{Value as ValueType}
 use Rattle.clv_base.specs.declared.names.TxId.{TxId}
 use Rattle.clv_base.specs.declared.logs.LogRecord.{LogRecord}
 use Rattle.clv_base.specs.declared.logs.LogRecord.TheVariants.{Update, Clr, Prepare, Commit, Abort, End, Restart}
@@ -104,7 +105,7 @@ writers-still test log more h = ap (λ ws. length (filter test ws)) (writers_bef
 
 -- ---- an UPDATE more
 
-module _ (test : TxId → Bool) (tx : TxId) (key : ℕ) (before after : Option ℕ) where
+module _ (test : TxId → Bool) (tx : TxId) (key : ℕ) (before after : Option ValueType) where
   abbrev with_one : List LogRecord → List LogRecord
   with_one log = log ++ Update tx key before after ∷ []
 

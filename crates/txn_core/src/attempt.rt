@@ -37,14 +37,19 @@ pub(crate) enum Attempt {
     Crowded { count: usize },
 }
 
-/// A law: the operation's keys and values have 64 bits.
-pub fn fits(op: Op)
-    ensures { fits_op op ≡ true }
+/// A law: the operation's keys and numbers have 64 bits, and its text at most 200 bytes.
+pub fn fits(op: &Op)
+    ensures { fits_op op.now ≡ true }
 {
     match op {
         Op::Get(_) => {}
-        Op::Put(_key, _value) => {}
-        Op::Del(_key) => {}
+        Op::Put(key, value) => {
+            let _key = *key;
+            value.fits();
+        }
+        Op::Del(key) => {
+            let _key = *key;
+        }
         Op::Scan(_, _) => {}
     }
 }
@@ -64,17 +69,17 @@ impl<S: Store + Drop, L: Locks + Drop> ShardTx<S, L> {
         stage: Option<Stage>,
         tx: TxId,
         birth: Birth,
-        op: Op,
+        op: &Op,
         plan: Plan,
         violated: &[TxId],
     ) -> Result<Attempt, Memory>
         requires stage { stage ≡ stage_in self.old.local tx }
-        requires plan { IsPlanOf op (self.old.local).records plan }
+        requires plan { IsPlanOf op.now (self.old.local).records plan }
         requires work { may_work (stage_in self.old.local tx) ≡ true }
-        requires violated { violated.now ≡ violated_by tx (needs_of op (self.old.local).records) (self.old.local).locks }
+        requires violated { violated.now ≡ violated_by tx (needs_of op.now (self.old.local).records) (self.old.local).locks }
         requires few { length (undecided_with self.old.local tx violated.now) ≤ 1024 }
         requires name { tx_has_spelling tx ≡ true }
-        ensures ok { IfOk result (λ a. ComesTo (OpAnswers plan.answer (performed tx birth op self.old.local)) tx self.old a self.new) }
+        ensures ok { IfOk result (λ a. ComesTo (OpAnswers plan.answer (performed tx birth op.now self.old.local)) tx self.old a self.new) }
         ensures err { OnErr result (IsSameBut self.old self.old.local self.new) }
         ensures room { KeepsSpare self.old self.new }
         ensures given_back { KeepsSpare self.new self.old }
@@ -110,11 +115,11 @@ impl<S: Store + Drop, L: Locks + Drop> ShardTx<S, L> {
         tx: TxId,
         birth: Birth,
         seen: Option<u64>,
-        op: Op,
+        op: &Op,
     ) -> Result<Attempt, Memory>
         requires stage { stage ≡ stage_in self.old.local tx }
         requires name { tx_has_spelling tx ≡ true }
-        ensures ok { IfOk result (λ a. ComesTo (op_reply self.old.shard self.old.local tx birth seen op) tx self.old a self.new) }
+        ensures ok { IfOk result (λ a. ComesTo (op_reply self.old.shard self.old.local tx birth seen op.now) tx self.old a self.new) }
         ensures err { OnErr result (IsSameBut self.old self.old.local self.new) }
         ensures room { KeepsSpare self.old self.new }
         ensures given_back { KeepsSpare self.new self.old }

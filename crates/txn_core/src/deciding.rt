@@ -43,9 +43,9 @@ pub(crate) fn decide<S: Store, L: Locks>(
     deps: &Deps,
     tx: TxId,
     birth: Birth,
-    op: Op,
+    op: &Op,
 ) -> Result<Decided, Memory>
-    ensures { IfOk result (IsDecided (S.records store.now) (L.rows locks.now) deps.now tx birth op) }
+    ensures { IfOk result (IsDecided (S.records store.now) (L.rows locks.now) deps.now tx birth op.now) }
 {
     let plan = match plan_of(alloc, store, op) {
         Ok(plan) => plan,

@@ -83,11 +83,11 @@ impl<S: Store + Drop, L: Locks + Drop> ShardTx<S, L> {
         stage: Option<Stage>,
         tx: TxId,
         birth: Birth,
-        op: Op,
+        op: &Op,
     ) -> Result<Judged, Memory>
         requires stage { stage ≡ stage_in self.now.local tx }
         requires work { may_work (stage_in self.now.local tx) ≡ true }
-        ensures { IfOk result (IsJudged self.now.local tx birth op (op_active self.now.local tx birth op)) }
+        ensures { IfOk result (IsJudged self.now.local tx birth op.now (op_active self.now.local tx birth op.now)) }
     {
         match decide(alloc, &self.store, &self.locks, &self.deps, tx, birth, op) {
             Ok(decided) => Ok(outcome_of(stage, decided)),
@@ -103,10 +103,10 @@ impl<S: Store + Drop, L: Locks + Drop> ShardTx<S, L> {
         tx: TxId,
         birth: Birth,
         seen: Option<u64>,
-        op: Op,
+        op: &Op,
     ) -> Result<Judged, Memory>
         requires { stage ≡ stage_in self.now.local tx }
-        ensures { IfOk result (IsJudged self.now.local tx birth op (op_reply self.now.shard self.now.local tx birth seen op)) }
+        ensures { IfOk result (IsJudged self.now.local tx birth op.now (op_reply self.now.shard self.now.local tx birth seen op.now)) }
     {
         if !seen_fits(self.epoch, seen) {
             let cause = AbortCause::Restarted {

@@ -50,10 +50,10 @@ impl<S: Store + Drop, L: Locks + Drop> ShardTx<S, L> {
         tx: TxId,
         birth: Birth,
         seen: Option<u64>,
-        op: Op,
+        op: &Op,
     ) -> Result<Reply, Memory>
         requires { tx_has_spelling tx ≡ true }
-        ensures ok { IfOk result (λ r. Replies (op_reply self.old.shard self.old.local tx birth seen op) self.old r self.new) }
+        ensures ok { IfOk result (λ r. Replies (op_reply self.old.shard self.old.local tx birth seen op.now) self.old r self.new) }
         ensures err { OnErr result (IsSameBut self.old self.old.local self.new) }
         ensures room { KeepsSpare self.old self.new }
         ensures given_back { KeepsSpare self.new self.old }
@@ -72,11 +72,11 @@ impl<S: Store + Drop, L: Locks + Drop> ShardTx<S, L> {
         tx: TxId,
         birth: Birth,
         seen: Option<u64>,
-        op: Op,
+        op: &Op,
     ) -> Result<Reply, Memory>
         requires stage { stage ≡ stage_in self.old.local tx }
         requires name { tx_has_spelling tx ≡ true }
-        ensures ok { IfOk result (λ r. Replies (op_reply self.old.shard self.old.local tx birth seen op) self.old r self.new) }
+        ensures ok { IfOk result (λ r. Replies (op_reply self.old.shard self.old.local tx birth seen op.now) self.old r self.new) }
         ensures err { OnErr result (IsSameBut self.old self.old.local self.new) }
         ensures room { KeepsSpare self.old self.new }
         ensures given_back { KeepsSpare self.new self.old }

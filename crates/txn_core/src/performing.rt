@@ -51,9 +51,9 @@ pub(crate) fn reserve_records(buffer: &mut LogBuffer<LogRecord>, count: usize) -
 fn reserve_log(
     buffer: &mut LogBuffer<LogRecord>,
     tx: TxId,
-    write: Option<Write>,
+    write: &Option<Write>,
 ) -> Result<(), Memory>
-    ensures ok { OnOk result (buffer.new.room ≡ buffer.old.room + record_count write + owed_more (wrote_in buffer.old.records tx) write) }
+    ensures ok { OnOk result (buffer.new.room ≡ buffer.old.room + record_count write.now + owed_more (wrote_in buffer.old.records tx) write.now) }
     ensures refused { OnErr result (buffer.new ≡ buffer.old) }
     ensures same { buffer.new ≡ record buffer.old { room = buffer.new.room } }
 {
@@ -81,9 +81,9 @@ pub(crate) fn reserve_pairs(deps: &mut Deps, count: usize) -> Result<(), Memory>
 }
 
 /// Makes room for a record where one is written, as it is for each insert. What only reads leaves the store alone, and wants no memory for it.
-fn reserve_record<S: Store>(store: &mut S, write: Option<Write>) -> Result<(), Memory>
-    ensures ok { OnOk result (record_count write ≤ S.room store.new) }
-    ensures read { write ≡ None → IsOk result × (store.new ≡ store.old) }
+fn reserve_record<S: Store>(store: &mut S, write: &Option<Write>) -> Result<(), Memory>
+    ensures ok { OnOk result (record_count write.now ≤ S.room store.new) }
+    ensures read { write.now ≡ None → IsOk result × (store.new ≡ store.old) }
     ensures records { S.records store.new ≡ S.records store.old }
 {
     if write.is_none() {
@@ -99,12 +99,12 @@ fn reserve_record<S: Store>(store: &mut S, write: Option<Write>) -> Result<(), M
 fn reserve_rest<S: Store>(
     store: &mut S,
     deps: &mut Deps,
-    write: Option<Write>,
+    write: &Option<Write>,
     tx: TxId,
     preds: &[TxId],
 ) -> Result<(), Memory>
-    ensures store { OnOk result (record_count write ≤ S.room store.new) }
-    ensures read { write ≡ None → store.new ≡ store.old }
+    ensures store { OnOk result (record_count write.now ≤ S.room store.new) }
+    ensures read { write.now ≡ None → store.new ≡ store.old }
     ensures deps { OnOk result (MayFollow tx preds.now deps.new) }
     ensures room { deps.new.room ≡ deps.old.room }
     ensures records { S.records store.new ≡ S.records store.old }
@@ -159,11 +159,11 @@ impl<S: Store + Drop, L: Locks + Drop> ShardTx<S, L> {
             Ok(()) => {}
             Err(memory) => return Err(memory),
         }
-        match reserve_rest(&mut self.store, &mut self.deps, plan.write, tx, violated) {
+        match reserve_rest(&mut self.store, &mut self.deps, &plan.write, tx, violated) {
             Ok(()) => {}
             Err(memory) => return Err(memory),
         }
-        match reserve_log(&mut self.buffer, tx, plan.write) {
+        match reserve_log(&mut self.buffer, tx, &plan.write) {
             Ok(()) => {}
             Err(memory) => return Err(memory),
         }
@@ -179,7 +179,7 @@ impl<S: Store + Drop, L: Locks + Drop> ShardTx<S, L> {
             plan.insert,
         );
         self.deps.follow(tx, violated);
-        write_down(&mut self.store, &mut self.buffer, tx, plan.write);
+        write_down(&mut self.store, &mut self.buffer, tx, &plan.write);
         Ok(())
     }
 }

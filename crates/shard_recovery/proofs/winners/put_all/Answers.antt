@@ -1,6 +1,6 @@
-use Rattle.std.proofs.Common.{[], take, get_or, sym, ap, ◌∙◌}
+use Rattle.std.proofs.Common.{[], ◌∷◌, ◌++◌, take, sym, ap, ◌∙◌}
 use Rattle.std.proofs.lemmas.List.{take_more}
-use Rattle.clv_base.specs.Maps.{KeyMap}
+use Rattle.clv_base.specs.Maps.{KeyMap, map_set}
 use Rattle.clv_base.specs.Restarts.{records_of}
 use Rattle.shard_recovery.specs.Winning.{writes_after}
 use Rattle.shard_recovery.proofs.Sorted.{writes_more}
@@ -8,7 +8,10 @@ use Rattle.shard_recovery.proofs.winners.put_all.Goals as goal
 
 pub loop-write-preserved : goal.loop-write-preserved
 loop-write-preserved g c =
-    let writes = c.args.writes.now in let i = c.loop-write.write-index in
+    let writes = c.args.writes.now in let i = c.loop-write.write-index in let w = c.write-item.result in
     let m : KeyMap = writes_after (take i writes) [] in
-    c.set.ensures.records m (c.reserve.ensures.records ∙ c.loop-write.invariant)
-    ∙ ap records_of (sym (writes_more (take i writes) (get_or writes i _) []) ∙ ap (λ l. writes_after l []) (sym (take_more writes i _ c.loop-write-test.true)))
+    c.set.ensures.records m (c.reserve.ensures.records ∙ c.loop-write.invariant) ∙ ap (λ v. records_of (map_set w.key v m)) c.value.ensures
+    ∙ ap records_of
+    (sym (writes_more (take i writes) w [])
+    ∙ ap (λ x. writes_after (take i writes ++ x ∷ []) []) c.write-item.is
+    ∙ ap (λ l. writes_after l []) (sym (take_more writes i w c.loop-write-test.true)))

@@ -33,20 +33,20 @@ as_planned law tx birth op l p vs is all =
 
 pub perform-requires-clause-covered : goal.perform-requires-clause-covered
 perform-requires-clause-covered g c =
-    let p = c.requires.plan in let op = c.args.op in let rs = c.args.self.now.local.records in let plan = c.args.plan in
+    let p = c.requires.plan in let op = c.args.op.now in let rs = c.args.self.now.local.records in let plan = c.args.plan in
     subst (λ w. IsCovered (needed plan.needs) plan.insert w) (sym p.write)
     (subst (λ i. IsCovered (needed plan.needs) i (write_of op rs)) (sym p.insert) (subst (λ ns. IsCovered ns (insert_of op rs) (write_of op rs)) (sym p.needs) (covers op rs)))
 
 pub perform-requires-clause-spelled : goal.perform-requires-clause-spelled
 perform-requires-clause-spelled g c =
-    let l = c.args.self.now.local in let tx = c.args.tx in let birth = c.args.birth in let op = c.args.op in
+    let l = c.args.self.now.local in let tx = c.args.tx in let birth = c.args.birth in let op = c.args.op.now in
     let spelled : IsSpelled l = subst (λ (v : TxState). IsSpelled v.local) c.self.view_is c.self.invariant.spelled in
     subst IsSpelled (as_planned c.performed_by_plan.ensures tx birth op l c.args.plan c.args.violated.now c.requires.plan c.requires.violated) (operations_keep tx birth op l c.requires.name c.fits.ensures spelled)
 
 pub returns-in-Ok-perform-clause-ok : goal.returns-in-Ok-perform-clause-ok
 returns-in-Ok-perform-clause-ok g c =
     let s = c.args.self.now in let t = c.perform.new.self in let landed = c.in-Ok-perform.ensures.ok in
-    let planned = as_planned c.performed_by_plan.ensures c.args.tx c.args.birth c.args.op s.local c.args.plan c.args.violated.now c.requires.plan c.requires.violated in
+    let planned = as_planned c.performed_by_plan.ensures c.args.tx c.args.birth c.args.op.now s.local c.args.plan c.args.violated.now c.requires.plan c.requires.violated in
     let there = ap (λ (v : TxState). v.local) landed in (
       ap (OpAnswers c.args.plan.answer) (planned ∙ sym there),
       ap (λ (v : TxState). v.local.epoch) landed,

@@ -12,7 +12,7 @@ use Rattle.txn_core.proofs.shard.ShardTx.judge_locks.Goals as goal
 
 pub returns-in-Ok : goal.returns-in-Ok
 returns-in-Ok g c =
-    let s = c.self.inside in let tx = c.args.tx in let birth = c.args.birth in let op = c.args.op in
+    let s = c.self.inside in let tx = c.args.tx in let birth = c.args.birth in let op = c.args.op.now in
     let l : Local = record { records = g.S.Store.records s.store; locks = g.L.Locks.rows s.locks; parts = s.parts.entries; pairs = s.deps.pairs; log = s.buffer.records; epoch = s.epoch } in
     let work = subst (λ (v : TxState). may_work (stage_of v.local tx) ≡ true) (sym c.self.view_is) c.requires.work in
     let inside = judged_is s.deps l tx birth op refl c.self.invariant.settled c.in-Ok.decided work c.in-Ok.ensures in
