@@ -3,6 +3,7 @@ use Rattle.std.proofs.Common.{◌≡◌, ◌⊎◌, inl, inr, ⊎_elim, refl, sy
 use Rattle.std.proofs.lemmas.Bool.{both_ways, cases_Bool, cond-false, false_from_ne_true}
 use Rattle.std.proofs.lemmas.List.Folds.{list_any-append}
 use Rattle.std.specs.Map.{keys_of}
+use Rattle.clv_base.specs.declared.values.Value.{Value as ValueType}
 use Rattle.clv_base.specs.declared.names.TxId.{TxId}
 use Rattle.clv_base.specs.declared.names.Birth.{Birth}
 use Rattle.clv_base.specs.declared.ops.Op.{Op}
@@ -111,7 +112,7 @@ pub leaves_closed : (tx u : TxId) (home : ℕ) (alone : Bool) (l : Local) → tx
 leaves_closed tx u home alone l o = record { stays = still_in l.log (closing (wrote_in l.log u) alone u home (undecided_of l u)) tx; fades = inl (closed_other l.parts u tx o) }
 
 -- another's operation
-leaves_written : (tx u : TxId) (w : Option (ℕ × Option ℕ × Option ℕ)) (l : Local) → Leaves tx l (written u w l)
+leaves_written : (tx u : TxId) (w : Option (ℕ × Option ValueType × Option ValueType)) (l : Local) → Leaves tx l (written u w l)
 leaves_written tx u None l = leaves_same tx l
 leaves_written tx u (Some w) l = record { stays = still_in l.log _ tx; fades = inl refl }
 

@@ -2,6 +2,7 @@
 use Rattle.std.specs.Prelude.{◌≡◌, List, [], ◌∷◌, None, true, false}
 use Rattle.clv_base.specs.declared.names.TxId.{TxId}
 use Rattle.clv_base.specs.declared.names.Birth.{Birth}
+use Rattle.clv_base.specs.declared.values.Value.TheVariants.{Num}
 use Rattle.clv_base.specs.declared.ops.Op.TheVariants.{Get, Put}
 use Rattle.clv_base.specs.declared.causes.Vote.TheVariants.{Yes, Read, No}
 use Rattle.clv_base.specs.declared.causes.NoWhy.TheVariants.{Restarted as RestartedWhy}
@@ -34,7 +35,7 @@ made s (e ∷ es) = made (reply_state s (happen s e)) es
 
 -- it writes a key of shard 0 and asks to commit there; the flush of its UPDATE and its COMMIT, behind the RESTART, is under way, and ends
 abbrev pub flushing_writer : Shard
-flushing_writer = made (opened 0 1 []) (OpEvent first_tx first_birth 1 None (Put 5 7) ∷ RequestEvent first_tx ((0, 0) ∷ []) ∷ FlushOut ∷ [])
+flushing_writer = made (opened 0 1 []) (OpEvent first_tx first_birth 1 None (Put 5 (Num 7)) ∷ RequestEvent first_tx ((0, 0) ∷ []) ∷ FlushOut ∷ [])
 
 abbrev pub flushed_writer : Shard
 flushed_writer = reply_state flushing_writer (landed flushing_writer 3 true)
@@ -47,7 +48,7 @@ OneShardIsOver = IsOver flushed_writer first_tx (new_request ((0, 0) ∷ []) Und
 abbrev pub flushing_home : Shard
 flushing_home =
     made (opened 0 1 [])
-    (OpEvent first_tx first_birth 1 None (Put 5 7) ∷ RequestEvent first_tx ((0, 0) ∷ (1, 0) ∷ []) ∷ Deliver (VoteMessage 0 first_tx 1 Yes) 5 ∷ FlushOut ∷ [])
+    (OpEvent first_tx first_birth 1 None (Put 5 (Num 7)) ∷ RequestEvent first_tx ((0, 0) ∷ (1, 0) ∷ []) ∷ Deliver (VoteMessage 0 first_tx 1 Yes) 5 ∷ FlushOut ∷ [])
 
 abbrev pub ended_home : Shard
 ended_home = made (reply_state flushing_home (landed flushing_home 4 true)) (Deliver (Done 0 first_tx 1) 9 ∷ [])
@@ -66,7 +67,7 @@ cause = NoVote 1 (RestartedWhy 0 1)
 abbrev pub refusing_home : Shard
 refusing_home =
     made (opened 0 1 [])
-    (OpEvent first_tx first_birth 1 None (Put 5 7) ∷ RequestEvent first_tx ((0, 0) ∷ (1, 0) ∷ []) ∷ Deliver (VoteMessage 0 first_tx 1 (No (RestartedWhy 0 1))) 5 ∷ [])
+    (OpEvent first_tx first_birth 1 None (Put 5 (Num 7)) ∷ RequestEvent first_tx ((0, 0) ∷ (1, 0) ∷ []) ∷ Deliver (VoteMessage 0 first_tx 1 (No (RestartedWhy 0 1))) 5 ∷ [])
 
 abbrev pub refused_request : Request
 refused_request = record { touched = (0, 0) ∷ (1, 0) ∷ []; votes = (1, No (RestartedWhy 0 1)) ∷ []; state = Refused cause; acknowledged_by = []; is_ended = false }

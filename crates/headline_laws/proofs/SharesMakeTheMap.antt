@@ -6,6 +6,7 @@ use Rattle.std.specs.Cmp.{unsigned_tied}
 use Rattle.std.specs.FinMap.{is_sorted}
 use Rattle.std.specs.FinMap.Entries.{below_all}
 use Rattle.std.proofs.lemmas.Bool.{both_ways, and_parts, and_from, cases_order, eq-eqb, false_from_ne_true}
+use Rattle.clv_base.specs.declared.values.Value.{Value as ValueType}
 use Rattle.clv_base.specs.declared.logs.LogRecord.{LogRecord}
 use Rattle.clv_base.specs.Maps.{KeyMap, map_get}
 use Rattle.clv_base.specs.Logs.{committed_somewhere, stands}
@@ -24,7 +25,7 @@ use Rattle.law_base.proofs.Logs.{passes_at}
 
 -- ---- the value at a key, through a list of pairs
 
-get_first : (q : ℕ) (e : ℕ × ℕ) (es : KeyMap) → map_get q (e ∷ es) ≡ cond (q == e.0) (Some e.1) (map_get q es)
+get_first : (q : ℕ) (e : ℕ × ValueType) (es : KeyMap) → map_get q (e ∷ es) ≡ cond (q == e.0) (Some e.1) (map_get q es)
 get_first q e es = ap (λ b. cond b (Some e.1) (map_get q es)) (unsigned_tied q e.0)
 
 none_first : (q : ℕ) (xs ys : KeyMap) → map_get q xs ≡ None → map_get q (xs ++ ys) ≡ map_get q ys
@@ -75,7 +76,7 @@ module _ (splits : List ℕ) (f : ℕ → KeyMap) (s : are_splits splits ≡ tru
       first true q = refl
       first false q = absurd (there (ap (λ b. cond b (Some e.1) (map_get e.0 es)) (sym (eq-eqb e.0 e.0 refl)) ∙ sym (get_first e.0 e es) ∙ none e.0 q))
         where
-          there : ◌≡◌ {A = Option ℕ} (Some e.1) None → ⊥
+          there : ◌≡◌ {A = Option ValueType} (Some e.1) None → ⊥
           there w = absurd cc
 
       rest : (k : ℕ) → in_span splits n k ≡ false → in_span splits n e.0 ≡ true → (b : Bool) → (k == e.0) ≡ b → map_get k es ≡ None

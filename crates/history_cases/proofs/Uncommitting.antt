@@ -3,6 +3,7 @@ use Rattle.std.proofs.Common.{◌≡◌, refl, subst, ℕ, true, false, cond, no
 use Rattle.std.proofs.lemmas.Bool.{or_from}
 use Rattle.std.specs.Prelude.{take, zero, suc}
 use Rattle.std.specs.List.{filter, AllByRecursion}
+use Rattle.clv_base.specs.declared.values.Value.{Value as ValueType}
 use Rattle.clv_base.specs.declared.names.TxId.{TxId}
 use Rattle.clv_base.specs.declared.names.Birth.{Birth}
 use Rattle.clv_base.specs.declared.ops.Op.{Op}
@@ -89,7 +90,7 @@ data OpAdds (l : Local) : OpReply → Type 0 where
   dies : {c : AbortCause} {m : Local} → NoMoreCommits l.log m.log → OpAdds l (OpDies c m)
   answers : {a : Answer} {m : Local} → NoMoreCommits l.log m.log → OpAdds l (OpAnswers a m)
 
-writes : (tx : TxId) (w : Option (ℕ × Option ℕ × Option ℕ)) (l : Local) → NoMoreCommits l.log (written tx w l).log
+writes : (tx : TxId) (w : Option (ℕ × Option ValueType × Option ValueType)) (l : Local) → NoMoreCommits l.log (written tx w l).log
 writes tx None l = λ t h. h
 writes tx (Some w) l = with_more l.log (Update tx w.0 w.1 w.2 ∷ []) ((λ t. refl), tt)
 

@@ -5,6 +5,7 @@ use Rattle.history_examples.specs.Writers.{one_write}
 use Rattle.history_examples.specs.Histories.{One_is_legal, one_log}
 use Rattle.history_examples.specs.Cascades.{Chain_causes}
 use Rattle.history_examples.specs.Waiting.{Waits_stand}
+use Rattle.clv_base.specs.declared.values.Value.TheVariants.{Num}
 use Rattle.clv_base.specs.History.{for_lock}
 use Rattle.clv_base.specs.declared.ops.Op.TheVariants.{Put}
 use Rattle.clv_base.specs.LogRules.{log_of}
@@ -53,4 +54,4 @@ pub chain_causes : Chain_causes
 chain_causes = ((14, refl, refl), (19, refl, refl))
 
 pub they_wait : Waits_stand
-they_wait = for_lock {younger = tx 2 1} 0 1 1 (birth 1 1) None (Put 5 10) (refl, refl) refl refl
+they_wait = for_lock {younger = tx 2 1} 0 1 1 (birth 1 1) None (Put 5 (Num 10)) (refl, refl) refl refl

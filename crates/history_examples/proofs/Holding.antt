@@ -1,5 +1,6 @@
 -- The history after which two transactions wait is legal, entry by entry, and they wait.
 use Rattle.std.proofs.Common.{refl, inl, inr, false, None}
+use Rattle.clv_base.specs.declared.values.Value.TheVariants.{Num}
 use Rattle.clv_base.specs.LogRules.{log_of}
 use Rattle.clv_base.specs.Journals.{MayRun, start_of, journal_of}
 use Rattle.history_examples.proofs.Entering.{enters, legal}
@@ -22,4 +23,4 @@ pub reader_waits : ReaderWaits
 reader_waits = for_commit {t = reader} {u = writer} 0 refl refl refl refl
 
 pub older_waits : OlderWaits
-older_waits = for_lock {t = older} {u = younger} {younger = younger} 1 4 1 (born 4 1) None (Put 7 71) (refl, refl) refl refl
+older_waits = for_lock {t = older} {u = younger} {younger = younger} 1 4 1 (born 4 1) None (Put 7 (Num 71)) (refl, refl) refl refl

@@ -1,5 +1,6 @@
 -- The history of the refused commit is legal, entry by entry, and its causes stand.
 use Rattle.std.proofs.Common.{◌≡◌, refl, inl, inr, false, ℕ, [], Some, None}
+use Rattle.clv_base.specs.declared.values.Value.TheVariants.{Num}
 use Rattle.clv_base.specs.declared.names.TxId.{TxId}
 use Rattle.clv_base.specs.declared.causes.AbortCause.TheVariants.{Died}
 use Rattle.clv_base.specs.declared.ops.Op.TheVariants.{Put}
@@ -47,4 +48,4 @@ began_1 : BeginsSettled new_logs met 1
 began_1 = record { front = []; behind = journal_of 1 met; journal_is = refl; state = start_of new_logs 1; runs = refl; decided = λ tx c. absurd (no_part 1 tx c); no_session = refl; goes_on = refl }
 
 pub met_begins_settled : MetBeginsSettled
-met_begins_settled = (only_two (BeginsSettled new_logs met) began_0 began_1, op_died younger (born 3 2) 1 None (Put 5 51) (Died writer))
+met_begins_settled = (only_two (BeginsSettled new_logs met) began_0 began_1, op_died younger (born 3 2) 1 None (Put 5 (Num 51)) (Died writer))

@@ -1,6 +1,7 @@
 -- The steps of the shard that is restarted with a transaction in doubt.
 use Rattle.std.proofs.Common.{◌≡◌, ◌⊎◌, inl, inr, arith, refl, subst, ℕ, lit<, Bool, true, false, List, [], ◌∷◌, Option, Some, None}
 use Rattle.std.proofs.lemmas.Bool.{both_ways}
+use Rattle.clv_base.specs.declared.values.Value.TheVariants.{Num}
 use Rattle.clv_base.specs.declared.names.TxId.{TxId}
 use Rattle.clv_base.specs.declared.names.Birth.{Birth}
 use Rattle.clv_base.specs.declared.ops.Op.TheVariants.{Put}
@@ -45,7 +46,7 @@ abbrev entered : ℕ → Event → Outcome → Shard → Shard
 entered stamp e o s = with_entry stamp 0 e o (reply_state s (happen s e))
 
 abbrev put : Event
-put = OpEvent doubtful birth 1 None (Put 5 10)
+put = OpEvent doubtful birth 1 None (Put 5 (Num 10))
 
 abbrev put_answered : Outcome
 put_answered = Answered (Value None) 0
@@ -60,10 +61,10 @@ abbrev s1 : Shard
 s1 = entered 2 put put_answered s0
 
 abbrev found : List LogRecord
-found = RestartRecord 1 0 ∷ Update doubtful 5 None (Some 10) ∷ PrepareRecord doubtful 0 [] ∷ []
+found = RestartRecord 1 0 ∷ Update doubtful 5 None (Some (Num 10)) ∷ PrepareRecord doubtful 0 [] ∷ []
 
 abbrev log_now : List LogRecord
-log_now = RestartRecord 1 0 ∷ Update doubtful 5 None (Some 10) ∷ PrepareRecord doubtful 0 [] ∷ RestartRecord 1 1 ∷ []
+log_now = RestartRecord 1 0 ∷ Update doubtful 5 None (Some (Num 10)) ∷ PrepareRecord doubtful 0 [] ∷ RestartRecord 1 1 ∷ []
 
 abbrev noted : ℕ → Event → Outcome → Entry
 noted stamp e o = record { stamp = stamp; walker = 0; event = e; outcome = o }
@@ -78,7 +79,7 @@ prepared flight up last journal = record {
   run = 1;
   is_up = up;
   local = record {
-    records = (5, Some 10) ∷ [];
+    records = (5, Some (Num 10)) ∷ [];
     locks = (Low, holder (record { key = N; gap = X })) ∷ (At 5, holder (record { key = X; gap = X })) ∷ [];
     parts = (doubtful, record { birth = birth; stage = Closed; is_restored = false; is_dropped = false }) ∷ [];
     pairs = [];
@@ -120,7 +121,7 @@ abbrev s8 : Shard
 s8 = with_entry 9 0 FlushIn (Durable 5) (reply_state s7 (landed s7 5 true))
 
 abbrev items : List Item
-items = record { tx = doubtful; op = Put 5 10; answer = Value None; lsn = 1 } ∷ []
+items = record { tx = doubtful; op = Put 5 (Num 10); answer = Value None; lsn = 1 } ∷ []
 
 -- what they did, where so many asked and fell
 abbrev did : List TxId → List TxId → Deeds

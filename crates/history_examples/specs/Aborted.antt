@@ -1,5 +1,6 @@
 -- A shard restarts before it is asked for its vote: its no aborts the transaction, and the one that read its write at the home.
 use Rattle.std.specs.Prelude.{◌≡◌, ℕ, ◌<◌, true, List, [], ◌∷◌, take, Some, None}
+use Rattle.clv_base.specs.declared.values.Value.TheVariants.{Num}
 use Rattle.clv_base.specs.declared.names.TxId.{TxId}
 use Rattle.clv_base.specs.declared.ops.Op.TheVariants.{Get, Put}
 use Rattle.clv_base.specs.declared.ops.Answer.TheVariants.{Value}
@@ -30,7 +31,7 @@ abbrev pub younger : TxId
 younger = tx 1 3
 
 abbrev pub dies : ℕ × Entry
-dies = on_1 4 3 (OpEvent younger (born 3 2) 1 None (Put 5 51)) (Dead (Died writer))
+dies = on_1 4 3 (OpEvent younger (born 3 2) 1 None (Put 5 (Num 51))) (Dead (Died writer))
 
 abbrev pub reader_looks : ℕ × Entry
 reader_looks = on_0 14 2 (Look reader) (Aborted (Predecessor writer))
@@ -40,11 +41,11 @@ writer_looks = on_0 15 1 (Look writer) (Aborted (NoVote 1 (RestartedWhy 0 1)))
 
 abbrev pub refused : History
 refused =
-    on_0 2 1 (OpEvent writer (born 1 1) 1 None (Put 3 30)) (Answered (Value None) 0)
-    ∷ on_1 3 1 (OpEvent writer (born 1 1) 2 None (Put 5 50)) (Answered (Value None) 0)
+    on_0 2 1 (OpEvent writer (born 1 1) 1 None (Put 3 (Num 30))) (Answered (Value None) 0)
+    ∷ on_1 3 1 (OpEvent writer (born 1 1) 2 None (Put 5 (Num 50))) (Answered (Value None) 0)
     ∷ dies
     ∷ on_0 5 1 (Request writer ((0, 0) ∷ (1, 0) ∷ [])) Asked
-    ∷ on_0 6 2 (OpEvent reader (born 2 3) 1 None (Get 3)) (Answered (Value (Some 30)) 0)
+    ∷ on_0 6 2 (OpEvent reader (born 2 3) 1 None (Get 3)) (Answered (Value (Some (Num 30))) 0)
     ∷ on_0 7 2 (Request reader ((0, 0) ∷ [])) Asked
     ∷ on_1 8 0 Stop Stopped
     ∷ on_1 9 0 Restart (Up 1)
@@ -78,8 +79,8 @@ RefusedHasNoMember =
 
 abbrev pub met : History
 met =
-    on_0 2 1 (OpEvent writer (born 1 1) 1 None (Put 3 30)) (Answered (Value None) 0)
-    ∷ on_1 3 1 (OpEvent writer (born 1 1) 2 None (Put 5 50)) (Answered (Value None) 0)
+    on_0 2 1 (OpEvent writer (born 1 1) 1 None (Put 3 (Num 30))) (Answered (Value None) 0)
+    ∷ on_1 3 1 (OpEvent writer (born 1 1) 2 None (Put 5 (Num 50))) (Answered (Value None) 0)
     ∷ dies
     ∷ []
 

@@ -1,4 +1,5 @@
 -- A refused vote, and all that goes with the aborted transaction.
+use Rattle.clv_base.specs.declared.values.Value.TheVariants.{Num}
 use Rattle.clv_base.specs.Core.{disorders, locks_at, logs_of, pairs_at, records_at}
 use Rattle.clv_base.specs.History.{DoomedHere}
 use Rattle.clv_base.specs.declared.causes.AbortCause.TheVariants.{NoVote, Predecessor}
@@ -20,26 +21,26 @@ use Rattle.std.specs.Prelude.{List, None, Some, [], false, take, true, ◌∷◌
 abbrev pub chain : Played
 chain =
     play
-    (first 1 1 0 1 (Put 5 10) ∷ next 1 1 1 1 2 (Put 6 60) ∷ request 1 1 0 ((0, 0) ∷ (1, 0) ∷ []) ∷
-    first 2 1 0 2 (Put 5 11) ∷ next 2 1 2 2 2 (Put 7 70) ∷ request 2 1 0 ((0, 0) ∷ (2, 0) ∷ []) ∷
-    Event_at 0 1 Stop ∷ Restart_at 0 1 false ∷ Carry_from 0 0 ∷ Carry_from 0 0 ∷ first 3 1 2 3 (Put 7 71) ∷ request 3 1 2 ((2, 0) ∷ []) ∷
+    (first 1 1 0 1 (Put 5 (Num 10)) ∷ next 1 1 1 1 2 (Put 6 (Num 60)) ∷ request 1 1 0 ((0, 0) ∷ (1, 0) ∷ []) ∷
+    first 2 1 0 2 (Put 5 (Num 11)) ∷ next 2 1 2 2 2 (Put 7 (Num 70)) ∷ request 2 1 0 ((0, 0) ∷ (2, 0) ∷ []) ∷
+    Event_at 0 1 Stop ∷ Restart_at 0 1 false ∷ Carry_from 0 0 ∷ Carry_from 0 0 ∷ first 3 1 2 3 (Put 7 (Num 71)) ∷ request 3 1 2 ((2, 0) ∷ []) ∷
     Carry_from 0 1 ∷ look 1 1 0 ∷ look 2 1 0 ∷ Carry_from 0 0 ∷ look 3 1 2 ∷ [])
     (new_world 3)
 
 abbrev pub chain_logs : List (List LogRecord)
 chain_logs =
-    (Restart 1 0 ∷ Update (tx 1 1) 5 None (Some 10) ∷ Prepare (tx 1 1) 0 [] ∷ Update (tx 2 1) 5 (Some 10) (Some 11) ∷ Prepare (tx 2 1) 0 (tx 1 1 ∷ []) ∷
-    Abort (tx 1 1) ∷ Abort (tx 2 1) ∷ Clr (tx 2 1) None 5 (Some 10) ∷ Clr (tx 1 1) None 5 None ∷ []) ∷
+    (Restart 1 0 ∷ Update (tx 1 1) 5 None (Some (Num 10)) ∷ Prepare (tx 1 1) 0 [] ∷ Update (tx 2 1) 5 (Some (Num 10)) (Some (Num 11)) ∷ Prepare (tx 2 1) 0 (tx 1 1 ∷ []) ∷
+    Abort (tx 1 1) ∷ Abort (tx 2 1) ∷ Clr (tx 2 1) None 5 (Some (Num 10)) ∷ Clr (tx 1 1) None 5 None ∷ []) ∷
     (Restart 1 0 ∷ Restart 1 1 ∷ []) ∷
-    (Restart 1 0 ∷ Update (tx 2 1) 7 None (Some 70) ∷ Prepare (tx 2 1) 0 [] ∷ Update (tx 3 1) 7 (Some 70) (Some 71) ∷ Prepare (tx 3 1) 2 (tx 2 1 ∷ []) ∷
-    Abort (tx 2 1) ∷ Abort (tx 3 1) ∷ Clr (tx 3 1) None 7 (Some 70) ∷ Clr (tx 2 1) None 7 None ∷ []) ∷ []
+    (Restart 1 0 ∷ Update (tx 2 1) 7 None (Some (Num 70)) ∷ Prepare (tx 2 1) 0 [] ∷ Update (tx 3 1) 7 (Some (Num 70)) (Some (Num 71)) ∷ Prepare (tx 3 1) 2 (tx 2 1 ∷ []) ∷
+    Abort (tx 2 1) ∷ Abort (tx 3 1) ∷ Clr (tx 3 1) None 7 (Some (Num 70)) ∷ Clr (tx 2 1) None 7 None ∷ []) ∷ []
 
 abbrev pub Chain : Type 0
 Chain =
     Shows chain
-    (Answered (Value None) 0 ∷ Answered (Value None) 0 ∷ Asked ∷ Answered (Value (Some 10)) 0 ∷ Answered (Value None) 0 ∷ Asked ∷
+    (Answered (Value None) 0 ∷ Answered (Value None) 0 ∷ Asked ∷ Answered (Value (Some (Num 10))) 0 ∷ Answered (Value None) 0 ∷ Asked ∷
     Stopped ∷ Up 1 ∷ Sent (PrepareMessage 1 (tx 1 1) 0 0) ∷ Taken ∷ Sent (PrepareMessage 2 (tx 2 1) 0 0) ∷ Taken ∷
-    Answered (Value (Some 70)) 0 ∷ Asked ∷ Sent (VoteMessage 0 (tx 1 1) 1 (No (RestartedWhy 0 1))) ∷ Taken ∷
+    Answered (Value (Some (Num 70))) 0 ∷ Asked ∷ Sent (VoteMessage 0 (tx 1 1) 1 (No (RestartedWhy 0 1))) ∷ Taken ∷
     Aborted (NoVote 1 (RestartedWhy 0 1)) ∷ Aborted (Predecessor (tx 1 1)) ∷ Sent (Decide 2 (tx 2 1) 0 false) ∷ Taken ∷ Aborted (Predecessor (tx 2 1)) ∷ [])
     chain_logs
     ([] ∷ [] ∷ [] ∷ [])
@@ -54,8 +55,8 @@ Chain_causes =
 abbrev pub gap_split : Played
 gap_split =
     play
-    (first 1 1 0 1 (Put 5 10) ∷ next 1 1 1 1 2 (Put 60 6) ∷ request 1 1 0 ((0, 0) ∷ (1, 0) ∷ []) ∷
-    first 2 1 0 2 (Put 7 70) ∷ [])
+    (first 1 1 0 1 (Put 5 (Num 10)) ∷ next 1 1 1 1 2 (Put 60 (Num 6)) ∷ request 1 1 0 ((0, 0) ∷ (1, 0) ∷ []) ∷
+    first 2 1 0 2 (Put 7 (Num 70)) ∷ [])
     (new_world 2)
 
 abbrev pub gap_split_after : Played
@@ -77,7 +78,7 @@ Gap_undone =
     (Answered (Value None) 0 ∷ Answered (Value None) 0 ∷ Asked ∷ Answered (Value None) 0 ∷ Stopped ∷ Up 1 ∷
     Sent (PrepareMessage 1 (tx 1 1) 0 0) ∷ Taken ∷ Sent (VoteMessage 0 (tx 1 1) 1 (No (RestartedWhy 0 1))) ∷ Taken ∷
     Aborted (NoVote 1 (RestartedWhy 0 1)) ∷ Dead (Predecessor (tx 1 1)) ∷ [])
-    ((Restart 1 0 ∷ Update (tx 1 1) 5 None (Some 10) ∷ Prepare (tx 1 1) 0 [] ∷ Update (tx 2 1) 7 None (Some 70) ∷
+    ((Restart 1 0 ∷ Update (tx 1 1) 5 None (Some (Num 10)) ∷ Prepare (tx 1 1) 0 [] ∷ Update (tx 2 1) 7 None (Some (Num 70)) ∷
     Abort (tx 1 1) ∷ Abort (tx 2 1) ∷ Clr (tx 2 1) None 7 None ∷ Clr (tx 1 1) None 5 None ∷ []) ∷
     (Restart 1 0 ∷ Restart 1 1 ∷ []) ∷ [])
     ([] ∷ [] ∷ [])

@@ -1,5 +1,6 @@
 -- A transaction that writes on two shards, and a crash between its two COMMITs.
 use Rattle.std.specs.Prelude.{◌≡◌, true, false, List, [], ◌∷◌, Some, None}
+use Rattle.clv_base.specs.declared.values.Value.TheVariants.{Num}
 use Rattle.clv_base.specs.declared.ops.Op.TheVariants.{Put}
 use Rattle.clv_base.specs.declared.ops.Answer.TheVariants.{Value}
 use Rattle.clv_base.specs.declared.causes.Vote.TheVariants.{Yes}
@@ -21,8 +22,8 @@ use Rattle.history_examples.specs.Noted.{splits, new_logs, born, writer, on_0, o
 -- shard 0 is the home; shard 1 is prepared durably, votes yes and takes the decision
 abbrev pub wide : History
 wide =
-    on_0 2 1 (OpEvent writer (born 1 1) 1 None (Put 3 30)) (Answered (Value None) 0)
-    ∷ on_1 3 1 (OpEvent writer (born 1 1) 2 None (Put 5 50)) (Answered (Value None) 0)
+    on_0 2 1 (OpEvent writer (born 1 1) 1 None (Put 3 (Num 30))) (Answered (Value None) 0)
+    ∷ on_1 3 1 (OpEvent writer (born 1 1) 2 None (Put 5 (Num 50))) (Answered (Value None) 0)
     ∷ on_0 4 1 (Request writer ((0, 0) ∷ (1, 0) ∷ [])) Asked
     ∷ on_0 5 0 Send (Sent (Prepare 1 writer 0 0))
     ∷ on_1 6 0 (Deliver (Prepare 1 writer 0 0) 5) Taken
@@ -39,10 +40,10 @@ wide =
 
 -- the part's COMMIT is lost
 abbrev pub home_log : List LogRecord
-home_log = RestartRecord 1 0 ∷ Update writer 3 None (Some 30) ∷ PrepareRecord writer 0 [] ∷ Commit writer (1 ∷ []) ∷ []
+home_log = RestartRecord 1 0 ∷ Update writer 3 None (Some (Num 30)) ∷ PrepareRecord writer 0 [] ∷ Commit writer (1 ∷ []) ∷ []
 
 abbrev pub part_log : List LogRecord
-part_log = RestartRecord 1 0 ∷ Update writer 5 None (Some 50) ∷ PrepareRecord writer 0 [] ∷ []
+part_log = RestartRecord 1 0 ∷ Update writer 5 None (Some (Num 50)) ∷ PrepareRecord writer 0 [] ∷ []
 
 abbrev pub wide_logs : List (List LogRecord)
 wide_logs = home_log ∷ part_log ∷ []
@@ -51,13 +52,13 @@ abbrev pub WideIsLegal : Type 0
 WideIsLegal = LegalFrom splits new_logs wide wide_logs
 
 abbrev pub wide_member : Member
-wide_member = record { tx = writer; point = record { stamp = 4; shard = 0 }; ops = (Put 3 30, Value None) ∷ (Put 5 50, Value None) ∷ [] }
+wide_member = record { tx = writer; point = record { stamp = 4; shard = 0 }; ops = (Put 3 (Num 30), Value None) ∷ (Put 5 (Num 50), Value None) ∷ [] }
 
 abbrev pub WideHasMember : Type 0
 WideHasMember =
     (serial_left splits new_logs wide wide_logs (λ n. false) ≡ wide_member ∷ []) × (acknowledged_in wide writer ≡ true)
     × (replay_answers (stands new_logs) (serial_ops (wide_member ∷ [])) ≡ serial_answers (wide_member ∷ []))
-    × (replay_map (stands new_logs) (serial_ops (wide_member ∷ [])) ≡ stands wide_logs) × (stands wide_logs ≡ (3, 30) ∷ (5, 50) ∷ [])
+    × (replay_map (stands new_logs) (serial_ops (wide_member ∷ [])) ≡ stands wide_logs) × (stands wide_logs ≡ (3, Num 30) ∷ (5, Num 50) ∷ [])
 
 abbrev pub WideIsLeftInDoubt : Type 0
 WideIsLeftInDoubt =

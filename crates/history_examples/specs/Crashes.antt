@@ -1,4 +1,5 @@
 -- Shards that stop, or whose flush fails, and restart.
+use Rattle.clv_base.specs.declared.values.Value.TheVariants.{Num}
 use Rattle.clv_base.specs.Invariants.{is_sound}
 use Rattle.clv_base.specs.declared.causes.AbortCause.TheVariants.{Restarted}
 use Rattle.clv_base.specs.declared.events.Event.TheVariants.{Stop}
@@ -13,7 +14,7 @@ use Rattle.std.specs.Prelude.{List, None, Some, [], false, true, ◌++◌, ◌�
 -- A write is violated by a reader, and the shard stops before it is durable.
 abbrev pub violated_then_stopped : List Act
 violated_then_stopped =
-    first 1 1 0 1 (Put 5 10) ∷ request 1 1 0 ((0, 0) ∷ []) ∷ flush_out 0 ∷
+    first 1 1 0 1 (Put 5 (Num 10)) ∷ request 1 1 0 ((0, 0) ∷ []) ∷ flush_out 0 ∷
     first 2 1 0 2 (Get 5) ∷ request 2 1 0 ((0, 0) ∷ []) ∷ look 2 1 0 ∷ Event_at 0 0 Stop ∷ []
 
 -- restarted without the batch in flight, both are aborted and the key is absent
@@ -23,7 +24,7 @@ stopped_lost = play (violated_then_stopped ++ Restart_at 0 0 false ∷ look 1 1 
 abbrev pub Stopped_lost : Type 0
 Stopped_lost =
     Shows stopped_lost
-    (Answered (Value None) 0 ∷ Asked ∷ Out 3 ∷ Answered (Value (Some 10)) 0 ∷ Asked ∷ NotYet ∷ Stopped ∷ Up 1 ∷
+    (Answered (Value None) 0 ∷ Asked ∷ Out 3 ∷ Answered (Value (Some (Num 10))) 0 ∷ Asked ∷ NotYet ∷ Stopped ∷ Up 1 ∷
     Aborted (Restarted 0 0 1) ∷ Aborted (Restarted 0 0 1) ∷ [])
     ((Restart 1 0 ∷ Restart 1 1 ∷ []) ∷ [])
     ([] ∷ [])
@@ -35,17 +36,17 @@ stopped_found = play (violated_then_stopped ++ Restart_at 0 0 true ∷ look 1 1 
 abbrev pub Stopped_found : Type 0
 Stopped_found =
     Shows stopped_found
-    (Answered (Value None) 0 ∷ Asked ∷ Out 3 ∷ Answered (Value (Some 10)) 0 ∷ Asked ∷ NotYet ∷ Stopped ∷ Up 1 ∷
+    (Answered (Value None) 0 ∷ Asked ∷ Out 3 ∷ Answered (Value (Some (Num 10))) 0 ∷ Asked ∷ NotYet ∷ Stopped ∷ Up 1 ∷
     Acknowledged ∷ Aborted (Restarted 0 0 1) ∷ [])
-    ((Restart 1 0 ∷ Update (tx 1 1) 5 None (Some 10) ∷ Commit (tx 1 1) [] ∷ Restart 1 1 ∷ []) ∷ [])
-    (((5, 10) ∷ []) ∷ [])
+    ((Restart 1 0 ∷ Update (tx 1 1) 5 None (Some (Num 10)) ∷ Commit (tx 1 1) [] ∷ Restart 1 1 ∷ []) ∷ [])
+    (((5, Num 10) ∷ []) ∷ [])
 
 -- A failed flush puts the shard down; after its restart the transaction's next operation dies of the old epoch.
 abbrev pub flush_failed : Played
 flush_failed =
     play
-    (first 1 1 0 1 (Put 5 10) ∷ flush_out 0 ∷ Land_at 0 0 false ∷ again 1 1 0 1 2 0 (Put 6 10) ∷ Restart_at 0 0 false ∷
-    again 1 1 0 1 2 0 (Put 6 10) ∷ [])
+    (first 1 1 0 1 (Put 5 (Num 10)) ∷ flush_out 0 ∷ Land_at 0 0 false ∷ again 1 1 0 1 2 0 (Put 6 (Num 10)) ∷ Restart_at 0 0 false ∷
+    again 1 1 0 1 2 0 (Put 6 (Num 10)) ∷ [])
     (new_world 1)
 
 abbrev pub Flush_failed : Type 0
@@ -59,16 +60,16 @@ Flush_failed =
 abbrev pub ghost_again : Played
 ghost_again =
     play_legal []
-    (first 1 1 0 1 (Put 5 10) ∷ request 1 1 0 ((0, 0) ∷ []) ∷ flush_out 0 ∷ Land_at 0 0 true ∷ look 1 1 0 ∷
-    first 2 1 0 2 (Del 5) ∷ request 2 1 0 ((0, 0) ∷ []) ∷ first 3 1 0 3 (Put 5 11) ∷ request 3 1 0 ((0, 0) ∷ []) ∷
+    (first 1 1 0 1 (Put 5 (Num 10)) ∷ request 1 1 0 ((0, 0) ∷ []) ∷ flush_out 0 ∷ Land_at 0 0 true ∷ look 1 1 0 ∷
+    first 2 1 0 2 (Del 5) ∷ request 2 1 0 ((0, 0) ∷ []) ∷ first 3 1 0 3 (Put 5 (Num 11)) ∷ request 3 1 0 ((0, 0) ∷ []) ∷
     Event_at 0 0 Stop ∷ Restart_at 0 0 false ∷ look 2 1 0 ∷ look 3 1 0 ∷ first 4 1 0 4 (Get 5) ∷ [])
     (new_world 1)
 
 abbrev pub Ghost_again : Type 0
 Ghost_again =
     Shows ghost_again
-    (Answered (Value None) 0 ∷ Asked ∷ Out 3 ∷ Durable 3 ∷ Acknowledged ∷ Answered (Value (Some 10)) 0 ∷ Asked ∷ Answered (Value None) 0 ∷ Asked ∷
-    Stopped ∷ Up 1 ∷ Aborted (Restarted 0 0 1) ∷ Aborted (Restarted 0 0 1) ∷ Answered (Value (Some 10)) 1 ∷ [])
-    ((Restart 1 0 ∷ Update (tx 1 1) 5 None (Some 10) ∷ Commit (tx 1 1) [] ∷ Restart 1 1 ∷ []) ∷ [])
-    (((5, 10) ∷ []) ∷ [])
+    (Answered (Value None) 0 ∷ Asked ∷ Out 3 ∷ Durable 3 ∷ Acknowledged ∷ Answered (Value (Some (Num 10))) 0 ∷ Asked ∷ Answered (Value None) 0 ∷ Asked ∷
+    Stopped ∷ Up 1 ∷ Aborted (Restarted 0 0 1) ∷ Aborted (Restarted 0 0 1) ∷ Answered (Value (Some (Num 10))) 1 ∷ [])
+    ((Restart 1 0 ∷ Update (tx 1 1) 5 None (Some (Num 10)) ∷ Commit (tx 1 1) [] ∷ Restart 1 1 ∷ []) ∷ [])
+    (((5, Num 10) ∷ []) ∷ [])
     × (list_all is_sound ghost_again.world.shards ≡ true)

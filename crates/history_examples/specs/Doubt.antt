@@ -1,5 +1,6 @@
 -- A shard of several that is restarted with a transaction in doubt, whose commit comes then.
 use Rattle.std.specs.Prelude.{◌≡◌, ◌≤◌, take, true, List, [], ◌∷◌, Some, None}
+use Rattle.clv_base.specs.declared.values.Value.TheVariants.{Num}
 use Rattle.clv_base.specs.declared.names.TxId.{TxId}
 use Rattle.clv_base.specs.declared.logs.LogRecord.{LogRecord}
 use Rattle.clv_base.specs.declared.logs.LogRecord.TheVariants.{Update, Prepare, Restart}
@@ -32,18 +33,18 @@ abbrev pub DoubtIsCommitted : Type 0
 DoubtIsCommitted =
     (d : Deeds) × (s : Shard)
     × Leads 1 1 [] d s × (d.told ≡ []) × (d.fell ≡ []) × (s.local.epoch ≡ 1) × (committed_in s.local.log doubtful ≡ true)
-    × (members_of s s.durable d ≡ doubtful ∷ []) × (ops_by (doubtful ∷ []) d.items ≡ (Put 5 10 ∷ []) ∷ [])
+    × (members_of s s.durable d ≡ doubtful ∷ []) × (ops_by (doubtful ∷ []) d.items ≡ (Put 5 (Num 10) ∷ []) ∷ [])
 
 -- or another shard's COMMIT chooses it while it is in doubt still: then it replays to the map of its UPDATE
 abbrev pub DoubtIsChosen : Type 0
 DoubtIsChosen =
     (d : Deeds) × (s : Shard)
     × Leads 1 1 [] d s × (d.told ≡ []) × (d.fell ≡ []) × (s.durable ≤ 4) × MayChoose s 4 d (tx_same doubtful)
-    × (ops_by (filter (tx_same doubtful) d.asked) d.items ≡ (Put 5 10 ∷ []) ∷ []) × (fold_updates (tx_same doubtful) (take 4 s.local.log) [] ≡ (5, 10) ∷ [])
+    × (ops_by (filter (tx_same doubtful) d.asked) d.items ≡ (Put 5 (Num 10) ∷ []) ∷ []) × (fold_updates (tx_same doubtful) (take 4 s.local.log) [] ≡ (5, Num 10) ∷ [])
 
 -- the log that a run left with it in doubt
 abbrev pub doubt_log : List LogRecord
-doubt_log = Restart 1 0 ∷ Update doubtful 5 None (Some 10) ∷ Prepare doubtful 0 [] ∷ []
+doubt_log = Restart 1 0 ∷ Update doubtful 5 None (Some (Num 10)) ∷ Prepare doubtful 0 [] ∷ []
 
 -- a shard is opened from it in the next run, and then the decision to commit comes: it is a member with what it put in the earlier run, and
 -- what later ones replay from has its value
@@ -51,4 +52,4 @@ abbrev pub DoubtIsFound : Type 0
 DoubtIsFound =
     (d : Deeds) × (s : Shard)
     × Leads 1 2 doubt_log d s × (d.asked ≡ doubtful ∷ []) × (d.told ≡ []) × (d.met ≡ []) × (d.fell ≡ []) × (found_asked 1 doubt_log ≡ doubtful ∷ []) × (s.local.epoch ≡ 0)
-    × (members_of s 5 d ≡ doubtful ∷ []) × (ops_by (doubtful ∷ []) d.items ≡ (Put 5 10 ∷ []) ∷ []) × (map_found 1 doubt_log (tx_same doubtful) ≡ (5, 10) ∷ [])
+    × (members_of s 5 d ≡ doubtful ∷ []) × (ops_by (doubtful ∷ []) d.items ≡ (Put 5 (Num 10) ∷ []) ∷ []) × (map_found 1 doubt_log (tx_same doubtful) ≡ (5, Num 10) ∷ [])

@@ -1,5 +1,6 @@
 -- A transaction comes back to a shard that was restarted meanwhile and dies; its session drops what is left of it, and another session drops its own.
 use Rattle.std.specs.Prelude.{◌≡◌, ℕ, true, List, [], ◌∷◌, take, Some, None}
+use Rattle.clv_base.specs.declared.values.Value.TheVariants.{Num}
 use Rattle.clv_base.specs.declared.names.TxId.{TxId}
 use Rattle.clv_base.specs.declared.ops.Op.TheVariants.{Put}
 use Rattle.clv_base.specs.declared.ops.Answer.TheVariants.{Value}
@@ -21,17 +22,17 @@ leaver = tx 1 2
 
 -- the session has seen epoch 0 there
 abbrev pub dies : ℕ × Entry
-dies = on_1 6 1 (OpEvent writer (born 1 1) 3 (Some 0) (Put 6 60)) (Dead (Restarted 1 0 1))
+dies = on_1 6 1 (OpEvent writer (born 1 1) 3 (Some 0) (Put 6 (Num 60))) (Dead (Restarted 1 0 1))
 
 abbrev pub dropped : History
 dropped =
-    on_0 2 1 (OpEvent writer (born 1 1) 1 None (Put 3 30)) (Answered (Value None) 0)
-    ∷ on_1 3 1 (OpEvent writer (born 1 1) 2 None (Put 5 50)) (Answered (Value None) 0)
+    on_0 2 1 (OpEvent writer (born 1 1) 1 None (Put 3 (Num 30))) (Answered (Value None) 0)
+    ∷ on_1 3 1 (OpEvent writer (born 1 1) 2 None (Put 5 (Num 50))) (Answered (Value None) 0)
     ∷ on_1 4 0 Stop Stopped
     ∷ on_1 5 0 Restart (Up 1)
     ∷ dies
     ∷ on_0 7 1 (Drop writer) Dropped
-    ∷ on_0 8 2 (OpEvent leaver (born 2 7) 1 None (Put 3 31)) (Answered (Value None) 0)
+    ∷ on_0 8 2 (OpEvent leaver (born 2 7) 1 None (Put 3 (Num 31))) (Answered (Value None) 0)
     ∷ on_0 9 2 (Drop leaver) Dropped
     ∷ on_0 10 0 FlushOut (Out 7)
     ∷ on_0 11 0 FlushIn (Durable 7)
@@ -39,7 +40,7 @@ dropped =
 
 abbrev pub dropped_logs : List (List LogRecord)
 dropped_logs =
-    (RestartRecord 1 0 ∷ Update writer 3 None (Some 30) ∷ Abort writer ∷ Clr writer None 3 None ∷ Update leaver 3 None (Some 31) ∷ Abort leaver ∷ Clr leaver None 3 None ∷ [])
+    (RestartRecord 1 0 ∷ Update writer 3 None (Some (Num 30)) ∷ Abort writer ∷ Clr writer None 3 None ∷ Update leaver 3 None (Some (Num 31)) ∷ Abort leaver ∷ Clr leaver None 3 None ∷ [])
     ∷ (RestartRecord 1 0 ∷ RestartRecord 1 1 ∷ [])
     ∷ []
 

@@ -1,5 +1,6 @@
 -- A shard stops while a batch is in flight: one restart finds the batch, another doesn't.
 use Rattle.std.specs.Prelude.{◌≡◌, ℕ, true, false, List, [], ◌∷◌, ◌++◌, Some, None}
+use Rattle.clv_base.specs.declared.values.Value.TheVariants.{Num}
 use Rattle.clv_base.specs.declared.ops.Op.TheVariants.{Put}
 use Rattle.clv_base.specs.declared.ops.Answer.TheVariants.{Value}
 use Rattle.clv_base.specs.declared.causes.AbortCause.TheVariants.{Restarted}
@@ -18,7 +19,7 @@ use Rattle.history_examples.specs.Noted.{splits, new_logs, born, writer, on_1}
 -- one transaction on shard 1 alone, whose COMMIT is in flight when the shard stops
 abbrev pub stopped : History
 stopped =
-    on_1 2 1 (OpEvent writer (born 1 1) 1 None (Put 5 50)) (Answered (Value None) 0)
+    on_1 2 1 (OpEvent writer (born 1 1) 1 None (Put 5 (Num 50))) (Answered (Value None) 0)
     ∷ on_1 3 1 (Request writer ((1, 0) ∷ [])) Asked
     ∷ on_1 4 0 FlushOut (Out 3)
     ∷ on_1 5 0 Stop Stopped
@@ -41,7 +42,7 @@ abbrev pub home_log : List LogRecord
 home_log = RestartRecord 1 0 ∷ []
 
 abbrev pub batch_log : List LogRecord
-batch_log = RestartRecord 1 0 ∷ Update writer 5 None (Some 50) ∷ Commit writer [] ∷ []
+batch_log = RestartRecord 1 0 ∷ Update writer 5 None (Some (Num 50)) ∷ Commit writer [] ∷ []
 
 abbrev pub with_batch : List (List LogRecord)
 with_batch = home_log ∷ batch_log ∷ []
@@ -66,20 +67,20 @@ abbrev pub LostIsLegal : Type 0
 LostIsLegal = Legal splits new_logs lost lost_logs
 
 abbrev pub flight_member : Member
-flight_member = record { tx = writer; point = record { stamp = 3; shard = 1 }; ops = (Put 5 50, Value None) ∷ [] }
+flight_member = record { tx = writer; point = record { stamp = 3; shard = 1 }; ops = (Put 5 (Num 50), Value None) ∷ [] }
 
 -- a crash leaves the batch or not: with it the transaction is a member, without it nothing is; both may be opened
 abbrev pub CrashDecides : Type 0
 CrashDecides =
     (logs_left splits new_logs stopped without_batch (λ n. true) ≡ with_batch) × (serial_left splits new_logs stopped without_batch (λ n. true) ≡ flight_member ∷ [])
-    × (stands with_batch ≡ (5, 50) ∷ []) × (may_open splits with_batch ≡ true)
+    × (stands with_batch ≡ (5, Num 50) ∷ []) × (may_open splits with_batch ≡ true)
     × (logs_left splits new_logs stopped with_batch (λ n. false) ≡ without_batch) × (serial_left splits new_logs stopped with_batch (λ n. false) ≡ [])
     × (stands without_batch ≡ []) × (may_open splits without_batch ≡ true)
 
 -- the one restart makes it a member, the other one makes it nothing
 abbrev pub FlightDecides : Type 0
 FlightDecides =
-    (serial_left splits new_logs found found_logs (λ n. false) ≡ flight_member ∷ []) × (stands found_logs ≡ (5, 50) ∷ [])
+    (serial_left splits new_logs found found_logs (λ n. false) ≡ flight_member ∷ []) × (stands found_logs ≡ (5, Num 50) ∷ [])
     × (serial_left splits new_logs lost lost_logs (λ n. true) ≡ []) × (stands lost_logs ≡ [])
 
 -- the history up to the stop, with either of its logs, goes on to each of the two

@@ -1,4 +1,5 @@
 -- The histories of the examples: they are legal, and they replay as serial runs.
+use Rattle.clv_base.specs.declared.values.Value.TheVariants.{Num}
 use Rattle.clv_base.specs.Core.{World}
 use Rattle.clv_base.specs.FileRules.{have_spellings, may_open}
 use Rattle.clv_base.specs.History.{Legal, Member, serial, serial_answers, serial_ops}
@@ -46,7 +47,7 @@ SerialIs w flight_survives ms =
     × (replay_map [] (serial_ops ms) ≡ stands (left w flight_survives))
 
 abbrev pub writer_alone : List Member
-writer_alone = member 1 2 0 ((Put 5 10, Value None) ∷ []) ∷ []
+writer_alone = member 1 2 0 ((Put 5 (Num 10), Value None) ∷ []) ∷ []
 
 abbrev pub Serial_found : Type 0
 Serial_found = SerialIs stopped_found.world false writer_alone
@@ -60,8 +61,8 @@ Legal_one =
 
 abbrev pub both_writers : List Member
 both_writers =
-    member 1 3 1 ((Put 5 10, Value None) ∷ (Put 9 90, Value None) ∷ []) ∷
-    member 2 5 0 ((Put 3 30, Value None) ∷ (Put 5 11, Value (Some 10)) ∷ []) ∷ []
+    member 1 3 1 ((Put 5 (Num 10), Value None) ∷ (Put 9 (Num 90), Value None) ∷ []) ∷
+    member 2 5 0 ((Put 3 (Num 30), Value None) ∷ (Put 5 (Num 11), Value (Some (Num 10))) ∷ []) ∷ []
 
 abbrev pub Serial_wide : Type 0
 Serial_wide = SerialIs prepared_found.world true both_writers × (apart (left prepared_found.world true) ≡ None)
@@ -92,29 +93,29 @@ Opens_again =
 
 -- the entries of a history lead to the state: the log at the end is given, as it is left
 abbrev pub found_log : List LogRecord
-found_log = Restart 1 0 ∷ Update (tx 1 1) 5 None (Some 10) ∷ Commit (tx 1 1) [] ∷ Restart 1 1 ∷ []
+found_log = Restart 1 0 ∷ Update (tx 1 1) 5 None (Some (Num 10)) ∷ Commit (tx 1 1) [] ∷ Restart 1 1 ∷ []
 
 abbrev pub found_final : Shard
 found_final = final_of ([] ∷ []) (stopped_found.world.history) (found_log ∷ []) 0
 
 abbrev pub Final_state : Type 0
 Final_state =
-    (left stopped_found.world true ≡ found_log ∷ []) × (found_final.local.log ≡ found_log) × (found_final.local.records ≡ (5, Some 10) ∷ [])
+    (left stopped_found.world true ≡ found_log ∷ []) × (found_final.local.log ≡ found_log) × (found_final.local.records ≡ (5, Some (Num 10)) ∷ [])
     × (found_final.local.locks ≡ []) × (found_final.is_up ≡ true) × (found_final.local.epoch ≡ 1)
 
 abbrev pub one_log : List LogRecord
-one_log = Restart 1 0 ∷ Update (tx 1 1) 5 None (Some 10) ∷ Commit (tx 1 1) [] ∷ []
+one_log = Restart 1 0 ∷ Update (tx 1 1) 5 None (Some (Num 10)) ∷ Commit (tx 1 1) [] ∷ []
 
 abbrev pub One_is_legal : Type 0
 One_is_legal = Legal [] (empty_logs 1) (one_write.world.history) (one_log ∷ [])
 
 abbrev pub phantom_members : List Member
 phantom_members =
-    member 1 2 0 ((Put 5 10, Value None) ∷ []) ∷
-    member 2 8 0 ((Scan 0 9, Pairs ((5, 10) ∷ [])) ∷ []) ∷
-    record { tx = tx 3 2; point = record { stamp = 11; shard = 0 }; ops = (Put 7 70, Value None) ∷ [] } ∷
-    member 4 13 0 ((Del 5, Value (Some 10)) ∷ []) ∷
-    member 5 15 0 ((Scan 0 9, Pairs ((7, 70) ∷ [])) ∷ []) ∷ []
+    member 1 2 0 ((Put 5 (Num 10), Value None) ∷ []) ∷
+    member 2 8 0 ((Scan 0 9, Pairs ((5, Num 10) ∷ [])) ∷ []) ∷
+    record { tx = tx 3 2; point = record { stamp = 11; shard = 0 }; ops = (Put 7 (Num 70), Value None) ∷ [] } ∷
+    member 4 13 0 ((Del 5, Value (Some (Num 10))) ∷ []) ∷
+    member 5 15 0 ((Scan 0 9, Pairs ((7, Num 70) ∷ [])) ∷ []) ∷ []
 
 abbrev pub Phantoms_replay : Type 0
 Phantoms_replay = SerialIs phantoms.world false phantom_members
@@ -122,5 +123,5 @@ Phantoms_replay = SerialIs phantoms.world false phantom_members
 abbrev pub Wide_reader_replays : Type 0
 Wide_reader_replays =
     SerialIs wide_reader.world false
-    (member 1 3 0 ((Put 3 30, Value None) ∷ (Put 5 50, Value None) ∷ []) ∷
-    member 2 7 0 ((Get 3, Value (Some 30)) ∷ (Get 5, Value (Some 50)) ∷ []) ∷ [])
+    (member 1 3 0 ((Put 3 (Num 30), Value None) ∷ (Put 5 (Num 50), Value None) ∷ []) ∷
+    member 2 7 0 ((Get 3, Value (Some (Num 30))) ∷ (Get 5, Value (Some (Num 50))) ∷ []) ∷ [])

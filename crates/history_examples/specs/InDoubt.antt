@@ -1,4 +1,5 @@
 -- Three shards: a violated transaction that is prepared, and its violator, where one shard stops.
+use Rattle.clv_base.specs.declared.values.Value.TheVariants.{Num}
 use Rattle.clv_base.specs.Core.{disorders, logs_of}
 use Rattle.clv_base.specs.LogRules.{apart}
 use Rattle.clv_base.specs.Logs.{stands}
@@ -18,14 +19,14 @@ use Rattle.std.specs.Prelude.{List, None, Some, [], false, true, ◌++◌, ◌�
 -- P, of home 1, is violated on shard 1 by T, of home 0; both are prepared there and P's COMMIT is buffered.
 abbrev pub violated_prepared : List Act
 violated_prepared =
-    first 1 1 1 1 (Put 5 10) ∷ next 1 1 2 1 2 (Put 9 90) ∷ request 1 1 1 ((1, 0) ∷ (2, 0) ∷ []) ∷
-    first 2 1 0 2 (Put 3 30) ∷ next 2 1 1 2 2 (Put 5 11) ∷ request 2 1 0 ((0, 0) ∷ (1, 0) ∷ []) ∷ Carry_from 0 0 ∷
+    first 1 1 1 1 (Put 5 (Num 10)) ∷ next 1 1 2 1 2 (Put 9 (Num 90)) ∷ request 1 1 1 ((1, 0) ∷ (2, 0) ∷ []) ∷
+    first 2 1 0 2 (Put 3 (Num 30)) ∷ next 2 1 1 2 2 (Put 5 (Num 11)) ∷ request 2 1 0 ((0, 0) ∷ (1, 0) ∷ []) ∷ Carry_from 0 0 ∷
     flush_out 1 ∷ Land_at 0 1 true ∷ Carry_from 0 1 ∷ flush_out 2 ∷ Land_at 0 2 true ∷ Carry_from 0 2 ∷ Event_at 0 1 Send ∷ []
 
 abbrev pub heard_prepared : List Outcome
 heard_prepared =
     Answered (Value None) 0 ∷ Answered (Value None) 0 ∷ Asked ∷
-    Answered (Value None) 0 ∷ Answered (Value (Some 10)) 0 ∷ Asked ∷ Sent (PrepareMessage 1 (tx 2 1) 0 0) ∷ Taken ∷
+    Answered (Value None) 0 ∷ Answered (Value (Some (Num 10))) 0 ∷ Asked ∷ Sent (PrepareMessage 1 (tx 2 1) 0 0) ∷ Taken ∷
     Out 5 ∷ Durable 5 ∷ Sent (PrepareMessage 2 (tx 1 1) 1 0) ∷ Taken ∷ Out 3 ∷ Durable 3 ∷ Sent (VoteMessage 1 (tx 1 1) 2 Yes) ∷ Taken ∷ Nothing ∷ []
 
 -- shard 1 restarts without it: both are losers there, P is told so, and T's reminded Prepare gets a no. Shard 2, where P voted yes, asks
@@ -43,11 +44,11 @@ Prepared_lost =
     (heard_prepared ++ Stopped ∷ Up 1 ∷ Aborted (Restarted 1 0 1) ∷ Reminded 1 ∷ Sent (PrepareMessage 1 (tx 2 1) 0 0) ∷ Taken ∷
     Sent (VoteMessage 0 (tx 2 1) 1 (No (RestartedWhy 0 1))) ∷ Taken ∷ Aborted (NoVote 1 (RestartedWhy 0 1)) ∷
     Reminded 1 ∷ Sent (Ask 1 (tx 1 1) 2) ∷ Taken ∷ Sent (Decide 2 (tx 1 1) 1 false) ∷ Taken ∷ [])
-    ((Restart 1 0 ∷ Update (tx 2 1) 3 None (Some 30) ∷ Prepare (tx 2 1) 0 [] ∷ Abort (tx 2 1) ∷ Clr (tx 2 1) None 3 None ∷ []) ∷
-    (Restart 1 0 ∷ Update (tx 1 1) 5 None (Some 10) ∷ Prepare (tx 1 1) 1 [] ∷ Update (tx 2 1) 5 (Some 10) (Some 11) ∷
-    Prepare (tx 2 1) 0 (tx 1 1 ∷ []) ∷ Abort (tx 1 1) ∷ Abort (tx 2 1) ∷ Clr (tx 2 1) None 5 (Some 10) ∷ Clr (tx 1 1) None 5 None ∷
+    ((Restart 1 0 ∷ Update (tx 2 1) 3 None (Some (Num 30)) ∷ Prepare (tx 2 1) 0 [] ∷ Abort (tx 2 1) ∷ Clr (tx 2 1) None 3 None ∷ []) ∷
+    (Restart 1 0 ∷ Update (tx 1 1) 5 None (Some (Num 10)) ∷ Prepare (tx 1 1) 1 [] ∷ Update (tx 2 1) 5 (Some (Num 10)) (Some (Num 11)) ∷
+    Prepare (tx 2 1) 0 (tx 1 1 ∷ []) ∷ Abort (tx 1 1) ∷ Abort (tx 2 1) ∷ Clr (tx 2 1) None 5 (Some (Num 10)) ∷ Clr (tx 1 1) None 5 None ∷
     Restart 1 1 ∷ []) ∷
-    (Restart 1 0 ∷ Update (tx 1 1) 9 None (Some 90) ∷ Prepare (tx 1 1) 1 [] ∷ Abort (tx 1 1) ∷ Clr (tx 1 1) None 9 None ∷ []) ∷ [])
+    (Restart 1 0 ∷ Update (tx 1 1) 9 None (Some (Num 90)) ∷ Prepare (tx 1 1) 1 [] ∷ Abort (tx 1 1) ∷ Clr (tx 1 1) None 9 None ∷ []) ∷ [])
     ([] ∷ [] ∷ [] ∷ [])
     × (disorders 0 (logs_of prepared_lost.world) ≡ None ∷ None ∷ None ∷ [])
 
@@ -65,14 +66,14 @@ Prepared_found =
     (heard_prepared ++ Out 6 ∷ Durable 6 ∷ Sent (Decide 2 (tx 1 1) 1 true) ∷ Taken ∷ Sent (VoteMessage 0 (tx 2 1) 1 Yes) ∷ Taken ∷
     Stopped ∷ Up 1 ∷ Acknowledged ∷ NotYet ∷ Out 4 ∷ Durable 4 ∷ Acknowledged ∷ Sent (Decide 1 (tx 2 1) 0 true) ∷ Taken ∷ Out 8 ∷ Durable 8 ∷
     Sent (Done 0 (tx 2 1) 1) ∷ Taken ∷ [])
-    ((Restart 1 0 ∷ Update (tx 2 1) 3 None (Some 30) ∷ Prepare (tx 2 1) 0 [] ∷ Commit (tx 2 1) (1 ∷ []) ∷ End (tx 2 1) ∷ []) ∷
-    (Restart 1 0 ∷ Update (tx 1 1) 5 None (Some 10) ∷ Prepare (tx 1 1) 1 [] ∷ Update (tx 2 1) 5 (Some 10) (Some 11) ∷
+    ((Restart 1 0 ∷ Update (tx 2 1) 3 None (Some (Num 30)) ∷ Prepare (tx 2 1) 0 [] ∷ Commit (tx 2 1) (1 ∷ []) ∷ End (tx 2 1) ∷ []) ∷
+    (Restart 1 0 ∷ Update (tx 1 1) 5 None (Some (Num 10)) ∷ Prepare (tx 1 1) 1 [] ∷ Update (tx 2 1) 5 (Some (Num 10)) (Some (Num 11)) ∷
     Prepare (tx 2 1) 0 (tx 1 1 ∷ []) ∷ Commit (tx 1 1) (2 ∷ []) ∷ Restart 1 1 ∷ Commit (tx 2 1) [] ∷ []) ∷
-    (Restart 1 0 ∷ Update (tx 1 1) 9 None (Some 90) ∷ Prepare (tx 1 1) 1 [] ∷ Commit (tx 1 1) [] ∷ []) ∷ [])
-    (((3, 30) ∷ []) ∷ ((5, 11) ∷ []) ∷ ((9, 90) ∷ []) ∷ [])
+    (Restart 1 0 ∷ Update (tx 1 1) 9 None (Some (Num 90)) ∷ Prepare (tx 1 1) 1 [] ∷ Commit (tx 1 1) [] ∷ []) ∷ [])
+    (((3, Num 30) ∷ []) ∷ ((5, Num 11) ∷ []) ∷ ((9, Num 90) ∷ []) ∷ [])
 
 -- the logs are in order, do not disagree, and stand for the live pairs
 abbrev pub Found_stands : Type 0
 Found_stands =
-    (stands (logs_of prepared_found.world) ≡ (3, 30) ∷ (5, 11) ∷ (9, 90) ∷ []) × (disorders 0 (logs_of prepared_found.world) ≡ None ∷ None ∷ None ∷ [])
+    (stands (logs_of prepared_found.world) ≡ (3, Num 30) ∷ (5, Num 11) ∷ (9, Num 90) ∷ []) × (disorders 0 (logs_of prepared_found.world) ≡ None ∷ None ∷ None ∷ [])
     × (apart (logs_of prepared_found.world) ≡ None)

@@ -1,5 +1,6 @@
 -- Parts of the refused commit: shard 1 lags behind, and a message is there without its sending.
 use Rattle.std.specs.Prelude.{◌≡◌, ℕ, List, [], ◌∷◌, Some, None}
+use Rattle.clv_base.specs.declared.values.Value.TheVariants.{Num}
 use Rattle.clv_base.specs.declared.ops.Op.TheVariants.{Get, Put}
 use Rattle.clv_base.specs.declared.ops.Answer.TheVariants.{Value}
 use Rattle.clv_base.specs.declared.messages.Message.TheVariants.{Prepare}
@@ -16,10 +17,10 @@ use Rattle.history_examples.specs.Aborted.{reader, dies, refused}
 -- shard 0 has sent its Prepare; shard 1 has not yet let the younger one die, nor stopped
 abbrev pub lagging : History
 lagging =
-    on_0 2 1 (OpEvent writer (born 1 1) 1 None (Put 3 30)) (Answered (Value None) 0)
-    ∷ on_1 3 1 (OpEvent writer (born 1 1) 2 None (Put 5 50)) (Answered (Value None) 0)
+    on_0 2 1 (OpEvent writer (born 1 1) 1 None (Put 3 (Num 30))) (Answered (Value None) 0)
+    ∷ on_1 3 1 (OpEvent writer (born 1 1) 2 None (Put 5 (Num 50))) (Answered (Value None) 0)
     ∷ on_0 5 1 (Request writer ((0, 0) ∷ (1, 0) ∷ [])) Asked
-    ∷ on_0 6 2 (OpEvent reader (born 2 3) 1 None (Get 3)) (Answered (Value (Some 30)) 0)
+    ∷ on_0 6 2 (OpEvent reader (born 2 3) 1 None (Get 3)) (Answered (Value (Some (Num 30))) 0)
     ∷ on_0 7 2 (Request reader ((0, 0) ∷ [])) Asked
     ∷ on_0 10 0 Send (Sent (Prepare 1 writer 0 0))
     ∷ []
@@ -36,11 +37,11 @@ LaggingWalkersAreNoFront = IsPrefixOf (own 0 lagging) (own 0 refused) → ⊥
 -- shard 1 has taken the Prepare that shard 0 has not sent
 abbrev pub unsent : History
 unsent =
-    on_0 2 1 (OpEvent writer (born 1 1) 1 None (Put 3 30)) (Answered (Value None) 0)
-    ∷ on_1 3 1 (OpEvent writer (born 1 1) 2 None (Put 5 50)) (Answered (Value None) 0)
+    on_0 2 1 (OpEvent writer (born 1 1) 1 None (Put 3 (Num 30))) (Answered (Value None) 0)
+    ∷ on_1 3 1 (OpEvent writer (born 1 1) 2 None (Put 5 (Num 50))) (Answered (Value None) 0)
     ∷ dies
     ∷ on_0 5 1 (Request writer ((0, 0) ∷ (1, 0) ∷ [])) Asked
-    ∷ on_0 6 2 (OpEvent reader (born 2 3) 1 None (Get 3)) (Answered (Value (Some 30)) 0)
+    ∷ on_0 6 2 (OpEvent reader (born 2 3) 1 None (Get 3)) (Answered (Value (Some (Num 30))) 0)
     ∷ on_0 7 2 (Request reader ((0, 0) ∷ [])) Asked
     ∷ on_1 8 0 Stop Stopped
     ∷ on_1 9 0 Restart (Up 1)

@@ -1,4 +1,5 @@
 -- Keys and their shards, logs that break a rule, and restarts that fail.
+use Rattle.clv_base.specs.declared.values.Value.TheVariants.{Num}
 use Rattle.clv_base.specs.Core.{disorders}
 use Rattle.clv_base.specs.Due.{append_log}
 use Rattle.clv_base.specs.LogRules.{apart}
@@ -20,24 +21,24 @@ Spread =
 
 -- a commit over two shards, one of whose logs is empty instead
 abbrev pub at_home : List LogRecord
-at_home = Restart 1 0 ∷ Update (tx 1 1) 1 None (Some 1) ∷ Prepare (tx 1 1) 0 [] ∷ Commit (tx 1 1) (1 ∷ []) ∷ []
+at_home = Restart 1 0 ∷ Update (tx 1 1) 1 None (Some (Num 1)) ∷ Prepare (tx 1 1) 0 [] ∷ Commit (tx 1 1) (1 ∷ []) ∷ []
 
 abbrev pub at_part : List LogRecord
-at_part = Restart 1 0 ∷ Update (tx 1 1) 11 None (Some 1) ∷ Prepare (tx 1 1) 0 [] ∷ Commit (tx 1 1) [] ∷ []
+at_part = Restart 1 0 ∷ Update (tx 1 1) 11 None (Some (Num 1)) ∷ Prepare (tx 1 1) 0 [] ∷ Commit (tx 1 1) [] ∷ []
 
 abbrev pub Logs_apart : Type 0
 Logs_apart =
     (apart (at_home ∷ at_part ∷ []) ≡ None) × (apart (at_home ∷ [] ∷ []) ≡ Some (tx 1 1)) × (apart ([] ∷ at_part ∷ []) ≡ Some (tx 1 1))
     × (disorders 0 (at_home ∷ at_part ∷ []) ≡ None ∷ None ∷ [])
     -- an UPDATE whose value before is not the key's
-    × (disorders 0 ((Restart 1 0 ∷ Update (tx 1 1) 5 (Some 7) (Some 8) ∷ []) ∷ []) ≡ Some 1 ∷ [])
+    × (disorders 0 ((Restart 1 0 ∷ Update (tx 1 1) 5 (Some (Num 7)) (Some (Num 8)) ∷ []) ∷ []) ≡ Some 1 ∷ [])
     -- no RESTART before the first other record
     × (disorders 0 ((Commit (tx 1 1) (1 ∷ []) ∷ []) ∷ []) ≡ Some 0 ∷ [])
 
 -- shard 1 as it stopped with both losers prepared
 abbrev pub losers_log : List LogRecord
 losers_log =
-    Restart 1 0 ∷ Update (tx 1 1) 5 None (Some 10) ∷ Prepare (tx 1 1) 1 [] ∷ Update (tx 2 1) 5 (Some 10) (Some 11) ∷ Prepare (tx 2 1) 0 (tx 1 1 ∷ []) ∷ []
+    Restart 1 0 ∷ Update (tx 1 1) 5 None (Some (Num 10)) ∷ Prepare (tx 1 1) 1 [] ∷ Update (tx 2 1) 5 (Some (Num 10)) (Some (Num 11)) ∷ Prepare (tx 2 1) 0 (tx 1 1 ∷ []) ∷ []
 
 abbrev pub losers_shard : Shard
 losers_shard = record (with_local (append_log (drop 1 losers_log)) (opened 1 1 [])) { durable = 5; is_up = false }

@@ -1,5 +1,6 @@
 -- A transaction reads on two shards what another one wrote there, and is acknowledged without a COMMIT of its own; then the writer's session goes on.
 use Rattle.std.specs.Prelude.{◌≡◌, true, false, List, [], ◌∷◌, ◌++◌, Some, None}
+use Rattle.clv_base.specs.declared.values.Value.TheVariants.{Num}
 use Rattle.clv_base.specs.declared.names.TxId.{TxId}
 use Rattle.clv_base.specs.declared.names.Birth.{Birth}
 use Rattle.clv_base.specs.declared.ops.Op.TheVariants.{Get, Put}
@@ -31,13 +32,13 @@ second_born = record { stamp = 27; session = 1; serial = 2 }
 -- both have made their requests, and the writer's COMMIT is buffered at its home
 abbrev pub so_far : History
 so_far =
-    on_0 2 1 (OpEvent writer (born 1 1) 1 None (Put 3 30)) (Answered (Value None) 0)
-    ∷ on_1 3 1 (OpEvent writer (born 1 1) 2 None (Put 5 50)) (Answered (Value None) 0)
+    on_0 2 1 (OpEvent writer (born 1 1) 1 None (Put 3 (Num 30))) (Answered (Value None) 0)
+    ∷ on_1 3 1 (OpEvent writer (born 1 1) 2 None (Put 5 (Num 50))) (Answered (Value None) 0)
     ∷ on_0 4 1 (Request writer ((0, 0) ∷ (1, 0) ∷ [])) Asked
     ∷ on_0 5 0 Send (Sent (Prepare 1 writer 0 0))
     ∷ on_1 6 0 (Deliver (Prepare 1 writer 0 0) 5) Taken
-    ∷ on_0 7 2 (OpEvent reader (born 2 6) 1 None (Get 3)) (Answered (Value (Some 30)) 0)
-    ∷ on_1 8 2 (OpEvent reader (born 2 6) 2 None (Get 5)) (Answered (Value (Some 50)) 0)
+    ∷ on_0 7 2 (OpEvent reader (born 2 6) 1 None (Get 3)) (Answered (Value (Some (Num 30))) 0)
+    ∷ on_1 8 2 (OpEvent reader (born 2 6) 2 None (Get 5)) (Answered (Value (Some (Num 50))) 0)
     ∷ on_0 9 2 (Request reader ((0, 0) ∷ (1, 0) ∷ [])) Asked
     ∷ on_0 10 0 Send (Sent (Prepare 1 reader 0 0))
     ∷ on_1 11 0 (Deliver (Prepare 1 reader 0 0) 10) Taken
@@ -62,7 +63,7 @@ reading =
     ∷ on_1 25 0 Send (Sent (VoteMessage 0 reader 1 Read))
     ∷ on_0 26 0 (Deliver (VoteMessage 0 reader 1 Read) 25) Taken
     ∷ on_0 27 2 (Look reader) Acknowledged
-    ∷ on_0 28 1 (OpEvent second second_born 1 None (Put 3 31)) (Answered (Value (Some 30)) 0)
+    ∷ on_0 28 1 (OpEvent second second_born 1 None (Put 3 (Num 31))) (Answered (Value (Some (Num 30))) 0)
     ∷ on_0 29 1 (Request second ((0, 0) ∷ [])) Asked
     ∷ on_0 30 0 FlushOut (Out 7)
     ∷ on_0 31 0 FlushIn (Durable 7)
@@ -71,8 +72,8 @@ reading =
 
 abbrev pub reading_logs : List (List LogRecord)
 reading_logs =
-    (RestartRecord 1 0 ∷ Update writer 3 None (Some 30) ∷ PrepareRecord writer 0 [] ∷ Commit writer (1 ∷ []) ∷ End writer ∷ Update second 3 (Some 30) (Some 31) ∷ Commit second [] ∷ [])
-    ∷ (RestartRecord 1 0 ∷ Update writer 5 None (Some 50) ∷ PrepareRecord writer 0 [] ∷ Commit writer [] ∷ [])
+    (RestartRecord 1 0 ∷ Update writer 3 None (Some (Num 30)) ∷ PrepareRecord writer 0 [] ∷ Commit writer (1 ∷ []) ∷ End writer ∷ Update second 3 (Some (Num 30)) (Some (Num 31)) ∷ Commit second [] ∷ [])
+    ∷ (RestartRecord 1 0 ∷ Update writer 5 None (Some (Num 50)) ∷ PrepareRecord writer 0 [] ∷ Commit writer [] ∷ [])
     ∷ []
 
 abbrev pub ReadingIsLegal : Type 0
@@ -80,9 +81,9 @@ ReadingIsLegal = Legal splits new_logs reading reading_logs
 
 abbrev pub reading_members : List Member
 reading_members =
-    record { tx = writer; point = record { stamp = 4; shard = 0 }; ops = (Put 3 30, Value None) ∷ (Put 5 50, Value None) ∷ [] }
-    ∷ record { tx = reader; point = record { stamp = 9; shard = 0 }; ops = (Get 3, Value (Some 30)) ∷ (Get 5, Value (Some 50)) ∷ [] }
-    ∷ record { tx = second; point = record { stamp = 29; shard = 0 }; ops = (Put 3 31, Value (Some 30)) ∷ [] }
+    record { tx = writer; point = record { stamp = 4; shard = 0 }; ops = (Put 3 (Num 30), Value None) ∷ (Put 5 (Num 50), Value None) ∷ [] }
+    ∷ record { tx = reader; point = record { stamp = 9; shard = 0 }; ops = (Get 3, Value (Some (Num 30))) ∷ (Get 5, Value (Some (Num 50))) ∷ [] }
+    ∷ record { tx = second; point = record { stamp = 29; shard = 0 }; ops = (Put 3 (Num 31), Value (Some (Num 30))) ∷ [] }
     ∷ []
 
 -- the members are the writer, the reader and the session's second one, and replay with their answers to the map that the logs stand for
@@ -90,7 +91,7 @@ abbrev pub ReadingHasMembers : Type 0
 ReadingHasMembers =
     (serial_left splits new_logs reading reading_logs (λ n. false) ≡ reading_members)
     × (replay_answers (stands new_logs) (serial_ops reading_members) ≡ serial_answers reading_members)
-    × (replay_map (stands new_logs) (serial_ops reading_members) ≡ stands reading_logs) × (stands reading_logs ≡ (3, 31) ∷ (5, 50) ∷ [])
+    × (replay_map (stands new_logs) (serial_ops reading_members) ≡ stands reading_logs) × (stands reading_logs ≡ (3, Num 31) ∷ (5, Num 50) ∷ [])
 
 -- the writer is the reader's predecessor on both shards; the reader is acknowledged, and no log has a COMMIT of it
 abbrev pub ReaderFollowsWriter : Type 0

@@ -1,5 +1,6 @@
 -- The logs that the crash left are opened: the transaction is in doubt on shard 1, another one reads its write there, and its commit comes.
 use Rattle.std.specs.Prelude.{◌≡◌, true, false, List, [], ◌∷◌, ◌++◌, Some, None}
+use Rattle.clv_base.specs.declared.values.Value.TheVariants.{Num}
 use Rattle.clv_base.specs.declared.names.TxId.{TxId}
 use Rattle.clv_base.specs.declared.ops.Op.TheVariants.{Get}
 use Rattle.clv_base.specs.declared.ops.Answer.TheVariants.{Value}
@@ -24,7 +25,7 @@ reader = tx 2 1
 
 abbrev pub reopened : History
 reopened =
-    on_1 2 1 (OpEvent reader (born 1 1) 1 None (Get 5)) (Answered (Value (Some 50)) 0)
+    on_1 2 1 (OpEvent reader (born 1 1) 1 None (Get 5)) (Answered (Value (Some (Num 50))) 0)
     ∷ on_1 3 1 (Request reader ((1, 0) ∷ [])) Asked
     ∷ on_0 4 0 Remind (Reminded 1)
     ∷ on_0 5 0 Send (Sent (Decide 1 writer 0 true))
@@ -45,7 +46,7 @@ abbrev pub ReopenedIsLegal : Type 0
 ReopenedIsLegal = (in_doubt 1 (log_of wide_logs 1) ≡ writer ∷ []) × LegalFrom splits wide_logs reopened reopened_logs
 
 abbrev pub reader_member : Member
-reader_member = record { tx = reader; point = record { stamp = 3; shard = 1 }; ops = (Get 5, Value (Some 50)) ∷ [] }
+reader_member = record { tx = reader; point = record { stamp = 3; shard = 1 }; ops = (Get 5, Value (Some (Num 50))) ∷ [] }
 
 -- the reader is the one member, and replays; its predecessor was committed at opening
 abbrev pub ReopenedHasMember : Type 0
@@ -54,7 +55,7 @@ ReopenedHasMember =
     × (replay_answers (stands wide_logs) (serial_ops (reader_member ∷ [])) ≡ serial_answers (reader_member ∷ []))
     × (replay_map (stands wide_logs) (serial_ops (reader_member ∷ [])) ≡ stands reopened_logs)
     × (predecessors_in (log_of reopened_logs 1) (start_of wide_logs 1) reader (journal_of 1 reopened) ≡ writer ∷ []) × (committed_somewhere wide_logs writer ≡ true)
-    × (stands wide_logs ≡ (3, 30) ∷ (5, 50) ∷ []) × (stands reopened_logs ≡ (3, 30) ∷ (5, 50) ∷ [])
+    × (stands wide_logs ≡ (3, Num 30) ∷ (5, Num 50) ∷ []) × (stands reopened_logs ≡ (3, Num 30) ∷ (5, Num 50) ∷ [])
 
 -- nothing is left to do, and the live records of both shards, one after the other, are that map
 abbrev pub ReopenedIsSettled : Type 0

@@ -1,4 +1,5 @@
 -- Messages that come twice, and steps that no session makes.
+use Rattle.clv_base.specs.declared.values.Value.TheVariants.{Num}
 use Rattle.clv_base.specs.Core.{logs_of}
 use Rattle.clv_base.specs.LogRules.{apart}
 use Rattle.clv_base.specs.declared.causes.Vote.TheVariants.{Read, Yes}
@@ -19,7 +20,7 @@ deliver shard m = Event_at 0 shard (Deliver m 1)
 abbrev pub repeats : Played
 repeats =
     play_legal splits_at
-    (first 1 1 0 1 (Put 3 30) ∷ next 1 1 1 1 2 (Put 5 50) ∷ next 1 1 2 1 3 (Get 7) ∷ request 1 1 0 ((0, 0) ∷ (1, 0) ∷ (2, 0) ∷ []) ∷
+    (first 1 1 0 1 (Put 3 (Num 30)) ∷ next 1 1 1 1 2 (Put 5 (Num 50)) ∷ next 1 1 2 1 3 (Get 7) ∷ request 1 1 0 ((0, 0) ∷ (1, 0) ∷ (2, 0) ∷ []) ∷
     Carry_from 0 0 ∷ flush_out 1 ∷ Land_at 0 1 true ∷ Event_at 0 1 Send ∷ Redeliver 0 0 2 ∷ Event_at 0 1 Send ∷
     Event_at 0 1 Remind ∷ Event_at 0 1 Send ∷
     Carry_from 0 0 ∷ Carry_from 0 2 ∷ Redeliver 0 2 2 ∷ Redeliver 0 1 4 ∷ flush_out 0 ∷ Land_at 0 0 true ∷
@@ -35,17 +36,17 @@ Repeats =
     Sent (PrepareMessage 2 (tx 1 1) 0 0) ∷ Taken ∷ Sent (VoteMessage 0 (tx 1 1) 2 Read) ∷ Taken ∷ Stale ∷ Taken ∷ Out 4 ∷ Durable 4 ∷
     Sent (Decide 1 (tx 1 1) 0 true) ∷ Taken ∷ Out 4 ∷ Durable 4 ∷ Sent (Done 0 (tx 1 1) 1) ∷ Taken ∷
     Taken ∷ Sent (Decide 1 (tx 1 1) 0 true) ∷ Taken ∷ Sent (Done 0 (tx 1 1) 1) ∷ Stale ∷ [])
-    ((Restart 1 0 ∷ Update (tx 1 1) 3 None (Some 30) ∷ Prepare (tx 1 1) 0 [] ∷ Commit (tx 1 1) (1 ∷ []) ∷ End (tx 1 1) ∷ []) ∷
-    (Restart 1 0 ∷ Update (tx 1 1) 5 None (Some 50) ∷ Prepare (tx 1 1) 0 [] ∷ Commit (tx 1 1) [] ∷ []) ∷
+    ((Restart 1 0 ∷ Update (tx 1 1) 3 None (Some (Num 30)) ∷ Prepare (tx 1 1) 0 [] ∷ Commit (tx 1 1) (1 ∷ []) ∷ End (tx 1 1) ∷ []) ∷
+    (Restart 1 0 ∷ Update (tx 1 1) 5 None (Some (Num 50)) ∷ Prepare (tx 1 1) 0 [] ∷ Commit (tx 1 1) [] ∷ []) ∷
     (Restart 1 0 ∷ []) ∷ [])
-    (((3, 30) ∷ []) ∷ ((5, 50) ∷ []) ∷ [] ∷ [])
+    (((3, Num 30) ∷ []) ∷ ((5, Num 50) ∷ []) ∷ [] ∷ [])
     × (apart (logs_of repeats.world) ≡ None)
 
 -- Two Prepares come before the vote is due: two votes, the same.
 abbrev pub asked_twice : Played
 asked_twice =
     play_legal splits_at
-    (first 1 1 0 1 (Put 3 30) ∷ next 1 1 1 1 2 (Put 5 50) ∷ request 1 1 0 ((0, 0) ∷ (1, 0) ∷ []) ∷ Carry_from 0 0 ∷ Redeliver 0 0 2 ∷
+    (first 1 1 0 1 (Put 3 (Num 30)) ∷ next 1 1 1 1 2 (Put 5 (Num 50)) ∷ request 1 1 0 ((0, 0) ∷ (1, 0) ∷ []) ∷ Carry_from 0 0 ∷ Redeliver 0 0 2 ∷
     Event_at 0 1 Send ∷ flush_out 1 ∷ Land_at 0 1 true ∷ Event_at 0 1 Send ∷ Event_at 0 1 Send ∷ Event_at 0 1 Send ∷ [])
     (new_world 3)
 
@@ -59,7 +60,7 @@ Asked_twice =
 abbrev pub passed_over : Played
 passed_over =
     play_legal splits_at
-    (first 1 1 0 1 (Put 5 10) ∷ first 1 1 0 1 (Put 3 30) ∷ again 1 1 0 1 3 0 (Get 3) ∷ request 1 1 0 ((0, 0) ∷ []) ∷ again 1 1 0 1 2 0 (Get 3) ∷
+    (first 1 1 0 1 (Put 5 (Num 10)) ∷ first 1 1 0 1 (Put 3 (Num 30)) ∷ again 1 1 0 1 3 0 (Get 3) ∷ request 1 1 0 ((0, 0) ∷ []) ∷ again 1 1 0 1 2 0 (Get 3) ∷
     deliver 1 (PrepareMessage 1 (tx 1 1) 0 1) ∷ [])
     (new_world 3)
 

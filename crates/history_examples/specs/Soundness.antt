@@ -1,4 +1,5 @@
 -- The states of the examples are sound.
+use Rattle.clv_base.specs.declared.values.Value.TheVariants.{Num}
 use Rattle.clv_base.specs.Core.{World}
 use Rattle.clv_base.specs.Invariants.{covers, is_sound}
 use Rattle.clv_base.specs.State.{Shard}
@@ -28,7 +29,7 @@ sound_after (a ∷ rest) p = let q = act_by None p a in list_all is_sound q.worl
 
 abbrev pub gap_acts : List Act
 gap_acts =
-    first 1 1 0 1 (Put 5 10) ∷ next 1 1 1 1 2 (Put 60 6) ∷ request 1 1 0 ((0, 0) ∷ (1, 0) ∷ []) ∷ first 2 1 0 2 (Put 7 70) ∷
+    first 1 1 0 1 (Put 5 (Num 10)) ∷ next 1 1 1 1 2 (Put 60 (Num 6)) ∷ request 1 1 0 ((0, 0) ∷ (1, 0) ∷ []) ∷ first 2 1 0 2 (Put 7 (Num 70)) ∷
     Event_at 0 1 Stop ∷ Restart_at 0 1 false ∷ Carry_from 0 0 ∷ Carry_from 0 1 ∷ look 1 1 0 ∷ []
 
 abbrev pub Sound_small : Type 0

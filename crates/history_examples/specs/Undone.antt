@@ -1,5 +1,6 @@
 -- Logs in which the home has no COMMIT are opened: the other shard asks, the home answers that it aborted, and the part and its reader go.
 use Rattle.std.specs.Prelude.{◌≡◌, ℕ, true, false, List, [], ◌∷◌, ◌++◌, take, Some, None}
+use Rattle.clv_base.specs.declared.values.Value.TheVariants.{Num}
 use Rattle.clv_base.specs.declared.names.TxId.{TxId}
 use Rattle.clv_base.specs.declared.ops.Op.TheVariants.{Get}
 use Rattle.clv_base.specs.declared.ops.Answer.TheVariants.{Value}
@@ -26,7 +27,7 @@ reader = tx 2 1
 
 -- the crash came before the home's COMMIT was durable
 abbrev pub home_log : List LogRecord
-home_log = RestartRecord 1 0 ∷ Update writer 3 None (Some 30) ∷ PrepareRecord writer 0 [] ∷ []
+home_log = RestartRecord 1 0 ∷ Update writer 3 None (Some (Num 30)) ∷ PrepareRecord writer 0 [] ∷ []
 
 abbrev pub doubt_logs : List (List LogRecord)
 doubt_logs = home_log ∷ part_log ∷ []
@@ -36,7 +37,7 @@ reader_looks = on_1 9 1 (Look reader) (Aborted (Predecessor writer))
 
 abbrev pub undone : History
 undone =
-    on_1 2 1 (OpEvent reader (born 1 1) 1 None (Get 5)) (Answered (Value (Some 50)) 0)
+    on_1 2 1 (OpEvent reader (born 1 1) 1 None (Get 5)) (Answered (Value (Some (Num 50))) 0)
     ∷ on_1 3 1 (Request reader ((1, 0) ∷ [])) Asked
     ∷ on_1 4 0 Remind (Reminded 1)
     ∷ on_1 5 0 Send (Sent (Ask 0 writer 1))

@@ -1,4 +1,5 @@
 -- Who dies, who waits, and for whom.
+use Rattle.clv_base.specs.declared.values.Value.TheVariants.{Num}
 use Rattle.clv_base.specs.Core.{World, pairs_at}
 use Rattle.clv_base.specs.Facts.{facts_of, is_waiting, predecessors_of}
 use Rattle.clv_base.specs.History.{Waits, has_request, is_still_due, needs_durable, offered}
@@ -22,24 +23,24 @@ use Rattle.std.specs.Prelude.{Bool, List, None, Option, Some, [], false, slice_g
 
 -- A younger requester dies of an active holder; an older one waits, and violates it once it is closed.
 abbrev pub young_dies : Played
-young_dies = play (first 1 1 0 1 (Put 5 10) ∷ first 2 1 0 2 (Put 5 11) ∷ []) (new_world 1)
+young_dies = play (first 1 1 0 1 (Put 5 (Num 10)) ∷ first 2 1 0 2 (Put 5 (Num 11)) ∷ []) (new_world 1)
 
 abbrev pub old_waits : Played
-old_waits = play (first 2 1 0 2 (Put 5 11) ∷ first 1 1 0 1 (Put 5 10) ∷ request 2 1 0 ((0, 0) ∷ []) ∷ first 1 1 0 1 (Put 5 10) ∷ []) (new_world 1)
+old_waits = play (first 2 1 0 2 (Put 5 (Num 11)) ∷ first 1 1 0 1 (Put 5 (Num 10)) ∷ request 2 1 0 ((0, 0) ∷ []) ∷ first 1 1 0 1 (Put 5 (Num 10)) ∷ []) (new_world 1)
 
 abbrev pub Young_dies : Type 0
 Young_dies =
     Shows young_dies
     (Answered (Value None) 0 ∷ Dead (Died (tx 1 1)) ∷ [])
-    ((Restart 1 0 ∷ Update (tx 1 1) 5 None (Some 10) ∷ []) ∷ [])
-    (((5, 10) ∷ []) ∷ [])
+    ((Restart 1 0 ∷ Update (tx 1 1) 5 None (Some (Num 10)) ∷ []) ∷ [])
+    (((5, Num 10) ∷ []) ∷ [])
 
 abbrev pub Old_waits : Type 0
 Old_waits =
     Shows old_waits
-    (Answered (Value None) 0 ∷ Wait (tx 2 1) ∷ Asked ∷ Answered (Value (Some 11)) 0 ∷ [])
-    ((Restart 1 0 ∷ Update (tx 2 1) 5 None (Some 11) ∷ Commit (tx 2 1) [] ∷ Update (tx 1 1) 5 (Some 11) (Some 10) ∷ []) ∷ [])
-    (((5, 10) ∷ []) ∷ [])
+    (Answered (Value None) 0 ∷ Wait (tx 2 1) ∷ Asked ∷ Answered (Value (Some (Num 11))) 0 ∷ [])
+    ((Restart 1 0 ∷ Update (tx 2 1) 5 None (Some (Num 11)) ∷ Commit (tx 2 1) [] ∷ Update (tx 1 1) 5 (Some (Num 11)) (Some (Num 10)) ∷ []) ∷ [])
+    (((5, Num 10) ∷ []) ∷ [])
     × (pairs_at old_waits.world 0 ≡ (tx 1 1, tx 2 1) ∷ [])
 
 abbrev pub state_in : World → ℕ → Shard
@@ -47,7 +48,7 @@ state_in w n = elim (slice_get w.shards n) [ Some s ↦ s | None ↦ opened n 1 
 
 -- an older requester waits for the active holder; a part that violated one whose COMMIT is buffered waits for it, and its home does not
 abbrev pub held_up : World
-held_up = (play (first 2 1 0 2 (Put 5 11) ∷ first 1 1 0 1 (Put 5 10) ∷ []) (new_world 1)).world
+held_up = (play (first 2 1 0 2 (Put 5 (Num 11)) ∷ first 1 1 0 1 (Put 5 (Num 10)) ∷ []) (new_world 1)).world
 
 abbrev pub half_prepared : World
 half_prepared = (play violated_prepared (new_world 3)).world
@@ -76,5 +77,5 @@ Request_waits =
 -- a transaction with a request, or one that would skip a number, offers no operation
 abbrev pub Offers_none : Type 0
 Offers_none =
-    (may_go_on splits_at half_prepared 1 (tx 2 1) (birth 2 2) 3 (Some 0) (Put 5 12) ≡ false)
-    × (may_go_on [] held_up 0 (tx 1 1) (birth 1 1) 1 None (Put 5 10) ≡ true) × (may_go_on [] held_up 0 (tx 1 1) (birth 1 1) 2 None (Put 5 10) ≡ false)
+    (may_go_on splits_at half_prepared 1 (tx 2 1) (birth 2 2) 3 (Some 0) (Put 5 (Num 12)) ≡ false)
+    × (may_go_on [] held_up 0 (tx 1 1) (birth 1 1) 1 None (Put 5 (Num 10)) ≡ true) × (may_go_on [] held_up 0 (tx 1 1) (birth 1 1) 2 None (Put 5 (Num 10)) ≡ false)

@@ -1,5 +1,6 @@
 -- Two transactions that wait: a reader for the COMMIT that it read past, and an older one for the lock of a younger one.
 use Rattle.std.specs.Prelude.{List, [], ◌∷◌, ◌++◌, Some, None}
+use Rattle.clv_base.specs.declared.values.Value.TheVariants.{Num}
 use Rattle.clv_base.specs.declared.names.TxId.{TxId}
 use Rattle.clv_base.specs.declared.ops.Op.TheVariants.{Put}
 use Rattle.clv_base.specs.declared.ops.Answer.TheVariants.{Value}
@@ -20,11 +21,11 @@ abbrev pub older : TxId
 older = tx 1 4
 
 abbrev pub waiting : History
-waiting = so_far ++ on_1 16 3 (OpEvent younger (born 3 15) 1 None (Put 7 70)) (Answered (Value None) 0) ∷ []
+waiting = so_far ++ on_1 16 3 (OpEvent younger (born 3 15) 1 None (Put 7 (Num 70))) (Answered (Value None) 0) ∷ []
 
 -- the home's COMMIT of the writer isn't durable, and not in what a crash leaves
 abbrev pub waiting_logs : List (List LogRecord)
-waiting_logs = (RestartRecord 1 0 ∷ []) ∷ (RestartRecord 1 0 ∷ Update writer 5 None (Some 50) ∷ PrepareRecord writer 0 [] ∷ []) ∷ []
+waiting_logs = (RestartRecord 1 0 ∷ []) ∷ (RestartRecord 1 0 ∷ Update writer 5 None (Some (Num 50)) ∷ PrepareRecord writer 0 [] ∷ []) ∷ []
 
 abbrev pub WaitingIsLegal : Type 0
 WaitingIsLegal = Legal splits new_logs waiting waiting_logs

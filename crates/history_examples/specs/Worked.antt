@@ -1,5 +1,6 @@
 -- Legal histories, worked out by hand.
 use Rattle.std.specs.Prelude.{◌≡◌, ℕ, true, false, List, [], ◌∷◌, ◌++◌, Some, None}
+use Rattle.clv_base.specs.declared.values.Value.TheVariants.{Num}
 use Rattle.clv_base.specs.declared.ops.Op.TheVariants.{Get, Put}
 use Rattle.clv_base.specs.declared.ops.Answer.TheVariants.{Value}
 use Rattle.clv_base.specs.declared.causes.AbortCause.TheVariants.{Restarted}
@@ -33,7 +34,7 @@ abbrev pub birth_of : ℕ → ℕ → Birth
 birth_of stamp serial = record { stamp = stamp; session = 1; serial = serial }
 
 abbrev pub first_member : Member
-first_member = record { tx = tx_of 1 1; point = record { stamp = 3; shard = 0 }; ops = (Put 5 10, Value None) ∷ [] }
+first_member = record { tx = tx_of 1 1; point = record { stamp = 3; shard = 0 }; ops = (Put 5 (Num 10), Value None) ∷ [] }
 
 -- ---- a shard that stops with nothing flushed, and is restarted
 
@@ -42,7 +43,7 @@ at stamp walker e o = (0, record { stamp = stamp; walker = walker; event = e; ou
 
 abbrev pub restarted : History
 restarted =
-    at 2 1 (OpEvent (tx_of 1 1) (birth_of 1 1) 1 None (Put 5 10)) (Answered (Value None) 0)
+    at 2 1 (OpEvent (tx_of 1 1) (birth_of 1 1) 1 None (Put 5 (Num 10))) (Answered (Value None) 0)
     ∷ at 3 1 (Request (tx_of 1 1) ((0, 0) ∷ [])) Asked ∷ at 4 0 Stop Stopped ∷ at 5 0 Restart (Up 1) ∷ []
 
 abbrev pub looked_at : History
@@ -73,19 +74,19 @@ reader_birth = record { stamp = 2; session = 2; serial = 1 }
 
 abbrev pub violated : History
 violated =
-    at 2 1 (OpEvent (tx_of 1 1) (birth_of 1 1) 1 None (Put 5 10)) (Answered (Value None) 0)
+    at 2 1 (OpEvent (tx_of 1 1) (birth_of 1 1) 1 None (Put 5 (Num 10))) (Answered (Value None) 0)
     ∷ at 3 1 (Request (tx_of 1 1) ((0, 0) ∷ [])) Asked
-    ∷ at 4 2 (OpEvent reader reader_birth 1 None (Get 5)) (Answered (Value (Some 10)) 0)
+    ∷ at 4 2 (OpEvent reader reader_birth 1 None (Get 5)) (Answered (Value (Some (Num 10))) 0)
     ∷ at 5 2 (Request reader ((0, 0) ∷ [])) Asked ∷ at 6 0 FlushOut (Out 3) ∷ at 7 0 FlushIn (Durable 3) ∷ at 8 2 (Look reader) Acknowledged ∷ []
 
 abbrev pub violated_log : List LogRecord
-violated_log = RestartRecord 1 0 ∷ Update (tx_of 1 1) 5 None (Some 10) ∷ Commit (tx_of 1 1) [] ∷ []
+violated_log = RestartRecord 1 0 ∷ Update (tx_of 1 1) 5 None (Some (Num 10)) ∷ Commit (tx_of 1 1) [] ∷ []
 
 abbrev pub ViolatedIsLegal : Type 0
 ViolatedIsLegal = Legal [] new_log violated (violated_log ∷ [])
 
 abbrev pub reader_member : Member
-reader_member = record { tx = reader; point = record { stamp = 5; shard = 0 }; ops = (Get 5, Value (Some 10)) ∷ [] }
+reader_member = record { tx = reader; point = record { stamp = 5; shard = 0 }; ops = (Get 5, Value (Some (Num 10))) ∷ [] }
 
 abbrev pub ViolatedHasMembers : Type 0
 ViolatedHasMembers =
@@ -98,29 +99,29 @@ abbrev pub loser : TxId
 loser = record { run = 1; session = 2; serial = 1 }
 
 abbrev pub found_log : List LogRecord
-found_log = RestartRecord 1 0 ∷ Update (tx_of 1 1) 5 None (Some 10) ∷ Commit (tx_of 1 1) [] ∷ Update loser 5 (Some 10) (Some 11) ∷ Update loser 6 None (Some 1) ∷ []
+found_log = RestartRecord 1 0 ∷ Update (tx_of 1 1) 5 None (Some (Num 10)) ∷ Commit (tx_of 1 1) [] ∷ Update loser 5 (Some (Num 10)) (Some (Num 11)) ∷ Update loser 6 None (Some (Num 1)) ∷ []
 
 abbrev pub from_found : History
 from_found =
     at 2 1 (OpEvent (tx_of 2 1) (birth_of 1 1) 1 None (Get 6)) (Answered (Value None) 0)
-    ∷ at 3 1 (OpEvent (tx_of 2 1) (birth_of 1 1) 2 (Some 0) (Put 5 12)) (Answered (Value (Some 10)) 0)
+    ∷ at 3 1 (OpEvent (tx_of 2 1) (birth_of 1 1) 2 (Some 0) (Put 5 (Num 12))) (Answered (Value (Some (Num 10))) 0)
     ∷ at 4 1 (Request (tx_of 2 1) ((0, 0) ∷ [])) Asked ∷ at 5 0 FlushOut (Out 11) ∷ at 6 0 FlushIn (Durable 11) ∷ at 7 1 (Look (tx_of 2 1)) Acknowledged ∷ []
 
 -- the opening undoes the loser
 abbrev pub found_left : List LogRecord
 found_left =
-    found_log ++ Abort loser ∷ Clr loser (Some 3) 6 None ∷ Clr loser None 5 (Some 10) ∷ RestartRecord 2 0 ∷ Update (tx_of 2 1) 5 (Some 10) (Some 12) ∷ Commit (tx_of 2 1) [] ∷ []
+    found_log ++ Abort loser ∷ Clr loser (Some 3) 6 None ∷ Clr loser None 5 (Some (Num 10)) ∷ RestartRecord 2 0 ∷ Update (tx_of 2 1) 5 (Some (Num 10)) (Some (Num 12)) ∷ Commit (tx_of 2 1) [] ∷ []
 
 abbrev pub FoundIsLegal : Type 0
 FoundIsLegal = LegalFrom [] (found_log ∷ []) from_found (found_left ∷ [])
 
 abbrev pub new_member : Member
-new_member = record { tx = tx_of 2 1; point = record { stamp = 4; shard = 0 }; ops = (Get 6, Value None) ∷ (Put 5 12, Value (Some 10)) ∷ [] }
+new_member = record { tx = tx_of 2 1; point = record { stamp = 4; shard = 0 }; ops = (Get 6, Value None) ∷ (Put 5 (Num 12), Value (Some (Num 10))) ∷ [] }
 
 abbrev pub FoundHasMembers : Type 0
 FoundHasMembers =
     (serial_left [] (found_log ∷ []) from_found (found_left ∷ []) (λ n. false) ≡ new_member ∷ [])
-    × (stands (found_log ∷ []) ≡ (5, 10) ∷ []) × (stands (found_left ∷ []) ≡ (5, 12) ∷ [])
+    × (stands (found_log ∷ []) ≡ (5, Num 10) ∷ []) × (stands (found_left ∷ []) ≡ (5, Num 12) ∷ [])
 
 -- ---- where nothing is left to do
 

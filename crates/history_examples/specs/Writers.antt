@@ -1,4 +1,5 @@
 -- One transaction alone.
+use Rattle.clv_base.specs.declared.values.Value.TheVariants.{Num}
 use Rattle.clv_base.specs.Core.{disorders, logs_of}
 use Rattle.clv_base.specs.declared.events.CoreStep.{CoreStep}
 use Rattle.clv_base.specs.LogRules.{apart}
@@ -14,15 +15,15 @@ use Rattle.std.specs.Prelude.{List, None, Some, [], false, true, ◌∷◌, ◌�
 
 -- One transaction writes a key and commits: the log's records.
 abbrev pub one_write : Played
-one_write = play (first 1 1 0 1 (Put 5 10) ∷ request 1 1 0 ((0, 0) ∷ []) ∷ flush_out 0 ∷ Land_at 0 0 true ∷ look 1 1 0 ∷ []) (new_world 1)
+one_write = play (first 1 1 0 1 (Put 5 (Num 10)) ∷ request 1 1 0 ((0, 0) ∷ []) ∷ flush_out 0 ∷ Land_at 0 0 true ∷ look 1 1 0 ∷ []) (new_world 1)
 
 abbrev pub One_write : Type 0
 One_write =
     Shows one_write
     (Answered (Value None) 0 ∷ Asked ∷ Out 3 ∷ Durable 3 ∷ Acknowledged ∷ [])
-    ((Restart 1 0 ∷ Update (tx 1 1) 5 None (Some 10) ∷ Commit (tx 1 1) [] ∷ []) ∷ [])
-    (((5, 10) ∷ []) ∷ [])
-    × (stands (logs_of one_write.world) ≡ (5, 10) ∷ [])
+    ((Restart 1 0 ∷ Update (tx 1 1) 5 None (Some (Num 10)) ∷ Commit (tx 1 1) [] ∷ []) ∷ [])
+    (((5, Num 10) ∷ []) ∷ [])
+    × (stands (logs_of one_write.world) ≡ (5, Num 10) ∷ [])
     × (disorders 0 (logs_of one_write.world) ≡ None ∷ [])
     × (apart (logs_of one_write.world) ≡ None)
 
@@ -30,22 +31,22 @@ One_write =
 abbrev pub own_writes : Played
 own_writes =
     play
-    (first 1 1 0 1 (Put 5 10) ∷ again 1 1 0 1 2 0 (Put 5 11) ∷ again 1 1 0 1 3 0 (Get 5) ∷ again 1 1 0 1 4 0 (Del 5) ∷
+    (first 1 1 0 1 (Put 5 (Num 10)) ∷ again 1 1 0 1 2 0 (Put 5 (Num 11)) ∷ again 1 1 0 1 3 0 (Get 5) ∷ again 1 1 0 1 4 0 (Del 5) ∷
     again 1 1 0 1 5 0 (Get 5) ∷ [])
     (new_world 1)
 
 abbrev pub Own_writes : Type 0
 Own_writes =
     Shows own_writes
-    (Answered (Value None) 0 ∷ Answered (Value (Some 10)) 0 ∷ Answered (Value (Some 11)) 0 ∷ Answered (Value (Some 11)) 0 ∷
+    (Answered (Value None) 0 ∷ Answered (Value (Some (Num 10))) 0 ∷ Answered (Value (Some (Num 11))) 0 ∷ Answered (Value (Some (Num 11))) 0 ∷
     Answered (Value None) 0 ∷ [])
-    ((Restart 1 0 ∷ Update (tx 1 1) 5 None (Some 10) ∷ Update (tx 1 1) 5 (Some 10) (Some 11) ∷ Update (tx 1 1) 5 (Some 11) None ∷ []) ∷ [])
+    ((Restart 1 0 ∷ Update (tx 1 1) 5 None (Some (Num 10)) ∷ Update (tx 1 1) 5 (Some (Num 10)) (Some (Num 11)) ∷ Update (tx 1 1) 5 (Some (Num 11)) None ∷ []) ∷ [])
     ([] ∷ [])
 
 -- One write, as a list of core steps; a step that no rule allows and quiet ones leave the world as it was.
 abbrev pub write_steps : List CoreStep
 write_steps =
-    core_step 1 0 (OpEvent (tx 1 1) (birth 1 1) 1 None (Put 5 10)) false ∷ core_step 1 0 (Look (tx 1 1)) false ∷
+    core_step 1 0 (OpEvent (tx 1 1) (birth 1 1) 1 None (Put 5 (Num 10))) false ∷ core_step 1 0 (Look (tx 1 1)) false ∷
     core_step 1 0 (OpEvent (tx 1 1) (birth 1 1) 3 (Some 0) (Get 5)) false ∷ core_step 1 0 (Request (tx 1 1) ((0, 0) ∷ [])) false ∷
     core_step 0 0 Send false ∷ core_step 0 0 FlushOut false ∷ core_step 0 0 FlushIn true ∷ core_step 1 0 (Look (tx 1 1)) false ∷ []
 

@@ -3,6 +3,7 @@
 use Rattle.std.specs.Prelude.{◌≡◌, ⊤, ℕ, Bool, true, false, cond, ◌==◌, List, [], ◌∷◌, ◌++◌, length, Option, Some, None}
 use Rattle.std.specs.List.{filter}
 use Rattle.clv_base.specs.declared.logs.LogRecord.{LogRecord}
+use Rattle.clv_base.specs.declared.values.Value.TheVariants.{Num}
 use Rattle.clv_base.specs.declared.ops.Op.TheVariants.{Put}
 use Rattle.clv_base.specs.declared.events.Event.{Event}
 use Rattle.clv_base.specs.declared.events.Event.TheVariants.{Op, Request, FlushOut, FlushIn, Restart}
@@ -98,7 +99,7 @@ core_step walker e kept = record { walker = walker; shard = 0; event = e; kept =
 
 abbrev pub put : ℕ → ℕ → Option ℕ → ℕ → Event
 put session nth seen key =
-    Op (record { run = 1; session = session; serial = 1 }) (record { stamp = session; session = session; serial = 1 }) nth seen (Put key 10)
+    Op (record { run = 1; session = session; serial = 1 }) (record { stamp = session; session = session; serial = 1 }) nth seen (Put key (Num 10))
 
 abbrev pub asks_for : ℕ → ℕ → Event
 asks_for session epoch = Request (record { run = 1; session = session; serial = 1 }) ((0, epoch) ∷ [])

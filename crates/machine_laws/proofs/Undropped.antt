@@ -3,6 +3,7 @@ use Rattle.std.proofs.Common.{◌≡◌, refl, sym, ◌∙◌, ap, subst, ℕ, z
 use Rattle.std.specs.declared.cmp.Ordering.{Ordering}
 use Rattle.std.specs.declared.cmp.Ordering.TheVariants.{Less, Equal, Greater}
 use Rattle.std.specs.Ordering.{match_ordering}
+use Rattle.clv_base.specs.declared.values.Value.{Value as ValueType}
 use Rattle.clv_base.specs.declared.names.TxId.{TxId}
 use Rattle.clv_base.specs.declared.names.Birth.{Birth}
 use Rattle.clv_base.specs.declared.ops.Op.{Op}
@@ -116,7 +117,7 @@ without_same : (tx : TxId) (l : Local) → counted (without_part tx l) ≡ count
 without_same tx l = rolled_if (is_present (stage_of l tx)) tx l
 
 -- the drop marks no other part, so what counts of the part is what counted before it was rolled back
-written_same : (tx : TxId) (w : Option (ℕ × Option ℕ × Option ℕ)) (l : Local) → counted (written tx w l) ≡ counted l
+written_same : (tx : TxId) (w : Option (ℕ × Option ValueType × Option ValueType)) (l : Local) → counted (written tx w l) ≡ counted l
 written_same tx None l = refl
 written_same tx (Some w) l = refl
 

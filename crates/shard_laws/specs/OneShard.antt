@@ -1,6 +1,7 @@
 -- Histories of one shard alone, with restarts; its members; and what is to be shown of them.
 use Rattle.std.specs.Prelude.{◌⊎◌, ◌≡◌, ⊤, ℕ, ◌+◌, ◌≤◌, ◌<◌, ◌&&◌, Bool, true, false, ◌||◌, not, List, [], ◌∷◌, ◌++◌, map, take, length, Option, Some, None, cond, zero, suc}
 use Rattle.std.specs.List.{list_any, list_all, filter}
+use Rattle.clv_base.specs.declared.values.Value.{Value as ValueType}
 use Rattle.clv_base.specs.declared.names.TxId.{TxId}
 use Rattle.clv_base.specs.declared.names.Birth.{Birth}
 use Rattle.clv_base.specs.declared.state.Stage.{Stage}
@@ -155,7 +156,7 @@ is_doomed None = false
 -- ---- what a log leaves in doubt, as transactions that acted before
 
 -- an UPDATE as the operation that it logs, with its answer
-abbrev pub found_op : ℕ → Option ℕ → Op
+abbrev pub found_op : ℕ → Option ValueType → Op
 found_op k None = Del k
 found_op k (Some v) = Put k v
 

@@ -3,6 +3,7 @@ use Rattle.std.proofs.Common.{◌≡◌, ◌⊎◌, inl, inr, ⊎_elim, refl, sy
 use Rattle.std.specs.List.{AllByRecursion}
 use Rattle.std.proofs.lemmas.Bool.{both_ways, or_left, or_right}
 use Rattle.std.proofs.lemmas.List.Folds.{list_any-append}
+use Rattle.clv_base.specs.declared.values.Value.{Value as ValueType}
 use Rattle.clv_base.specs.declared.names.TxId.{TxId}
 use Rattle.clv_base.specs.declared.names.Birth.{Birth}
 use Rattle.clv_base.specs.declared.ops.Op.{Op}
@@ -106,7 +107,7 @@ put log tx birth parts a = at (tx_get tx parts)
     at None = rows_put (Row log) tx (active_part birth) parts (λ e. absurd (both_ways false refl e)) a
     at (Some h) = a
 
-wrote : (l : Local) (tx : TxId) (w : Option (ℕ × Option ℕ × Option ℕ)) → RestoredArePrepared l → RestoredArePrepared (written tx w l)
+wrote : (l : Local) (tx : TxId) (w : Option (ℕ × Option ValueType × Option ValueType)) → RestoredArePrepared l → RestoredArePrepared (written tx w l)
 wrote l tx None a = a
 wrote l tx (Some w) a = grown l.log _ l.parts (more l.log _) a
 

@@ -3,6 +3,7 @@ use Rattle.std.proofs.Common.{◌≡◌, ◌⊎◌, inl, inr, refl, sym, ap, sub
 use Rattle.std.specs.Prelude.{take, drop}
 use Rattle.std.specs.List.{filter, AllByRecursion}
 use Rattle.std.proofs.lemmas.Bool.{or_from}
+use Rattle.clv_base.specs.declared.values.Value.{Value as ValueType}
 use Rattle.clv_base.specs.declared.names.TxId.{TxId}
 use Rattle.clv_base.specs.declared.names.Birth.{Birth}
 use Rattle.clv_base.specs.declared.ops.Op.{Op}
@@ -90,7 +91,7 @@ rolled_if false tx l = λ t p e. e
 pub dropped : (tx : TxId) (l : Local) → NoMorePrepares l.log (drop_part tx l).log
 dropped tx l = rolled_if (is_present (stage_of l tx)) tx l
 
-writes : (tx : TxId) (w : Option (ℕ × Option ℕ × Option ℕ)) (l : Local) → NoMorePrepares l.log (written tx w l).log
+writes : (tx : TxId) (w : Option (ℕ × Option ValueType × Option ValueType)) (l : Local) → NoMorePrepares l.log (written tx w l).log
 writes tx None l = λ t p e. e
 writes tx (Some w) l = plain_more l.log (Update tx w.0 w.1 w.2 ∷ []) ((λ t. refl), tt)
 

@@ -5,6 +5,7 @@ use Rattle.std.specs.Prelude.{⊤, take}
 use Rattle.std.specs.List.{AllByRecursion, filter}
 use Rattle.std.proofs.lemmas.Bool.{both_ways, or_left, or_right, or_cases, false_from_ne_true}
 use Rattle.std.proofs.lemmas.List.Folds.{list_any-append}
+use Rattle.clv_base.specs.declared.values.Value.{Value as ValueType}
 use Rattle.clv_base.specs.declared.names.TxId.{TxId}
 use Rattle.clv_base.specs.declared.names.Birth.{Birth}
 use Rattle.clv_base.specs.declared.ops.Op.{Op}
@@ -178,7 +179,7 @@ new_row : (P : TxId → Type 0) (tx : TxId) (birth : Birth) (o : Option Held) (p
 new_row P tx birth None parts p a = rows_put (λ x. P x.0) tx (active_part birth) parts p a
 new_row P tx birth (Some h) parts p a = a
 
-written_prepares : (tx : TxId) (w : Option (ℕ × Option ℕ × Option ℕ)) (l : Local) (t : TxId) → prepared_in (written tx w l).log t ≡ true → prepared_in l.log t ≡ true
+written_prepares : (tx : TxId) (w : Option (ℕ × Option ValueType × Option ValueType)) (l : Local) (t : TxId) → prepared_in (written tx w l).log t ≡ true → prepared_in l.log t ≡ true
 written_prepares tx None l t e = e
 written_prepares tx (Some w) l t e = prepared_from l.log (Update tx w.0 w.1 w.2 ∷ []) t refl e
 

@@ -3,6 +3,7 @@ use Rattle.std.proofs.Common.{◌≡◌, inl, inr, ⊎_elim, refl, sym, ap, subs
 use Rattle.std.specs.Prelude.{⊤, take}
 use Rattle.std.specs.List.{AllByRecursion, filter}
 use Rattle.std.proofs.lemmas.Bool.{both_ways, and_parts, eq-eqb}
+use Rattle.clv_base.specs.declared.values.Value.{Value as ValueType}
 use Rattle.clv_base.specs.declared.names.TxId.{TxId}
 use Rattle.clv_base.specs.declared.names.Birth.{Birth}
 use Rattle.clv_base.specs.declared.ops.Op.{Op}
@@ -81,11 +82,11 @@ pub new_known : (tx : TxId) (birth : Birth) (o : Option Held) (parts : Table Hel
 new_known tx birth None parts t e = put_none t tx (active_part birth) parts e
 new_known tx birth (Some h) parts t e = e
 
-written_epoch : (tx : TxId) (w : Option (ℕ × Option ℕ × Option ℕ)) (l : Local) → (written tx w l).epoch ≡ l.epoch
+written_epoch : (tx : TxId) (w : Option (ℕ × Option ValueType × Option ValueType)) (l : Local) → (written tx w l).epoch ≡ l.epoch
 written_epoch tx None l = refl
 written_epoch tx (Some w) l = refl
 
-written_log : (A : TxId → Type 0) (Q : TxId → ℕ → Type 0) (O : TxId → Type 0) (n : ℕ) (tx : TxId) (w : Option (ℕ × Option ℕ × Option ℕ)) (l : Local) → A tx → AllFrom A Q O n l.log → AllFrom A Q O n (written tx w l).log
+written_log : (A : TxId → Type 0) (Q : TxId → ℕ → Type 0) (O : TxId → Type 0) (n : ℕ) (tx : TxId) (w : Option (ℕ × Option ValueType × Option ValueType)) (l : Local) → A tx → AllFrom A Q O n l.log → AllFrom A Q O n (written tx w l).log
 written_log A Q O n tx None l a b = b
 written_log A Q O n tx (Some w) l a b = push_records A Q O n l.log (Update tx w.0 w.1 w.2 ∷ []) b (a, tt)
 

@@ -3,6 +3,7 @@ use Rattle.std.proofs.Common.{◌≡◌, inl, inr, ⊎_elim, refl, sym, ap, subs
 use Rattle.std.specs.Prelude.{take}
 use Rattle.std.specs.List.{AllByRecursion, filter}
 use Rattle.std.proofs.lemmas.Bool.{both_ways, and_parts, or_left, or_right, or_cases, cond-true}
+use Rattle.clv_base.specs.declared.values.Value.{Value as ValueType}
 use Rattle.clv_base.specs.declared.names.TxId.{TxId}
 use Rattle.clv_base.specs.declared.names.Birth.{Birth}
 use Rattle.clv_base.specs.declared.ops.Op.{Op}
@@ -161,11 +162,11 @@ rows_inserted : (P : TxId → Birth → Bool → Type 0) (tx : TxId) (birth : Bi
 rows_inserted P tx birth rs None locks p a = a
 rows_inserted P tx birth rs (Some k) locks p a = rows_all P tx birth (need (At k) (on_key X) ∷ []) (split_gap (lower_anchor k rs) (At k) locks) p (rows_split P (lower_anchor k rs) (At k) locks a)
 
-written_rest : (tx : TxId) (w : Option (ℕ × Option ℕ × Option ℕ)) (l : Local) → ((written tx w l).parts ≡ l.parts) × ((written tx w l).locks ≡ l.locks) × ((written tx w l).pairs ≡ l.pairs)
+written_rest : (tx : TxId) (w : Option (ℕ × Option ValueType × Option ValueType)) (l : Local) → ((written tx w l).parts ≡ l.parts) × ((written tx w l).locks ≡ l.locks) × ((written tx w l).pairs ≡ l.pairs)
 written_rest tx None l = (refl, refl, refl)
 written_rest tx (Some w) l = (refl, refl, refl)
 
-written_listed : (E : TxId → TxId → Type 0) (tx : TxId) (w : Option (ℕ × Option ℕ × Option ℕ)) (l : Local) → AllByRecursion (ListsAre E) l.log → AllByRecursion (ListsAre E) (written tx w l).log
+written_listed : (E : TxId → TxId → Type 0) (tx : TxId) (w : Option (ℕ × Option ValueType × Option ValueType)) (l : Local) → AllByRecursion (ListsAre E) l.log → AllByRecursion (ListsAre E) (written tx w l).log
 written_listed E tx None l a = a
 written_listed E tx (Some w) l a = all_append (ListsAre E) l.log (Update tx w.0 w.1 w.2 ∷ []) a (tt, tt)
 

@@ -3,6 +3,7 @@ use Rattle.std.proofs.Common.{◌≡◌, ◌⊎◌, inl, inr, ⊎_elim, refl, sy
 use Rattle.std.specs.Prelude.{take}
 use Rattle.std.specs.List.{filter, list_all}
 use Rattle.std.proofs.lemmas.Bool.{both_ways, and_parts, or_cases, false_from_ne_true, or_from}
+use Rattle.clv_base.specs.declared.values.Value.{Value as ValueType}
 use Rattle.clv_base.specs.declared.names.TxId.{TxId}
 use Rattle.clv_base.specs.declared.names.Birth.{Birth}
 use Rattle.clv_base.specs.declared.ops.Op.{Op}
@@ -110,7 +111,7 @@ quiet_more l m more t e f o k = record {
 foreign_none : (t : TxId) → Foreign [] t
 foreign_none t = record { writes = refl; prepares = refl; commits = refl }
 
-foreign_update : (t u : TxId) (key : ℕ) (b a : Option ℕ) → tx_same t u ≡ false → Foreign (Update u key b a ∷ []) t
+foreign_update : (t u : TxId) (key : ℕ) (b a : Option ValueType) → tx_same t u ≡ false → Foreign (Update u key b a ∷ []) t
 foreign_update t u key b a n = record { writes = or_from _ _ n refl; prepares = refl; commits = refl }
 
 foreign_prepare : (t u : TxId) (home : ℕ) (us : List TxId) → tx_same t u ≡ false → Foreign (PrepareRecord u home us ∷ []) t
@@ -159,7 +160,7 @@ quiet_closed l u t home one a k =
     quiet_more l (close_part u home one l) (closing (wrote_in l.log u) one u home (undecided_of l u)) t refl (foreign_closing t u home (wrote_in l.log u) one (undecided_of l u) (tx_ne t u n))
     (subst IsOut (sym (closed_other l.parts u t (tx_ne u t (λ e. n (sym e))))) k.out) k
 
-quiet_written : (l : Local) (u t : TxId) (w : Option (ℕ × Option ℕ × Option ℕ)) → tx_same t u ≡ false → Quiet l t → Quiet (written u w l) t
+quiet_written : (l : Local) (u t : TxId) (w : Option (ℕ × Option ValueType × Option ValueType)) → tx_same t u ≡ false → Quiet l t → Quiet (written u w l) t
 quiet_written l u t None n k = k
 quiet_written l u t (Some w) n k = quiet_more l (written u (Some w) l) (Update u w.0 w.1 w.2 ∷ []) t refl (foreign_update t u w.0 w.1 w.2 n) k.out k
 

@@ -5,6 +5,7 @@ use Rattle.std.specs.List.{AllByRecursion, filter}
 use Rattle.std.proofs.lemmas.Bool.{both_ways, or_cases, or_left, or_from}
 use Rattle.std.proofs.lemmas.List.{take-append-drop}
 use Rattle.std.proofs.lemmas.List.Folds.{list_any-append}
+use Rattle.clv_base.specs.declared.values.Value.{Value as ValueType}
 use Rattle.clv_base.specs.declared.names.TxId.{TxId}
 use Rattle.clv_base.specs.declared.names.Birth.{Birth}
 use Rattle.clv_base.specs.declared.ops.Op.{Op}
@@ -151,7 +152,7 @@ rolled_if false tx l = on_same l.log
 pub on_dropped : (tx : TxId) (l : Local) → GoesOn l.log (drop_part tx l).log
 on_dropped tx l = rolled_if (is_present (stage_of l tx)) tx l
 
-writes : (tx : TxId) (w : Option (ℕ × Option ℕ × Option ℕ)) (l : Local) → GoesOn l.log (written tx w l).log
+writes : (tx : TxId) (w : Option (ℕ × Option ValueType × Option ValueType)) (l : Local) → GoesOn l.log (written tx w l).log
 writes tx None l = on_same l.log
 writes tx (Some w) l = on_more l.log (Update tx w.0 w.1 w.2 ∷ []) ((λ u. refl), tt)
 

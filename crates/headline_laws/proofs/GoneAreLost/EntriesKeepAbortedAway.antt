@@ -4,6 +4,7 @@ use Rattle.std.specs.Prelude.{drop}
 use Rattle.std.specs.List.{filter}
 use Rattle.std.proofs.lemmas.Bool.{both_ways, or_cases, or_left, or_right, false_from_ne_true}
 use Rattle.std.proofs.lemmas.List.Folds.{list_any-append}
+use Rattle.clv_base.specs.declared.values.Value.{Value as ValueType}
 use Rattle.clv_base.specs.declared.names.TxId.{TxId}
 use Rattle.clv_base.specs.declared.names.Birth.{Birth}
 use Rattle.clv_base.specs.declared.ops.Op.{Op}
@@ -96,7 +97,7 @@ closing_commits log true true tx home [] t h = new_commit log tx [] t h
 closing_commits log true true tx home (v ∷ vs) t h = inl (with_more log (PrepareRecord tx home (v ∷ vs) ∷ []) ((λ u. refl), tt) t h)
 closing_commits log true false tx home us t h = inl (with_more log (PrepareRecord tx home us ∷ []) ((λ u. refl), tt) t h)
 
-writes_aborts : (tx : TxId) (w : Option (ℕ × Option ℕ × Option ℕ)) (l : Local) (t : TxId) → aborted_in (written tx w l).log t ≡ true → aborted_in l.log t ≡ true
+writes_aborts : (tx : TxId) (w : Option (ℕ × Option ValueType × Option ValueType)) (l : Local) (t : TxId) → aborted_in (written tx w l).log t ≡ true → aborted_in l.log t ≡ true
 writes_aborts tx None l t h = h
 writes_aborts tx (Some w) l t h = aborted_back l.log (Update tx w.0 w.1 w.2 ∷ []) t refl h
 

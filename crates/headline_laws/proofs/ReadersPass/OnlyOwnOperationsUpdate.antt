@@ -3,6 +3,7 @@ use Rattle.std.proofs.Common.{◌≡◌, ⊎_elim, refl, sym, ap, subst, ◌∙�
 use Rattle.std.specs.Prelude.{take, drop}
 use Rattle.std.specs.List.{AllByRecursion, filter}
 use Rattle.std.proofs.lemmas.Bool.{both_ways, or_cases, or_from}
+use Rattle.clv_base.specs.declared.values.Value.{Value as ValueType}
 use Rattle.clv_base.specs.declared.names.TxId.{TxId}
 use Rattle.clv_base.specs.declared.names.Birth.{Birth}
 use Rattle.clv_base.specs.declared.ops.Op.{Op}
@@ -91,7 +92,7 @@ died_updates : (l m : Local) (u : TxId) (birth : Birth) (seen : Option ℕ) (op 
 died_updates l _ u birth seen op c dies = λ t h. h
 died_updates l _ u birth seen op c rolls = rolled u l
 
-written_updates : (u t : TxId) (w : Option (ℕ × Option ℕ × Option ℕ)) (l : Local) → (u ≡ t → ⊥) → wrote_in (written u w l).log t ≡ true → wrote_in l.log t ≡ true
+written_updates : (u t : TxId) (w : Option (ℕ × Option ValueType × Option ValueType)) (l : Local) → (u ≡ t → ⊥) → wrote_in (written u w l).log t ≡ true → wrote_in l.log t ≡ true
 written_updates u t None l n h = h
 written_updates u t (Some w) l n h =
     ⊎_elim (λ x. x) (λ x. absurd (⊎_elim (λ e. n (sym (tx_true t u e))) (λ e. both_ways false refl e) (or_cases (tx_same t u) false x)))

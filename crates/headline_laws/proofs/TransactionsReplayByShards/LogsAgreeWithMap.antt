@@ -2,6 +2,7 @@
 use Rattle.std.proofs.Common.{◌≡◌, ℕ, zero, suc, ◌+◌, ◌<◌, ◌≤◌, Bool, true, false, cond, List, [], ◌∷◌, length, Option, None, ◌==◌, refl, sym, ap, subst, ◌∙◌, arith}
 use Rattle.std.specs.List.{list_all}
 use Rattle.std.proofs.lemmas.Bool.{both_ways, and_parts, false_from_ne_true}
+use Rattle.clv_base.specs.declared.values.Value.{Value as ValueType}
 use Rattle.clv_base.specs.declared.names.TxId.{TxId}
 use Rattle.clv_base.specs.declared.logs.LogRecord.{LogRecord}
 use Rattle.clv_base.specs.declared.logs.LogRecord.TheVariants.{Update, Clr, Prepare, Commit, Abort, End, Restart}
@@ -20,7 +21,7 @@ use Rattle.law_base.proofs.Logs.{fold_rises}
 -- ---- one log
 
 -- the value at a key depends on the value at that key alone
-set_alike : (b : Bool) (key k : ℕ) (x : Option ℕ) (m n : KeyMap) → map_get k m ≡ map_get k n → map_get k (cond b (map_set key x m) m) ≡ map_get k (cond b (map_set key x n) n)
+set_alike : (b : Bool) (key k : ℕ) (x : Option ValueType) (m n : KeyMap) → map_get k m ≡ map_get k n → map_get k (cond b (map_set key x m) m) ≡ map_get k (cond b (map_set key x n) n)
 set_alike true key k x m n e = get_set k key x m ∙ ap (λ o. cond (k == key) x o) e ∙ sym (get_set k key x n)
 set_alike false key k x m n e = e
 
@@ -36,7 +37,7 @@ fold_alike keep (End tx ∷ rs) k m n e = fold_alike keep rs k m n e
 fold_alike keep (Restart run epoch ∷ rs) k m n e = fold_alike keep rs k m n e
 
 -- a log leaves the keys that aren't its shard's
-set_away : (b : Bool) (key k : ℕ) (x : Option ℕ) (m : KeyMap) → (k == key) ≡ false → map_get k (cond b (map_set key x m) m) ≡ map_get k m
+set_away : (b : Bool) (key k : ℕ) (x : Option ValueType) (m : KeyMap) → (k == key) ≡ false → map_get k (cond b (map_set key x m) m) ≡ map_get k m
 set_away true key k x m e = get_other k key x m e
 set_away false key k x m e = refl
 

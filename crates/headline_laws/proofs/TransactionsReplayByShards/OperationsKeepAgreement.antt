@@ -1,6 +1,7 @@
 -- A map and the maps of the shards that agree with it, through operations.
 use Rattle.std.proofs.Common.{◌≡◌, ℕ, ◌<◌, Bool, true, false, cond, List, Option, Some, None, ◌==◌, refl, sym, ap, subst, ◌∙◌}
 use Rattle.std.proofs.lemmas.Bool.{both_ways, and_parts, eq-eqb, false_from_ne_true}
+use Rattle.clv_base.specs.declared.values.Value.{Value as ValueType}
 use Rattle.clv_base.specs.declared.ops.Op.{Op}
 use Rattle.clv_base.specs.declared.ops.Op.TheVariants.{Get, Put, Del, Scan}
 use Rattle.clv_base.specs.declared.ops.Answer.TheVariants.{Value, Pairs}
@@ -53,19 +54,19 @@ not_of_two : (splits : List ℕ) (n j k q : ℕ) → are_splits splits ≡ true 
 not_of_two splits n j k q s l i e g d =
     false_from_ne_true (q == k) (λ h. let o = one_shard splits n j k s l i e (subst (λ z. in_span splits j z ≡ true) (eq_true q k h) g) in both_ways (n == j) d (eq-eqb n j o))
 
-set_values : (splits : List ℕ) (m : KeyMap) (f : ℕ → KeyMap) (n j k q : ℕ) (x : Option ℕ) (b : Bool) → Agrees splits m f → are_splits splits ≡ true → n < shard_count splits → j < shard_count splits → in_span splits n k ≡ true → in_span splits j q ≡ true → (n == j) ≡ b
+set_values : (splits : List ℕ) (m : KeyMap) (f : ℕ → KeyMap) (n j k q : ℕ) (x : Option ValueType) (b : Bool) → Agrees splits m f → are_splits splits ≡ true → n < shard_count splits → j < shard_count splits → in_span splits n k ≡ true → in_span splits j q ≡ true → (n == j) ≡ b
     → map_get q (map_set k x m) ≡ map_get q (cond b (map_set k x (f j)) (f j))
 set_values splits m f n j k q x true a s l i e g d = get_set q k x m ∙ ap (λ o. cond (q == k) x o) (a.values j q i g) ∙ sym (get_set q k x (f j))
 set_values splits m f n j k q x false a s l i e g d = get_other q k x m (not_of_two splits n j k q s l i e g d) ∙ a.values j q i g
 
-set_rises : (f : ℕ → KeyMap) (j k : ℕ) (x : Option ℕ) (b : Bool) → IsRising (f j) → IsRising (cond b (map_set k x (f j)) (f j))
+set_rises : (f : ℕ → KeyMap) (j k : ℕ) (x : Option ValueType) (b : Bool) → IsRising (f j) → IsRising (cond b (map_set k x (f j)) (f j))
 set_rises f j k x true h = rising_set k x (f j) h
 set_rises f j k x false h = h
 
 elsewhere : (splits : List ℕ) (n k q : ℕ) → n < shard_count splits → in_span splits n k ≡ true → ((j : ℕ) → j < shard_count splits → in_span splits j q ≡ false) → (q == k) ≡ false
 elsewhere splits n k q l e none = false_from_ne_true (q == k) (λ h. both_ways (in_span splits n k) (subst (λ z. in_span splits n z ≡ false) (eq_true q k h) (none n l)) e)
 
-agrees_set : (splits : List ℕ) (m : KeyMap) (f : ℕ → KeyMap) (n k : ℕ) (x : Option ℕ) → are_splits splits ≡ true → Agrees splits m f → n < shard_count splits → in_span splits n k ≡ true → Agrees splits (map_set k x m) (with_share f n (map_set k x))
+agrees_set : (splits : List ℕ) (m : KeyMap) (f : ℕ → KeyMap) (n k : ℕ) (x : Option ValueType) → are_splits splits ≡ true → Agrees splits m f → n < shard_count splits → in_span splits n k ≡ true → Agrees splits (map_set k x m) (with_share f n (map_set k x))
 agrees_set splits m f n k x s a l e = record {
   whole = rising_set k x m a.whole;
   parts = λ j i. set_rises f j k x (n == j) (a.parts j i);

@@ -3,6 +3,7 @@ use Rattle.std.proofs.Common.{◌≡◌, refl, sym, subst, ℕ, zero, suc, ◌<�
 use Rattle.std.specs.Prelude.{take}
 use Rattle.std.specs.List.{AllByRecursion, filter, list_all}
 use Rattle.std.proofs.lemmas.Bool.{and_parts, and_from, lt-ltb}
+use Rattle.clv_base.specs.declared.values.Value.{Value as ValueType}
 use Rattle.clv_base.specs.declared.names.TxId.{TxId}
 use Rattle.clv_base.specs.declared.names.Birth.{Birth}
 use Rattle.clv_base.specs.declared.ops.Op.{Op}
@@ -98,7 +99,7 @@ dropped_pass splits n tx l p = without_pass splits n (is_present (stage_of l tx)
 
 -- ---- an operation
 
-writes_pass : (splits : List ℕ) (n : ℕ) (tx : TxId) (op : Op) (v : Option ℕ) (l : Local) → lies_in splits n op ≡ true → Passes splits n l.log → Passes splits n (written tx (writes_of op v) l).log
+writes_pass : (splits : List ℕ) (n : ℕ) (tx : TxId) (op : Op) (v : Option ValueType) (l : Local) → lies_in splits n op ≡ true → Passes splits n l.log → Passes splits n (written tx (writes_of op v) l).log
 writes_pass splits n tx (Get k) v l e p = p
 writes_pass splits n tx (Scan lo hi) v l e p = p
 writes_pass splits n tx (Put k x) v l e p = passes_more splits n l.log (Update tx k v (Some x) ∷ []) p (e, tt)

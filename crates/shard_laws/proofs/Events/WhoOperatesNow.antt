@@ -3,6 +3,7 @@ use Rattle.std.proofs.Common.{◌≡◌, ℕ, ◌⊎◌, inl, inr, ⊎_elim, Boo
 use Rattle.std.specs.List.{AllByRecursion, filter}
 use Rattle.std.proofs.lemmas.Bool.{both_ways, cond-true, cond-false, false_from_ne_true}
 use Rattle.std.proofs.lemmas.List.Folds.{list_any-append}
+use Rattle.clv_base.specs.declared.values.Value.{Value as ValueType}
 use Rattle.clv_base.specs.declared.names.TxId.{TxId}
 use Rattle.clv_base.specs.declared.names.Birth.{Birth}
 use Rattle.clv_base.specs.declared.logs.LogRecord.{LogRecord}
@@ -100,7 +101,7 @@ fresh_now all g s tx birth h may o =
     none_part (Some h) e = absurd cc
 
 abbrev pub Change : Type 0
-Change = Option (ℕ × Option ℕ × Option ℕ)
+Change = Option (ℕ × Option ValueType × Option ValueType)
 
 pub written_parts : (tx : TxId) (w : Change) (u : Local) → (written tx w u).parts ≡ u.parts
 written_parts tx None u = refl

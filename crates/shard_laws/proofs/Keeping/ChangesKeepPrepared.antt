@@ -3,6 +3,7 @@ use Rattle.std.proofs.Common.{◌≡◌, ◌⊎◌, inl, inr, ⊎_elim, refl, sy
 use Rattle.std.specs.List.{AllByRecursion, filter}
 use Rattle.std.proofs.lemmas.Bool.{both_ways, cond-true, cond-false, or_cases, or_from}
 use Rattle.std.proofs.lemmas.List.Folds.{list_any-append}
+use Rattle.clv_base.specs.declared.values.Value.{Value as ValueType}
 use Rattle.clv_base.specs.declared.names.TxId.{TxId}
 use Rattle.clv_base.specs.declared.logs.LogRecord.{LogRecord}
 use Rattle.clv_base.specs.declared.logs.LogRecord.TheVariants.{Update, Clr, Prepare, Commit, Abort, End, Restart}
@@ -133,7 +134,7 @@ prepared_item items met met2 parts parts2 log item k new active meets = record {
 }
 
 -- and its UPDATE
-pub prepared_update : (items : List Item) (met : List (TxId × TxId)) (parts : Table Held) (log : List LogRecord) (tx : TxId) (key : ℕ) (before after : Option ℕ) → Prepared items met parts log → prepared_in log tx ≡ false → Prepared items met parts (log ++ Update tx key before after ∷ [])
+pub prepared_update : (items : List Item) (met : List (TxId × TxId)) (parts : Table Held) (log : List LogRecord) (tx : TxId) (key : ℕ) (before after : Option ValueType) → Prepared items met parts log → prepared_in log tx ≡ false → Prepared items met parts (log ++ Update tx key before after ∷ [])
 prepared_update items met parts log tx key before after k new = record {
   unprepared = λ t a. unprepared_append log (Update tx key before after ∷ []) t (k.unprepared t a) refl;
   sealed = sealed_append [] log (Update tx key before after ∷ []) k.sealed (new, tt);

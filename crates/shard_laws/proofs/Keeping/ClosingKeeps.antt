@@ -2,6 +2,7 @@
 use Rattle.std.proofs.Common.{◌≡◌, ℕ, zero, suc, ◌<◌, inl, inr, ⊎_elim, Bool, true, false, cond, ◌||◌, List, [], ◌∷◌, ◌++◌, length, Option, Some, None, refl, sym, ap, subst, ◌∙◌, arith}
 use Rattle.std.proofs.lemmas.Bool.{cases_Bool, both_ways, cond-true, cond-false, or_cases, false_from_ne_true}
 use Rattle.std.proofs.lemmas.List.Folds.{list_any-append}
+use Rattle.clv_base.specs.declared.values.Value.{Value as ValueType}
 use Rattle.clv_base.specs.declared.names.TxId.{TxId}
 use Rattle.clv_base.specs.declared.modes.Part.{Part}
 use Rattle.clv_base.specs.declared.modes.Part.TheVariants.{S, X}
@@ -138,7 +139,7 @@ keeps_close g v t k act asks = record {
     holds_closed : (p : Part) (u : TxId) (q : ℕ) → holds_at p v.locks v.records u q ≡ true → holds_at p (close_locks t v.locks) v.records u q ≡ true
     holds_closed p u q h = at (record_at q v.records) h
       where
-        at : (o : Option (Option ℕ)) → holds_by p v.locks v.records u q o ≡ true → holds_by p (close_locks t v.locks) v.records u q o ≡ true
+        at : (o : Option (Option ValueType)) → holds_by p v.locks v.records u q o ≡ true → holds_by p (close_locks t v.locks) v.records u q o ≡ true
         at (Some x) h = close_holds t true p (At q) u v.locks ∙ h
         at None h = close_holds t false p (lower_anchor q v.records) u v.locks ∙ h
 

@@ -9,6 +9,7 @@ use Rattle.clv_base.specs.Maps.{op_answer}
 use Rattle.shard_laws.proofs.Keeping.LeavingKeeps.{one_in, none_two, item_wrote, top_alive, filter_less}
 use Rattle.std.proofs.lemmas.List.Folds.{list_any-append}
 use Rattle.std.proofs.lemmas.Option.{none-some, same_Some}
+use Rattle.clv_base.specs.declared.values.Value.{Value as ValueType}
 use Rattle.clv_base.specs.declared.names.TxId.{TxId}
 use Rattle.clv_base.specs.declared.names.Birth.{Birth}
 use Rattle.clv_base.specs.declared.logs.LogRecord.{LogRecord}
@@ -70,7 +71,7 @@ use Rattle.law_base.proofs.Bools.{t_true}
 use Rattle.law_base.proofs.Names.{MayStand, none_held}
 
 abbrev pub Change : Type 0
-Change = Option (ℕ × Option ℕ × Option ℕ)
+Change = Option (ℕ × Option ValueType × Option ValueType)
 
 abbrev pub records_by : Change → Records → Records
 records_by None rs = rs
@@ -83,15 +84,15 @@ log_by tx (Some w) log = log ++ Update tx w.0 w.1 w.2 ∷ []
 -- nothing is written, or where a record stands, or a new record
 pub data Writing (rs : Records) : Change → Option ℕ → Type 0 where
   nothing : Writing rs None None
-  there : (k : ℕ) (b a x : Option ℕ) → record_at k rs ≡ Some x → Writing rs (Some (k, b, a)) None
-  fresh : (k : ℕ) (b a : Option ℕ) → record_at k rs ≡ None → Writing rs (Some (k, b, a)) (Some k)
+  there : (k : ℕ) (b a x : Option ValueType) → record_at k rs ≡ Some x → Writing rs (Some (k, b, a)) None
+  fresh : (k : ℕ) (b a : Option ValueType) → record_at k rs ≡ None → Writing rs (Some (k, b, a)) (Some k)
 
-put_writing : (k v : ℕ) (b : Option ℕ) (rs : Records) (o : Option (Option ℕ)) → record_at k rs ≡ o → Writing rs (writes_of (Put k v) b) (inserts (Put k v) (found_by o))
+put_writing : (k : ℕ) (v : ValueType) (b : Option ValueType) (rs : Records) (o : Option (Option ValueType)) → record_at k rs ≡ o → Writing rs (writes_of (Put k v) b) (inserts (Put k v) (found_by o))
 put_writing k v b rs None e = fresh k b (Some v) e
 put_writing k v b rs (Some None) e = there k b (Some v) None e
 put_writing k v b rs (Some (Some x)) e = there k b (Some v) (Some x) e
 
-del_writing : (k : ℕ) (rs : Records) (o : Option (Option ℕ)) → record_at k rs ≡ o → Writing rs (writes_of (Del k) (live_by o)) (inserts (Del k) (found_by o))
+del_writing : (k : ℕ) (rs : Records) (o : Option (Option ValueType)) → record_at k rs ≡ o → Writing rs (writes_of (Del k) (live_by o)) (inserts (Del k) (found_by o))
 del_writing k rs None e = nothing
 del_writing k rs (Some None) e = nothing
 del_writing k rs (Some (Some x)) e = there k (Some x) None (Some x) e
@@ -111,14 +112,14 @@ insert_writes rs _ _ q nothing e = absurd (none-some q e)
 insert_writes rs _ _ q (there k b a x h) e = absurd (none-some q e)
 insert_writes rs _ _ q (fresh k b a h) e = eq-eqb q k (some_key k q e)
 
-set_some : (q k : ℕ) (a : Option ℕ) (rs : Records) → (q == k) ≡ true → record_at q (record_set k a rs) ≡ Some a
+set_some : (q k : ℕ) (a : Option ValueType) (rs : Records) → (q == k) ≡ true → record_at q (record_set k a rs) ≡ Some a
 set_some q k a rs e = record_at_set q k a rs ∙ cond-true (q == k) (Some a) (record_at q rs) e
 
-set_same : (q k : ℕ) (a : Option ℕ) (rs : Records) → (q == k) ≡ false → record_at q (record_set k a rs) ≡ record_at q rs
+set_same : (q k : ℕ) (a : Option ValueType) (rs : Records) → (q == k) ≡ false → record_at q (record_set k a rs) ≡ record_at q rs
 set_same q k a rs e = record_at_set q k a rs ∙ cond-false (q == k) (Some a) (record_at q rs) e
 
 -- where it was written, a record stands
-written_record : (rs : Records) (w : Change) (ins : Option ℕ) (q : ℕ) → Writing rs w ins → is_write_at w q ≡ true → (x : Option ℕ) × (record_at q (records_by w rs) ≡ Some x)
+written_record : (rs : Records) (w : Change) (ins : Option ℕ) (q : ℕ) → Writing rs w ins → is_write_at w q ≡ true → (x : Option ValueType) × (record_at q (records_by w rs) ≡ Some x)
 written_record rs _ _ q nothing e = absurd (both_ways false refl e)
 written_record rs _ _ q (there k b a x h) e = (a, set_some q k a rs e)
 written_record rs _ _ q (fresh k b a h) e = (a, set_some q k a rs e)
@@ -127,11 +128,11 @@ still_record : (rs : Records) (w : Change) (ins : Option ℕ) (q : ℕ) → Writ
 still_record rs _ _ q nothing e = e
 still_record rs _ _ q (there k b a x h) e = ⊎_elim (λ t. absurd (some_none a (sym (set_some q k a rs t) ∙ e))) (λ f. sym (set_same q k a rs f) ∙ e) (cases_Bool (q == k))
   where
-    some_none : (a : Option ℕ) → Some a ≡ None → ⊥
+    some_none : (a : Option ValueType) → Some a ≡ None → ⊥
     some_none a e = absurd cc
 still_record rs _ _ q (fresh k b a h) e = ⊎_elim (λ t. absurd (some_none a (sym (set_some q k a rs t) ∙ e))) (λ f. sym (set_same q k a rs f) ∙ e) (cases_Bool (q == k))
   where
-    some_none : (a : Option ℕ) → Some a ≡ None → ⊥
+    some_none : (a : Option ValueType) → Some a ≡ None → ⊥
     some_none a e = absurd cc
 
 rising_by : (rs : Records) (w : Change) → Rising rs → Rising (records_by w rs)
@@ -145,12 +146,12 @@ least_X X = refl
 
 -- ---- what is held, through the write
 
-same_by : (p : Part) (locks more : Locks) (rs ts : Records) (u : TxId) (q : ℕ) (o : Option (Option ℕ)) → record_at q rs ≡ o → record_at q ts ≡ o → (holds true p (At q) u locks ≡ true → holds true p (At q) u more ≡ true)
+same_by : (p : Part) (locks more : Locks) (rs ts : Records) (u : TxId) (q : ℕ) (o : Option (Option ValueType)) → record_at q rs ≡ o → record_at q ts ≡ o → (holds true p (At q) u locks ≡ true → holds true p (At q) u more ≡ true)
     → (o ≡ None → holds false p (lower_anchor q rs) u locks ≡ true → holds false p (lower_anchor q ts) u more ≡ true) → holds_at p locks rs u q ≡ true → holds_at p more ts u q ≡ true
 same_by p locks more rs ts u q (Some x) e f key gap h = subst (λ o. holds_by p more ts u q o ≡ true) (sym f) (key (subst (λ o. holds_by p locks rs u q o ≡ true) e h))
 same_by p locks more rs ts u q None e f key gap h = subst (λ o. holds_by p more ts u q o ≡ true) (sym f) (gap refl (subst (λ o. holds_by p locks rs u q o ≡ true) e h))
 
-moved_there : (k : ℕ) (a x : Option ℕ) (p : Part) (locks : Locks) (rs : Records) (u : TxId) (q : ℕ) → Rising rs → record_at k rs ≡ Some x → holds_at p locks rs u q ≡ true → holds_at p locks (record_set k a rs) u q ≡ true
+moved_there : (k : ℕ) (a x : Option ValueType) (p : Part) (locks : Locks) (rs : Records) (u : TxId) (q : ℕ) → Rising rs → record_at k rs ≡ Some x → holds_at p locks rs u q ≡ true → holds_at p locks (record_set k a rs) u q ≡ true
 moved_there k a x p locks rs u q h e held =
     ⊎_elim
     (λ t. let same : q ≡ k = eqb-true q k t in
@@ -158,7 +159,7 @@ moved_there k a x p locks rs u q h e held =
     (λ f. same_by p locks locks rs (record_set k a rs) u q (record_at q rs) refl (set_same q k a rs f) (λ i. i) (λ none i. subst (λ b. holds false p b u locks ≡ true) (sym (anchor_present q k a x Low rs h e)) i) held)
     (cases_Bool (q == k))
 
-moved_fresh : (tx : TxId) (birth : Birth) (k : ℕ) (a : Option ℕ) (p : Part) (locks : Locks) (rs : Records) (u : TxId) (q : ℕ) → Rising rs → record_at k rs ≡ None → least S p ≡ true → (Some k ≡ Some q → u ≡ tx)
+moved_fresh : (tx : TxId) (birth : Birth) (k : ℕ) (a : Option ValueType) (p : Part) (locks : Locks) (rs : Records) (u : TxId) (q : ℕ) → Rising rs → record_at k rs ≡ None → least S p ≡ true → (Some k ≡ Some q → u ≡ tx)
     → holds_at p locks rs u q ≡ true → holds_at p (inserted_locks tx birth rs (Some k) locks) (record_set k a rs) u q ≡ true
 moved_fresh tx birth k a p locks rs u q h none least_p own held =
     ⊎_elim
@@ -193,11 +194,11 @@ rows_insert : (P : TxId → Birth → Bool → Type 0) (tx : TxId) (birth : Birt
 rows_insert P tx birth rs None locks p all = all
 rows_insert P tx birth rs (Some k) locks p all = rows_take P (At k) (holder_of tx birth (on_key X)) (split_gap (lower_anchor k rs) (At k) locks) p (rows_split P (lower_anchor k rs) (At k) locks all)
 
-asked_held : (p : Part) (tx : TxId) (birth : Birth) (ns : List Need) (locks : Locks) (rs : Records) (q : ℕ) (o : Option (Option ℕ)) → asks_by p ns rs q o ≡ true → holds_by p (take_all tx birth ns locks) rs tx q o ≡ true
+asked_held : (p : Part) (tx : TxId) (birth : Birth) (ns : List Need) (locks : Locks) (rs : Records) (q : ℕ) (o : Option (Option ValueType)) → asks_by p ns rs q o ≡ true → holds_by p (take_all tx birth ns locks) rs tx q o ≡ true
 asked_held p tx birth ns locks rs q (Some x) e = all_gives true p (At q) tx birth ns locks e
 asked_held p tx birth ns locks rs q None e = all_gives false p (lower_anchor q rs) tx birth ns locks e
 
-all_held : (p : Part) (tx : TxId) (birth : Birth) (ns : List Need) (locks : Locks) (rs : Records) (u : TxId) (q : ℕ) (o : Option (Option ℕ)) → holds_by p locks rs u q o ≡ true → holds_by p (take_all tx birth ns locks) rs u q o ≡ true
+all_held : (p : Part) (tx : TxId) (birth : Birth) (ns : List Need) (locks : Locks) (rs : Records) (u : TxId) (q : ℕ) (o : Option (Option ValueType)) → holds_by p locks rs u q o ≡ true → holds_by p (take_all tx birth ns locks) rs u q o ≡ true
 all_held p tx birth ns locks rs u q (Some x) e = all_keeps true p (At q) u tx birth ns locks e
 all_held p tx birth ns locks rs u q None e = all_keeps false p (lower_anchor q rs) u tx birth ns locks e
 
@@ -308,7 +309,7 @@ module _ (g : Past) (v : View) (tx : TxId) (birth : Birth) (op : Op) (k : Kept g
   write_asked q m = asks_written op v.records q m
 
   -- who holds what does not fit has no active part
-  apart_at : (u : TxId) (p q : Part) (j : ℕ) (o : Option (Option ℕ)) → holds_by p v.locks v.records u j o ≡ true → asks_by q needs v.records j o ≡ true → part_compatible q p ≡ false → (tx ≡ u → ⊥) → stage_in v.parts u ≡ Some Active → ⊥
+  apart_at : (u : TxId) (p q : Part) (j : ℕ) (o : Option (Option ValueType)) → holds_by p v.locks v.records u j o ≡ true → asks_by q needs v.records j o ≡ true → part_compatible q p ≡ false → (tx ≡ u → ⊥) → stage_in v.parts u ≡ Some Active → ⊥
   apart_at u p q j (Some x) held asked clash ne active = let c = conflict (Belongs v.parts) tx u birth true p q (At j) needs v.locks k.rows grant held asked clash ne in not_active v.parts u c.0 c.1 active
   apart_at u p q j None held asked clash ne active = let c = conflict (Belongs v.parts) tx u birth false p q (lower_anchor j v.records) needs v.locks k.rows grant held asked clash ne in not_active v.parts u c.0 c.1 active
 
@@ -421,7 +422,7 @@ module _ (g : Past) (v : View) (tx : TxId) (birth : Birth) (op : Op) (k : Kept g
       violates (Belongs v.parts) tx u true S (At q) needs v.locks k.rows
       (λ b d h. is_closed v.parts u b d h (λ active. not_active v.parts u c.0 c.1 active)) held a refl (λ s. ne (sym s))
     where
-      at : (o : Option (Option ℕ)) → (o ≡ None → ⊥) → asks_by S needs v.records q o ≡ true → asks true S (At q) needs ≡ true
+      at : (o : Option (Option ValueType)) → (o ≡ None → ⊥) → asks_by S needs v.records q o ≡ true → asks true S (At q) needs ≡ true
       at (Some x) n e = e
       at None n e = absurd (n refl)
 
@@ -482,7 +483,7 @@ module _ (g : Past) (v : View) (tx : TxId) (birth : Birth) (op : Op) (k : Kept g
         λ none. c.1 (still_record v.records change ins w.key (writing op v.records) none),
       )) (standing v.log) k.wrote
 
-      some_none : (a : Option ℕ) → Some a ≡ None → ⊥
+      some_none : (a : Option ValueType) → Some a ≡ None → ⊥
       some_none a e = absurd cc
 
       here : (q : ℕ) → is_write_at change q ≡ true → (holds true X (At q) tx locks_after ≡ true) × (record_at q (records_by change v.records) ≡ None → ⊥)

@@ -3,6 +3,7 @@ use Rattle.std.proofs.Common.{◌≡◌, ℕ, ◌⊎◌, inl, inr, ⊎_elim, Boo
 use Rattle.std.specs.List.{AllByRecursion, filter}
 use Rattle.std.proofs.lemmas.Bool.{cases_Bool, both_ways, cond_both, cond-true, cond-false, or_cases, not-true, false_from_ne_true, or_from}
 use Rattle.std.proofs.lemmas.List.Folds.{list_any-append}
+use Rattle.clv_base.specs.declared.values.Value.{Value as ValueType}
 use Rattle.clv_base.specs.declared.names.TxId.{TxId}
 use Rattle.clv_base.specs.declared.logs.LogRecord.{LogRecord}
 use Rattle.clv_base.specs.declared.logs.LogRecord.TheVariants.{Clr, Abort}
@@ -51,7 +52,7 @@ rows_go set d parts locks rows = rows_release (Belongs parts) (Belongs (gone_in 
 holds_go : (set : List TxId) (locks : Locks) (rs : Records) (p : Part) (u : TxId) (q : ℕ) → tx_in u set ≡ false → holds_at p locks rs u q ≡ true → holds_at p (release set locks) rs u q ≡ true
 holds_go set locks rs p u q out h = at (record_at q rs) h
   where
-    at : (o : Option (Option ℕ)) → holds_by p locks rs u q o ≡ true → holds_by p (release set locks) rs u q o ≡ true
+    at : (o : Option (Option ValueType)) → holds_by p locks rs u q o ≡ true → holds_by p (release set locks) rs u q o ≡ true
     at (Some x) h = release_holds set true p (At q) u locks out h
     at None h = release_holds set false p (lower_anchor q rs) u locks out h
 
@@ -236,16 +237,16 @@ harmless_clrs log set (w ∷ ws) h =
     (λ i. ((h w.tx i, λ u. refl), harmless_clrs log set ws h)) (λ i. harmless_clrs log set ws h)
 
 -- a fact on each write of the items and of the base
-pub pile_all : (P : StandingUpdate → Type 0) (xs : List Item) (ws : List StandingUpdate) → AllByRecursion (λ x. (w : ℕ × Option ℕ × Option ℕ) → wrote x ≡ Some w → P (record { lsn = x.lsn; tx = x.tx; key = w.0; before = w.1; after = w.2 })) xs → AllByRecursion P ws → AllByRecursion P (pile xs ws)
+pub pile_all : (P : StandingUpdate → Type 0) (xs : List Item) (ws : List StandingUpdate) → AllByRecursion (λ x. (w : ℕ × Option ValueType × Option ValueType) → wrote x ≡ Some w → P (record { lsn = x.lsn; tx = x.tx; key = w.0; before = w.1; after = w.2 })) xs → AllByRecursion P ws → AllByRecursion P (pile xs ws)
 pile_all P [] ws all base = base
 pile_all P (x ∷ xs) ws all base = pile_all P xs (on_top x.tx x.lsn (wrote x) ws) all.1 (at (wrote x) refl)
   where
-    at : (o : Option (ℕ × Option ℕ × Option ℕ)) → wrote x ≡ o → AllByRecursion P (on_top x.tx x.lsn o ws)
+    at : (o : Option (ℕ × Option ValueType × Option ValueType)) → wrote x ≡ o → AllByRecursion P (on_top x.tx x.lsn o ws)
     at None e = base
     at (Some w) e = (all.0 w e, base)
 
 -- each write of the items stands in the pile
-pub pile_each : (P : StandingUpdate → Type 0) (xs : List Item) (ws : List StandingUpdate) → AllByRecursion P (pile xs ws) → AllByRecursion (λ x. (w : ℕ × Option ℕ × Option ℕ) → wrote x ≡ Some w → P (record { lsn = x.lsn; tx = x.tx; key = w.0; before = w.1; after = w.2 })) xs
+pub pile_each : (P : StandingUpdate → Type 0) (xs : List Item) (ws : List StandingUpdate) → AllByRecursion P (pile xs ws) → AllByRecursion (λ x. (w : ℕ × Option ValueType × Option ValueType) → wrote x ≡ Some w → P (record { lsn = x.lsn; tx = x.tx; key = w.0; before = w.1; after = w.2 })) xs
 pile_each P [] ws all = tt
 pile_each P (x ∷ xs) ws all = (λ w e. first x.tx x.lsn w (wrote x) e (pile_base P xs (on_top x.tx x.lsn (wrote x) ws) all), pile_each P xs (on_top x.tx x.lsn (wrote x) ws) all)
   where
@@ -253,18 +254,18 @@ pile_each P (x ∷ xs) ws all = (λ w e. first x.tx x.lsn w (wrote x) e (pile_ba
     pile_base P [] ws all = all
     pile_base P (x ∷ xs) ws all = rest x.tx x.lsn (wrote x) (pile_base P xs (on_top x.tx x.lsn (wrote x) ws) all)
       where
-        rest : (tx : TxId) (lsn : ℕ) (o : Option (ℕ × Option ℕ × Option ℕ)) → AllByRecursion P (on_top tx lsn o ws) → AllByRecursion P ws
+        rest : (tx : TxId) (lsn : ℕ) (o : Option (ℕ × Option ValueType × Option ValueType)) → AllByRecursion P (on_top tx lsn o ws) → AllByRecursion P ws
         rest tx lsn None a = a
         rest tx lsn (Some w) a = a.1
 
-    first : (tx : TxId) (lsn : ℕ) (w : ℕ × Option ℕ × Option ℕ) (o : Option (ℕ × Option ℕ × Option ℕ)) → o ≡ Some w → AllByRecursion P (on_top tx lsn o ws) → P (record { lsn = lsn; tx = tx; key = w.0; before = w.1; after = w.2 })
+    first : (tx : TxId) (lsn : ℕ) (w : ℕ × Option ValueType × Option ValueType) (o : Option (ℕ × Option ValueType × Option ValueType)) → o ≡ Some w → AllByRecursion P (on_top tx lsn o ws) → P (record { lsn = lsn; tx = tx; key = w.0; before = w.1; after = w.2 })
     first tx lsn w None e a = absurd cc
     first tx lsn w (Some v) e a = subst (λ z. P (record { lsn = lsn; tx = tx; key = z.0; before = z.1; after = z.2 })) (same v w e) a.0
       where
-        same : (v w : ℕ × Option ℕ × Option ℕ) → Some v ≡ Some w → v ≡ w
+        same : (v w : ℕ × Option ValueType × Option ValueType) → Some v ≡ Some w → v ≡ w
         same v w e = cc
 
-pub write_some : (o : Option (ℕ × Option ℕ × Option ℕ)) (k : ℕ) → is_write_at o k ≡ true → (w : ℕ × Option ℕ × Option ℕ) × (o ≡ Some w)
+pub write_some : (o : Option (ℕ × Option ValueType × Option ValueType)) (k : ℕ) → is_write_at o k ≡ true → (w : ℕ × Option ValueType × Option ValueType) × (o ≡ Some w)
 write_some None k e = absurd (both_ways false refl e)
 write_some (Some w) k e = (w, refl)
 
@@ -348,11 +349,11 @@ holds_undone : (set : List TxId) (ws : List StandingUpdate) (locks : Locks) (rs 
 holds_undone set ws locks rs p u q h =
     subst (λ o. holds_by p locks (records_without set ws rs) u q o ≡ true) (sym (record_undone set ws rs q)) (at (record_at q rs) h)
   where
-    at : (o : Option (Option ℕ)) → holds_by p locks rs u q o ≡ true → holds_by p locks (records_without set ws rs) u q (reset (value_before set q ws) o) ≡ true
+    at : (o : Option (Option ValueType)) → holds_by p locks rs u q o ≡ true → holds_by p locks (records_without set ws rs) u q (reset (value_before set q ws) o) ≡ true
     at (Some x) h = h
     at None h = subst (λ a. holds false p a u locks ≡ true) (sym (anchor_undone set ws q Low rs)) h
 
-reset_none : (b o : Option (Option ℕ)) → reset b o ≡ None → o ≡ None
+reset_none : (b o : Option (Option ValueType)) → reset b o ≡ None → o ≡ None
 reset_none b None e = refl
 reset_none b (Some v) e = absurd cc
 

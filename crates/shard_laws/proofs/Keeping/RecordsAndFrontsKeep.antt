@@ -34,6 +34,7 @@ use Rattle.shard_laws.proofs.Keeping.WhatOneShardKeeps.{View, Past, Dep, Kept, K
 use Rattle.protocol_laws.specs.Order.{moves, Open_at, Tidy, is_clr_of, undone_in}
 use Rattle.std.proofs.Common.{append-nil}
 use Rattle.std.proofs.lemmas.Option.{none-some, same_Some}
+use Rattle.clv_base.specs.declared.values.Value.{Value as ValueType}
 
 -- ---- a record more
 
@@ -230,7 +231,7 @@ keeps_flight g v n k le =
 
 -- ---- a purge
 
-kept_live : (locks : Locks) (k : ℕ) → is_free (At k) locks ≡ false → (v : Option ℕ) → is_locked_or_live locks (k, v) ≡ true
+kept_live : (locks : Locks) (k : ℕ) → is_free (At k) locks ≡ false → (v : Option ValueType) → is_locked_or_live locks (k, v) ≡ true
 kept_live locks k e (Some v) = refl
 kept_live locks k e None = ap not e
 
@@ -246,15 +247,15 @@ value_purged locks k (r ∷ rs) h =
     same true e = refl
     same false e = e
 
-    dropped : (x : Option ℕ) → is_locked_or_live locks (r.0, x) ≡ false → (b : Bool) → (b ≡ true → record_at k rs ≡ None) → live_by (record_at k rs) ≡ live_by (cond b (Some x) (record_at k rs))
+    dropped : (x : Option ValueType) → is_locked_or_live locks (r.0, x) ≡ false → (b : Bool) → (b ≡ true → record_at k rs ≡ None) → live_by (record_at k rs) ≡ live_by (cond b (Some x) (record_at k rs))
     dropped (Some v) e b none = absurd (both_ways true e refl)
     dropped None e true none = ap live_by (none refl)
     dropped None e false none = refl
 
-at_key : (locks : Locks) (f : Bool) (p : Part) (a : Anchor) (tx : TxId) → holds f p a tx locks ≡ true → (q : ℕ × Option ℕ) → a ≡ At q.0 → is_locked_or_live locks q ≡ true
+at_key : (locks : Locks) (f : Bool) (p : Part) (a : Anchor) (tx : TxId) → holds f p a tx locks ≡ true → (q : ℕ × Option ValueType) → a ≡ At q.0 → is_locked_or_live locks q ≡ true
 at_key locks f p a tx e q s = kept_live locks q.0 (subst (λ b. is_free b locks ≡ false) s (held_not_free f p a tx locks e)) q.1
 
-purge_case : (locks : Locks) (rs : Records) (p : Part) (tx : TxId) (k : ℕ) (o : Option (Option ℕ)) → record_at k rs ≡ o → holds_by p locks rs tx k o ≡ true → holds_at p locks (without_ghosts locks rs) tx k ≡ true
+purge_case : (locks : Locks) (rs : Records) (p : Part) (tx : TxId) (k : ℕ) (o : Option (Option ValueType)) → record_at k rs ≡ o → holds_by p locks rs tx k o ≡ true → holds_at p locks (without_ghosts locks rs) tx k ≡ true
 purge_case locks rs p tx k (Some v) e h =
     subst (λ o. holds_by p locks (without_ghosts locks rs) tx k o ≡ true) (sym (record_kept (is_locked_or_live locks) k rs (λ x. at_key locks true p (At k) tx h (k, x) refl) ∙ e)) h
 purge_case locks rs p tx k None e h =

@@ -4,6 +4,7 @@ use Rattle.std.specs.Ordering.{nat_cmp}
 use Rattle.std.specs.FinMap.Entries.{below_all, is_sorted}
 use Rattle.std.specs.Cmp.{unsigned_tied}
 use Rattle.std.proofs.lemmas.Bool.{cases_Bool, both_ways, cond-true, cond-false, and_from}
+use Rattle.clv_base.specs.declared.values.Value.{Value as ValueType}
 use Rattle.clv_base.specs.declared.ops.Op.{Op}
 use Rattle.clv_base.specs.declared.ops.Op.TheVariants.{Get, Put, Del, Scan}
 use Rattle.clv_base.specs.declared.ops.Answer.TheVariants.{Value, Pairs}
@@ -17,7 +18,7 @@ use Rattle.law_base.proofs.Bools.{t_true}
 
 -- ---- the live pairs as a map
 
-above_case : (k j : ℕ) (o : Option ℕ) (rest : KeyMap) → k < j → below_all nat_cmp k rest ≡ true → below_all nat_cmp k (elim o [ Some v ↦ (j, v) ∷ rest | None ↦ rest ]) ≡ true
+above_case : (k j : ℕ) (o : Option ValueType) (rest : KeyMap) → k < j → below_all nat_cmp k rest ≡ true → below_all nat_cmp k (elim o [ Some v ↦ (j, v) ∷ rest | None ↦ rest ]) ≡ true
 above_case k j None rest l e = e
 above_case k j (Some v) rest l e = and_from _ _ (less_true k j l) e
 
@@ -25,7 +26,7 @@ live_above : (k : ℕ) (rs : Records) → AllAbove k rs → below_all nat_cmp k 
 live_above k [] all = refl
 live_above k (r ∷ rs) all = above_case k r.0 r.1 (live_pairs rs) all.0 (live_above k rs all.1)
 
-rises_case : (j : ℕ) (o : Option ℕ) (rest : KeyMap) → below_all nat_cmp j rest ≡ true → is_sorted nat_cmp rest ≡ true → is_sorted nat_cmp (elim o [ Some v ↦ (j, v) ∷ rest | None ↦ rest ]) ≡ true
+rises_case : (j : ℕ) (o : Option ValueType) (rest : KeyMap) → below_all nat_cmp j rest ≡ true → is_sorted nat_cmp rest ≡ true → is_sorted nat_cmp (elim o [ Some v ↦ (j, v) ∷ rest | None ↦ rest ]) ≡ true
 rises_case j None rest a e = e
 rises_case j (Some v) rest a e = and_from _ _ a e
 
@@ -33,7 +34,7 @@ pub live_rises : (rs : Records) → Rising rs → is_sorted nat_cmp (live_pairs 
 live_rises [] h = refl
 live_rises (r ∷ rs) h = rises_case r.0 r.1 (live_pairs rs) (live_above r.0 rs h.0) (live_rises rs h.1)
 
-find_case : (q j : ℕ) (o : Option ℕ) (rest : KeyMap) (old : Option (Option ℕ)) → map_get q rest ≡ live_by old → ((q == j) ≡ true → old ≡ None) → map_get q (elim o [ Some v ↦ (j, v) ∷ rest | None ↦ rest ]) ≡ live_by (cond (q == j) (Some o) old)
+find_case : (q j : ℕ) (o : Option ValueType) (rest : KeyMap) (old : Option (Option ValueType)) → map_get q rest ≡ live_by old → ((q == j) ≡ true → old ≡ None) → map_get q (elim o [ Some v ↦ (j, v) ∷ rest | None ↦ rest ]) ≡ live_by (cond (q == j) (Some o) old)
 find_case q j (Some v) rest old e none = ap (λ b. cond b (Some v) (map_get q rest)) (unsigned_tied q j) ∙ at (q == j)
   where
     at : (b : Bool) → cond b (Some v) (map_get q rest) ≡ live_by (cond b (Some (Some v)) old)
@@ -54,7 +55,7 @@ live_find q (r ∷ rs) h =
 between_at : (lo hi q : ℕ) (rs : Records) → record_at q (records_between lo hi rs) ≡ cond (lies_between lo hi q) (record_at q rs) None
 between_at lo hi q [] = at (lies_between lo hi q)
   where
-    at : (b : Bool) → ◌≡◌ {A = Option (Option ℕ)} None (cond b None None)
+    at : (b : Bool) → ◌≡◌ {A = Option (Option ValueType)} None (cond b None None)
     at true = refl
     at false = refl
 between_at lo hi q (r ∷ rs) =
@@ -75,7 +76,7 @@ between_at lo hi q (r ∷ rs) =
     dropped true false h = refl
     dropped false c h = refl
 
-live_cond : (b : Bool) (o : Option (Option ℕ)) → live_by (cond b o None) ≡ cond b (live_by o) None
+live_cond : (b : Bool) (o : Option (Option ValueType)) → live_by (cond b o None) ≡ cond b (live_by o) None
 live_cond true o = refl
 live_cond false o = refl
 

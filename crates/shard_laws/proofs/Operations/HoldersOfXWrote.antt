@@ -5,6 +5,7 @@ use Rattle.std.specs.declared.cmp.Ordering.{Ordering}
 use Rattle.std.specs.declared.cmp.Ordering.TheVariants.{Less, Equal, Greater}
 use Rattle.std.specs.Ordering.{match_ordering}
 use Rattle.std.proofs.lemmas.Bool.{both_ways, cond_both, or_cases, and_parts, not-true}
+use Rattle.clv_base.specs.declared.values.Value.{Value as ValueType}
 use Rattle.clv_base.specs.declared.names.TxId.{TxId}
 use Rattle.clv_base.specs.declared.names.Birth.{Birth}
 use Rattle.clv_base.specs.declared.logs.LogRecord.{LogRecord}
@@ -99,7 +100,7 @@ all_S : (W : TxId → Type 0) (tx : TxId) (rs : Records) → AllByRecursion (λ 
 all_S W tx [] = tt
 all_S W tx (r ∷ rs) = ((λ e. absurd (both_ways false refl e), λ e. absurd (both_ways false refl e)), all_S W tx rs)
 
-needs_case : (W : TxId → Type 0) (tx : TxId) (op : Op) (rs : Records) (f : Found) → ((w : ℕ × Option ℕ × Option ℕ) → writes_of op (live_of f) ≡ Some w → W tx) → AllByRecursion (λ n. Writes_by W tx n.mode) (needs_by op rs f)
+needs_case : (W : TxId → Type 0) (tx : TxId) (op : Op) (rs : Records) (f : Found) → ((w : ℕ × Option ValueType × Option ValueType) → writes_of op (live_of f) ≡ Some w → W tx) → AllByRecursion (λ n. Writes_by W tx n.mode) (needs_by op rs f)
 needs_case W tx (Get k) rs (Live v) own = ((λ e. absurd (both_ways false refl e), λ e. absurd (both_ways false refl e)), tt)
 needs_case W tx (Get k) rs Ghost own = ((λ e. absurd (both_ways false refl e), λ e. absurd (both_ways false refl e)), tt)
 needs_case W tx (Get k) rs Absent own = ((λ e. absurd (both_ways false refl e), λ e. absurd (both_ways false refl e)), tt)
@@ -113,7 +114,7 @@ needs_case W tx (Scan lo hi) rs (Live v) own = all_S W tx (records_between lo hi
 needs_case W tx (Scan lo hi) rs Ghost own = all_S W tx (records_between lo hi rs)
 needs_case W tx (Scan lo hi) rs Absent own = ((λ e. absurd (both_ways false refl e), λ e. absurd (both_ways false refl e)), all_S W tx (records_between lo hi rs))
 
-pub needs_write : (W : TxId → Type 0) (tx : TxId) (op : Op) (rs : Records) → ((w : ℕ × Option ℕ × Option ℕ) → writes_of op (value_at (key_of op) rs) ≡ Some w → W tx) → AllByRecursion (λ n. Writes_by W tx n.mode) (needs_of op rs)
+pub needs_write : (W : TxId → Type 0) (tx : TxId) (op : Op) (rs : Records) → ((w : ℕ × Option ValueType × Option ValueType) → writes_of op (value_at (key_of op) rs) ≡ Some w → W tx) → AllByRecursion (λ n. Writes_by W tx n.mode) (needs_of op rs)
 needs_write W tx op rs own = needs_case W tx op rs (found_at (key_of op) rs) own
 
 -- ---- whose writes are violated wrote

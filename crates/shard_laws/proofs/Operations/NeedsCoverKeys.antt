@@ -1,6 +1,7 @@
 -- What an operation needs covers the keys that it meets, and that it writes.
 use Rattle.std.proofs.Common.{◌≡◌, ℕ, ⊎_elim, Bool, true, false, ◌&&◌, List, [], ◌∷◌, ◌++◌, map, Option, Some, None, ◌==◌, nat_le, refl, sym, subst, ◌∙◌, eqb-true, arith}
 use Rattle.std.proofs.lemmas.Bool.{cases_Bool, both_ways, cond_both, cond-true, cond-false, or_cases, and_parts, and_from, leb-true, le-leb}
+use Rattle.clv_base.specs.declared.values.Value.{Value as ValueType}
 use Rattle.clv_base.specs.declared.ops.Op.{Op}
 use Rattle.clv_base.specs.declared.ops.Op.TheVariants.{Get, Put, Del, Scan}
 use Rattle.clv_base.specs.declared.names.TxId.{TxId}
@@ -22,14 +23,14 @@ use Rattle.law_base.proofs.Anchors.{Rising, scan_below}
 use Rattle.law_base.proofs.LockRows.{least, part_of, holds, asks, need_asks, anchor_self}
 
 -- the part at the place of a key: of the record there, or of the gap in which it lies
-abbrev pub asks_by : Part → List Need → Records → ℕ → Option (Option ℕ) → Bool
+abbrev pub asks_by : Part → List Need → Records → ℕ → Option (Option ValueType) → Bool
 asks_by p ns rs k (Some v) = asks true p (At k) ns
 asks_by p ns rs k None = asks false p (lower_anchor k rs) ns
 
 abbrev pub asks_at : Part → List Need → Records → ℕ → Bool
 asks_at p ns rs k = asks_by p ns rs k (record_at k rs)
 
-abbrev pub holds_by : Part → Locks → Records → TxId → ℕ → Option (Option ℕ) → Bool
+abbrev pub holds_by : Part → Locks → Records → TxId → ℕ → Option (Option ValueType) → Bool
 holds_by p locks rs tx k (Some v) = holds true p (At k) tx locks
 holds_by p locks rs tx k None = holds false p (lower_anchor k rs) tx locks
 
@@ -40,17 +41,17 @@ one_asks : (f : Bool) (p : Part) (n : Need) → least p (part_of f n.mode) ≡ t
 one_asks f p n h = or_left _ _ (and_from _ _ (anchor_self n.anchor) h)
 
 -- a key alone
-get_asks : (k : ℕ) (rs : Records) (o : Option (Option ℕ)) → asks_by S (needs_by (Get k) rs (found_by o)) rs k o ≡ true
+get_asks : (k : ℕ) (rs : Records) (o : Option (Option ValueType)) → asks_by S (needs_by (Get k) rs (found_by o)) rs k o ≡ true
 get_asks k rs (Some None) = one_asks true S (need (At k) (on_key S)) refl
 get_asks k rs (Some (Some v)) = one_asks true S (need (At k) (on_key S)) refl
 get_asks k rs None = one_asks false S (need (lower_anchor k rs) (on_gap S)) refl
 
-put_asks : (p : Part) (k v : ℕ) (rs : Records) (o : Option (Option ℕ)) → least p X ≡ true → asks_by p (needs_by (Put k v) rs (found_by o)) rs k o ≡ true
+put_asks : (p : Part) (k : ℕ) (v : ValueType) (rs : Records) (o : Option (Option ValueType)) → least p X ≡ true → asks_by p (needs_by (Put k v) rs (found_by o)) rs k o ≡ true
 put_asks p k v rs (Some None) h = one_asks true p (need (At k) (on_key X)) h
 put_asks p k v rs (Some (Some w)) h = one_asks true p (need (At k) (on_key X)) h
 put_asks p k v rs None h = one_asks false p (need (lower_anchor k rs) (on_gap X)) h
 
-del_asks : (k : ℕ) (rs : Records) (o : Option (Option ℕ)) → asks_by S (needs_by (Del k) rs (found_by o)) rs k o ≡ true
+del_asks : (k : ℕ) (rs : Records) (o : Option (Option ValueType)) → asks_by S (needs_by (Del k) rs (found_by o)) rs k o ≡ true
 del_asks k rs (Some (Some v)) = one_asks true S (need (At k) (on_key X)) refl
 del_asks k rs (Some None) = one_asks true S (need (At k) (on_key S)) refl
 del_asks k rs None = one_asks false S (need (lower_anchor k rs) (on_gap S)) refl
@@ -68,10 +69,10 @@ both_part : (f : Bool) → least S (part_of f (on_both S)) ≡ true
 both_part true = refl
 both_part false = refl
 
-absent_some : (v : Option ℕ) → ◌≡◌ {A = Option (Option ℕ)} None (Some v) → ⊥
+absent_some : (v : Option ValueType) → ◌≡◌ {A = Option (Option ValueType)} None (Some v) → ⊥
 absent_some v e = absurd cc
 
-scan_record : (f : Bool) (lo hi k : ℕ) (v : Option ℕ) (rs : Records) → (nat_le lo k && nat_le k hi) ≡ true → record_at k rs ≡ Some v → asks f S (At k) (map (λ r. need (At r.0) (on_both S)) (records_between lo hi rs)) ≡ true
+scan_record : (f : Bool) (lo hi k : ℕ) (v : Option ValueType) (rs : Records) → (nat_le lo k && nat_le k hi) ≡ true → record_at k rs ≡ Some v → asks f S (At k) (map (λ r. need (At r.0) (on_both S)) (records_between lo hi rs)) ≡ true
 scan_record f lo hi k v [] within e = absurd (absent_some v e)
 scan_record f lo hi k v (r ∷ rs) within e =
     ⊎_elim
@@ -86,7 +87,7 @@ scan_record f lo hi k v (r ∷ rs) within e =
     same_at : ℕ → ℕ → Bool
     same_at i j = anchor_same (At i) (At j)
 
-scan_asks : (lo hi k : ℕ) (rs : Records) → Rising rs → lies_between lo hi k ≡ true → (o : Option (Option ℕ)) → record_at k rs ≡ o → asks_by S (needs_of (Scan lo hi) rs) rs k o ≡ true
+scan_asks : (lo hi k : ℕ) (rs : Records) → Rising rs → lies_between lo hi k ≡ true → (o : Option (Option ValueType)) → record_at k rs ≡ o → asks_by S (needs_of (Scan lo hi) rs) rs k o ≡ true
 scan_asks lo hi k rs h within (Some v) e = append_right true S (At k) (gap_below lo rs (found_at lo rs)) _ (scan_record true lo hi k v rs within e)
 scan_asks lo hi k rs h within None e =
     ⊎_elim
@@ -105,12 +106,12 @@ asks_met (Put j v) rs k h e = subst (λ i. asks_at S (needs_of (Put j v) rs) rs 
 asks_met (Del j) rs k h e = subst (λ i. asks_at S (needs_of (Del j) rs) rs i ≡ true) (eqb-true j k e) (del_asks j rs (record_at j rs))
 asks_met (Scan lo hi) rs k h e = scan_asks lo hi k rs h e (record_at k rs) refl
 
-del_writes : (j : ℕ) (rs : Records) (o : Option (Option ℕ)) → is_write_at (writes_of (Del j) (live_by o)) j ≡ true → asks_by X (needs_by (Del j) rs (found_by o)) rs j o ≡ true
+del_writes : (j : ℕ) (rs : Records) (o : Option (Option ValueType)) → is_write_at (writes_of (Del j) (live_by o)) j ≡ true → asks_by X (needs_by (Del j) rs (found_by o)) rs j o ≡ true
 del_writes j rs (Some (Some v)) e = one_asks true X (need (At j) (on_key X)) refl
 del_writes j rs (Some None) e = absurd (both_ways false refl e)
 del_writes j rs None e = absurd (both_ways false refl e)
 
-written_key : (o : Op) (b : Option ℕ) (k : ℕ) → is_write_at (writes_of o b) k ≡ true → k ≡ key_of o
+written_key : (o : Op) (b : Option ValueType) (k : ℕ) → is_write_at (writes_of o b) k ≡ true → k ≡ key_of o
 written_key (Get j) b k e = absurd (both_ways false refl e)
 written_key (Put j v) b k e = eqb-true k j e
 written_key (Del j) (Some v) k e = eqb-true k j e

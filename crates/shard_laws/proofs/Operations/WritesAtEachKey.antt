@@ -2,6 +2,7 @@
 use Rattle.std.proofs.Common.{◌≡◌, ℕ, Bool, true, false, cond, List, [], ◌∷◌, Option, Some, None, ◌==◌, refl, sym, ap, subst, ◌∙◌, eq-eqb}
 use Rattle.std.specs.List.{AllByRecursion, filter}
 use Rattle.std.proofs.lemmas.Bool.{cond_both, cond-true}
+use Rattle.clv_base.specs.declared.values.Value.{Value as ValueType}
 use Rattle.clv_base.specs.declared.names.TxId.{TxId}
 use Rattle.clv_base.specs.Logs.{StandingUpdate, newest_at}
 use Rattle.law_base.specs.Items.{on_top}
@@ -30,7 +31,7 @@ top_at q (w ∷ ws) = at (q == w.key) refl (top_at q ws)
 pub keys_top : (ws vs : List StandingUpdate) (q : ℕ) → SameAtKeys ws vs → top_value q ws ≡ top_value q vs
 keys_top ws vs q e = sym (top_at q ws) ∙ ap (top_value q) (e q) ∙ top_at q vs
 
-pub keys_on_top : (tx : TxId) (lsn : ℕ) (w : Option (ℕ × Option ℕ × Option ℕ)) (ws vs : List StandingUpdate) → SameAtKeys ws vs → SameAtKeys (on_top tx lsn w ws) (on_top tx lsn w vs)
+pub keys_on_top : (tx : TxId) (lsn : ℕ) (w : Option (ℕ × Option ValueType × Option ValueType)) (ws vs : List StandingUpdate) → SameAtKeys ws vs → SameAtKeys (on_top tx lsn w ws) (on_top tx lsn w vs)
 keys_on_top tx lsn None ws vs e q = e q
 keys_on_top tx lsn (Some w) ws vs e q = ap (λ l. cond (q == w.0) (record { lsn = lsn; tx = tx; key = w.0; before = w.1; after = w.2 } ∷ l) l) (e q)
 

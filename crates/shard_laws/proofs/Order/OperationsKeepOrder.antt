@@ -3,6 +3,7 @@ use Rattle.std.proofs.Common.{◌≡◌, ◌⊎◌, inl, inr, ⊎_elim, refl, sy
 use Rattle.std.specs.List.{AllByRecursion}
 use Rattle.std.proofs.lemmas.List.Folds.{list_any-append}
 use Rattle.std.proofs.lemmas.Bool.{cases_Bool, both_ways, and_parts, and_from, false_from_ne_true}
+use Rattle.clv_base.specs.declared.values.Value.{Value as ValueType}
 use Rattle.clv_base.specs.declared.names.TxId.{TxId}
 use Rattle.clv_base.specs.declared.names.Birth.{Birth}
 use Rattle.clv_base.specs.declared.logs.LogRecord.{LogRecord}
@@ -20,7 +21,9 @@ use Rattle.clv_base.specs.Orders.{Table, tx_same, tx_in, tx_get}
 use Rattle.clv_base.specs.State.{is_present}
 use Rattle.clv_base.specs.Locks.{Locks, decide, violated, take_all}
 use Rattle.clv_base.specs.Logs.{StandingUpdate, standing, committed_in, prepared_in, aborted_in, wrote_in, newest_at, value_in, is_update_of, is_abort_of}
-use Rattle.clv_base.specs.LogRules.{may_follow, same_option, may_cover, before_restart}
+use Rattle.clv_base.specs.Values.{same_optional_value}
+use Rattle.clv_base.specs.LogRules.{may_follow, may_cover, before_restart}
+use Rattle.law_base.proofs.Options.{optional_value_self}
 use Rattle.clv_base.specs.Needs.{needs_of, found_at, value_at, key_of, inserts, writes_of}
 use Rattle.clv_base.specs.OneShard.{new_part, add_pairs, inserted_locks}
 use Rattle.clv_base.proofs.SameNames.{or_left, or_right, tx_true, tx_self, tx_eq, tx_ne, cases_tx}
@@ -48,7 +51,7 @@ use Rattle.law_base.proofs.Names.{MayStand}
 
 -- ---- an UPDATE of an active part
 
-pub ordered_update : (shard run : ℕ) (parts : Table Held) (pairs : List (TxId × TxId)) (log : List LogRecord) (t : TxId) (key : ℕ) (before after : Option ℕ) → Ordered shard run parts pairs log → may_follow shard log (Update t key before after) ≡ true
+pub ordered_update : (shard run : ℕ) (parts : Table Held) (pairs : List (TxId × TxId)) (log : List LogRecord) (t : TxId) (key : ℕ) (before after : Option ValueType) → Ordered shard run parts pairs log → may_follow shard log (Update t key before after) ≡ true
     → stage_in parts t ≡ Some Active → Ordered shard run parts pairs (log ++ Update t key before after ∷ [])
 ordered_update shard run parts pairs log t key before after o m act = record {
   follows = follows_append shard [] log (Update t key before after ∷ []) o.follows (m, tt);
@@ -100,22 +103,21 @@ ordered_new shard run parts parts2 pairs log t vs o own same was run_is unwritte
 
 -- ---- what an operation writes
 
-change_is : (op : Op) (b : Option ℕ) (w : ℕ × Option ℕ × Option ℕ) → writes_of op b ≡ Some w → (w.0 ≡ key_of op) × (w.1 ≡ b) × ((is_some w.1 || is_some w.2) ≡ true)
+change_is : (op : Op) (b : Option ValueType) (w : ℕ × Option ValueType × Option ValueType) → writes_of op b ≡ Some w → (w.0 ≡ key_of op) × (w.1 ≡ b) × ((is_some w.1 || is_some w.2) ≡ true)
 change_is (Get k) b w e = absurd cc
 change_is (Put k v) b w e = subst (λ z. (z.0 ≡ k) × (z.1 ≡ b) × ((is_some z.1 || is_some z.2) ≡ true)) (same (k, b, Some v) w e) (refl, refl, or_right (is_some b) _ refl)
   where
-    same : (x w : ℕ × Option ℕ × Option ℕ) → Some x ≡ Some w → x ≡ w
+    same : (x w : ℕ × Option ValueType × Option ValueType) → Some x ≡ Some w → x ≡ w
     same x w e = cc
 change_is (Del k) None w e = absurd cc
 change_is (Del k) (Some x) w e = subst (λ z. (z.0 ≡ k) × (z.1 ≡ Some x) × ((is_some z.1 || is_some z.2) ≡ true)) (same (k, Some x, None) w e) (refl, refl, refl)
   where
-    same : (x w : ℕ × Option ℕ × Option ℕ) → Some x ≡ Some w → x ≡ w
+    same : (x w : ℕ × Option ValueType × Option ValueType) → Some x ≡ Some w → x ≡ w
     same x w e = cc
 change_is (Scan lo hi) b w e = absurd cc
 
-same_self : (a b : Option ℕ) → a ≡ b → same_option a b ≡ true
-same_self None b e = subst (λ z. same_option None z ≡ true) e refl
-same_self (Some n) b e = subst (λ z. same_option (Some n) z ≡ true) e (eq-eqb n n refl)
+same_self : (a b : Option ValueType) → a ≡ b → same_optional_value a b ≡ true
+same_self a b e = subst (λ z. same_optional_value a z ≡ true) e (optional_value_self a)
 
 -- the newest write at a key
 newest_holds : (P : StandingUpdate → Type 0) (k : ℕ) (ws : List StandingUpdate) (w : StandingUpdate) → AllByRecursion P ws → newest_at k ws ≡ Some w → P w × (k ≡ w.key)
@@ -183,7 +185,7 @@ module _ (shard run : ℕ) (g : Past) (v : View) (tx : TxId) (birth : Birth) (op
       (cases_Bool (commit_durable v.log v.durable w.tx))))
       (cases_tx w.tx tx)
     where
-      asked_X : (q : Option (Option ℕ)) → (q ≡ None → ⊥) → asks_by X needs v.records w.key q ≡ true → asks true X (At w.key) needs ≡ true
+      asked_X : (q : Option (Option ValueType)) → (q ≡ None → ⊥) → asks_by X needs v.records w.key q ≡ true → asks true X (At w.key) needs ≡ true
       asked_X (Some x) n e = e
       asked_X None n e = absurd (n refl)
 
@@ -208,7 +210,7 @@ module _ (shard run : ℕ) (g : Past) (v : View) (tx : TxId) (birth : Birth) (op
       and_from _ _ (⊎_elim (λ p. or_left _ _ p) (λ c. or_right (prepared_in v.log u.tx) _ c) (o.decided u.tx x.1.0 x.1.1)) (ap not (o.unaborted u.tx (ap is_present x.1.0)))) m))
       (write_met u f.0.0 (subst (λ z. is_write_at change z ≡ true) f.1 w))
 
-  update_follows : (w : ℕ × Option ℕ × Option ℕ) → change ≡ Some w → may_follow shard v.log (Update tx w.0 w.1 w.2) ≡ true
+  update_follows : (w : ℕ × Option ValueType × Option ValueType) → change ≡ Some w → may_follow shard v.log (Update tx w.0 w.1 w.2) ≡ true
   update_follows w e =
       let c = change_is op (value_at (key_of op) v.records) w e in
       and_from _ _ (and_from _ _ (and_from _ _ (and_from _ _ (and_from _ _ (and_from _ _ (and_from _ _
@@ -238,7 +240,7 @@ module _ (shard run : ℕ) (g : Past) (v : View) (tx : TxId) (birth : Birth) (op
       (λ t c. committed_keeps v.log (Update tx w.0 w.1 w.2 ∷ []) t c)
       (all_mono _ _ (λ z h q. lies_new z h (ap (λ y. is_write_at y z.key) e ∙ eq-eqb z.key w.0 q)) (standing v.log) k.wrote, under_old (standing v.log) l.under))
 
-  own_by : (w : Change) (x : ℕ × Option ℕ × Option ℕ) → w ≡ Some x → wrote_in (log_by tx w v.log) tx ≡ true
+  own_by : (w : Change) (x : ℕ × Option ValueType × Option ValueType) → w ≡ Some x → wrote_in (log_by tx w v.log) tx ≡ true
   own_by None x e = absurd cc
   own_by (Some w) x e = list_any-append (is_update_of tx) v.log (Update tx w.0 w.1 w.2 ∷ []) ∙ or_right (wrote_in v.log tx) _ (or_left _ _ (tx_self tx))
 
@@ -246,7 +248,7 @@ module _ (shard run : ℕ) (g : Past) (v : View) (tx : TxId) (birth : Birth) (op
   more_by None t e = e
   more_by (Some w) t e = wrote_keeps v.log (Update tx w.0 w.1 w.2 ∷ []) t e
 
-  write_some : (w : Change) (q : ℕ) → is_write_at w q ≡ true → (x : ℕ × Option ℕ × Option ℕ) × (w ≡ Some x)
+  write_some : (w : Change) (q : ℕ) → is_write_at w q ≡ true → (x : ℕ × Option ValueType × Option ValueType) × (w ≡ Some x)
   write_some None q e = absurd (both_ways false refl e)
   write_some (Some w) q e = (w, refl)
 

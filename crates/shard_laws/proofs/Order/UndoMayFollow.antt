@@ -13,7 +13,7 @@ use Rattle.clv_base.proofs.SameNames.{or_left, or_right, tx_true, tx_self, tx_ne
 use Rattle.law_base.specs.Undone.{stays_of}
 use Rattle.law_base.proofs.Lists.{all_mono, all_push}
 use Rattle.law_base.proofs.Undoing.{Upward, standing_append}
-use Rattle.law_base.proofs.Options.{option_self}
+use Rattle.law_base.proofs.Options.{option_self, optional_value_self}
 use Rattle.protocol_laws.proofs.LogsInOrder.OneRecordMore.{push_right, push_false}
 use Rattle.shard_laws.proofs.Cuts.MembersRunSerially.{Once}
 use Rattle.shard_laws.proofs.Order.RecordByRecord.{Follows, follows_append, last_push}
@@ -97,7 +97,7 @@ upward_drop set (v ∷ vs) w ws up = ((λ out. all_drop _ vs w ws (up.0 out)), u
 clr_case : (log : List LogRecord) (w : StandingUpdate) (next : Option ℕ) (o : Option StandingUpdate) → o ≡ Some w → newest_at w.key (standing log) ≡ Some w → next ≡ newest_lsn w.tx (without_newest w.tx (standing log))
     → compensates log w.tx next w.key w.before o ≡ true
 clr_case log w next o e at below = subst (λ z. compensates log w.tx next w.key w.before z ≡ true) (sym e)
-    (and_from _ _ (and_from _ _ (and_from _ _ (eq-eqb w.key w.key refl) (option_self w.before)) (subst (λ z. elim z [ Some v ↦ v.lsn == w.lsn | None ↦ false ] ≡ true) (sym at) (eq-eqb w.lsn w.lsn refl)))
+    (and_from _ _ (and_from _ _ (and_from _ _ (eq-eqb w.key w.key refl) (optional_value_self w.before)) (subst (λ z. elim z [ Some v ↦ v.lsn == w.lsn | None ↦ false ] ≡ true) (sym at) (eq-eqb w.lsn w.lsn refl)))
     (subst (λ z. same_option z (newest_lsn w.tx (without_newest w.tx (standing log))) ≡ true) (sym below) (option_self (newest_lsn w.tx (without_newest w.tx (standing log))))))
 
 clr_may : (shard : ℕ) (set : List TxId) (log : List LogRecord) (pre : List StandingUpdate) (w : StandingUpdate) (ws : List StandingUpdate) → is_some (last_restart log) ≡ true → standing log ≡ pre ++ w ∷ ws → AllByRecursion (λ v. stays_of set v ≡ true) pre

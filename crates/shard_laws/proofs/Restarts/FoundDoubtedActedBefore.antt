@@ -3,6 +3,7 @@
 use Rattle.std.proofs.Common.{◌≡◌, ◌⊎◌, inl, inr, ⊎_elim, refl, sym, ap, subst, ◌∙◌, ℕ, ◌+◌, ◌<◌, Bool, true, false, cond, ◌||◌, ◌==◌, List, [], ◌∷◌, ◌++◌, length, Option, Some, None, is_some, append-nil, eqb-true}
 use Rattle.std.specs.List.{AllByRecursion, filter}
 use Rattle.std.proofs.lemmas.Bool.{cases_Bool, both_ways, cond_both, cond-true, cond-false, or_cases, not-true, false_from_ne_true}
+use Rattle.clv_base.specs.declared.values.Value.{Value as ValueType}
 use Rattle.clv_base.specs.declared.names.TxId.{TxId}
 use Rattle.clv_base.specs.declared.ops.Answer.TheVariants.{Value}
 use Rattle.clv_base.specs.declared.logs.LogRecord.{LogRecord}
@@ -53,7 +54,7 @@ all_tell shard log f = through (λ l. AllByRecursion Tells (standing l)) shard [
 pub found_wrote : (w : StandingUpdate) → Tells w → wrote (found_item w) ≡ Some (w.key, w.before, w.after)
 found_wrote w e = at w.before w.after e
   where
-    at : (b a : Option ℕ) → (is_some b || is_some a) ≡ true → writes_of (found_op w.key a) b ≡ Some (w.key, b, a)
+    at : (b a : Option ValueType) → (is_some b || is_some a) ≡ true → writes_of (found_op w.key a) b ≡ Some (w.key, b, a)
     at b (Some v) e = refl
     at (Some v) None e = refl
     at None None e = absurd (both_ways false refl e)
@@ -61,11 +62,11 @@ found_wrote w e = at w.before w.after e
 pub found_key : (w : StandingUpdate) (k : ℕ) → meets (found_item w) k ≡ true → w.key ≡ k
 found_key w k e = at w.after e
   where
-    at : (a : Option ℕ) → meets_key (found_op w.key a) k ≡ true → w.key ≡ k
+    at : (a : Option ValueType) → meets_key (found_op w.key a) k ≡ true → w.key ≡ k
     at None e = eqb-true w.key k e
     at (Some v) e = eqb-true w.key k e
 
-found_answer : (k : ℕ) (a : Option ℕ) (m : KeyMap) → op_answer (found_op k a) m ≡ Value (map_get k m)
+found_answer : (k : ℕ) (a : Option ValueType) (m : KeyMap) → op_answer (found_op k a) m ≡ Value (map_get k m)
 found_answer k None m = refl
 found_answer k (Some v) m = refl
 

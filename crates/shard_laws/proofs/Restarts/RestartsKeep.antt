@@ -6,6 +6,7 @@ use Rattle.std.proofs.lemmas.Bool.{cases_Bool, both_ways, cond_both, or_cases, a
 use Rattle.std.proofs.lemmas.List.{take-append-drop}
 use Rattle.std.proofs.lemmas.List.Folds.{list_any-append}
 use Rattle.std.proofs.lemmas.Option.{none-some}
+use Rattle.clv_base.specs.declared.values.Value.{Value as ValueType}
 use Rattle.clv_base.specs.declared.names.TxId.{TxId}
 use Rattle.clv_base.specs.declared.causes.Vote.{Vote}
 use Rattle.clv_base.specs.declared.causes.Vote.TheVariants.{Read}
@@ -313,7 +314,7 @@ module _ (all : List Item) (g : Past) (s : Shard) (c epoch : ℕ) (log : List Lo
   kept_of P f [] a = tt
   kept_of P f (w ∷ ws) a = cond_both (f w.tx) (w ∷ filter (of_kept f) ws) (filter (of_kept f) ws) (AllByRecursion P) (λ e. (a.0, kept_of P f ws a.1)) (λ e. kept_of P f ws a.1)
 
-  key_is : (o : Option (ℕ × Option ℕ × Option ℕ)) (w : ℕ × Option ℕ × Option ℕ) (q : ℕ) → o ≡ Some w → is_write_at o q ≡ true → q ≡ w.0
+  key_is : (o : Option (ℕ × Option ValueType × Option ValueType)) (w : ℕ × Option ValueType × Option ValueType) (q : ℕ) → o ≡ Some w → is_write_at o q ≡ true → q ≡ w.0
   key_is o w q e i = eqb-true q w.0 (ap (λ z. is_write_at z q) (sym e) ∙ i)
 
   wrote_now : AllByRecursion (λ x. (q : ℕ) → writes x q ≡ true → (wins x.tx ≡ true) × (has_update log x.tx q ≡ true)) (filter (λ x. stays x.tx) g.items)
