@@ -9,6 +9,7 @@ ghost use Rattle.clv_base.specs.Sessions.{SessionState, begun as begun_after, to
 ghost use Rattle.cluster_turns.specs.Stages.{phase_of};
 
 use clv_base::events::Event;
+use clv_base::kept::KeptOp;
 use clv_base::lists::Touched;
 use clv_base::names::{Birth, TxId};
 use clv_base::ops::Op;
@@ -107,15 +108,15 @@ impl Place {
     }
 
     /// An operation on a shard.
-    pub fn op(&self, shard: u32, nth: u64, op: Op) -> Event
-        ensures { (birth : BirthIs) → self.now.birth ≡ Some birth → result ≡ OpEvent self.now.tx birth nth (lookup (◌==◌ shard) self.now.touched) op }
+    pub fn op(&self, shard: u32, nth: u64, op: &Op) -> Event
+        ensures { (birth : BirthIs) → self.now.birth ≡ Some birth → result ≡ OpEvent self.now.tx birth nth (lookup (◌==◌ shard) self.now.touched) op.now }
     {
         Event::Op {
             tx: self.tx,
             birth: self.birth,
             nth,
             seen: self.seen(shard),
-            op,
+            op: KeptOp::new(op.copy()),
         }
     }
 
@@ -148,9 +149,9 @@ impl Place {
     }
 
     /// It was answered.
-    pub fn answered(&mut self, shard: u32, nth: u64, op: Op, epoch: u64)
+    pub fn answered(&mut self, shard: u32, nth: u64, op: &Op, epoch: u64)
         requires { shard < 16 }
-        ensures { self.new ≡ record self.old { nth = nth; scanned = scan_shard shard op; touched = touch shard epoch self.old.touched } }
+        ensures { self.new ≡ record self.old { nth = nth; scanned = scan_shard shard op.now; touched = touch shard epoch self.old.touched } }
     {
         self.nth = nth;
         self.scanned = scanned_by(shard, op);
@@ -158,8 +159,8 @@ impl Place {
     }
 
     /// The transaction died of it.
-    pub fn died(&mut self, shard: u32, nth: u64, op: Op)
-        ensures { self.new ≡ record self.old { nth = nth; scanned = scan_shard shard op; phase = Ended } }
+    pub fn died(&mut self, shard: u32, nth: u64, op: &Op)
+        ensures { self.new ≡ record self.old { nth = nth; scanned = scan_shard shard op.now; phase = Ended } }
     {
         self.nth = nth;
         self.scanned = scanned_by(shard, op);
@@ -207,8 +208,8 @@ impl Place {
 }
 
 // The shard of a part scan.
-fn scanned_by(shard: u32, op: Op) -> Option<u32>
-    ensures { result ≡ scan_shard shard op }
+fn scanned_by(shard: u32, op: &Op) -> Option<u32>
+    ensures { result ≡ scan_shard shard op.now }
 {
     match op {
         Op::Scan(..) => Some(shard),

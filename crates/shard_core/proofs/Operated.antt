@@ -5,6 +5,7 @@ use Rattle.std.specs.Map.{keys_of}
 use Rattle.std.specs.declared.cmp.Ordering.{Ordering}
 use Rattle.std.specs.declared.cmp.Ordering.TheVariants.{Less, Equal, Greater}
 use Rattle.std.specs.Ordering.{match_ordering}
+use Rattle.clv_base.specs.declared.values.Value.{Value as ValueType}
 use Rattle.clv_base.specs.declared.names.TxId.{TxId}
 use Rattle.clv_base.specs.declared.names.Birth.{Birth}
 use Rattle.clv_base.specs.declared.ops.Op.{Op}
@@ -85,11 +86,11 @@ performed_new : (tx : TxId) (birth : Birth) (op : Op) (l : Local) → New tx l.p
 performed_new tx birth op l =
     subst (λ more. New tx l.parts more (is_some (stage_of l tx))) (sym (written_parts tx (writes_of op (value_at (key_of op) l.records)) (locked tx birth op l))) (new_is tx birth l.parts (tx_get tx l.parts) refl)
 
-written_prepares : (tx : TxId) (w : Option (ℕ × Option ℕ × Option ℕ)) (l : Local) (x : TxId) → prepare_lsn (written tx w l).log x ≡ prepare_lsn l.log x
+written_prepares : (tx : TxId) (w : Option (ℕ × Option ValueType × Option ValueType)) (l : Local) (x : TxId) → prepare_lsn (written tx w l).log x ≡ prepare_lsn l.log x
 written_prepares tx None l x = refl
 written_prepares tx (Some w) l x = single x l.log (Update tx w.0 w.1 w.2) refl
 
-written_logged : (keys : List TxId) (n : ℕ) (tx : TxId) (w : Option (ℕ × Option ℕ × Option ℕ)) (l : Local) → All keys (drop n l.log) → All keys (drop n (written tx w l).log)
+written_logged : (keys : List TxId) (n : ℕ) (tx : TxId) (w : Option (ℕ × Option ValueType × Option ValueType)) (l : Local) → All keys (drop n l.log) → All keys (drop n (written tx w l).log)
 written_logged keys n tx None l a = a
 written_logged keys n tx (Some w) l a = logged_more keys n l.log (Update tx w.0 w.1 w.2 ∷ []) a (tt, tt)
 

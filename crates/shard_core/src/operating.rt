@@ -70,7 +70,7 @@ fn op_noted<S: Store + Drop, L: Locks + Drop>(
     tx: TxId,
     birth: Birth,
     seen: Option<u64>,
-    op: Op,
+    op: &Op,
     transactions: &mut ShardTx<S, L>,
     candidates: &mut Candidates,
 ) -> Result<Reply, Memory>
@@ -78,7 +78,7 @@ fn op_noted<S: Store + Drop, L: Locks + Drop>(
     requires none { candidates.old.txs ≡ [] }
     requires room { is_some (stage_in transactions.old.local tx) ≡ true → HasRoomBy (λ t. tx_in t (doomed_by transactions.old.local tx)) candidates.old }
     requires name { tx_has_spelling tx ≡ true }
-    ensures ok { IfOk result (λ r. Replies (op_reply transactions.old.shard transactions.old.local tx birth seen op) transactions.old r transactions.new) }
+    ensures ok { IfOk result (λ r. Replies (op_reply transactions.old.shard transactions.old.local tx birth seen op.now) transactions.old r transactions.new) }
     ensures stay { IfOk result (λ r. (noted : Held) × ((x : Tx) → tx_in x noted.txs ≡ cond (is_some (stage_in transactions.old.local tx)) (tx_in x (doomed_by transactions.old.local tx)) false) × StayBy r noted.txs candidates.new.txs) }
     ensures limit { OnOk result (candidates.new.limit ≡ candidates.old.limit + cond (is_some (stage_in transactions.old.local tx)) 0 1) }
     ensures err { OnErr result (IsSameBut transactions.old transactions.old.local transactions.new) }
@@ -129,12 +129,12 @@ impl<S: Store + Drop, L: Locks + Drop> ShardCore<S, L> {
         tx: TxId,
         birth: Birth,
         seen: Option<u64>,
-        op: Op,
+        op: &Op,
     ) -> Result<Reply, Memory>
         requires rest { IsAtRest self.old }
         requires name { tx_has_spelling tx ≡ true }
         ensures ready { IsReady self.new.shard self.new.candidates self.new.limit }
-        ensures ok { IfOk result (λ r. Comes (op_reply (self.old.shard).shard (self.old.shard).local tx birth seen op) self.old.shard r self.new.shard) }
+        ensures ok { IfOk result (λ r. Comes (op_reply (self.old.shard).shard (self.old.shard).local tx birth seen op.now) self.old.shard r self.new.shard) }
         ensures err { OnErr result (self.new.shard ≡ self.old.shard) }
     {
         let stage = self.stage_of(tx);
@@ -165,11 +165,11 @@ impl<S: Store + Drop, L: Locks + Drop> ShardCore<S, L> {
         tx: TxId,
         birth: Birth,
         seen: Option<u64>,
-        op: Op,
+        op: &Op,
     ) -> Result<Reply, Memory>
         requires rest { IsAtRest self.old }
         requires name { tx_has_spelling tx ≡ true }
-        ensures ok { IfOk result (λ r. Ends (op_reply (self.old.shard).shard (self.old.shard).local tx birth seen op) self.old.shard r self.new.shard) }
+        ensures ok { IfOk result (λ r. Ends (op_reply (self.old.shard).shard (self.old.shard).local tx birth seen op.now) self.old.shard r self.new.shard) }
         ensures err { OnErr result (self.new.shard ≡ self.old.shard) }
         ensures rest { IsAtRest self.new }
     {

@@ -12,6 +12,7 @@ use crate::machine::ShardMachine;
 use crate::stamps::{enter, place};
 use crate::{Happened, operate};
 use clv_base::events::{Event, Outcome};
+use clv_base::kept::KeptOp;
 use clv_base::names::{Birth, TxId};
 use clv_base::ops::Op;
 use lock_table::Locks;
@@ -58,10 +59,10 @@ impl<S: Store + Drop, L: Locks + Drop, G: Gate> ShardMachine<S, L, G> {
             Ok(stamp) => stamp,
             Err(error) => return Err(error),
         };
-        fits(op);
+        fits(&op);
         self.core.few_undecided();
         let _before = self.core.log_end();
-        match operate(&mut self.core, alloc, tx, birth, nth, seen, op) {
+        match operate(&mut self.core, alloc, tx, birth, nth, seen, &op) {
             Ok(Happened::Quiet(outcome)) => Ok(outcome),
             Ok(Happened::Done { outcome, copy }) => {
                 let _after = self.core.log_end();
@@ -70,7 +71,7 @@ impl<S: Store + Drop, L: Locks + Drop, G: Gate> ShardMachine<S, L, G> {
                     birth,
                     nth,
                     seen,
-                    op,
+                    op: KeptOp::new(op),
                 };
                 enter(&mut self.journal, stamp, walker, event, copy);
                 self.last = stamp;

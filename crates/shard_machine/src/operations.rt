@@ -24,11 +24,11 @@ pub fn operate<S: Store + Drop, L: Locks + Drop>(
     birth: Birth,
     nth: u64,
     seen: Option<u64>,
-    op: Op,
+    op: &Op,
 ) -> Result<Happened, Memory>
     requires rest { IsAtRest core.old }
     requires name { tx_has_spelling tx ≡ true }
-    ensures ok { IfOk result (λ h. Happens (happen_up core.old.shard (OpEvent tx birth nth seen op)) core.old.shard h core.new.shard) }
+    ensures ok { IfOk result (λ h. Happens (happen_up core.old.shard (OpEvent tx birth nth seen op.now)) core.old.shard h core.new.shard) }
     ensures err { OnErr result (core.new.shard ≡ core.old.shard) }
     ensures rest { IsAtRest core.new }
 {

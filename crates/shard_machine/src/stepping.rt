@@ -35,7 +35,7 @@ impl<S: Store + Drop, L: Locks + Drop, G: Gate> ShardMachine<S, L, G> {
                 nth,
                 seen,
                 op,
-            } => self.operate(alloc, clock, walker, tx, birth, nth, seen, op),
+            } => self.operate(alloc, clock, walker, tx, birth, nth, seen, op.op()),
             Event::Request { tx, parts } => self.request(alloc, clock, walker, tx, parts),
             Event::Look { tx } => self.look(clock, walker, tx),
             Event::Drop { tx } => self.drop_part(clock, walker, tx),

@@ -46,7 +46,7 @@ returns-in-Err-op_of-clause-pairs_room g c = subst (λ (s : TxState). s.pairs_ro
 
 pub returns-clause-ok : goal.returns-clause-ok
 returns-clause-ok g c =
-    let a = c.args in subst (λ (s : TxState). Replies (op_reply s.shard s.local a.tx a.birth a.seen a.op) s c.in-Ok-op_of.reply c.op_of.new.self) c.note_dying.ensures.same c.in-Ok-op_of.ensures.ok
+    let a = c.args in subst (λ (s : TxState). Replies (op_reply s.shard s.local a.tx a.birth a.seen a.op.now) s c.in-Ok-op_of.reply c.op_of.new.self) c.note_dying.ensures.same c.in-Ok-op_of.ensures.ok
 
 pub returns-clause-stay : goal.returns-clause-stay
 returns-clause-stay g c = (c.note_dying.new.candidates, c.in-Ok.ensures.txs, c.keep_noted.ensures.stay)

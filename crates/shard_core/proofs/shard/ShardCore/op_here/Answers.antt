@@ -31,7 +31,7 @@ pub invariant_of-self-2 : goal.invariant_of-self-2
 invariant_of-self-2 g c =
     let i = c.self.inside in let a : Parts = record { shard = i.shard; run = i.run; transactions = i.transactions; participant = i.participant; coordinator = i.coordinator; prepares = i.prepares; outbox = i.outbox; candidates = i.candidates } in
     let e = c.in-Ok.ensures in
-    let o = operated a c.args.tx c.args.birth c.args.seen c.args.op c.op_noted.new.transactions c.op_noted.new.candidates (rest_of a c.args.self.now c.self.view_is c.requires.rest) c.self.invariant (fresh_by a c.args.tx c.is_late.result (subst (λ (v : Core). c.is_late.result ≡ (is_none (stage_of v.shard.local c.args.tx) && is_some (state_by (tx_get c.args.tx v.shard.requests)))) (sym c.self.view_is) c.is_late.ensures) c.if-is_late.false) e.limit e.places e.room e.pairs_room
+    let o = operated a c.args.tx c.args.birth c.args.seen c.args.op.now c.op_noted.new.transactions c.op_noted.new.candidates (rest_of a c.args.self.now c.self.view_is c.requires.rest) c.self.invariant (fresh_by a c.args.tx c.is_late.result (subst (λ (v : Core). c.is_late.result ≡ (is_none (stage_of v.shard.local c.args.tx) && is_some (state_by (tx_get c.args.tx v.shard.requests)))) (sym c.self.view_is) c.is_late.ensures) c.if-is_late.false) e.limit e.places e.room e.pairs_room
     (record { sound = e.sound; purged = e.purged; rise = e.rise; few = e.few }) c.in-Ok.reply e.ok e.stay in
     o.whole
 
@@ -39,7 +39,7 @@ pub returns-clause-ready : goal.returns-clause-ready
 returns-clause-ready g c =
     let i = c.self.inside in let a : Parts = record { shard = i.shard; run = i.run; transactions = i.transactions; participant = i.participant; coordinator = i.coordinator; prepares = i.prepares; outbox = i.outbox; candidates = i.candidates } in
     let e = c.in-Ok.ensures in
-    let o = operated a c.args.tx c.args.birth c.args.seen c.args.op c.op_noted.new.transactions c.op_noted.new.candidates (rest_of a c.args.self.now c.self.view_is c.requires.rest) c.self.invariant (fresh_by a c.args.tx c.is_late.result (subst (λ (v : Core). c.is_late.result ≡ (is_none (stage_of v.shard.local c.args.tx) && is_some (state_by (tx_get c.args.tx v.shard.requests)))) (sym c.self.view_is) c.is_late.ensures) c.if-is_late.false) e.limit e.places e.room e.pairs_room
+    let o = operated a c.args.tx c.args.birth c.args.seen c.args.op.now c.op_noted.new.transactions c.op_noted.new.candidates (rest_of a c.args.self.now c.self.view_is c.requires.rest) c.self.invariant (fresh_by a c.args.tx c.is_late.result (subst (λ (v : Core). c.is_late.result ≡ (is_none (stage_of v.shard.local c.args.tx) && is_some (state_by (tx_get c.args.tx v.shard.requests)))) (sym c.self.view_is) c.is_late.ensures) c.if-is_late.false) e.limit e.places e.room e.pairs_room
     (record { sound = e.sound; purged = e.purged; rise = e.rise; few = e.few }) c.in-Ok.reply e.ok e.stay in
     o.ready
 
@@ -47,6 +47,6 @@ pub returns-clause-ok : goal.returns-clause-ok
 returns-clause-ok g c =
     let i = c.self.inside in let a : Parts = record { shard = i.shard; run = i.run; transactions = i.transactions; participant = i.participant; coordinator = i.coordinator; prepares = i.prepares; outbox = i.outbox; candidates = i.candidates } in
     let e = c.in-Ok.ensures in
-    let o = operated a c.args.tx c.args.birth c.args.seen c.args.op c.op_noted.new.transactions c.op_noted.new.candidates (rest_of a c.args.self.now c.self.view_is c.requires.rest) c.self.invariant (fresh_by a c.args.tx c.is_late.result (subst (λ (v : Core). c.is_late.result ≡ (is_none (stage_of v.shard.local c.args.tx) && is_some (state_by (tx_get c.args.tx v.shard.requests)))) (sym c.self.view_is) c.is_late.ensures) c.if-is_late.false) e.limit e.places e.room e.pairs_room
+    let o = operated a c.args.tx c.args.birth c.args.seen c.args.op.now c.op_noted.new.transactions c.op_noted.new.candidates (rest_of a c.args.self.now c.self.view_is c.requires.rest) c.self.invariant (fresh_by a c.args.tx c.is_late.result (subst (λ (v : Core). c.is_late.result ≡ (is_none (stage_of v.shard.local c.args.tx) && is_some (state_by (tx_get c.args.tx v.shard.requests)))) (sym c.self.view_is) c.is_late.ensures) c.if-is_late.false) e.limit e.places e.room e.pairs_room
     (record { sound = e.sound; purged = e.purged; rise = e.rise; few = e.few }) c.in-Ok.reply e.ok e.stay in
-    subst (λ (v : Core). Comes (op_reply v.shard.shard v.shard.local c.args.tx c.args.birth c.args.seen c.args.op) v.shard c.in-Ok.reply (seen (record a { transactions = c.op_noted.new.transactions; candidates = c.op_noted.new.candidates }))) c.self.view_is o.comes
+    subst (λ (v : Core). Comes (op_reply v.shard.shard v.shard.local c.args.tx c.args.birth c.args.seen c.args.op.now) v.shard c.in-Ok.reply (seen (record a { transactions = c.op_noted.new.transactions; candidates = c.op_noted.new.candidates }))) c.self.view_is o.comes

@@ -42,7 +42,9 @@ returns-in-Ok-Done-clause-told g c =
     let i = c.self.inside in let s : Shard = i.core.shard in let e : Event = OpEvent c.args.tx c.args.birth c.args.nth c.args.seen c.args.op in let d : Shard = c.operate.new.core.shard in
     let w = c.in-Ok-Done in let j = i.journal.entries in let k = c.enter.new.journal.entries in let n = c.in-Ok.stamp in
     let happens : Happens (happen_up s e) s (Done w.outcome w.copy) d = subst (λ (h : Happened). Happens (happen_up s e) s h d) w.field-0-is w.ensures.ok in
-    let grown : k ≡ j ++ entry n c.args.walker e w.copy ∷ [] = c.enter.ensures.entries ∙ ap (λ (x : Journaled). x.entries ++ entry n c.args.walker e w.copy ∷ []) c.place.ensures.same in
+    let grown : k ≡ j ++ entry n c.args.walker e w.copy ∷ [] =
+    c.enter.ensures.entries ∙ ap (λ o. c.place.new.journal.entries ++ entry n c.args.walker (OpEvent c.args.tx c.args.birth c.args.nth c.args.seen o) w.copy ∷ []) c.new.ensures
+    ∙ ap (λ (x : Journaled). x.entries ++ entry n c.args.walker e w.copy ∷ []) c.place.ensures.same in
     subst (λ (v : Machined _). Told v.shard c.args.clock c.args.walker e w.outcome (stamped_as i.is_up n k d)) c.self.view_is
     (on_up i.is_up (λ b. Told (stamped_as b i.last j s) c.args.clock c.args.walker e w.outcome (stamped_as b n k d)) c.if-not-self.false
     (entered i.last j k s d c.args.clock c.args.walker e (happen_up s e) w.outcome w.copy n (events_alike i.last j s e refl) happens c.in-Ok.ensures.ok grown))

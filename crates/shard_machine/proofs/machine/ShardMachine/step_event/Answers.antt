@@ -1,7 +1,7 @@
 -- Each event by its own call.
-use Rattle.std.proofs.Common.{refl, sym, subst, Option}
+use Rattle.std.proofs.Common.{refl, sym, ap, ◌∙◌, subst, Option}
 use Rattle.clv_base.specs.declared.events.Event.{Event}
-use Rattle.clv_base.specs.declared.events.Event.TheVariants.{Deliver}
+use Rattle.clv_base.specs.declared.events.Event.TheVariants.{Op as OpEvent, Deliver}
 use Rattle.clv_base.specs.declared.events.Entry.{Entry}
 use Rattle.clv_base.specs.Events.{step}
 use Rattle.machine_calls.specs.Steps.{Tells}
@@ -11,7 +11,8 @@ use Rattle.shard_machine.proofs.machine.ShardMachine.step_event.Goals as goal
 pub returns-in-Op-clause-told : goal.returns-in-Op-clause-told
 returns-in-Op-clause-told g c =
     let s = c.args.self.now.shard in let t = c.operate.new.self.shard in
-    subst (λ (e : Event). (x : Option Entry) × Tells (step s c.args.clock c.args.walker e) s c.args.clock c.args.walker e c.operate.result t x) (sym c.in-Op.is) c.operate.ensures.told
+    subst (λ (e : Event). (x : Option Entry) × Tells (step s c.args.clock c.args.walker e) s c.args.clock c.args.walker e c.operate.result t x)
+    (ap (λ o. OpEvent c.in-Op.tx c.in-Op.birth c.in-Op.nth c.in-Op.seen o) c.op.ensures ∙ sym c.in-Op.is) c.operate.ensures.told
 
 pub returns-in-Request-clause-told : goal.returns-in-Request-clause-told
 returns-in-Request-clause-told g c =
