@@ -9,6 +9,7 @@ use Rattle.clv_base.proofs.SameNames.{nat_cmp_true}
 use Rattle.std.specs.declared.cmp.Ordering.{Ordering}
 use Rattle.std.specs.declared.cmp.Ordering.TheVariants.{Less, Equal, Greater}
 use Rattle.std.proofs.lemmas.Bool.{both_ways, and_parts}
+use Rattle.clv_base.specs.declared.values.Value.{Value as ValueType}
 use Rattle.clv_base.specs.declared.names.TxId.{TxId}
 use Rattle.clv_base.specs.declared.names.Birth.{Birth}
 use Rattle.clv_base.specs.declared.names.Point.{Point}
@@ -269,7 +270,7 @@ at_last splits key _ gets n l m k = refl
 at_last splits key _ (puts value) n l m k = refl
 at_last splits key _ dels n l m k = refl
 
-no_pairs : {X : Type 0} (key : ℕ) (o : Operation) (pairs : List (ℕ × ℕ)) → IsAt key o → may_answer o (Pairs pairs) ≡ true → X
+no_pairs : {X : Type 0} (key : ℕ) (o : Operation) (pairs : List (ℕ × ValueType)) → IsAt key o → may_answer o (Pairs pairs) ≡ true → X
 no_pairs key _ pairs gets h = absurd (both_ways false refl h)
 no_pairs key _ pairs (puts value) h = absurd (both_ways false refl h)
 no_pairs key _ pairs dels h = absurd (both_ways false refl h)

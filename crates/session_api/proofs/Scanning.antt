@@ -4,6 +4,7 @@ use Rattle.std.specs.Prelude.{◌⊎◌, IsTrue}
 use Rattle.std.specs.Map.{lookup}
 use Rattle.std.proofs.lemmas.Bool.{both_ways, and_parts, leb-true, ltb-true, le-leb}
 use Rattle.std.proofs.lemmas.List.Folds.{list_any-append}
+use Rattle.clv_base.specs.declared.values.Value.{Value as ValueType}
 use Rattle.clv_base.specs.declared.names.TxId.{TxId}
 use Rattle.clv_base.specs.declared.names.Birth.{Birth}
 use Rattle.clv_base.specs.declared.names.Point.{Point}
@@ -279,7 +280,7 @@ module _ {M S G : Type 0} (sh : Shards M S G) (asked : Point) (birth : Birth) (l
   -- ---- its end
 
   -- the whole scan
-  all_told : (answers : List Answer) (pairs : List (ℕ × ℕ)) (v : Walker M S G) (q : SessionState) → SoFar (shard_count sh.splits) answers v q → answers ≢ [] → pairs ≡ all_pairs answers
+  all_told : (answers : List Answer) (pairs : List (ℕ × ValueType)) (v : Walker M S G) (q : SessionState) → SoFar (shard_count sh.splits) answers v q → answers ≢ [] → pairs ≡ all_pairs answers
       → OperateTold p.tx birth p.nth (touched_in p.touched) (Scan lo hi) (Ok (Pairs pairs)) (seen_as sh w asked (is_active p birth)) (seen_as sh v asked (is_active q birth))
   all_told answers pairs v q s some is = (
     s.es,
@@ -316,7 +317,7 @@ module _ {M S G : Type 0} (sh : Shards M S G) (asked : Point) (birth : Birth) (l
 
     pub failed_told : (e : OpError) (made : PartMade sh birth (p.nth + 1) n x u m (Err e) v q) → EntriesBy n (Op m.tx birth (p.nth + 1) (lookup (◌==◌ n) m.touched) (Scan x.0 x.1)) (Err e) (made_in made.turns.asking)
         → PlacedBy n (p.nth + 1) (Scan x.0 x.1) m (Err e) q
-        → OperateTold p.tx birth p.nth (touched_in p.touched) (Scan lo hi) (pairs_end (Err e)) (seen_as sh w asked (is_active p birth)) (seen_as sh v asked (unless_dead q birth (has_died {A = List (ℕ × ℕ)} (Err e))))
+        → OperateTold p.tx birth p.nth (touched_in p.touched) (Scan lo hi) (pairs_end (Err e)) (seen_as sh w asked (is_active p birth)) (seen_as sh v asked (unless_dead q birth (has_died {A = List (ℕ × ValueType)} (Err e))))
     failed_told (op.Aborted cause) made (y, is, event, outcome) place = (
       s.es ++ (n, y) ∷ [],
       made_in made.turns.leaving,
@@ -429,7 +430,7 @@ module _ (M S G : Type 0) where
       count = active.ready.walker.count
 
       failed : (e : OpError) → PartFailed sh birth (p.nth + 1) lo hi w p e v q
-          → OperateTold p.tx birth p.nth (touched_in p.touched) (Scan lo hi) (pairs_end (Err e)) (seen_as sh w asked (is_active p birth)) (seen_as sh v asked (unless_dead q birth (has_died {A = List (ℕ × ℕ)} (Err e))))
+          → OperateTold p.tx birth p.nth (touched_in p.touched) (Scan lo hi) (pairs_end (Err e)) (seen_as sh w asked (is_active p birth)) (seen_as sh v asked (unless_dead q birth (has_died {A = List (ℕ × ValueType)} (Err e))))
       failed e f = by f.fails f.made
         where
           s : SoFar sh asked birth lo hi w p rise small has f.shard f.answers f.walker f.middle
@@ -439,18 +440,18 @@ module _ (M S G : Type 0) where
           below = let b = f.below in let c = count in omega arith
 
           by : Fails f.answer e → PartMade sh birth (p.nth + 1) f.shard f.part f.walker f.middle f.answer v q
-              → OperateTold p.tx birth p.nth (touched_in p.touched) (Scan lo hi) (pairs_end (Err e)) (seen_as sh w asked (is_active p birth)) (seen_as sh v asked (unless_dead q birth (has_died {A = List (ℕ × ℕ)} (Err e))))
+              → OperateTold p.tx birth p.nth (touched_in p.touched) (Scan lo hi) (pairs_end (Err e)) (seen_as sh w asked (is_active p birth)) (seen_as sh v asked (unless_dead q birth (has_died {A = List (ℕ × ValueType)} (Err e))))
           by (inl is) made =
               let own = subst (λ a. PartMade sh birth (p.nth + 1) f.shard f.part f.walker f.middle a v q) is made in
               failed_told sh asked birth lo hi w p rise small has v q f.shard f.part f.answers f.walker f.middle s f.meets below e own
               (its_entries sh asked birth lo hi w p rise small has f.shard f.part f.answers f.walker v f.middle q s f.meets (Err e) own) own.place
           by (inr ((a, is), wants)) made =
               let own = subst (λ z. PartMade sh birth (p.nth + 1) f.shard f.part f.walker f.middle z v q) is made in
-              subst (λ z. OperateTold p.tx birth p.nth (touched_in p.touched) (Scan lo hi) (pairs_end (Err z)) (seen_as sh w asked (is_active p birth)) (seen_as sh v asked (unless_dead q birth (has_died {A = List (ℕ × ℕ)} (Err z))))) (sym wants)
+              subst (λ z. OperateTold p.tx birth p.nth (touched_in p.touched) (Scan lo hi) (pairs_end (Err z)) (seen_as sh w asked (is_active p birth)) (seen_as sh v asked (unless_dead q birth (has_died {A = List (ℕ × ValueType)} (Err z))))) (sym wants)
               (forgotten sh asked birth lo hi w p rise small has v q f.shard f.part f.answers f.walker f.middle s f.meets below a own
               (with_part sh asked birth lo hi w p rise small has f.shard f.part f.answers f.walker v f.middle q s f.meets a own))
 
-      at : (r : Result (List (ℕ × ℕ)) OpError) → PartsTold sh birth (p.nth + 1) lo hi w p r v q
+      at : (r : Result (List (ℕ × ValueType)) OpError) → PartsTold sh birth (p.nth + 1) lo hi w p r v q
           → OperateTold p.tx birth p.nth (touched_in p.touched) (Scan lo hi) (pairs_end r) (seen_as sh w asked (is_active p birth)) (seen_as sh v asked (unless_dead q birth (has_died r)))
       at (Ok pairs) (answers, made, is) =
           let s = subst (λ k. SoFar sh asked birth lo hi w p rise small has k answers v q) count (so_far sh asked birth lo hi w p rise small has (length sh.locks.items) answers v q made) in

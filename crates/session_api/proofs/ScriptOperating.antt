@@ -1,6 +1,7 @@
 -- Operations, as whoever runs a script is told of them.
 use Rattle.std.proofs.Common.{◌≡◌, ◌∙◌, refl, sym, ap, subst, ℕ, suc, ◌<◌, ◌≤◌, ◌^◌, Bool, true, false, List, [], length, Option, Some, None, Result, Ok, Err}
 use Rattle.std.proofs.lemmas.Bool.{leb-true, le-ltb}
+use Rattle.clv_base.specs.declared.values.Value.{Value as ValueType}
 use Rattle.clv_base.specs.declared.names.TxId.{TxId}
 use Rattle.clv_base.specs.declared.names.Birth.{Birth}
 use Rattle.clv_base.specs.declared.names.Point.{Point}
@@ -93,8 +94,8 @@ module _ {M S G : Type 0} (sh : Shards M S G) (last : Point) where
 
   -- ---- at a key
 
-  abbrev pub PointDone : Walker M S G → Progress → Op → Result (Option ℕ) OpError → Walker M S G → Progress → Type 0
-  PointDone w s op r v t = (e : Result (Option ℕ) Failure) × (r ≡ answer_told e) × Done w s op (value_end e) sh v t
+  abbrev pub PointDone : Walker M S G → Progress → Op → Result (Option ValueType) OpError → Walker M S G → Progress → Type 0
+  PointDone w s op r v t = (e : Result (Option ValueType) Failure) × (r ≡ answer_told e) × Done w s op (value_end e) sh v t
 
   point_grounds : (w v : Walker M S G) (n : ℕ) (p : SessionState) (e : Event) (answer : Result Answer Failure) → Performing (length sh.locks.items) w.number w.clock w.passes.items n p e answer v.clock v.passes.items
       → OnRefusal (Grounds v) (value_end (value_in answer))
@@ -105,7 +106,7 @@ module _ {M S G : Type 0} (sh : Shards M S G) (last : Point) where
   point_grounds w v n p e (Err (failed.Worn at)) k = worn_is_last at w.number w.clock v.clock w.passes.items v.passes.items _ k.took (any_before (FindsWorn at) k.asking k.leaving k.told)
   point_grounds w v n p e (Err failed.Memory) k = tt
 
-  point_made : (w v : Walker M S G) (p : SessionState) (t : Progress) (key : ℕ) (op : Op) (r : Result (Option ℕ) OpError) → Holds sh w (progress.Active p) → IsSession sh v t → IsAt key op → PointMade sh w p op key r v t
+  point_made : (w v : Walker M S G) (p : SessionState) (t : Progress) (key : ℕ) (op : Op) (r : Result (Option ValueType) OpError) → Holds sh w (progress.Active p) → IsSession sh v t → IsAt key op → PointMade sh w p op key r v t
       → PointDone w (progress.Active p) op r v t
   point_made w v p t key op r h session is_at m =
       let b = ((h.session).stands).born in
@@ -124,7 +125,7 @@ module _ {M S G : Type 0} (sh : Shards M S G) (last : Point) where
         },
       )
 
-  pub point_done : (w v : Walker M S G) (s t : Progress) (key : ℕ) (op : Op) (r : Result (Option ℕ) OpError) → Holds sh w s → IsUnderWay s → IsAt key op → PointCalled sh w s op key r v t → IsSession sh v t → PointDone w s op r v t
+  pub point_done : (w v : Walker M S G) (s t : Progress) (key : ℕ) (op : Op) (r : Result (Option ValueType) OpError) → Holds sh w s → IsUnderWay s → IsAt key op → PointCalled sh w s op key r v t → IsSession sh v t → PointDone w s op r v t
   point_done w v progress.Idle t key op r h way is_at c session = idle_active None way.0 way.1 way.2 way.3 way.4
   point_done w v (progress.Active p) t key op r h way is_at c session = point_made w v p t key op r h session is_at c
   point_done w v (progress.Worn p) t key op r h way is_at c session = (Err (failed.Worn (2 ^ 48)), c.0, worn_done w v p t op h session (point_has_part sh.splits key op is_at) c.1 c.2)
@@ -133,10 +134,10 @@ module _ {M S G : Type 0} (sh : Shards M S G) (last : Point) where
 
   -- ---- scans
 
-  abbrev pub ScanDone : Walker M S G → Progress → ℕ → ℕ → Result (List (ℕ × ℕ)) OpError → Walker M S G → Progress → Type 0
-  ScanDone w s lo hi r v t = (e : Result (List (ℕ × ℕ)) Failure) × (r ≡ answer_told e) × Done w s (Scan lo hi) (pairs_end e) sh v t
+  abbrev pub ScanDone : Walker M S G → Progress → ℕ → ℕ → Result (List (ℕ × ValueType)) OpError → Walker M S G → Progress → Type 0
+  ScanDone w s lo hi r v t = (e : Result (List (ℕ × ValueType)) Failure) × (r ≡ answer_told e) × Done w s (Scan lo hi) (pairs_end e) sh v t
 
-  scan_grounds : (w v : Walker M S G) (x : Range) (touched : List (ℕ × ℕ)) (answer : Result (List (ℕ × ℕ)) Failure) → Scanning sh.splits (length sh.locks.items) w.number w.clock w.passes.items x touched answer v.clock v.passes.items
+  scan_grounds : (w v : Walker M S G) (x : Range) (touched : List (ℕ × ℕ)) (answer : Result (List (ℕ × ValueType)) Failure) → Scanning sh.splits (length sh.locks.items) w.number w.clock w.passes.items x touched answer v.clock v.passes.items
       → OnRefusal (Grounds v) (pairs_end answer)
   scan_grounds w v x touched (Ok pairs) k = tt
   scan_grounds w v x touched (Err (failed.Aborted cause)) k = tt
@@ -144,7 +145,7 @@ module _ {M S G : Type 0} (sh : Shards M S G) (last : Point) where
   scan_grounds w v x touched (Err (failed.Worn at)) k = worn_is_last at w.number w.clock v.clock w.passes.items v.passes.items k.turns k.took k.told
   scan_grounds w v x touched (Err failed.Memory) k = tt
 
-  scan_made : (w v : Walker M S G) (p : SessionState) (t : Progress) (lo hi : ℕ) (r : Result (List (ℕ × ℕ)) OpError) → Holds sh w (progress.Active p) → IsSession sh v t → lo ≤ hi → hi < 2 ^ 64 → ScanMade sh w p lo hi r v t
+  scan_made : (w v : Walker M S G) (p : SessionState) (t : Progress) (lo hi : ℕ) (r : Result (List (ℕ × ValueType)) OpError) → Holds sh w (progress.Active p) → IsSession sh v t → lo ≤ hi → hi < 2 ^ 64 → ScanMade sh w p lo hi r v t
       → ScanDone w (progress.Active p) lo hi r v t
   scan_made w v p t lo hi r h session falls small m =
       let b = ((h.session).stands).born in
@@ -163,7 +164,7 @@ module _ {M S G : Type 0} (sh : Shards M S G) (last : Point) where
         },
       )
 
-  range_done : (w v : Walker M S G) (s t : Progress) (lo hi : ℕ) (r : Result (List (ℕ × ℕ)) OpError) → Holds sh w s → IsUnderWay s → lo ≤ hi → hi < 2 ^ 64 → RangeCalled sh w s lo hi r v t → IsSession sh v t → ScanDone w s lo hi r v t
+  range_done : (w v : Walker M S G) (s t : Progress) (lo hi : ℕ) (r : Result (List (ℕ × ValueType)) OpError) → Holds sh w s → IsUnderWay s → lo ≤ hi → hi < 2 ^ 64 → RangeCalled sh w s lo hi r v t → IsSession sh v t → ScanDone w s lo hi r v t
   range_done w v progress.Idle t lo hi r h way falls small c session = idle_active None way.0 way.1 way.2 way.3 way.4
   range_done w v (progress.Active p) t lo hi r h way falls small c session = scan_made w v p t lo hi r h session falls small c
   range_done w v (progress.Worn p) t lo hi r h way falls small c session = (Err (failed.Worn (2 ^ 48)), c.0, worn_done w v p t (Scan lo hi) h session (scan_has_part sh.splits lo hi h.splits falls small) c.1 c.2)
@@ -171,11 +172,11 @@ module _ {M S G : Type 0} (sh : Shards M S G) (last : Point) where
   range_done w v (progress.Ended p) t lo hi r h way falls small c session = idle_active p.birth way.0 way.1 way.2 way.3 way.4
 
   -- the bounds don't fall
-  beside : (w v : Walker M S G) (s t : Progress) (lo hi : ℕ) (r : Result (List (ℕ × ℕ)) OpError) (active : Option TxId) → RangeBeside active false sh w s lo hi r v t → RangeCalled sh w s lo hi r v t
+  beside : (w v : Walker M S G) (s t : Progress) (lo hi : ℕ) (r : Result (List (ℕ × ValueType)) OpError) (active : Option TxId) → RangeBeside active false sh w s lo hi r v t → RangeCalled sh w s lo hi r v t
   beside w v s t lo hi r None c = c
   beside w v s t lo hi r (Some tx) c = c
 
-  pub scan_done : (w v : Walker M S G) (s t : Progress) (lo hi : ℕ) (r : Result (List (ℕ × ℕ)) OpError) → Holds sh w s → IsUnderWay s → has_range (Scan lo hi) ≡ true → hi < 2 ^ 64 → ScanCalled sh w s lo hi r v t → IsSession sh v t
+  pub scan_done : (w v : Walker M S G) (s t : Progress) (lo hi : ℕ) (r : Result (List (ℕ × ValueType)) OpError) → Holds sh w s → IsUnderWay s → has_range (Scan lo hi) ≡ true → hi < 2 ^ 64 → ScanCalled sh w s lo hi r v t → IsSession sh v t
       → ScanDone w s lo hi r v t
   scan_done w v s t lo hi r h way range small c session =
       let falls = leb-true lo hi range in
@@ -185,28 +186,28 @@ module _ {M S G : Type 0} (sh : Shards M S G) (last : Point) where
   -- ---- the calls, as the session makes them
 
   -- each answer is one of an operation that was made
-  pub point_answers : (after : Shards M S G) (w v : Walker M S G) (s t : Progress) (key : ℕ) (op : Op) (r : Result (Option ℕ) OpError) → after ≡ sh → Holds sh w s → IsUnderWay s → IsAt key op → PointCalled sh w s op key r v t → IsSession after v t
-      → (e : Result (Option ℕ) Failure) × (r ≡ answer_told e)
+  pub point_answers : (after : Shards M S G) (w v : Walker M S G) (s t : Progress) (key : ℕ) (op : Op) (r : Result (Option ValueType) OpError) → after ≡ sh → Holds sh w s → IsUnderWay s → IsAt key op → PointCalled sh w s op key r v t → IsSession after v t
+      → (e : Result (Option ValueType) Failure) × (r ≡ answer_told e)
   point_answers after w v s t key op r same h way is_at c session = let k = point_done w v s t key op r h way is_at c (subst (λ x. IsSession x v t) same session) in (k.0, k.1)
 
-  pub point_call : (after : Shards M S G) (w v : Walker M S G) (s t : Progress) (key : ℕ) (asked op : Op) (r : Result (Option ℕ) OpError) (result : Result Answer TryEnd) → after ≡ sh → asked ≡ op → Holds sh w s → IsUnderWay s → IsAt key op
-      → PointCalled sh w s op key r v t → IsSession after v t → ((e : Result (Option ℕ) Failure) → r ≡ answer_told e → result ≡ value_end e) → Done w s asked result after v t
+  pub point_call : (after : Shards M S G) (w v : Walker M S G) (s t : Progress) (key : ℕ) (asked op : Op) (r : Result (Option ValueType) OpError) (result : Result Answer TryEnd) → after ≡ sh → asked ≡ op → Holds sh w s → IsUnderWay s → IsAt key op
+      → PointCalled sh w s op key r v t → IsSession after v t → ((e : Result (Option ValueType) Failure) → r ≡ answer_told e → result ≡ value_end e) → Done w s asked result after v t
   point_call after w v s t key asked op r result same is h way is_at c session told =
       let k = point_done w v s t key op r h way is_at c (subst (λ x. IsSession x v t) same session) in
       subst (λ x. Done w s x result after v t) (sym is) (subst (λ x. Done w s op x after v t) (sym (told k.0 k.1)) (subst (λ x. Done w s op (value_end k.0) x v t) (sym same) k.2))
 
   -- of a scan up to hi, which is small
-  scan_so : (after : Shards M S G) (w v : Walker M S G) (s t : Progress) (lo hi upto : ℕ) (asked : Op) (r : Result (List (ℕ × ℕ)) OpError) → after ≡ sh → asked ≡ Scan lo hi → upto ≡ hi → Holds sh w s → IsUnderWay s → has_range asked ≡ true → hi < 2 ^ 64
+  scan_so : (after : Shards M S G) (w v : Walker M S G) (s t : Progress) (lo hi upto : ℕ) (asked : Op) (r : Result (List (ℕ × ValueType)) OpError) → after ≡ sh → asked ≡ Scan lo hi → upto ≡ hi → Holds sh w s → IsUnderWay s → has_range asked ≡ true → hi < 2 ^ 64
       → ScanCalled sh w s lo upto r v t → IsSession after v t → ScanDone w s lo hi r v t
   scan_so after w v s t lo hi upto asked r same is end h way range small c session =
       scan_done w v s t lo hi r h way (ap has_range (sym is) ∙ range) small (subst (λ x. ScanCalled sh w s lo x r v t) end c) (subst (λ x. IsSession x v t) same session)
 
-  pub scan_answers : (after : Shards M S G) (w v : Walker M S G) (s t : Progress) (lo hi upto : ℕ) (asked : Op) (r : Result (List (ℕ × ℕ)) OpError) → after ≡ sh → asked ≡ Scan lo hi → upto ≡ hi → Holds sh w s → IsUnderWay s → has_range asked ≡ true → hi < 2 ^ 64
-      → ScanCalled sh w s lo upto r v t → IsSession after v t → (e : Result (List (ℕ × ℕ)) Failure) × (r ≡ answer_told e)
+  pub scan_answers : (after : Shards M S G) (w v : Walker M S G) (s t : Progress) (lo hi upto : ℕ) (asked : Op) (r : Result (List (ℕ × ValueType)) OpError) → after ≡ sh → asked ≡ Scan lo hi → upto ≡ hi → Holds sh w s → IsUnderWay s → has_range asked ≡ true → hi < 2 ^ 64
+      → ScanCalled sh w s lo upto r v t → IsSession after v t → (e : Result (List (ℕ × ValueType)) Failure) × (r ≡ answer_told e)
   scan_answers after w v s t lo hi upto asked r same is end h way range small c session = let k = scan_so after w v s t lo hi upto asked r same is end h way range small c session in (k.0, k.1)
 
-  pub scan_call : (after : Shards M S G) (w v : Walker M S G) (s t : Progress) (lo hi upto : ℕ) (asked : Op) (r : Result (List (ℕ × ℕ)) OpError) (result : Result Answer TryEnd) → after ≡ sh → asked ≡ Scan lo hi → upto ≡ hi → Holds sh w s → IsUnderWay s
-      → has_range asked ≡ true → hi < 2 ^ 64 → ScanCalled sh w s lo upto r v t → IsSession after v t → ((e : Result (List (ℕ × ℕ)) Failure) → r ≡ answer_told e → result ≡ pairs_end e) → Done w s asked result after v t
+  pub scan_call : (after : Shards M S G) (w v : Walker M S G) (s t : Progress) (lo hi upto : ℕ) (asked : Op) (r : Result (List (ℕ × ValueType)) OpError) (result : Result Answer TryEnd) → after ≡ sh → asked ≡ Scan lo hi → upto ≡ hi → Holds sh w s → IsUnderWay s
+      → has_range asked ≡ true → hi < 2 ^ 64 → ScanCalled sh w s lo upto r v t → IsSession after v t → ((e : Result (List (ℕ × ValueType)) Failure) → r ≡ answer_told e → result ≡ pairs_end e) → Done w s asked result after v t
   scan_call after w v s t lo hi upto asked r result same is end h way range small c session told =
       let k = scan_so after w v s t lo hi upto asked r same is end h way range small c session in
       subst (λ x. Done w s x result after v t) (sym is) (subst (λ x. Done w s (Scan lo hi) x after v t) (sym (told k.0 k.1)) (subst (λ x. Done w s (Scan lo hi) (pairs_end k.0) x v t) (sym same) k.2))

@@ -1,6 +1,7 @@
 -- A session, as whoever runs a script sees it.
 use Rattle.std.specs.Prelude.{ℕ, ◌==◌, Bool, true, false, is_some, List, Option, Some, None, Result, Ok, Err}
 use Rattle.std.specs.Map.{lookup}
+use Rattle.clv_base.specs.declared.values.Value.{Value as ValueType}
 use Rattle.clv_base.specs.declared.names.Birth.{Birth}
 use Rattle.clv_base.specs.declared.names.Point.{Point}
 use Rattle.clv_base.specs.declared.ops.Answer.{Answer}
@@ -80,11 +81,11 @@ op_end (op.Down n) = Stopped (Down n)
 op_end (op.Worn at) = Stopped (Worn at)
 op_end op.Memory = Stopped Memory
 
-abbrev pub value_end : Result (Option ℕ) OpError → Result Answer TryEnd
+abbrev pub value_end : Result (Option ValueType) OpError → Result Answer TryEnd
 value_end (Ok value) = Ok (Value value)
 value_end (Err e) = Err (op_end e)
 
-abbrev pub pairs_end : Result (List (ℕ × ℕ)) OpError → Result Answer TryEnd
+abbrev pub pairs_end : Result (List (ℕ × ValueType)) OpError → Result Answer TryEnd
 pairs_end (Ok pairs) = Ok (Pairs pairs)
 pairs_end (Err e) = Err (op_end e)
 

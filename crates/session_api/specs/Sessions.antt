@@ -1,5 +1,6 @@
 -- A session, and what its calls tell.
 use Rattle.std.specs.Prelude.{◌≡◌, ℕ, ◌<◌, ◌≤◌, ◌+◌, ◌-◌, ◌^◌, Bool, true, false, nat_lt, length, List, Option, Some, None, Result, Ok, Err}
+use Rattle.clv_base.specs.declared.values.Value.{Value as ValueType}
 use Rattle.clv_base.specs.declared.names.TxId.{TxId}
 use Rattle.clv_base.specs.declared.names.Birth.{Birth}
 use Rattle.clv_base.specs.declared.names.Point.{Point}
@@ -100,8 +101,8 @@ module _ {M S G : Type 0} where
   OpRefused w s r v t = (r ≡ Err (refusal_of s)) × (v ≡ w) × (t ≡ s)
 
   -- one operation at a key, of the active transaction p: the walker keeps its number and its serial, and the place after it stands as it tells
-  pub record PointMade (sh : Shards M S G) (w : Walker M S G) (p : SessionState) (op : Op) (key : ℕ) (r : Result (Option ℕ) OpError) (v : Walker M S G) (t : Progress) : Type 0 where
-    pub answer : Result (Option ℕ) Failure
+  pub record PointMade (sh : Shards M S G) (w : Walker M S G) (p : SessionState) (op : Op) (key : ℕ) (r : Result (Option ValueType) OpError) (v : Walker M S G) (t : Progress) : Type 0 where
+    pub answer : Result (Option ValueType) Failure
     pub place : SessionState
     pub told : PointTold sh w p op key answer v place
     pub walker : IsSameWalker w v
@@ -109,7 +110,7 @@ module _ {M S G : Type 0} where
     pub is : r ≡ answer_told answer
     pub then : t ≡ after_op place (has_died answer)
 
-  abbrev pub PointCalled : Shards M S G → Walker M S G → Progress → Op → ℕ → Result (Option ℕ) OpError → Walker M S G → Progress → Type 0
+  abbrev pub PointCalled : Shards M S G → Walker M S G → Progress → Op → ℕ → Result (Option ValueType) OpError → Walker M S G → Progress → Type 0
   PointCalled sh w (Active p) op key r v t = PointMade sh w p op key r v t
   PointCalled sh w Idle op key r v t = OpRefused w Idle r v t
   PointCalled sh w (Worn p) op key r v t = OpRefused w (Worn p) r v t
@@ -117,8 +118,8 @@ module _ {M S G : Type 0} where
   PointCalled sh w (Ended p) op key r v t = OpRefused w (Ended p) r v t
 
   -- a scan of the active transaction p
-  pub record ScanMade (sh : Shards M S G) (w : Walker M S G) (p : SessionState) (lo hi : ℕ) (r : Result (List (ℕ × ℕ)) OpError) (v : Walker M S G) (t : Progress) : Type 0 where
-    pub answer : Result (List (ℕ × ℕ)) Failure
+  pub record ScanMade (sh : Shards M S G) (w : Walker M S G) (p : SessionState) (lo hi : ℕ) (r : Result (List (ℕ × ValueType)) OpError) (v : Walker M S G) (t : Progress) : Type 0 where
+    pub answer : Result (List (ℕ × ValueType)) Failure
     pub place : SessionState
     pub turns :
         (birth : Birth) → p.birth ≡ Some birth
@@ -130,7 +131,7 @@ module _ {M S G : Type 0} where
     pub is : r ≡ answer_told answer
     pub then : t ≡ after_op place (has_died answer)
 
-  abbrev pub RangeCalled : Shards M S G → Walker M S G → Progress → ℕ → ℕ → Result (List (ℕ × ℕ)) OpError → Walker M S G → Progress → Type 0
+  abbrev pub RangeCalled : Shards M S G → Walker M S G → Progress → ℕ → ℕ → Result (List (ℕ × ValueType)) OpError → Walker M S G → Progress → Type 0
   RangeCalled sh w (Active p) lo hi r v t = ScanMade sh w p lo hi r v t
   RangeCalled sh w Idle lo hi r v t = OpRefused w Idle r v t
   RangeCalled sh w (Worn p) lo hi r v t = OpRefused w (Worn p) r v t
@@ -138,12 +139,12 @@ module _ {M S G : Type 0} where
   RangeCalled sh w (Ended p) lo hi r v t = OpRefused w (Ended p) r v t
 
   -- where one is active and the bounds fall, the range is bad
-  abbrev pub RangeBeside : Option TxId → Bool → Shards M S G → Walker M S G → Progress → ℕ → ℕ → Result (List (ℕ × ℕ)) OpError → Walker M S G → Progress → Type 0
+  abbrev pub RangeBeside : Option TxId → Bool → Shards M S G → Walker M S G → Progress → ℕ → ℕ → Result (List (ℕ × ValueType)) OpError → Walker M S G → Progress → Type 0
   RangeBeside (Some tx) true sh w s lo hi r v t = (r ≡ Err (BadRange lo hi)) × (v ≡ w) × (t ≡ s)
   RangeBeside (Some tx) false sh w s lo hi r v t = RangeCalled sh w s lo hi r v t
   RangeBeside None falls sh w s lo hi r v t = RangeCalled sh w s lo hi r v t
 
-  abbrev pub ScanCalled : Shards M S G → Walker M S G → Progress → ℕ → ℕ → Result (List (ℕ × ℕ)) OpError → Walker M S G → Progress → Type 0
+  abbrev pub ScanCalled : Shards M S G → Walker M S G → Progress → ℕ → ℕ → Result (List (ℕ × ValueType)) OpError → Walker M S G → Progress → Type 0
   ScanCalled sh w s lo hi r v t = RangeBeside (active_tx s) (nat_lt hi lo) sh w s lo hi r v t
 
   -- ---- commits

@@ -1,5 +1,6 @@
 -- What the answers of a session's calls tell of its entries.
 use Rattle.std.specs.Prelude.{◌≡◌, ℕ, ◌+◌, ◌^◌, ◌<◌, ◌≤◌, IsTrue, List, length, Option, Some, None, Result}
+use Rattle.clv_base.specs.declared.values.Value.{Value as ValueType}
 use Rattle.clv_base.specs.Shards.{are_splits}
 use Rattle.session_ops.specs.Stepped.{PartsTold}
 use Rattle.clv_base.specs.declared.names.Birth.{Birth}
@@ -29,20 +30,20 @@ use Rattle.session_api.specs.Seeing.{seen_as, touched_in, is_active, unless_dead
 -- an operation at this key
 pub data IsAt (key : ℕ) : Op → Type 0 where
   gets : IsAt key (Get key)
-  puts : (value : ℕ) → IsAt key (Put key value)
+  puts : (value : ValueType) → IsAt key (Put key value)
   dels : IsAt key (Del key)
 
 -- its entry is the operation's, if it was answered; else there is none, but where the transaction died of it, and then there are drops behind it
 abbrev pub PointsTell : (M S G : Type 0) → Type 0
 PointsTell M S G =
-    (sh : Shards M S G) (w v : Walker M S G) (asked : Point) (p q : SessionState) (birth : Birth) (key : ℕ) (op : Op) (r : Result (Option ℕ) OpError) → IsAt key op → IsActive sh w p → p.birth ≡ Some birth → IsSameWalker w v
+    (sh : Shards M S G) (w v : Walker M S G) (asked : Point) (p q : SessionState) (birth : Birth) (key : ℕ) (op : Op) (r : Result (Option ValueType) OpError) → IsAt key op → IsActive sh w p → p.birth ≡ Some birth → IsSameWalker w v
     → PointTold sh w p op key r v q → StandsUnless (has_died r) sh v q
     → OperateTold p.tx birth p.nth (touched_in p.touched) op (value_end r) (seen_as sh w asked (is_active p birth)) (seen_as sh v asked (unless_dead q birth (has_died r)))
 
 -- a scan's entries are those of its parts, shards rising, up to one that wasn't answered; where it died of one, there are drops behind it
 abbrev pub ScansTell : (M S G : Type 0) → Type 0
 ScansTell M S G =
-    (sh : Shards M S G) (w v : Walker M S G) (asked : Point) (p q : SessionState) (birth : Birth) (lo hi : ℕ) (r : Result (List (ℕ × ℕ)) OpError) → IsTrue (are_splits sh.splits) → lo ≤ hi → hi < 2 ^ 64 → IsActive sh w p → p.birth ≡ Some birth
+    (sh : Shards M S G) (w v : Walker M S G) (asked : Point) (p q : SessionState) (birth : Birth) (lo hi : ℕ) (r : Result (List (ℕ × ValueType)) OpError) → IsTrue (are_splits sh.splits) → lo ≤ hi → hi < 2 ^ 64 → IsActive sh w p → p.birth ≡ Some birth
     → PartsTold sh birth (p.nth + 1) lo hi w p r v q → StandsUnless (has_died r) sh v q
     → OperateTold p.tx birth p.nth (touched_in p.touched) (Scan lo hi) (pairs_end r) (seen_as sh w asked (is_active p birth)) (seen_as sh v asked (unless_dead q birth (has_died r)))
 

@@ -74,14 +74,20 @@ impl<'a, M: Flier, P: Pace, R: Wait> SessionCalls for ScriptSession<'a, M, P, R>
         }
     }
 
-    fn operate(&mut self, alloc: Global, op: Op) -> Result<Answer, TryEnd> {
+    fn operate(&mut self, alloc: Global, op: &Op) -> Result<Answer, TryEnd> {
         let shards = self.session.shards;
         let walker = self.session.walker.number;
         match op {
-            Op::Get(key) => value_told(shards, walker, self.session.get(alloc, key)),
-            Op::Put(key, value) => value_told(shards, walker, self.session.put(alloc, key, value)),
-            Op::Del(key) => value_told(shards, walker, self.session.del(alloc, key)),
-            Op::Scan(lo, hi) => pairs_told(shards, walker, self.session.scan(alloc, lo, bound(hi))),
+            Op::Get(key) => value_told(shards, walker, self.session.get(alloc, *key)),
+            Op::Put(key, value) => {
+                let answer = self.session.put(alloc, *key, value.copy());
+                value_told(shards, walker, answer)
+            }
+            Op::Del(key) => value_told(shards, walker, self.session.del(alloc, *key)),
+            Op::Scan(lo, hi) => {
+                let answer = self.session.scan(alloc, *lo, bound(*hi));
+                pairs_told(shards, walker, answer)
+            }
         }
     }
 

@@ -1,6 +1,7 @@
 // What a session's answers are to a try.
 ghost use Rattle.std.specs.Prelude.{◌≡◌, ◌≢◌, ℕ, List, Option, Result, Err};
 ghost use Rattle.clv_base.specs.declared.names.TxId.{TxId as TxIdIs};
+ghost use Rattle.clv_base.specs.declared.values.Value.{Value as ValueType};
 ghost use Rattle.cluster_turns.specs.declared.shards.WornClock.{WornClock};
 ghost use Rattle.session_ops.specs.declared.operating.OpError.{OpError as Failure};
 ghost use Rattle.session_ops.specs.declared.committing.Settled.{Settled as SettledIs};
@@ -14,6 +15,7 @@ use cluster_turns::Shards;
 use clv_base::lists::Pairs;
 use clv_base::names::{Point, TxId};
 use clv_base::ops::Answer;
+use clv_base::values::Value;
 use machine_calls::Machine;
 use script_runs::{StopCause, TryEnd};
 
@@ -66,10 +68,10 @@ fn failed<M: Machine>(shards: &Shards<M>, walker: u32, error: OpError) -> TryEnd
 pub(crate) fn value_told<M: Machine>(
     shards: &Shards<M>,
     walker: u32,
-    answer: Result<Option<u64>, OpError>,
+    answer: Result<Option<Value>, OpError>,
 ) -> Result<Answer, TryEnd>
-    requires made { (e : Result (Option ℕ) Failure) × (answer ≡ answer_told e) }
-    ensures told { (e : Result (Option ℕ) Failure) → answer ≡ answer_told e → result ≡ value_end e }
+    requires made { (e : Result (Option ValueType) Failure) × (answer ≡ answer_told e) }
+    ensures told { (e : Result (Option ValueType) Failure) → answer ≡ answer_told e → result ≡ value_end e }
 {
     match answer {
         Ok(value) => Ok(Answer::Value(value)),
@@ -83,8 +85,8 @@ pub(crate) fn pairs_told<M: Machine>(
     walker: u32,
     answer: Result<Pairs, OpError>,
 ) -> Result<Answer, TryEnd>
-    requires made { (e : Result (List (ℕ × ℕ)) Failure) × (answer ≡ answer_told e) }
-    ensures told { (e : Result (List (ℕ × ℕ)) Failure) → answer ≡ answer_told e → result ≡ pairs_end e }
+    requires made { (e : Result (List (ℕ × ValueType)) Failure) × (answer ≡ answer_told e) }
+    ensures told { (e : Result (List (ℕ × ValueType)) Failure) → answer ≡ answer_told e → result ≡ pairs_end e }
 {
     match answer {
         Ok(pairs) => Ok(Answer::Pairs(pairs)),

@@ -14,6 +14,7 @@ use cluster_turns::Place;
 use clv_base::causes::AbortCause;
 use clv_base::lists::Pairs;
 use clv_base::ops::Op;
+use clv_base::values::Value;
 use io_model::{Pace, Step};
 use machine_calls::Flier;
 use session_ops::{OpError as Failure, at_key, scan};
@@ -96,7 +97,7 @@ impl<'a, M: Flier, P: Pace, R: Wait> Session<'a, M, P, R> {
         place: Place,
         key: u64,
         op: Op,
-    ) -> Result<Option<u64>, OpError>
+    ) -> Result<Option<Value>, OpError>
         requires session { IsSession self.old.shards.now self.old.walker (Active place) }
         requires lies { lies_in self.old.shards.now.splits (shard_of self.old.shards.now.splits key) op ≡ in_span self.old.shards.now.splits (shard_of self.old.shards.now.splits key) key }
         ensures session { IsSession self.new.shards.now self.new.walker self.new.progress }
@@ -111,7 +112,7 @@ impl<'a, M: Flier, P: Pace, R: Wait> Session<'a, M, P, R> {
             &mut self.walker,
             &mut place,
             key,
-            op,
+            &op,
             self.pace,
         );
         let died = is_dead(&answer);
@@ -120,7 +121,7 @@ impl<'a, M: Flier, P: Pace, R: Wait> Session<'a, M, P, R> {
     }
 
     // One operation at a key.
-    fn call_at_key(&mut self, alloc: Global, key: u64, op: Op) -> Result<Option<u64>, OpError>
+    fn call_at_key(&mut self, alloc: Global, key: u64, op: Op) -> Result<Option<Value>, OpError>
         requires session { IsSession self.old.shards.now self.old.walker self.old.progress }
         requires lies { lies_in self.old.shards.now.splits (shard_of self.old.shards.now.splits key) op ≡ in_span self.old.shards.now.splits (shard_of self.old.shards.now.splits key) key }
         ensures session { IsSession self.new.shards.now self.new.walker self.new.progress }
@@ -139,7 +140,7 @@ impl<'a, M: Flier, P: Pace, R: Wait> Session<'a, M, P, R> {
 
     /// The value at a key. `NoTx` comes exactly where no transaction is active; every other answer is told by the turns of the call.
     /// After `Aborted` the transaction has ended, after every other answer it is active as before.
-    pub fn get(&mut self, alloc: Global, key: u64) -> Result<Option<u64>, OpError>
+    pub fn get(&mut self, alloc: Global, key: u64) -> Result<Option<Value>, OpError>
         requires session { IsSession self.old.shards.now self.old.walker self.old.progress }
         ensures session { IsSession self.new.shards.now self.new.walker self.new.progress }
         ensures shards { self.new.shards ≡ self.old.shards }
@@ -150,7 +151,7 @@ impl<'a, M: Flier, P: Pace, R: Wait> Session<'a, M, P, R> {
 
     /// Puts a value at a key; answers the one before. `NoTx` comes exactly where no transaction is active; every other answer is told by
     /// the turns of the call. After `Aborted` the transaction has ended, after every other answer it is active as before.
-    pub fn put(&mut self, alloc: Global, key: u64, value: u64) -> Result<Option<u64>, OpError>
+    pub fn put(&mut self, alloc: Global, key: u64, value: Value) -> Result<Option<Value>, OpError>
         requires session { IsSession self.old.shards.now self.old.walker self.old.progress }
         ensures session { IsSession self.new.shards.now self.new.walker self.new.progress }
         ensures shards { self.new.shards ≡ self.old.shards }
@@ -161,7 +162,7 @@ impl<'a, M: Flier, P: Pace, R: Wait> Session<'a, M, P, R> {
 
     /// Deletes a key; answers its value before. `NoTx` comes exactly where no transaction is active; every other answer is told by the
     /// turns of the call. After `Aborted` the transaction has ended, after every other answer it is active as before.
-    pub fn del(&mut self, alloc: Global, key: u64) -> Result<Option<u64>, OpError>
+    pub fn del(&mut self, alloc: Global, key: u64) -> Result<Option<Value>, OpError>
         requires session { IsSession self.old.shards.now self.old.walker self.old.progress }
         ensures session { IsSession self.new.shards.now self.new.walker self.new.progress }
         ensures shards { self.new.shards ≡ self.old.shards }

@@ -45,14 +45,7 @@ impl<'a, M: Flier, P: Pace, R: Wait> Session<'a, M, P, R> {
     pub fn into_walker(self) -> Walker<M>
         ensures { result ≡ self.entry.walker }
     {
-        let Session {
-            rt: _,
-            shards,
-            pace: _,
-            walker,
-            progress: _,
-        } = self;
-        shards.go_out(walker.number);
-        walker
+        self.shards.go_out(self.walker.number);
+        self.walker
     }
 }

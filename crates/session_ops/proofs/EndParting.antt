@@ -1,5 +1,6 @@
 -- The parts of a scan, one after another.
 use Rattle.std.proofs.Common.{◌≡◌, ◌∙◌, refl, sym, ap, subst, ℕ, suc, ◌<◌, ◌+◌, List, [], ◌∷◌, ◌++◌, append_assoc, append-nil, length, Option, Some, None, Result, Ok, Err, arith, inl, inr}
+use Rattle.clv_base.specs.declared.values.Value.{Value as ValueType}
 use Rattle.clv_base.specs.declared.names.Birth.{Birth}
 use Rattle.clv_base.specs.declared.ops.Answer.{Answer}
 use Rattle.clv_base.specs.Sessions.{SessionState}
@@ -15,15 +16,15 @@ pairs_more (a ∷ answers) answer = ap (λ l. pairs_in a ++ l) (pairs_more answe
 
 module _ {M S G : Type 0} (sh : Shards M S G) (birth : Birth) (nth lo hi : ℕ) (w : Walker M S G) (p : SessionState) where
   -- the parts so far, and their pairs
-  pub record SoFar (n : ℕ) (ps : List (ℕ × ℕ)) (u : Walker M S G) (m : SessionState) : Type 0 where
+  pub record SoFar (n : ℕ) (ps : List (ℕ × ValueType)) (u : Walker M S G) (m : SessionState) : Type 0 where
     pub answers : List Answer
     pub parts : PartsMade sh birth nth lo hi w p n answers u m
     pub pairs : ps ≡ all_pairs answers
 
-  pub none_so_far : (ps : List (ℕ × ℕ)) → ps ≡ [] → SoFar 0 ps w p
+  pub none_so_far : (ps : List (ℕ × ValueType)) → ps ≡ [] → SoFar 0 ps w p
   none_so_far ps is = record { answers = []; parts = no_shard; pairs = is }
 
-  pub more_so_far : (n : ℕ) (ps qs : List (ℕ × ℕ)) (u v : Walker M S G) (m q : SessionState) (x : Unit) → SoFar n ps u m → PartTold (part_on sh.splits n lo hi) sh birth nth n u m ps (Ok x) v q qs → SoFar (n + 1) qs v q
+  pub more_so_far : (n : ℕ) (ps qs : List (ℕ × ValueType)) (u v : Walker M S G) (m q : SessionState) (x : Unit) → SoFar n ps u m → PartTold (part_on sh.splits n lo hi) sh birth nth n u m ps (Ok x) v q qs → SoFar (n + 1) qs v q
   more_so_far n ps qs u v m q x s told = subst (λ k. SoFar k qs v q) (let k : suc n ≡ n + 1 = omega arith in k) (at (part_on sh.splits n lo hi) refl told)
     where
       at : (o : Option (ℕ × ℕ)) → part_on sh.splits n lo hi ≡ o → PartTold o sh birth nth n u m ps (Ok x) v q qs → SoFar (suc n) qs v q
@@ -41,7 +42,7 @@ module _ {M S G : Type 0} (sh : Shards M S G) (birth : Birth) (nth lo hi : ℕ) 
           }
       at (Some part) is (Err e, made, taken) = absurd cc
 
-  pub part_fails : (n : ℕ) (ps qs : List (ℕ × ℕ)) (u v : Walker M S G) (m q : SessionState) (e : OpError) → n < length sh.locks.items → SoFar n ps u m → PartTold (part_on sh.splits n lo hi) sh birth nth n u m ps (Err e) v q qs
+  pub part_fails : (n : ℕ) (ps qs : List (ℕ × ValueType)) (u v : Walker M S G) (m q : SessionState) (e : OpError) → n < length sh.locks.items → SoFar n ps u m → PartTold (part_on sh.splits n lo hi) sh birth nth n u m ps (Err e) v q qs
       → PartFailed sh birth nth lo hi w p e v q
   part_fails n ps qs u v m q e below s told = at (part_on sh.splits n lo hi) refl told
     where
@@ -65,5 +66,5 @@ module _ {M S G : Type 0} (sh : Shards M S G) (birth : Birth) (nth lo hi : ℕ) 
         fails = fails answer taken;
       }
 
-  pub parts_told : (n : ℕ) (ps : List (ℕ × ℕ)) (v : Walker M S G) (q : SessionState) → n ≡ length sh.locks.items → SoFar n ps v q → PartsTold sh birth nth lo hi w p (Ok ps) v q
+  pub parts_told : (n : ℕ) (ps : List (ℕ × ValueType)) (v : Walker M S G) (q : SessionState) → n ≡ length sh.locks.items → SoFar n ps v q → PartsTold sh birth nth lo hi w p (Ok ps) v q
   parts_told n ps v q all s = (s.answers, subst (λ k. PartsMade sh birth nth lo hi w p k s.answers v q) all s.parts, s.pairs)

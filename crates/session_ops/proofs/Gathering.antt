@@ -4,6 +4,7 @@ use Rattle.std.specs.Prelude.{◌⊎◌, is_some}
 use Rattle.std.specs.List.{AllByRecursion}
 use Rattle.clv_base.specs.declared.names.TxId.{TxId}
 use Rattle.clv_base.specs.declared.names.Birth.{Birth}
+use Rattle.clv_base.specs.declared.values.Value.{Value as ValueType}
 use Rattle.clv_base.specs.declared.ops.Op.{Op}
 use Rattle.clv_base.specs.declared.ops.Op.TheVariants.{Scan}
 use Rattle.clv_base.specs.declared.ops.Answer.{Answer}
@@ -83,7 +84,7 @@ died_touched count n nth op p q Memory tx ts h l = l
 
 module _ {T : Type 0} where
   pub stepped : (splits : List ℕ) (count w c d n : ℕ) (before after : List (Option (Pass T Note Origin))) (x : Range) (seen : Option ℕ) (part : ℕ × ℕ) (p q : SessionState) (answer : Result Answer OpError) (r : Result Unit OpError)
-      (ps qs : List (ℕ × ℕ)) → part_on splits n x.lo x.hi ≡ Some part → p.tx ≡ x.tx → Performing count w c before n p (OpEvent x.tx x.birth x.nth seen (Scan part.0 part.1)) answer d after → PlacedBy n x.nth (Scan part.0 part.1) p (answered_in answer) q
+      (ps qs : List (ℕ × ValueType)) → part_on splits n x.lo x.hi ≡ Some part → p.tx ≡ x.tx → Performing count w c before n p (OpEvent x.tx x.birth x.nth seen (Scan part.0 part.1)) answer d after → PlacedBy n x.nth (Scan part.0 part.1) p (answered_in answer) q
       → TakesPairs ps answer r qs → Stepping splits count w c before x n q.touched ps qs r d after
   stepped splits count w c d n before after x seen part p q answer r ps qs is name h place t = record {
     turns = h.asking ++ h.leaving;
@@ -103,7 +104,7 @@ module _ {T : Type 0} where
           (subst (λ z. LeftBy count n z q.touched (has_died {A = Answer} (Err e)) h.leaving) name (died_touched count n x.nth (Scan part.0 part.1) p q e p.tx h.leaving place left)))
 
   -- a shard that the range doesn't meet
-  pub passed : (splits : List ℕ) (count w c n : ℕ) (ps : List (Option (Pass T Note Origin))) (x : Range) (touched qs : List (ℕ × ℕ)) (u : Unit) → part_on splits n x.lo x.hi ≡ None → Stepping splits count w c ps x n touched qs qs (Ok u) c ps
+  pub passed : (splits : List ℕ) (count w c n : ℕ) (ps : List (Option (Pass T Note Origin))) (x : Range) (touched : List (ℕ × ℕ)) (qs : List (ℕ × ValueType)) (u : Unit) → part_on splits n x.lo x.hi ≡ None → Stepping splits count w c ps x n touched qs qs (Ok u) c ps
   passed splits count w c n ps x touched qs u is = record {
     turns = [];
     took = no_turn c ps;
@@ -113,15 +114,15 @@ module _ {T : Type 0} where
 
 -- ---- shard after shard
 
-given_before : (splits : List ℕ) (x : Range) (n : ℕ) (o : Option (ℕ × ℕ)) (rs : List (ℕ × ℕ)) (ts us : List Turn) → PartGiven splits x n o rs ts → PartGiven splits x n o rs (ts ++ us)
+given_before : (splits : List ℕ) (x : Range) (n : ℕ) (o : Option (ℕ × ℕ)) (rs : List (ℕ × ValueType)) (ts us : List Turn) → PartGiven splits x n o rs ts → PartGiven splits x n o rs (ts ++ us)
 given_before splits x n None rs ts us h = h
 given_before splits x n (Some part) rs ts us h = any_before _ ts us h
 
-given_after : (splits : List ℕ) (x : Range) (n : ℕ) (o : Option (ℕ × ℕ)) (rs : List (ℕ × ℕ)) (ts us : List Turn) → PartGiven splits x n o rs us → PartGiven splits x n o rs (ts ++ us)
+given_after : (splits : List ℕ) (x : Range) (n : ℕ) (o : Option (ℕ × ℕ)) (rs : List (ℕ × ValueType)) (ts us : List Turn) → PartGiven splits x n o rs us → PartGiven splits x n o rs (ts ++ us)
 given_after splits x n None rs ts us h = h
 given_after splits x n (Some part) rs ts us h = any_after _ ts us h
 
-gathered_before : (splits : List ℕ) (x : Range) (n : ℕ) (ps : List (ℕ × ℕ)) (ts us : List Turn) → Gathered splits x n ps ts → Gathered splits x n ps (ts ++ us)
+gathered_before : (splits : List ℕ) (x : Range) (n : ℕ) (ps : List (ℕ × ValueType)) (ts us : List Turn) → Gathered splits x n ps ts → Gathered splits x n ps (ts ++ us)
 gathered_before splits x zero ps ts us h = h
 gathered_before splits x (suc n) ps ts us (qs, (rs, is, h, g)) = (qs, (rs, is, gathered_before splits x n qs ts us h, given_before splits x n (part_on splits n x.lo x.hi) rs ts us g))
 
@@ -139,7 +140,7 @@ module _ {T : Type 0} where
   pub nothing_scanned : (splits : List ℕ) (w c : ℕ) (ps : List (Option (Pass T Note Origin))) (x : Range) (touched : List (ℕ × ℕ)) → Scanning splits 0 w c ps x touched (Ok []) c ps
   nothing_scanned splits w c ps x touched = record { turns = []; took = no_turn c ps; only = tt; told = refl }
 
-  pub scanned_on : (splits : List ℕ) (count w c d e n : ℕ) (as_ bs cs : List (Option (Pass T Note Origin))) (x : Range) (old touched ps qs : List (ℕ × ℕ)) (u : Unit) → Scanning splits n w c as_ x old (Ok ps) d bs
+  pub scanned_on : (splits : List ℕ) (count w c d e n : ℕ) (as_ bs cs : List (Option (Pass T Note Origin))) (x : Range) (old touched : List (ℕ × ℕ)) (ps qs : List (ℕ × ValueType)) (u : Unit) → Scanning splits n w c as_ x old (Ok ps) d bs
       → Stepping splits count w d bs x n touched ps qs (Ok u) e cs → Scanning splits (n + 1) w c as_ x touched (Ok qs) e cs
   scanned_on splits count w c d e n as_ bs cs x old touched ps qs u a b = record {
     turns = a.turns ++ b.turns;
@@ -149,7 +150,7 @@ module _ {T : Type 0} where
         (ps, (b.told.0, b.told.1, gathered_before splits x n ps a.turns b.turns a.told, given_after splits x n (part_on splits n x.lo x.hi) b.told.0 a.turns b.turns b.told.2));
   }
 
-  pub scan_fails : (splits : List ℕ) (count w c d k n : ℕ) (as_ bs cs : List (Option (Pass T Note Origin))) (x : Range) (old touched ps qs : List (ℕ × ℕ)) (e : OpError) → Scanning splits n w c as_ x old (Ok ps) d bs
+  pub scan_fails : (splits : List ℕ) (count w c d k n : ℕ) (as_ bs cs : List (Option (Pass T Note Origin))) (x : Range) (old touched : List (ℕ × ℕ)) (ps qs : List (ℕ × ValueType)) (e : OpError) → Scanning splits n w c as_ x old (Ok ps) d bs
       → Stepping splits count w d bs x n touched ps qs (Err e) k cs → Scanning splits count w c as_ x touched (Err e) k cs
   scan_fails splits count w c d k n as_ bs cs x old touched ps qs e a b = record {
     turns = a.turns ++ b.turns;
@@ -160,7 +161,7 @@ module _ {T : Type 0} where
 
 module _ {T : Type 0} where
   -- the same scan by other names
-  pub as_scan : (splits : List ℕ) (count w k c d n : ℕ) (as_ bs : List (Option (Pass T Note Origin))) (tx y : TxId) (birth : Birth) (nth z lo hi : ℕ) (touched ps qs : List (ℕ × ℕ)) (r : Result Unit OpError) → k ≡ w → tx ≡ y → nth ≡ z
+  pub as_scan : (splits : List ℕ) (count w k c d n : ℕ) (as_ bs : List (Option (Pass T Note Origin))) (tx y : TxId) (birth : Birth) (nth z lo hi : ℕ) (touched : List (ℕ × ℕ)) (ps qs : List (ℕ × ValueType)) (r : Result Unit OpError) → k ≡ w → tx ≡ y → nth ≡ z
       → Stepping splits count k c as_ (record { tx = tx; birth = birth; nth = nth; lo = lo; hi = hi }) n touched ps qs r d bs
       → Stepping splits count w c as_ (record { tx = y; birth = birth; nth = z; lo = lo; hi = hi }) n touched ps qs r d bs
   as_scan splits count w k c d n as_ bs tx y birth nth z lo hi touched ps qs r a b e h =

@@ -2,6 +2,7 @@
 use Rattle.std.specs.Prelude.{◌≡◌, ℕ, ◌+◌, ◌==◌, Bool, true, false, List, [], ◌++◌, Option, Some, None, Result, Ok, Err, length}
 use Rattle.std.specs.List.{AllByRecursion}
 use Rattle.std.specs.Map.{lookup}
+use Rattle.clv_base.specs.declared.values.Value.{Value as ValueType}
 use Rattle.clv_base.specs.declared.names.TxId.{TxId}
 use Rattle.clv_base.specs.declared.names.Birth.{Birth}
 use Rattle.clv_base.specs.declared.ops.Op.{Op}
@@ -49,7 +50,7 @@ pub record Performing {T : Type 0} (count w clock : ℕ) (before : List (Option 
   pub left : LeftBy count n p.tx p.touched (has_died r) leaving
 
 -- an operation at a key answers the value before
-abbrev pub value_in : Result Answer OpError → Result (Option ℕ) OpError
+abbrev pub value_in : Result Answer OpError → Result (Option ValueType) OpError
 value_in (Ok (Value value)) = Ok value
 value_in (Ok (Pairs pairs)) = Ok None
 value_in (Err e) = Err e
@@ -61,7 +62,7 @@ module _ {M S G : Type 0} where
   StandsUnless false sh w p = IsActive sh w p
 
   -- the operation's next number, on the shard of its key
-  pub record PointTold (sh : Shards M S G) (w : Walker M S G) (p : SessionState) (op : Op) (key : ℕ) (r : Result (Option ℕ) OpError) (v : Walker M S G) (q : SessionState) : Type 0 where
+  pub record PointTold (sh : Shards M S G) (w : Walker M S G) (p : SessionState) (op : Op) (key : ℕ) (r : Result (Option ValueType) OpError) (v : Walker M S G) (q : SessionState) : Type 0 where
     pub answer : Result Answer OpError
     pub is : r ≡ value_in answer
     pub turns : (birth : Birth) → p.birth ≡ Some birth → Performing (length sh.locks.items) w.number w.clock w.passes.items (shard_of sh.splits key) p (OpEvent p.tx birth (p.nth + 1) (lookup (◌==◌ (shard_of sh.splits key)) p.touched) op) answer v.clock v.passes.items

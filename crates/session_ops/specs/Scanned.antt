@@ -1,6 +1,7 @@
 -- What a scan over several shards tells.
 use Rattle.std.specs.Prelude.{◌≡◌, ◌⊎◌, ⊤, ℕ, zero, suc, ◌<◌, ◌+◌, max, min, nat_le, true, false, cond, is_some, List, [], ◌++◌, Option, Some, None, Result, Ok, Err}
 use Rattle.std.specs.List.{AllByRecursion}
+use Rattle.clv_base.specs.declared.values.Value.{Value as ValueType}
 use Rattle.clv_base.specs.declared.names.TxId.{TxId}
 use Rattle.clv_base.specs.declared.names.Birth.{Birth}
 use Rattle.clv_base.specs.declared.causes.AbortCause.{AbortCause}
@@ -49,11 +50,11 @@ pub record IsScanWait (splits : List ℕ) (x : Range) (t : Turn) : Type 0 where
   pub scan : IsPartScan splits x at t
   pub waits : ((younger : TxId) × (t.answer ≡ Ok (Wait younger))) ⊎ ((count : ℕ) × (t.answer ≡ Ok (Crowded count)))
 
-abbrev pub pairs_in : Answer → List (ℕ × ℕ)
+abbrev pub pairs_in : Answer → List (ℕ × ValueType)
 pairs_in (Pairs pairs) = pairs
 pairs_in (Value value) = []
 
-pub record GivesPairs (splits : List ℕ) (x : Range) (n : ℕ) (rs : List (ℕ × ℕ)) (t : Turn) : Type 0 where
+pub record GivesPairs (splits : List ℕ) (x : Range) (n : ℕ) (rs : List (ℕ × ValueType)) (t : Turn) : Type 0 where
   pub shard : t.shard ≡ n
   pub scan : IsPartScan splits x n t
   pub answer : Answer
@@ -67,14 +68,14 @@ pub record DiesOfScan (splits : List ℕ) (x : Range) (n : ℕ) (cause : AbortCa
   pub died : t.answer ≡ Ok (Dead cause)
 
 -- the pairs of a shard: none where the range has no part there
-abbrev pub PartGiven : List ℕ → Range → ℕ → Option (ℕ × ℕ) → List (ℕ × ℕ) → List Turn → Type 0
+abbrev pub PartGiven : List ℕ → Range → ℕ → Option (ℕ × ℕ) → List (ℕ × ValueType) → List Turn → Type 0
 PartGiven splits x n None rs ts = rs ≡ []
 PartGiven splits x n (Some part) rs ts = AnyTurn (GivesPairs splits x n rs) ts
 
 -- the pairs of the first shards, one behind another
-abbrev pub Gathered : List ℕ → Range → ℕ → List (ℕ × ℕ) → List Turn → Type 0
+abbrev pub Gathered : List ℕ → Range → ℕ → List (ℕ × ValueType) → List Turn → Type 0
 Gathered splits x zero ps ts = ps ≡ []
-Gathered splits x (suc n) ps ts = (qs : List (ℕ × ℕ)) × ((rs : List (ℕ × ℕ)) × (ps ≡ qs ++ rs) × Gathered splits x n qs ts × PartGiven splits x n (part_on splits n x.lo x.hi) rs ts)
+Gathered splits x (suc n) ps ts = (qs : List (ℕ × ValueType)) × ((rs : List (ℕ × ValueType)) × (ps ≡ qs ++ rs) × Gathered splits x n qs ts × PartGiven splits x n (part_on splits n x.lo x.hi) rs ts)
 
 -- of a session's turns there are only its part scans, and drops
 abbrev pub IsOfScan : List ℕ → Range → Turn → Type 0
@@ -88,11 +89,11 @@ ScanFailed splits count x touched (Down m) ts = FoundDown m ts × ((is_some (par
 ScanFailed splits count x touched (Worn at) ts = FoundWorn at ts
 ScanFailed splits count x touched Memory ts = ⊤
 
-abbrev pub ScanTold : List ℕ → ℕ → Range → List (ℕ × ℕ) → Result (List (ℕ × ℕ)) OpError → List Turn → Type 0
+abbrev pub ScanTold : List ℕ → ℕ → Range → List (ℕ × ℕ) → Result (List (ℕ × ValueType)) OpError → List Turn → Type 0
 ScanTold splits count x touched (Ok pairs) ts = Gathered splits x count pairs ts
 ScanTold splits count x touched (Err e) ts = ScanFailed splits count x touched e ts
 
-pub record Scanning {T : Type 0} (splits : List ℕ) (count w clock : ℕ) (before : List (Option (Pass T Note Origin))) (x : Range) (touched : List (ℕ × ℕ)) (r : Result (List (ℕ × ℕ)) OpError) (clock' : ℕ)
+pub record Scanning {T : Type 0} (splits : List ℕ) (count w clock : ℕ) (before : List (Option (Pass T Note Origin))) (x : Range) (touched : List (ℕ × ℕ)) (r : Result (List (ℕ × ValueType)) OpError) (clock' : ℕ)
     (after : List (Option (Pass T Note Origin))) : Type 0 where
   pub turns : List Turn
   pub took : Took w clock before turns clock' after
@@ -100,11 +101,11 @@ pub record Scanning {T : Type 0} (splits : List ℕ) (count w clock : ℕ) (befo
   pub told : ScanTold splits count x touched r turns
 
 -- a shard's part of it: the pairs before it, and those with its own
-abbrev pub StepTold : List ℕ → ℕ → Range → ℕ → List (ℕ × ℕ) → List (ℕ × ℕ) → List (ℕ × ℕ) → Result Unit OpError → List Turn → Type 0
-StepTold splits count x n touched ps qs (Ok u) ts = (rs : List (ℕ × ℕ)) × (qs ≡ ps ++ rs) × PartGiven splits x n (part_on splits n x.lo x.hi) rs ts
+abbrev pub StepTold : List ℕ → ℕ → Range → ℕ → List (ℕ × ℕ) → List (ℕ × ValueType) → List (ℕ × ValueType) → Result Unit OpError → List Turn → Type 0
+StepTold splits count x n touched ps qs (Ok u) ts = (rs : List (ℕ × ValueType)) × (qs ≡ ps ++ rs) × PartGiven splits x n (part_on splits n x.lo x.hi) rs ts
 StepTold splits count x n touched ps qs (Err e) ts = ScanFailed splits count x touched e ts
 
-pub record Stepping {T : Type 0} (splits : List ℕ) (count w clock : ℕ) (before : List (Option (Pass T Note Origin))) (x : Range) (n : ℕ) (touched ps qs : List (ℕ × ℕ)) (r : Result Unit OpError) (clock' : ℕ)
+pub record Stepping {T : Type 0} (splits : List ℕ) (count w clock : ℕ) (before : List (Option (Pass T Note Origin))) (x : Range) (n : ℕ) (touched : List (ℕ × ℕ)) (ps qs : List (ℕ × ValueType)) (r : Result Unit OpError) (clock' : ℕ)
     (after : List (Option (Pass T Note Origin))) : Type 0 where
   pub turns : List Turn
   pub took : Took w clock before turns clock' after
@@ -124,7 +125,7 @@ abbrev pub IsSameTx : SessionState → SessionState → Type 0
 IsSameTx p q = (q.tx ≡ p.tx) × (q.birth ≡ p.birth)
 
 -- the pairs of an answer come behind the others, unless there is no memory
-abbrev pub TakesPairs : List (ℕ × ℕ) → Result Answer OpError → Result Unit OpError → List (ℕ × ℕ) → Type 0
+abbrev pub TakesPairs : List (ℕ × ValueType) → Result Answer OpError → Result Unit OpError → List (ℕ × ValueType) → Type 0
 TakesPairs ps (Ok answer) (Ok u) qs = qs ≡ ps ++ pairs_in answer
 TakesPairs ps (Ok answer) (Err e) qs = e ≡ Memory
 TakesPairs ps (Err e) r qs = r ≡ Err e

@@ -1,6 +1,7 @@
 -- A scan, part after part.
 use Rattle.std.specs.Prelude.{◌≡◌, ◌⊎◌, ℕ, suc, ◌<◌, ◌==◌, List, [], ◌∷◌, ◌++◌, Option, Some, None, Result, Ok, Err, length}
 use Rattle.std.specs.Map.{lookup}
+use Rattle.clv_base.specs.declared.values.Value.{Value as ValueType}
 use Rattle.clv_base.specs.declared.names.Birth.{Birth}
 use Rattle.clv_base.specs.declared.ops.Op.TheVariants.{Scan}
 use Rattle.clv_base.specs.declared.ops.Answer.{Answer}
@@ -17,7 +18,7 @@ use Rattle.session_ops.specs.Parts.{has_died, StandsUnless, Performing}
 use Rattle.session_ops.specs.Scanned.{part_on, pairs_in, TakesPairs}
 
 -- all pairs of these answers, one's behind another's
-abbrev pub all_pairs : List Answer → List (ℕ × ℕ)
+abbrev pub all_pairs : List Answer → List (ℕ × ValueType)
 all_pairs [] = []
 all_pairs (answer ∷ answers) = pairs_in answer ++ all_pairs answers
 
@@ -43,7 +44,7 @@ module _ {M S G : Type 0} where
         → PartMade sh birth nth n part u m (Ok answer) v q → PartsMade sh birth nth lo hi w p (suc n) (answers ++ answer ∷ []) v q
 
   -- what a shard's part of it makes: nothing where it has none
-  abbrev pub PartTold : Option (ℕ × ℕ) → Shards M S G → Birth → ℕ → ℕ → Walker M S G → SessionState → List (ℕ × ℕ) → Result Unit OpError → Walker M S G → SessionState → List (ℕ × ℕ) → Type 0
+  abbrev pub PartTold : Option (ℕ × ℕ) → Shards M S G → Birth → ℕ → ℕ → Walker M S G → SessionState → List (ℕ × ValueType) → Result Unit OpError → Walker M S G → SessionState → List (ℕ × ValueType) → Type 0
   PartTold None sh birth nth n u m ps r v q qs = (r ≡ Ok tt) × (v ≡ u) × (q ≡ m) × (qs ≡ ps)
   PartTold (Some part) sh birth nth n u m ps r v q qs = (answer : Result Answer OpError) × PartMade sh birth nth n part u m answer v q × TakesPairs ps answer r qs
 
@@ -61,6 +62,6 @@ module _ {M S G : Type 0} where
     pub fails : Fails answer e
 
   -- the pairs are those of all parts; or one part failed
-  abbrev pub PartsTold : Shards M S G → Birth → ℕ → ℕ → ℕ → Walker M S G → SessionState → Result (List (ℕ × ℕ)) OpError → Walker M S G → SessionState → Type 0
+  abbrev pub PartsTold : Shards M S G → Birth → ℕ → ℕ → ℕ → Walker M S G → SessionState → Result (List (ℕ × ValueType)) OpError → Walker M S G → SessionState → Type 0
   PartsTold sh birth nth lo hi w p (Ok pairs) v q = (answers : List Answer) × PartsMade sh birth nth lo hi w p (length sh.locks.items) answers v q × (pairs ≡ all_pairs answers)
   PartsTold sh birth nth lo hi w p (Err e) v q = PartFailed sh birth nth lo hi w p e v q

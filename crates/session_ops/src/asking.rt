@@ -15,9 +15,9 @@ use std::alloc::Global;
 use std::sync::Wait;
 
 // The place follows what was answered.
-fn follow(place: &mut Place, shard: u32, nth: u64, op: Op, answer: &Result<Outcome, StepError>)
+fn follow(place: &mut Place, shard: u32, nth: u64, op: &Op, answer: &Result<Outcome, StepError>)
     requires { shard < 16 }
-    ensures { place.new ≡ place_after shard nth op place.old answer.now }
+    ensures { place.new ≡ place_after shard nth op.now place.old answer.now }
 {
     match answer {
         Ok(Outcome::Answered { epoch, .. }) => place.answered(shard, nth, op, *epoch),
@@ -36,16 +36,16 @@ pub fn ask<M: Machine, R: Wait>(
     place: &mut Place,
     shard: u32,
     nth: u64,
-    op: Op,
+    op: &Op,
 ) -> Result<Outcome, StepError>
     requires active { IsActive shards.now walker.old place.old }
     requires shard { (shard < length shards.now.locks.items) × (shard < 16) }
-    requires number { is_number place.old shard nth op ≡ true }
-    requires lies { lies_in shards.now.splits shard op ≡ true }
+    requires number { is_number place.old shard nth op.now ≡ true }
+    requires lies { lies_in shards.now.splits shard op.now ≡ true }
     ensures walker { IsSameWalker walker.old walker.new }
-    ensures turn { (birth : BirthIs) → place.old.birth ≡ Some birth → AskTold walker.old.number walker.old.clock walker.old.passes.items shard (OpEvent place.old.tx birth nth (lookup (◌==◌ shard) place.old.touched) op) result walker.new.clock walker.new.passes.items }
+    ensures turn { (birth : BirthIs) → place.old.birth ≡ Some birth → AskTold walker.old.number walker.old.clock walker.old.passes.items shard (OpEvent place.old.tx birth nth (lookup (◌==◌ shard) place.old.touched) op.now) result walker.new.clock walker.new.passes.items }
     ensures outcome { IfOk result (λ o. is_op_outcome o ≡ true) }
-    ensures place { place.new ≡ place_after shard nth op place.old result }
+    ensures place { place.new ≡ place_after shard nth op.now place.old result }
     ensures stands { StandsAfter shard shards.now walker.new place.new result }
 {
     let event = place.op(shard, nth, op);

@@ -63,15 +63,15 @@ fn try_once<M: Machine, R: Wait>(
     place: &mut Place,
     shard: u32,
     nth: u64,
-    op: Op,
+    op: &Op,
 ) -> Result<Option<Answer>, OpError>
     requires active { IsActive shards.now walker.old place.old }
     requires shard { (shard < length shards.now.locks.items) × (shard < 16) }
-    requires number { is_number place.old shard nth op ≡ true }
-    requires lies { lies_in shards.now.splits shard op ≡ true }
+    requires number { is_number place.old shard nth op.now ≡ true }
+    requires lies { lies_in shards.now.splits shard op.now ≡ true }
     ensures walker { IsSameWalker walker.old walker.new }
-    ensures turns { (birth : BirthIs) → place.old.birth ≡ Some birth → Operated walker.old.number walker.old.clock walker.old.passes.items shard (OpEvent place.old.tx birth nth (lookup (◌==◌ shard) place.old.touched) op) result walker.new.clock walker.new.passes.items }
-    ensures place { PlacedBy shard nth op place.old result place.new }
+    ensures turns { (birth : BirthIs) → place.old.birth ≡ Some birth → Operated walker.old.number walker.old.clock walker.old.passes.items shard (OpEvent place.old.tx birth nth (lookup (◌==◌ shard) place.old.touched) op.now) result walker.new.clock walker.new.passes.items }
+    ensures place { PlacedBy shard nth op.now place.old result place.new }
     ensures stands { StandsBy shard shards.now walker.new place.new result }
 {
     let answer = ask(rt, alloc, shards, walker, place, shard, nth, op);
@@ -125,17 +125,17 @@ fn try_and_pass<M: Flier, P: Pace, R: Wait>(
     place: &mut Place,
     shard: u32,
     nth: u64,
-    op: Op,
+    op: &Op,
     pace: &P,
     is_time: bool,
 ) -> Result<Option<Answer>, OpError>
     requires active { IsActive shards.now walker.old place.old }
     requires shard { (shard < length shards.now.locks.items) × (shard < 16) }
-    requires number { is_number place.old shard nth op ≡ true }
-    requires lies { lies_in shards.now.splits shard op ≡ true }
+    requires number { is_number place.old shard nth op.now ≡ true }
+    requires lies { lies_in shards.now.splits shard op.now ≡ true }
     ensures walker { IsSameWalker walker.old walker.new }
-    ensures turns { (birth : BirthIs) → place.old.birth ≡ Some birth → Operated walker.old.number walker.old.clock walker.old.passes.items shard (OpEvent place.old.tx birth nth (lookup (◌==◌ shard) place.old.touched) op) result walker.new.clock walker.new.passes.items }
-    ensures place { PlacedBy shard nth op place.old result place.new }
+    ensures turns { (birth : BirthIs) → place.old.birth ≡ Some birth → Operated walker.old.number walker.old.clock walker.old.passes.items shard (OpEvent place.old.tx birth nth (lookup (◌==◌ shard) place.old.touched) op.now) result walker.new.clock walker.new.passes.items }
+    ensures place { PlacedBy shard nth op.now place.old result place.new }
     ensures stands { StandsBy shard shards.now walker.new place.new result }
 {
     match try_once(rt, alloc, shards, walker, place, shard, nth, op) {
@@ -183,16 +183,16 @@ pub fn operate<M: Flier, P: Pace, R: Wait>(
     place: &mut Place,
     shard: u32,
     nth: u64,
-    op: Op,
+    op: &Op,
     pace: &P,
 ) -> Result<Answer, OpError>
     requires active { IsActive shards.now walker.old place.old }
     requires shard { (shard < length shards.now.locks.items) × (shard < 16) }
-    requires number { is_number place.old shard nth op ≡ true }
-    requires lies { lies_in shards.now.splits shard op ≡ true }
+    requires number { is_number place.old shard nth op.now ≡ true }
+    requires lies { lies_in shards.now.splits shard op.now ≡ true }
     ensures walker { IsSameWalker walker.old walker.new }
-    ensures turns { (birth : BirthIs) → place.old.birth ≡ Some birth → Operated walker.old.number walker.old.clock walker.old.passes.items shard (OpEvent place.old.tx birth nth (lookup (◌==◌ shard) place.old.touched) op) (answered_in result) walker.new.clock walker.new.passes.items }
-    ensures place { PlacedBy shard nth op place.old (answered_in result) place.new }
+    ensures turns { (birth : BirthIs) → place.old.birth ≡ Some birth → Operated walker.old.number walker.old.clock walker.old.passes.items shard (OpEvent place.old.tx birth nth (lookup (◌==◌ shard) place.old.touched) op.now) (answered_in result) walker.new.clock walker.new.passes.items }
+    ensures place { PlacedBy shard nth op.now place.old (answered_in result) place.new }
     ensures stands { StandsBy shard shards.now walker.new place.new (answered_in result) }
 {
     let backoff = Backoff::new();

@@ -12,6 +12,7 @@ use crate::scanned_parts::perform;
 use cluster_turns::{Place, Shards, Walker};
 use clv_base::ops::{Answer, Op};
 use clv_base::splits::Splits;
+use clv_base::values::Value;
 use io_model::Pace;
 use machine_calls::Flier;
 use std::alloc::Global;
@@ -30,12 +31,12 @@ fn shard_for(splits: &Splits, key: u64) -> u32
 }
 
 // The value before, as an operation at a key answers it.
-fn value_of(answer: Result<Answer, OpError>) -> Result<Option<u64>, OpError>
+fn value_of(answer: Result<Answer, OpError>) -> Result<Option<Value>, OpError>
     ensures { result ≡ value_in answer }
 {
     match answer {
         Ok(Answer::Value(value)) => Ok(value),
-        Ok(Answer::Pairs(_)) => Ok(None),
+        Ok(Answer::Pairs(_pairs)) => Ok(None),
         Err(error) => Err(error),
     }
 }
@@ -49,13 +50,13 @@ pub fn at_key<M: Flier, P: Pace, R: Wait>(
     walker: &mut Walker<M>,
     place: &mut Place,
     key: u64,
-    op: Op,
+    op: &Op,
     pace: &P,
-) -> Result<Option<u64>, OpError>
+) -> Result<Option<Value>, OpError>
     requires active { IsActive shards.now walker.old place.old }
-    requires lies { lies_in shards.now.splits (shard_of shards.now.splits key) op ≡ in_span shards.now.splits (shard_of shards.now.splits key) key }
+    requires lies { lies_in shards.now.splits (shard_of shards.now.splits key) op.now ≡ in_span shards.now.splits (shard_of shards.now.splits key) key }
     ensures walker { IsSameWalker walker.old walker.new }
-    ensures told { PointTold shards.now walker.old place.old op key result walker.new place.new }
+    ensures told { PointTold shards.now walker.old place.old op.now key result walker.new place.new }
     ensures stands { StandsUnless (has_died result) shards.now walker.new place.new }
 {
     let shard = shard_for(shards.splits(), key);
@@ -74,13 +75,13 @@ pub fn get<M: Flier, P: Pace, R: Wait>(
     place: &mut Place,
     key: u64,
     pace: &P,
-) -> Result<Option<u64>, OpError>
+) -> Result<Option<Value>, OpError>
     requires active { IsActive shards.now walker.old place.old }
     ensures walker { IsSameWalker walker.old walker.new }
     ensures told { PointTold shards.now walker.old place.old (Get key) key result walker.new place.new }
     ensures stands { StandsUnless (has_died result) shards.now walker.new place.new }
 {
-    at_key(rt, alloc, shards, walker, place, key, Op::Get(key), pace)
+    at_key(rt, alloc, shards, walker, place, key, &Op::Get(key), pace)
 }
 
 /// Puts a value at a key; answers the one before. One operation on the shard of the key, under the transaction's next number, with a round after each wait. `Aborted` comes only
@@ -92,9 +93,9 @@ pub fn put<M: Flier, P: Pace, R: Wait>(
     walker: &mut Walker<M>,
     place: &mut Place,
     key: u64,
-    value: u64,
+    value: Value,
     pace: &P,
-) -> Result<Option<u64>, OpError>
+) -> Result<Option<Value>, OpError>
     requires active { IsActive shards.now walker.old place.old }
     ensures walker { IsSameWalker walker.old walker.new }
     ensures told { PointTold shards.now walker.old place.old (Put key value) key result walker.new place.new }
@@ -107,7 +108,7 @@ pub fn put<M: Flier, P: Pace, R: Wait>(
         walker,
         place,
         key,
-        Op::Put(key, value),
+        &Op::Put(key, value),
         pace,
     )
 }
@@ -122,11 +123,11 @@ pub fn del<M: Flier, P: Pace, R: Wait>(
     place: &mut Place,
     key: u64,
     pace: &P,
-) -> Result<Option<u64>, OpError>
+) -> Result<Option<Value>, OpError>
     requires active { IsActive shards.now walker.old place.old }
     ensures walker { IsSameWalker walker.old walker.new }
     ensures told { PointTold shards.now walker.old place.old (Del key) key result walker.new place.new }
     ensures stands { StandsUnless (has_died result) shards.now walker.new place.new }
 {
-    at_key(rt, alloc, shards, walker, place, key, Op::Del(key), pace)
+    at_key(rt, alloc, shards, walker, place, key, &Op::Del(key), pace)
 }

@@ -35,16 +35,16 @@ pub(crate) fn perform<M: Flier, P: Pace, R: Wait>(
     place: &mut Place,
     shard: u32,
     nth: u64,
-    op: Op,
+    op: &Op,
     pace: &P,
 ) -> Result<Answer, OpError>
     requires active { IsActive shards.now walker.old place.old }
     requires shard { (shard < length shards.now.locks.items) × (shard < 16) }
-    requires number { is_number place.old shard nth op ≡ true }
-    requires lies { lies_in shards.now.splits shard op ≡ true }
+    requires number { is_number place.old shard nth op.now ≡ true }
+    requires lies { lies_in shards.now.splits shard op.now ≡ true }
     ensures walker { IsSameWalker walker.old walker.new }
-    ensures turns { (birth : BirthIs) → place.old.birth ≡ Some birth → Performing (length shards.now.locks.items) walker.old.number walker.old.clock walker.old.passes.items shard place.old (OpEvent place.old.tx birth nth (lookup (◌==◌ shard) place.old.touched) op) result walker.new.clock walker.new.passes.items }
-    ensures place { PlacedBy shard nth op place.old (answered_in result) place.new }
+    ensures turns { (birth : BirthIs) → place.old.birth ≡ Some birth → Performing (length shards.now.locks.items) walker.old.number walker.old.clock walker.old.passes.items shard place.old (OpEvent place.old.tx birth nth (lookup (◌==◌ shard) place.old.touched) op.now) result walker.new.clock walker.new.passes.items }
+    ensures place { PlacedBy shard nth op.now place.old (answered_in result) place.new }
     ensures stands { StandsUnless (has_died result) shards.now walker.new place.new }
 {
     let answer = operate(rt, alloc, shards, walker, place, shard, nth, op, pace);

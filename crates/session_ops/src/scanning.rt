@@ -13,6 +13,7 @@ use cluster_turns::{Place, Shards, Walker};
 use clv_base::lists::Pairs;
 use clv_base::ops::{Answer, Op};
 use clv_base::splits::Splits;
+use clv_base::values::Value;
 use io_model::Pace;
 use machine_calls::Flier;
 use std::alloc::Global;
@@ -33,11 +34,11 @@ fn part_of(splits: &Splits, shard: u32, lo: u64, hi: u64) -> Option<(u64, u64)>
 }
 
 // The pairs of an answer, behind the others.
-fn take(pairs: &mut Vec<(u64, u64)>, answer: Result<Answer, OpError>) -> Result<(), OpError>
+fn take(pairs: &mut Vec<(u64, Value)>, answer: Result<Answer, OpError>) -> Result<(), OpError>
     ensures { TakesPairs pairs.old.items answer result pairs.new.items }
 {
     match answer {
-        Ok(Answer::Pairs(list)) => match pairs.extend_from_slice(list.as_slice()) {
+        Ok(Answer::Pairs(list)) => match pairs.append(&mut list.into_vec()) {
             Ok(()) => Ok(()),
             Err(_) => Err(OpError::Memory),
         },
@@ -57,7 +58,7 @@ fn scan_part<M: Flier, P: Pace, R: Wait>(
     nth: u64,
     lo: u64,
     hi: u64,
-    pairs: &mut Vec<(u64, u64)>,
+    pairs: &mut Vec<(u64, Value)>,
     pace: &P,
 ) -> Result<(), OpError>
     requires active { IsActive shards.now walker.old place.old }
@@ -74,7 +75,7 @@ fn scan_part<M: Flier, P: Pace, R: Wait>(
         None => Ok(()),
         Some((from, to)) => {
             let op = Op::Scan(from, to);
-            let answer = perform(rt, alloc, shards, walker, place, shard, nth, op, pace);
+            let answer = perform(rt, alloc, shards, walker, place, shard, nth, &op, pace);
             take(pairs, answer)
         }
     }

@@ -17,12 +17,12 @@ session_event-answer-requires-clause-free g c = let w = c.args.walker.now in let
 pub session_event-answer-requires-clause-may : goal.session_event-answer-requires-clause-may
 session_event-answer-requires-clause-may g c = let w = c.args.walker.now in let sh = c.args.shards.now in let a = c.requires.active in
     subst (λ e. may_make sh.splits sh.run w.number (kept w.passes.items) c.args.shard e ≡ true) (sym (c.op-event.ensures a.born.birth a.born.is))
-    (may_ask sh w c.args.place.now a c.args.shard c.args.nth c.args.op c.requires.number c.requires.lies)
+    (may_ask sh w c.args.place.now a c.args.shard c.args.nth c.args.op.now c.requires.number c.requires.lies)
 
 pub returns-clause-turn : goal.returns-clause-turn
 returns-clause-turn g c birth is = let w = c.args.walker.now in let v = c.session_event-answer.new.walker in let sh = c.args.shards.now in let a = c.requires.active in let p = c.args.place.now in
-    let told = ask_told sh w v p a c.args.shard c.args.nth c.args.op c.session_event-answer.result (subst (λ e. Walked (EventTold w.clock w.number e c.session_event-answer.result v.clock) c.args.shard w.number w.passes.items v.passes.items) (c.op-event.ensures a.born.birth a.born.is) c.session_event-answer.ensures.event) in
-    subst (λ b. AskTold w.number w.clock w.passes.items c.args.shard (Op p.tx b c.args.nth (lookup (◌==◌ c.args.shard) p.touched) c.args.op) c.session_event-answer.result v.clock v.passes.items) (birth_same a.born.birth birth (sym a.born.is ∙ is)) told
+    let told = ask_told sh w v p a c.args.shard c.args.nth c.args.op.now c.session_event-answer.result (subst (λ e. Walked (EventTold w.clock w.number e c.session_event-answer.result v.clock) c.args.shard w.number w.passes.items v.passes.items) (c.op-event.ensures a.born.birth a.born.is) c.session_event-answer.ensures.event) in
+    subst (λ b. AskTold w.number w.clock w.passes.items c.args.shard (Op p.tx b c.args.nth (lookup (◌==◌ c.args.shard) p.touched) c.args.op.now) c.session_event-answer.result v.clock v.passes.items) (birth_same a.born.birth birth (sym a.born.is ∙ is)) told
   where
     birth_same : (x y : Rattle.clv_base.specs.declared.names.Birth.Birth) → Some x ≡ Some y → x ≡ y
     birth_same x y h = cc
@@ -30,9 +30,9 @@ returns-clause-turn g c birth is = let w = c.args.walker.now in let v = c.sessio
 pub returns-clause-stands : goal.returns-clause-stands
 returns-clause-stands g c = let w = c.args.walker.now in let v = c.session_event-answer.new.walker in let sh = c.args.shards.now in let a = c.requires.active in let p = c.args.place.now in
     subst (λ q. StandsAfter c.args.shard sh v q c.session_event-answer.result) (sym c.follow.ensures)
-    (stands_after sh w v p a c.args.shard c.args.nth c.args.op c.session_event-answer.result (subst (λ e. Walked (EventTold w.clock w.number e c.session_event-answer.result v.clock) c.args.shard w.number w.passes.items v.passes.items) (c.op-event.ensures a.born.birth a.born.is) c.session_event-answer.ensures.event)
+    (stands_after sh w v p a c.args.shard c.args.nth c.args.op.now c.session_event-answer.result (subst (λ e. Walked (EventTold w.clock w.number e c.session_event-answer.result v.clock) c.args.shard w.number w.passes.items v.passes.items) (c.op-event.ensures a.born.birth a.born.is) c.session_event-answer.ensures.event)
     c.session_event-answer.ensures.walker.0 c.session_event-answer.ensures.walker.1 c.requires.number c.requires.lies c.session_event-answer.result refl)
 
 pub returns-clause-outcome : goal.returns-clause-outcome
 returns-clause-outcome g c = let w = c.args.walker.now in let v = c.session_event-answer.new.walker in let sh = c.args.shards.now in let a = c.requires.active in let p = c.args.place.now in
-    ask_fits sh w v p a c.args.shard c.args.nth c.args.op c.session_event-answer.result (subst (λ e. Walked (EventTold w.clock w.number e c.session_event-answer.result v.clock) c.args.shard w.number w.passes.items v.passes.items) (c.op-event.ensures a.born.birth a.born.is) c.session_event-answer.ensures.event)
+    ask_fits sh w v p a c.args.shard c.args.nth c.args.op.now c.session_event-answer.result (subst (λ e. Walked (EventTold w.clock w.number e c.session_event-answer.result v.clock) c.args.shard w.number w.passes.items v.passes.items) (c.op-event.ensures a.born.birth a.born.is) c.session_event-answer.ensures.event)

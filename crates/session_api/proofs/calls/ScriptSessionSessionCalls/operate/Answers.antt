@@ -1,4 +1,4 @@
-use Rattle.std.proofs.Common.{ap}
+use Rattle.std.proofs.Common.{◌∙◌, ap, sym}
 use Rattle.clv_base.specs.declared.ops.Op.TheVariants.{Get, Put, Del}
 use Rattle.session_api.specs.ToldLaws.{gets, puts, dels}
 use Rattle.session_api.proofs.ScriptOperating.{point_answers, point_call, scan_answers, scan_call}
@@ -10,39 +10,39 @@ value_told-requires g c = let s = c.args.self.now.session in let z = c.get.new.s
 
 pub returns-in-Get-clause-session : goal.returns-in-Get-clause-session
 returns-in-Get-clause-session g c = let s = c.args.self.now.session in let z = c.get.new.self in let e = c.get.ensures in
-    (point_call s.shards.now c.args.self.now.asked z.shards.now s.walker z.walker s.progress z.progress c.in-Get.key c.args.op (Get c.in-Get.key) c.get.result c.value_told.result (ap (λ x. x.now) e.shards) c.in-Get.is c.requires.session c.requires.active gets e.told e.session c.value_told.ensures.told).holds.holds
+    (point_call s.shards.now c.args.self.now.asked z.shards.now s.walker z.walker s.progress z.progress c.in-Get.key c.args.op.now (Get c.in-Get.key) c.get.result c.value_told.result (ap (λ x. x.now) e.shards) c.in-Get.is c.requires.session c.requires.active gets e.told e.session c.value_told.ensures.told).holds.holds
 
 pub returns-in-Get-clause-misses : goal.returns-in-Get-clause-misses
 returns-in-Get-clause-misses g c = let s = c.args.self.now.session in let z = c.get.new.self in let e = c.get.ensures in
-    (point_call s.shards.now c.args.self.now.asked z.shards.now s.walker z.walker s.progress z.progress c.in-Get.key c.args.op (Get c.in-Get.key) c.get.result c.value_told.result (ap (λ x. x.now) e.shards) c.in-Get.is c.requires.session c.requires.active gets e.told e.session c.value_told.ensures.told).holds.misses
+    (point_call s.shards.now c.args.self.now.asked z.shards.now s.walker z.walker s.progress z.progress c.in-Get.key c.args.op.now (Get c.in-Get.key) c.get.result c.value_told.result (ap (λ x. x.now) e.shards) c.in-Get.is c.requires.session c.requires.active gets e.told e.session c.value_told.ensures.told).holds.misses
 
 pub returns-in-Get-clause-told : goal.returns-in-Get-clause-told
 returns-in-Get-clause-told g c = let s = c.args.self.now.session in let z = c.get.new.self in let e = c.get.ensures in
-    (point_call s.shards.now c.args.self.now.asked z.shards.now s.walker z.walker s.progress z.progress c.in-Get.key c.args.op (Get c.in-Get.key) c.get.result c.value_told.result (ap (λ x. x.now) e.shards) c.in-Get.is c.requires.session c.requires.active gets e.told e.session c.value_told.ensures.told).told
+    (point_call s.shards.now c.args.self.now.asked z.shards.now s.walker z.walker s.progress z.progress c.in-Get.key c.args.op.now (Get c.in-Get.key) c.get.result c.value_told.result (ap (λ x. x.now) e.shards) c.in-Get.is c.requires.session c.requires.active gets e.told e.session c.value_told.ensures.told).told
 
 pub returns-in-Get-clause-grounds : goal.returns-in-Get-clause-grounds
 returns-in-Get-clause-grounds g c = let s = c.args.self.now.session in let z = c.get.new.self in let e = c.get.ensures in
-    (point_call s.shards.now c.args.self.now.asked z.shards.now s.walker z.walker s.progress z.progress c.in-Get.key c.args.op (Get c.in-Get.key) c.get.result c.value_told.result (ap (λ x. x.now) e.shards) c.in-Get.is c.requires.session c.requires.active gets e.told e.session c.value_told.ensures.told).grounds
+    (point_call s.shards.now c.args.self.now.asked z.shards.now s.walker z.walker s.progress z.progress c.in-Get.key c.args.op.now (Get c.in-Get.key) c.get.result c.value_told.result (ap (λ x. x.now) e.shards) c.in-Get.is c.requires.session c.requires.active gets e.told e.session c.value_told.ensures.told).grounds
 
 pub value_told-requires-in-Put : goal.value_told-requires-in-Put
-value_told-requires-in-Put g c = let s = c.args.self.now.session in let z = c.put.new.self in let e = c.put.ensures in
-    record { made = point_answers s.shards.now c.args.self.now.asked z.shards.now s.walker z.walker s.progress z.progress c.in-Put.key (Put c.in-Put.key c.in-Put.value) c.put.result (ap (λ x. x.now) e.shards) c.requires.session c.requires.active (puts c.in-Put.value) e.told e.session }
+value_told-requires-in-Put g c = let s = c.args.self.now.session in let z = c.put-answer.new.self in let e = c.put-answer.ensures in
+    record { made = point_answers s.shards.now c.args.self.now.asked z.shards.now s.walker z.walker s.progress z.progress c.in-Put.key (Put c.in-Put.key c.copy.result) c.put-answer.result (ap (λ x. x.now) e.shards) c.requires.session c.requires.active (puts c.copy.result) e.told e.session }
 
 pub returns-in-Put-clause-session : goal.returns-in-Put-clause-session
-returns-in-Put-clause-session g c = let s = c.args.self.now.session in let z = c.put.new.self in let e = c.put.ensures in
-    (point_call s.shards.now c.args.self.now.asked z.shards.now s.walker z.walker s.progress z.progress c.in-Put.key c.args.op (Put c.in-Put.key c.in-Put.value) c.put.result c.value_told-in-Put.result (ap (λ x. x.now) e.shards) c.in-Put.is c.requires.session c.requires.active (puts c.in-Put.value) e.told e.session c.value_told-in-Put.ensures.told).holds.holds
+returns-in-Put-clause-session g c = let s = c.args.self.now.session in let z = c.put-answer.new.self in let e = c.put-answer.ensures in
+    (point_call s.shards.now c.args.self.now.asked z.shards.now s.walker z.walker s.progress z.progress c.in-Put.key c.args.op.now (Put c.in-Put.key c.copy.result) c.put-answer.result c.value_told-in-Put.result (ap (λ x. x.now) e.shards) (c.in-Put.is ∙ ap (λ v. Put c.in-Put.key v) (sym c.copy.ensures)) c.requires.session c.requires.active (puts c.copy.result) e.told e.session c.value_told-in-Put.ensures.told).holds.holds
 
 pub returns-in-Put-clause-misses : goal.returns-in-Put-clause-misses
-returns-in-Put-clause-misses g c = let s = c.args.self.now.session in let z = c.put.new.self in let e = c.put.ensures in
-    (point_call s.shards.now c.args.self.now.asked z.shards.now s.walker z.walker s.progress z.progress c.in-Put.key c.args.op (Put c.in-Put.key c.in-Put.value) c.put.result c.value_told-in-Put.result (ap (λ x. x.now) e.shards) c.in-Put.is c.requires.session c.requires.active (puts c.in-Put.value) e.told e.session c.value_told-in-Put.ensures.told).holds.misses
+returns-in-Put-clause-misses g c = let s = c.args.self.now.session in let z = c.put-answer.new.self in let e = c.put-answer.ensures in
+    (point_call s.shards.now c.args.self.now.asked z.shards.now s.walker z.walker s.progress z.progress c.in-Put.key c.args.op.now (Put c.in-Put.key c.copy.result) c.put-answer.result c.value_told-in-Put.result (ap (λ x. x.now) e.shards) (c.in-Put.is ∙ ap (λ v. Put c.in-Put.key v) (sym c.copy.ensures)) c.requires.session c.requires.active (puts c.copy.result) e.told e.session c.value_told-in-Put.ensures.told).holds.misses
 
 pub returns-in-Put-clause-told : goal.returns-in-Put-clause-told
-returns-in-Put-clause-told g c = let s = c.args.self.now.session in let z = c.put.new.self in let e = c.put.ensures in
-    (point_call s.shards.now c.args.self.now.asked z.shards.now s.walker z.walker s.progress z.progress c.in-Put.key c.args.op (Put c.in-Put.key c.in-Put.value) c.put.result c.value_told-in-Put.result (ap (λ x. x.now) e.shards) c.in-Put.is c.requires.session c.requires.active (puts c.in-Put.value) e.told e.session c.value_told-in-Put.ensures.told).told
+returns-in-Put-clause-told g c = let s = c.args.self.now.session in let z = c.put-answer.new.self in let e = c.put-answer.ensures in
+    (point_call s.shards.now c.args.self.now.asked z.shards.now s.walker z.walker s.progress z.progress c.in-Put.key c.args.op.now (Put c.in-Put.key c.copy.result) c.put-answer.result c.value_told-in-Put.result (ap (λ x. x.now) e.shards) (c.in-Put.is ∙ ap (λ v. Put c.in-Put.key v) (sym c.copy.ensures)) c.requires.session c.requires.active (puts c.copy.result) e.told e.session c.value_told-in-Put.ensures.told).told
 
 pub returns-in-Put-clause-grounds : goal.returns-in-Put-clause-grounds
-returns-in-Put-clause-grounds g c = let s = c.args.self.now.session in let z = c.put.new.self in let e = c.put.ensures in
-    (point_call s.shards.now c.args.self.now.asked z.shards.now s.walker z.walker s.progress z.progress c.in-Put.key c.args.op (Put c.in-Put.key c.in-Put.value) c.put.result c.value_told-in-Put.result (ap (λ x. x.now) e.shards) c.in-Put.is c.requires.session c.requires.active (puts c.in-Put.value) e.told e.session c.value_told-in-Put.ensures.told).grounds
+returns-in-Put-clause-grounds g c = let s = c.args.self.now.session in let z = c.put-answer.new.self in let e = c.put-answer.ensures in
+    (point_call s.shards.now c.args.self.now.asked z.shards.now s.walker z.walker s.progress z.progress c.in-Put.key c.args.op.now (Put c.in-Put.key c.copy.result) c.put-answer.result c.value_told-in-Put.result (ap (λ x. x.now) e.shards) (c.in-Put.is ∙ ap (λ v. Put c.in-Put.key v) (sym c.copy.ensures)) c.requires.session c.requires.active (puts c.copy.result) e.told e.session c.value_told-in-Put.ensures.told).grounds
 
 pub value_told-requires-in-Del : goal.value_told-requires-in-Del
 value_told-requires-in-Del g c = let s = c.args.self.now.session in let z = c.del.new.self in let e = c.del.ensures in
@@ -50,36 +50,36 @@ value_told-requires-in-Del g c = let s = c.args.self.now.session in let z = c.de
 
 pub returns-in-Del-clause-session : goal.returns-in-Del-clause-session
 returns-in-Del-clause-session g c = let s = c.args.self.now.session in let z = c.del.new.self in let e = c.del.ensures in
-    (point_call s.shards.now c.args.self.now.asked z.shards.now s.walker z.walker s.progress z.progress c.in-Del.key c.args.op (Del c.in-Del.key) c.del.result c.value_told-in-Del.result (ap (λ x. x.now) e.shards) c.in-Del.is c.requires.session c.requires.active dels e.told e.session c.value_told-in-Del.ensures.told).holds.holds
+    (point_call s.shards.now c.args.self.now.asked z.shards.now s.walker z.walker s.progress z.progress c.in-Del.key c.args.op.now (Del c.in-Del.key) c.del.result c.value_told-in-Del.result (ap (λ x. x.now) e.shards) c.in-Del.is c.requires.session c.requires.active dels e.told e.session c.value_told-in-Del.ensures.told).holds.holds
 
 pub returns-in-Del-clause-misses : goal.returns-in-Del-clause-misses
 returns-in-Del-clause-misses g c = let s = c.args.self.now.session in let z = c.del.new.self in let e = c.del.ensures in
-    (point_call s.shards.now c.args.self.now.asked z.shards.now s.walker z.walker s.progress z.progress c.in-Del.key c.args.op (Del c.in-Del.key) c.del.result c.value_told-in-Del.result (ap (λ x. x.now) e.shards) c.in-Del.is c.requires.session c.requires.active dels e.told e.session c.value_told-in-Del.ensures.told).holds.misses
+    (point_call s.shards.now c.args.self.now.asked z.shards.now s.walker z.walker s.progress z.progress c.in-Del.key c.args.op.now (Del c.in-Del.key) c.del.result c.value_told-in-Del.result (ap (λ x. x.now) e.shards) c.in-Del.is c.requires.session c.requires.active dels e.told e.session c.value_told-in-Del.ensures.told).holds.misses
 
 pub returns-in-Del-clause-told : goal.returns-in-Del-clause-told
 returns-in-Del-clause-told g c = let s = c.args.self.now.session in let z = c.del.new.self in let e = c.del.ensures in
-    (point_call s.shards.now c.args.self.now.asked z.shards.now s.walker z.walker s.progress z.progress c.in-Del.key c.args.op (Del c.in-Del.key) c.del.result c.value_told-in-Del.result (ap (λ x. x.now) e.shards) c.in-Del.is c.requires.session c.requires.active dels e.told e.session c.value_told-in-Del.ensures.told).told
+    (point_call s.shards.now c.args.self.now.asked z.shards.now s.walker z.walker s.progress z.progress c.in-Del.key c.args.op.now (Del c.in-Del.key) c.del.result c.value_told-in-Del.result (ap (λ x. x.now) e.shards) c.in-Del.is c.requires.session c.requires.active dels e.told e.session c.value_told-in-Del.ensures.told).told
 
 pub returns-in-Del-clause-grounds : goal.returns-in-Del-clause-grounds
 returns-in-Del-clause-grounds g c = let s = c.args.self.now.session in let z = c.del.new.self in let e = c.del.ensures in
-    (point_call s.shards.now c.args.self.now.asked z.shards.now s.walker z.walker s.progress z.progress c.in-Del.key c.args.op (Del c.in-Del.key) c.del.result c.value_told-in-Del.result (ap (λ x. x.now) e.shards) c.in-Del.is c.requires.session c.requires.active dels e.told e.session c.value_told-in-Del.ensures.told).grounds
+    (point_call s.shards.now c.args.self.now.asked z.shards.now s.walker z.walker s.progress z.progress c.in-Del.key c.args.op.now (Del c.in-Del.key) c.del.result c.value_told-in-Del.result (ap (λ x. x.now) e.shards) c.in-Del.is c.requires.session c.requires.active dels e.told e.session c.value_told-in-Del.ensures.told).grounds
 
 pub pairs_told-requires : goal.pairs_told-requires
-pairs_told-requires g c = let s = c.args.self.now.session in let z = c.scan.new.self in let e = c.scan.ensures in let b = c.bound.ensures in
-    record { made = scan_answers s.shards.now c.args.self.now.asked z.shards.now s.walker z.walker s.progress z.progress c.in-Scan.lo c.in-Scan.hi c.bound.result c.args.op c.scan.result (ap (λ x. x.now) e.shards) c.in-Scan.is b.same c.requires.session c.requires.active c.requires.range b.small e.told e.session }
+pairs_told-requires g c = let s = c.args.self.now.session in let z = c.scan-answer.new.self in let e = c.scan-answer.ensures in let b = c.bound.ensures in
+    record { made = scan_answers s.shards.now c.args.self.now.asked z.shards.now s.walker z.walker s.progress z.progress c.in-Scan.lo c.in-Scan.hi c.bound.result c.args.op.now c.scan-answer.result (ap (λ x. x.now) e.shards) c.in-Scan.is b.same c.requires.session c.requires.active c.requires.range b.small e.told e.session }
 
 pub returns-in-Scan-clause-session : goal.returns-in-Scan-clause-session
-returns-in-Scan-clause-session g c = let s = c.args.self.now.session in let z = c.scan.new.self in let e = c.scan.ensures in let b = c.bound.ensures in
-    (scan_call s.shards.now c.args.self.now.asked z.shards.now s.walker z.walker s.progress z.progress c.in-Scan.lo c.in-Scan.hi c.bound.result c.args.op c.scan.result c.pairs_told.result (ap (λ x. x.now) e.shards) c.in-Scan.is b.same c.requires.session c.requires.active c.requires.range b.small e.told e.session c.pairs_told.ensures.told).holds.holds
+returns-in-Scan-clause-session g c = let s = c.args.self.now.session in let z = c.scan-answer.new.self in let e = c.scan-answer.ensures in let b = c.bound.ensures in
+    (scan_call s.shards.now c.args.self.now.asked z.shards.now s.walker z.walker s.progress z.progress c.in-Scan.lo c.in-Scan.hi c.bound.result c.args.op.now c.scan-answer.result c.pairs_told.result (ap (λ x. x.now) e.shards) c.in-Scan.is b.same c.requires.session c.requires.active c.requires.range b.small e.told e.session c.pairs_told.ensures.told).holds.holds
 
 pub returns-in-Scan-clause-misses : goal.returns-in-Scan-clause-misses
-returns-in-Scan-clause-misses g c = let s = c.args.self.now.session in let z = c.scan.new.self in let e = c.scan.ensures in let b = c.bound.ensures in
-    (scan_call s.shards.now c.args.self.now.asked z.shards.now s.walker z.walker s.progress z.progress c.in-Scan.lo c.in-Scan.hi c.bound.result c.args.op c.scan.result c.pairs_told.result (ap (λ x. x.now) e.shards) c.in-Scan.is b.same c.requires.session c.requires.active c.requires.range b.small e.told e.session c.pairs_told.ensures.told).holds.misses
+returns-in-Scan-clause-misses g c = let s = c.args.self.now.session in let z = c.scan-answer.new.self in let e = c.scan-answer.ensures in let b = c.bound.ensures in
+    (scan_call s.shards.now c.args.self.now.asked z.shards.now s.walker z.walker s.progress z.progress c.in-Scan.lo c.in-Scan.hi c.bound.result c.args.op.now c.scan-answer.result c.pairs_told.result (ap (λ x. x.now) e.shards) c.in-Scan.is b.same c.requires.session c.requires.active c.requires.range b.small e.told e.session c.pairs_told.ensures.told).holds.misses
 
 pub returns-in-Scan-clause-told : goal.returns-in-Scan-clause-told
-returns-in-Scan-clause-told g c = let s = c.args.self.now.session in let z = c.scan.new.self in let e = c.scan.ensures in let b = c.bound.ensures in
-    (scan_call s.shards.now c.args.self.now.asked z.shards.now s.walker z.walker s.progress z.progress c.in-Scan.lo c.in-Scan.hi c.bound.result c.args.op c.scan.result c.pairs_told.result (ap (λ x. x.now) e.shards) c.in-Scan.is b.same c.requires.session c.requires.active c.requires.range b.small e.told e.session c.pairs_told.ensures.told).told
+returns-in-Scan-clause-told g c = let s = c.args.self.now.session in let z = c.scan-answer.new.self in let e = c.scan-answer.ensures in let b = c.bound.ensures in
+    (scan_call s.shards.now c.args.self.now.asked z.shards.now s.walker z.walker s.progress z.progress c.in-Scan.lo c.in-Scan.hi c.bound.result c.args.op.now c.scan-answer.result c.pairs_told.result (ap (λ x. x.now) e.shards) c.in-Scan.is b.same c.requires.session c.requires.active c.requires.range b.small e.told e.session c.pairs_told.ensures.told).told
 
 pub returns-in-Scan-clause-grounds : goal.returns-in-Scan-clause-grounds
-returns-in-Scan-clause-grounds g c = let s = c.args.self.now.session in let z = c.scan.new.self in let e = c.scan.ensures in let b = c.bound.ensures in
-    (scan_call s.shards.now c.args.self.now.asked z.shards.now s.walker z.walker s.progress z.progress c.in-Scan.lo c.in-Scan.hi c.bound.result c.args.op c.scan.result c.pairs_told.result (ap (λ x. x.now) e.shards) c.in-Scan.is b.same c.requires.session c.requires.active c.requires.range b.small e.told e.session c.pairs_told.ensures.told).grounds
+returns-in-Scan-clause-grounds g c = let s = c.args.self.now.session in let z = c.scan-answer.new.self in let e = c.scan-answer.ensures in let b = c.bound.ensures in
+    (scan_call s.shards.now c.args.self.now.asked z.shards.now s.walker z.walker s.progress z.progress c.in-Scan.lo c.in-Scan.hi c.bound.result c.args.op.now c.scan-answer.result c.pairs_told.result (ap (λ x. x.now) e.shards) c.in-Scan.is b.same c.requires.session c.requires.active c.requires.range b.small e.told e.session c.pairs_told.ensures.told).grounds
