@@ -1,5 +1,6 @@
 -- Lists that grow as a workload is made.
 use Rattle.std.proofs.Common.{◌≡◌, ap, ◌∙◌, sym, ℕ, suc, ◌+◌, ◌-◌, ◌<◌, List, [], ◌∷◌, ◌++◌, append_assoc, arith}
+use Rattle.clv_base.specs.declared.values.Value.TheVariants.{Num}
 use Rattle.clv_base.specs.declared.ops.Op.TheVariants.{Put}
 use Rattle.script_lang.specs.declared.actions.Action.TheVariants.{Do}
 use Rattle.script_lang.specs.declared.actions.Ending.TheVariants.{Commit}
@@ -11,8 +12,8 @@ use Rattle.law_base.proofs.Numbers.{minus_suc as one_less}
 pub grown : {A : Type 0} (items : List A) (x : A) (rest behind whole : List A) → items ++ rest ≡ whole → rest ≡ x ∷ behind → (items ++ x ∷ []) ++ behind ≡ whole
 grown items x rest behind whole h e = append_assoc items (x ∷ []) behind ∙ ap (λ r. items ++ r) (sym e) ∙ h
 
-pub fill_more : (n i : ℕ) → i < n → fill i (n - i) ≡ Do (Put i 1000) ∷ fill (i + 1) (n - (i + 1))
-fill_more n i h = ap (fill i) (one_less n i h) ∙ ap (λ k. Do (Put i 1000) ∷ fill k (n - (i + 1))) (let e : suc i ≡ i + 1 = omega arith in e)
+pub fill_more : (n i : ℕ) → i < n → fill i (n - i) ≡ Do (Put i (Num 1000)) ∷ fill (i + 1) (n - (i + 1))
+fill_more n i h = ap (fill i) (one_less n i h) ∙ ap (λ k. Do (Put i (Num 1000)) ∷ fill k (n - (i + 1))) (let e : suc i ≡ i + 1 = omega arith in e)
 
 pub transfers_more : (accounts x n i : ℕ) → i < n → transfers accounts x (n - i) ≡ body (transfer accounts x ∷ []) Commit ∷ transfers accounts (next_state (next_state (next_state x))) (n - (i + 1))
 transfers_more accounts x n i h = ap (transfers accounts x) (one_less n i h)

@@ -1,5 +1,6 @@
 -- A line has one meaning.
 use Rattle.std.proofs.Common.{◌≡◌, ◌≢◌, ◌⊎◌, inl, inr, ℕ, ◌+◌, ◌<◌, ◌≤◌, List, [], slice_index, codes, ap, refl, ◌∙◌, arith}
+use Rattle.clv_base.specs.declared.values.Value.TheVariants.{Num, Bytes}
 use Rattle.clv_base.specs.declared.ops.Op.TheVariants.{Get, Put, Del, Scan}
 use Rattle.script_lang.specs.Bodies.{Action, Ending}
 use Rattle.script_lang.specs.Grammar.{Line, Blank, Session, Begin, Act, End, Do, Move, Commit, Abort, IsLine, IsComment, IsEnding, IsAction}
@@ -11,7 +12,8 @@ kind Blank = 0
 kind Session = 216
 kind Begin = 199
 kind (Act (Do (Get k))) = 204
-kind (Act (Do (Put k v))) = 229
+kind (Act (Do (Put k (Num v)))) = 229
+kind (Act (Do (Put k (Bytes v)))) = 219
 kind (Act (Do (Del k))) = 201
 kind (Act (Do (Scan lo hi))) = 214
 kind (Act (Move from to amount)) = 220
@@ -38,7 +40,8 @@ begins_with bytes Blank (inr (text, is, ascii)) = let g : slice_index bytes 0 �
 begins_with bytes Session is = shows_word bytes _ 216 is refl (omega arith)
 begins_with bytes Begin is = shows_word bytes _ 199 is refl (omega arith)
 begins_with bytes (Act (Do (Get k))) (words, is, number) = shows_word bytes _ 204 is refl (omega arith)
-begins_with bytes (Act (Do (Put k v))) (words, is, numbers) = shows_word bytes _ 229 is refl (omega arith)
+begins_with bytes (Act (Do (Put k (Num v)))) (words, is, numbers) = shows_word bytes _ 229 is refl (omega arith)
+begins_with bytes (Act (Do (Put k (Bytes v)))) (words, is, numbers) = shows_word bytes _ 219 is refl (omega arith)
 begins_with bytes (Act (Do (Del k))) (words, is, number) = shows_word bytes _ 201 is refl (omega arith)
 begins_with bytes (Act (Do (Scan lo hi))) (words, is, numbers) = shows_word bytes _ 214 is refl (omega arith)
 begins_with bytes (Act (Move from to amount)) (words, is, numbers) = shows_word bytes _ 220 is refl (omega arith)
@@ -67,7 +70,8 @@ same_of_kind bytes (Act a) (Act b) e isa isb = ap (λ (x : Action). Act x) (one_
 same_of_kind bytes Blank Session e isa isb = absurd (let no : ⊥ = omega arith in no)
 same_of_kind bytes Blank Begin e isa isb = absurd (let no : ⊥ = omega arith in no)
 same_of_kind bytes Blank (Act (Do (Get m))) e isa isb = absurd (let no : ⊥ = omega arith in no)
-same_of_kind bytes Blank (Act (Do (Put m n))) e isa isb = absurd (let no : ⊥ = omega arith in no)
+same_of_kind bytes Blank (Act (Do (Put m (Num n)))) e isa isb = absurd (let no : ⊥ = omega arith in no)
+same_of_kind bytes Blank (Act (Do (Put m (Bytes n)))) e isa isb = absurd (let no : ⊥ = omega arith in no)
 same_of_kind bytes Blank (Act (Do (Del m))) e isa isb = absurd (let no : ⊥ = omega arith in no)
 same_of_kind bytes Blank (Act (Do (Scan m n))) e isa isb = absurd (let no : ⊥ = omega arith in no)
 same_of_kind bytes Blank (Act (Move l m n)) e isa isb = absurd (let no : ⊥ = omega arith in no)
@@ -76,7 +80,8 @@ same_of_kind bytes Blank (End Abort) e isa isb = absurd (let no : ⊥ = omega ar
 same_of_kind bytes Session Blank e isa isb = absurd (let no : ⊥ = omega arith in no)
 same_of_kind bytes Session Begin e isa isb = absurd (let no : ⊥ = omega arith in no)
 same_of_kind bytes Session (Act (Do (Get m))) e isa isb = absurd (let no : ⊥ = omega arith in no)
-same_of_kind bytes Session (Act (Do (Put m n))) e isa isb = absurd (let no : ⊥ = omega arith in no)
+same_of_kind bytes Session (Act (Do (Put m (Num n)))) e isa isb = absurd (let no : ⊥ = omega arith in no)
+same_of_kind bytes Session (Act (Do (Put m (Bytes n)))) e isa isb = absurd (let no : ⊥ = omega arith in no)
 same_of_kind bytes Session (Act (Do (Del m))) e isa isb = absurd (let no : ⊥ = omega arith in no)
 same_of_kind bytes Session (Act (Do (Scan m n))) e isa isb = absurd (let no : ⊥ = omega arith in no)
 same_of_kind bytes Session (Act (Move l m n)) e isa isb = absurd (let no : ⊥ = omega arith in no)
@@ -85,7 +90,8 @@ same_of_kind bytes Session (End Abort) e isa isb = absurd (let no : ⊥ = omega 
 same_of_kind bytes Begin Blank e isa isb = absurd (let no : ⊥ = omega arith in no)
 same_of_kind bytes Begin Session e isa isb = absurd (let no : ⊥ = omega arith in no)
 same_of_kind bytes Begin (Act (Do (Get m))) e isa isb = absurd (let no : ⊥ = omega arith in no)
-same_of_kind bytes Begin (Act (Do (Put m n))) e isa isb = absurd (let no : ⊥ = omega arith in no)
+same_of_kind bytes Begin (Act (Do (Put m (Num n)))) e isa isb = absurd (let no : ⊥ = omega arith in no)
+same_of_kind bytes Begin (Act (Do (Put m (Bytes n)))) e isa isb = absurd (let no : ⊥ = omega arith in no)
 same_of_kind bytes Begin (Act (Do (Del m))) e isa isb = absurd (let no : ⊥ = omega arith in no)
 same_of_kind bytes Begin (Act (Do (Scan m n))) e isa isb = absurd (let no : ⊥ = omega arith in no)
 same_of_kind bytes Begin (Act (Move l m n)) e isa isb = absurd (let no : ⊥ = omega arith in no)
@@ -96,11 +102,16 @@ same_of_kind bytes (Act (Do (Get k))) Session e isa isb = absurd (let no : ⊥ =
 same_of_kind bytes (Act (Do (Get k))) Begin e isa isb = absurd (let no : ⊥ = omega arith in no)
 same_of_kind bytes (Act (Do (Get k))) (End Commit) e isa isb = absurd (let no : ⊥ = omega arith in no)
 same_of_kind bytes (Act (Do (Get k))) (End Abort) e isa isb = absurd (let no : ⊥ = omega arith in no)
-same_of_kind bytes (Act (Do (Put k v))) Blank e isa isb = absurd (let no : ⊥ = omega arith in no)
-same_of_kind bytes (Act (Do (Put k v))) Session e isa isb = absurd (let no : ⊥ = omega arith in no)
-same_of_kind bytes (Act (Do (Put k v))) Begin e isa isb = absurd (let no : ⊥ = omega arith in no)
-same_of_kind bytes (Act (Do (Put k v))) (End Commit) e isa isb = absurd (let no : ⊥ = omega arith in no)
-same_of_kind bytes (Act (Do (Put k v))) (End Abort) e isa isb = absurd (let no : ⊥ = omega arith in no)
+same_of_kind bytes (Act (Do (Put k (Num v)))) Blank e isa isb = absurd (let no : ⊥ = omega arith in no)
+same_of_kind bytes (Act (Do (Put k (Bytes v)))) Blank e isa isb = absurd (let no : ⊥ = omega arith in no)
+same_of_kind bytes (Act (Do (Put k (Num v)))) Session e isa isb = absurd (let no : ⊥ = omega arith in no)
+same_of_kind bytes (Act (Do (Put k (Bytes v)))) Session e isa isb = absurd (let no : ⊥ = omega arith in no)
+same_of_kind bytes (Act (Do (Put k (Num v)))) Begin e isa isb = absurd (let no : ⊥ = omega arith in no)
+same_of_kind bytes (Act (Do (Put k (Bytes v)))) Begin e isa isb = absurd (let no : ⊥ = omega arith in no)
+same_of_kind bytes (Act (Do (Put k (Num v)))) (End Commit) e isa isb = absurd (let no : ⊥ = omega arith in no)
+same_of_kind bytes (Act (Do (Put k (Bytes v)))) (End Commit) e isa isb = absurd (let no : ⊥ = omega arith in no)
+same_of_kind bytes (Act (Do (Put k (Num v)))) (End Abort) e isa isb = absurd (let no : ⊥ = omega arith in no)
+same_of_kind bytes (Act (Do (Put k (Bytes v)))) (End Abort) e isa isb = absurd (let no : ⊥ = omega arith in no)
 same_of_kind bytes (Act (Do (Del k))) Blank e isa isb = absurd (let no : ⊥ = omega arith in no)
 same_of_kind bytes (Act (Do (Del k))) Session e isa isb = absurd (let no : ⊥ = omega arith in no)
 same_of_kind bytes (Act (Do (Del k))) Begin e isa isb = absurd (let no : ⊥ = omega arith in no)
@@ -120,7 +131,8 @@ same_of_kind bytes (End Commit) Blank e isa isb = absurd (let no : ⊥ = omega a
 same_of_kind bytes (End Commit) Session e isa isb = absurd (let no : ⊥ = omega arith in no)
 same_of_kind bytes (End Commit) Begin e isa isb = absurd (let no : ⊥ = omega arith in no)
 same_of_kind bytes (End Commit) (Act (Do (Get m))) e isa isb = absurd (let no : ⊥ = omega arith in no)
-same_of_kind bytes (End Commit) (Act (Do (Put m n))) e isa isb = absurd (let no : ⊥ = omega arith in no)
+same_of_kind bytes (End Commit) (Act (Do (Put m (Num n)))) e isa isb = absurd (let no : ⊥ = omega arith in no)
+same_of_kind bytes (End Commit) (Act (Do (Put m (Bytes n)))) e isa isb = absurd (let no : ⊥ = omega arith in no)
 same_of_kind bytes (End Commit) (Act (Do (Del m))) e isa isb = absurd (let no : ⊥ = omega arith in no)
 same_of_kind bytes (End Commit) (Act (Do (Scan m n))) e isa isb = absurd (let no : ⊥ = omega arith in no)
 same_of_kind bytes (End Commit) (Act (Move l m n)) e isa isb = absurd (let no : ⊥ = omega arith in no)
@@ -129,7 +141,8 @@ same_of_kind bytes (End Abort) Blank e isa isb = absurd (let no : ⊥ = omega ar
 same_of_kind bytes (End Abort) Session e isa isb = absurd (let no : ⊥ = omega arith in no)
 same_of_kind bytes (End Abort) Begin e isa isb = absurd (let no : ⊥ = omega arith in no)
 same_of_kind bytes (End Abort) (Act (Do (Get m))) e isa isb = absurd (let no : ⊥ = omega arith in no)
-same_of_kind bytes (End Abort) (Act (Do (Put m n))) e isa isb = absurd (let no : ⊥ = omega arith in no)
+same_of_kind bytes (End Abort) (Act (Do (Put m (Num n)))) e isa isb = absurd (let no : ⊥ = omega arith in no)
+same_of_kind bytes (End Abort) (Act (Do (Put m (Bytes n)))) e isa isb = absurd (let no : ⊥ = omega arith in no)
 same_of_kind bytes (End Abort) (Act (Do (Del m))) e isa isb = absurd (let no : ⊥ = omega arith in no)
 same_of_kind bytes (End Abort) (Act (Do (Scan m n))) e isa isb = absurd (let no : ⊥ = omega arith in no)
 same_of_kind bytes (End Abort) (Act (Move l m n)) e isa isb = absurd (let no : ⊥ = omega arith in no)

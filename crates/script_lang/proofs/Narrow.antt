@@ -2,6 +2,7 @@
 use Rattle.std.proofs.Common.{◌≡◌, ◌≢◌, refl, sym, ap, subst, ℕ, zero, suc, ◌+◌, ◌≤◌, ◌^◌, Bool, true, false, not, ◌&&◌, ◌==◌, eqb-true, List, [], ◌∷◌, length, arith}
 use Rattle.std.specs.List.{list_all}
 use Rattle.std.proofs.lemmas.Bool.{lt-ltb}
+use Rattle.clv_base.specs.declared.values.Value.TheVariants.{Num}
 use Rattle.clv_base.specs.declared.ops.Op.TheVariants.{Put}
 use Rattle.script_lang.specs.declared.actions.Action.TheVariants.{Do}
 use Rattle.script_lang.specs.declared.actions.Ending.TheVariants.{Commit}
@@ -25,7 +26,7 @@ apart a b differ = at (a == b) refl
 
 fill_narrow : (k n : ℕ) → k + n ≤ 10000 → list_all is_narrow (fill k n) ≡ true
 fill_narrow k zero h = refl
-fill_narrow k (suc n) h = both (is_narrow (Do (Put k 1000))) (list_all is_narrow (fill (suc k) n)) (both (is_word k) (is_word 1000) (word k (omega arith)) (word 1000 (omega arith))) (fill_narrow (suc k) n (omega arith))
+fill_narrow k (suc n) h = both (is_narrow (Do (Put k (Num 1000)))) (list_all is_narrow (fill (suc k) n)) (both (is_word k) (is_word 1000) (word k (omega arith)) (word 1000 (omega arith))) (fill_narrow (suc k) n (omega arith))
 
 transfer_narrow : (accounts x : ℕ) → 2 ≤ accounts → accounts ≤ 10000 → is_narrow (transfer accounts x) ≡ true
 transfer_narrow accounts x two few =

@@ -1,5 +1,6 @@
 -- How a transaction goes from operation to operation.
 use Rattle.std.proofs.Common.{◌≡◌, refl, ap, ◌∙◌, sym, subst, ℕ, zero, suc, ◌+◌, ◌<◌, List, [], ◌∷◌, ◌++◌, length, drop, slice_get, Option, arith, append_assoc, append-nil, length-append}
+use Rattle.clv_base.specs.declared.values.Value.{Value as ValueType}
 use Rattle.clv_base.specs.declared.ops.Op.{Op}
 use Rattle.clv_base.specs.declared.ops.Op.TheVariants.{Get}
 use Rattle.clv_base.specs.declared.ops.Answer.{Answer}
@@ -26,22 +27,22 @@ step_move from to amount behind answer = λ some. (
       ap (λ (as_left : List Answer). Get from ∷ Get to ∷ (ops ++ all_ops behind as_left)) (drop_one_more (length ops) more),
 )
 
-pub step_second : (from to amount : ℕ) (found : Option ℕ) (left : List Action) (answer : Answer) (next : Stage)
+pub step_second : (from to amount : ℕ) (found : Option ValueType) (left : List Action) (answer : Answer) (next : Stage)
     → ((behind : List Action) (more : List Answer) → after_looks (puts from to amount found (value_of answer)) behind more ≡ rest_from next behind more)
     → StepsTo (Second from to amount found) left answer next left
 step_second from to amount found left answer next e = λ some. (Get to, λ more. ap (λ (ops : List Op). Get to ∷ ops) (e left more))
 
-pub step_second_by : (stage : Stage) (from to amount : ℕ) (found target : Option ℕ) (left : List Action) (answer : Answer) (next : Stage) → stage ≡ Second from to amount found → target ≡ value_of answer
+pub step_second_by : (stage : Stage) (from to amount : ℕ) (found target : Option ValueType) (left : List Action) (answer : Answer) (next : Stage) → stage ≡ Second from to amount found → target ≡ value_of answer
     → ((behind : List Action) (more : List Answer) → after_looks (puts from to amount found target) behind more ≡ rest_from next behind more)
     → StepsTo stage left answer next left
 step_second_by stage from to amount found target left answer next is value e =
-    let h = subst (λ (v : Option ℕ). (behind : List Action) (more : List Answer) → after_looks (puts from to amount found v) behind more ≡ rest_from next behind more) value e in
+    let h = subst (λ (v : Option ValueType). (behind : List Action) (more : List Answer) → after_looks (puts from to amount found v) behind more ≡ rest_from next behind more) value e in
     subst (λ (s : Stage). StepsTo s left answer next left) (sym is) (step_second from to amount found left answer next h)
 
-pub step_move_by : (left : List Action) (from to amount : ℕ) (behind : List Action) (found : Option ℕ) (answer : Answer) → left ≡ Move from to amount ∷ behind → found ≡ value_of answer
+pub step_move_by : (left : List Action) (from to amount : ℕ) (behind : List Action) (found : Option ValueType) (answer : Answer) → left ≡ Move from to amount ∷ behind → found ≡ value_of answer
     → StepsTo AtLine left answer (Second from to amount found) behind
 step_move_by left from to amount behind found answer is value =
-    let h = subst (λ (v : Option ℕ). StepsTo AtLine (Move from to amount ∷ behind) answer (Second from to amount v) behind) (sym value) (step_move from to amount behind answer) in
+    let h = subst (λ (v : Option ValueType). StepsTo AtLine (Move from to amount ∷ behind) answer (Second from to amount v) behind) (sym value) (step_move from to amount behind answer) in
     subst (λ (l : List Action). StepsTo AtLine l answer (Second from to amount found) behind) (sym is) h
 
 -- ---- where the transaction stands

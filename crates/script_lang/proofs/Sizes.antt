@@ -1,13 +1,17 @@
 -- What every script keeps to: by its lines, one after another.
-use Rattle.std.proofs.Common.{◌≡◌, refl, ap, ◌∙◌, subst, ℕ, suc, ◌+◌, ◌≤◌, ◌<◌, ◌^◌, Bool, true, false, not, nat_lt, nat_le, ◌==◌, cond, List, [], ◌∷◌, ◌++◌, length, Option, Some, None, arith, length-append}
+use Rattle.std.proofs.Common.{◌≡◌, refl, ap, ◌∙◌, subst, ℕ, suc, ◌+◌, ◌≤◌, ◌<◌, ◌^◌, Bool, true, false, not, nat_lt, nat_le, ◌==◌, cond, List, [], ◌∷◌, ◌++◌, length, Option, Some, None, arith, length-append, inl, inr}
 use Rattle.std.specs.List.{list_all}
 use Rattle.std.proofs.lemmas.List.Folds.{list_all-append}
 use Rattle.std.proofs.lemmas.Bool.{ne_eqb}
 use Rattle.std.proofs.lemmas.Bool.Decides.{nat_tests}
+use Rattle.clv_base.specs.declared.values.Value.TheVariants.{Num, Bytes}
+use Rattle.clv_base.specs.Values.{fits_value}
 use Rattle.clv_base.specs.declared.ops.Op.TheVariants.{Get, Put, Del, Scan}
 use Rattle.script_lang.specs.Bodies.{Action, Ending, Body}
-use Rattle.script_lang.specs.Grammar.{Line, Blank, Session, Begin, Act, End, Do, Move, IsNumber, IsAction, IsLine, Reading, reading, nothing_read, with_last, body, read_line, Leads, lines_of, before_line}
+use Rattle.script_lang.specs.Grammar.{Line, Blank, Session, Begin, Act, End, Do, Move, IsNumber, IsText, IsAction, IsLine, Reading, reading, nothing_read, with_last, body, read_line, Leads, lines_of, before_line}
 use Rattle.script_lang.specs.Laws.{is_word, is_narrow, is_narrow_body, session_size, script_size, ScriptsAreNarrow, ScriptsAreShort, ScriptsHaveFewSessions}
+use Rattle.hex.proofs.HexLemmas.{decode_of-ok}
+use Rattle.clv_base.proofs.Fitting.{bytes_fit}
 use Rattle.law_base.proofs.Bools.{and_first, and_second, and_true}
 
 -- ---- an action of a line
@@ -24,9 +28,14 @@ lt_from a b h = grind (arith, nat_tests)
 word : (text : List ℕ) (n : ℕ) → IsNumber text n → is_word n ≡ true
 word text n is = lt_true n (2 ^ 64) is.bounded
 
+text_fits : (text bytes : List ℕ) → IsText text bytes → fits_value (Bytes bytes) ≡ true
+text_fits text bytes (inl is) = ap (λ (b : List ℕ). fits_value (Bytes b)) is.1
+text_fits text bytes (inr is) = let ok = decode_of-ok text bytes is.decodes in bytes_fit bytes (omega (arith, is.few, ok.2)) ok.3
+
 action_narrow : (bytes : List ℕ) (action : Action) → IsAction bytes action → is_narrow action ≡ true
 action_narrow bytes (Do (Get k)) (words, is, n) = word words k n
-action_narrow bytes (Do (Put k v)) (words, is, (a, b, parts, m, n)) = and_true _ _ (word a k m) (word b v n)
+action_narrow bytes (Do (Put k (Num v))) (words, is, (a, b, parts, m, n)) = and_true _ _ (word a k m) (word b v n)
+action_narrow bytes (Do (Put k (Bytes v))) (words, is, (a, b, parts, m, n)) = and_true _ _ (word a k m) (text_fits b v n)
 action_narrow bytes (Do (Del k)) (words, is, n) = word words k n
 action_narrow bytes (Do (Scan lo hi)) (words, is, ((a, b, parts, m, n), rise)) = and_true _ _ (le_true lo hi rise) (word b hi n)
 action_narrow bytes (Move from to amount) (words, is, ((a, b, parts, l, (c, d, more, m, n)), differ)) =

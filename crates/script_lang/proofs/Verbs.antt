@@ -1,12 +1,13 @@
 -- The word that an action begins with, and what follows it.
 use Rattle.std.proofs.Common.{◌≡◌, ◌≢◌, ℕ, zero, suc, ◌≤◌, List, [], ◌∷◌, ◌++◌, codes, subst, ap, refl, sym, ◌∙◌, arith, Option, Some, None, MatchOption}
+use Rattle.clv_base.specs.declared.values.Value.TheVariants.{Num, Bytes}
 use Rattle.clv_base.specs.declared.ops.Op.TheVariants.{Get, Put, Del, Scan}
 use Rattle.script_lang.specs.Bodies.{Action}
 use Rattle.script_lang.specs.Reading.{Lacks, verb_text}
-use Rattle.script_lang.specs.Grammar.{Do, Move, IsNumber, AreTwo, AreThree, name_of, HasOperands, IsAction}
+use Rattle.script_lang.specs.Grammar.{Do, Move, IsNumber, AreTwo, AreThree, AreKeyAndText, name_of, HasOperands, IsAction}
 use Rattle.script_lang.specs.declared.lines.Verb.{Verb}
 use Rattle.script_lang.specs.declared.lines.Verb.TheVariants as verbs
-use Rattle.script_lang.proofs.Words.{parted_alike, number_once, two_once, three_once}
+use Rattle.script_lang.proofs.Words.{parted_alike, number_once, two_once, three_once, text_once}
 use Rattle.law_base.proofs.Lists.{unequal}
 
 lacks_none : Lacks 32 []
@@ -22,16 +23,21 @@ lacks_three x y z a b c = lacks_more x (y ∷ z ∷ []) a (lacks_more y (z ∷ [
 lacks_four : (w x y z : ℕ) → w ≢ 32 → x ≢ 32 → y ≢ 32 → z ≢ 32 → Lacks 32 (w ∷ x ∷ y ∷ z ∷ [])
 lacks_four w x y z n a b c = lacks_more w (x ∷ y ∷ z ∷ []) n (lacks_three x y z a b c)
 
+lacks_five : (v w x y z : ℕ) → v ≢ 32 → w ≢ 32 → x ≢ 32 → y ≢ 32 → z ≢ 32 → Lacks 32 (v ∷ w ∷ x ∷ y ∷ z ∷ [])
+lacks_five v w x y z m n a b c = lacks_more v (w ∷ x ∷ y ∷ z ∷ []) m (lacks_four w x y z n a b c)
+
 pub names_lack_space : (action : Action) → Lacks 32 (name_of action)
 names_lack_space (Do (Get k)) = lacks_three 103 101 116 (omega arith) (omega arith) (omega arith)
-names_lack_space (Do (Put k v)) = lacks_three 112 117 116 (omega arith) (omega arith) (omega arith)
+names_lack_space (Do (Put k (Num v))) = lacks_three 112 117 116 (omega arith) (omega arith) (omega arith)
+names_lack_space (Do (Put k (Bytes v))) = lacks_five 98 121 116 101 115 (omega arith) (omega arith) (omega arith) (omega arith) (omega arith)
 names_lack_space (Do (Del k)) = lacks_three 100 101 108 (omega arith) (omega arith) (omega arith)
 names_lack_space (Do (Scan lo hi)) = lacks_four 115 99 97 110 (omega arith) (omega arith) (omega arith) (omega arith)
 names_lack_space (Move from to amount) = lacks_four 109 111 118 101 (omega arith) (omega arith) (omega arith) (omega arith)
 
 pub verb_for : (action : Action) → (verb : Verb) × (name_of action ≡ verb_text verb)
 verb_for (Do (Get k)) = (verbs.Get, refl)
-verb_for (Do (Put k v)) = (verbs.Put, refl)
+verb_for (Do (Put k (Num v))) = (verbs.Put, refl)
+verb_for (Do (Put k (Bytes v))) = (verbs.Bytes, refl)
 verb_for (Do (Del k)) = (verbs.Del, refl)
 verb_for (Do (Scan lo hi)) = (verbs.Scan, refl)
 verb_for (Move from to amount) = (verbs.Move, refl)
@@ -46,35 +52,48 @@ action_by_words bytes word words is none action (others, same, operands) =
 
 pub get_operands : (words : List ℕ) (action : Action) → name_of action ≡ codes "get" → HasOperands words action → (k : ℕ) × IsNumber words k
 get_operands words (Do (Get k)) e h = (k, h)
-get_operands words (Do (Put k v)) e h = absurd (unequal (codes "put") (codes "get") (omega arith) e)
+get_operands words (Do (Put k (Num v))) e h = absurd (unequal (codes "put") (codes "get") (omega arith) e)
+get_operands words (Do (Put k (Bytes v))) e h = absurd (unequal (codes "bytes") (codes "get") (omega arith) e)
 get_operands words (Do (Del k)) e h = absurd (unequal (codes "del") (codes "get") (omega arith) e)
 get_operands words (Do (Scan lo hi)) e h = absurd (unequal (codes "scan") (codes "get") (omega arith) e)
 get_operands words (Move from to amount) e h = absurd (unequal (codes "move") (codes "get") (omega arith) e)
 
 pub put_operands : (words : List ℕ) (action : Action) → name_of action ≡ codes "put" → HasOperands words action → (k v : ℕ) × AreTwo words k v
 put_operands words (Do (Get k)) e h = absurd (unequal (codes "get") (codes "put") (omega arith) e)
-put_operands words (Do (Put k v)) e h = (k, v, h)
+put_operands words (Do (Put k (Num v))) e h = (k, v, h)
+put_operands words (Do (Put k (Bytes v))) e h = absurd (unequal (codes "bytes") (codes "put") (omega arith) e)
 put_operands words (Do (Del k)) e h = absurd (unequal (codes "del") (codes "put") (omega arith) e)
 put_operands words (Do (Scan lo hi)) e h = absurd (unequal (codes "scan") (codes "put") (omega arith) e)
 put_operands words (Move from to amount) e h = absurd (unequal (codes "move") (codes "put") (omega arith) e)
 
+pub bytes_operands : (words : List ℕ) (action : Action) → name_of action ≡ codes "bytes" → HasOperands words action → (k : ℕ) × (text : List ℕ) × AreKeyAndText words k text
+bytes_operands words (Do (Get k)) e h = absurd (unequal (codes "get") (codes "bytes") (omega arith) e)
+bytes_operands words (Do (Put k (Num v))) e h = absurd (unequal (codes "put") (codes "bytes") (omega arith) e)
+bytes_operands words (Do (Put k (Bytes v))) e h = (k, v, h)
+bytes_operands words (Do (Del k)) e h = absurd (unequal (codes "del") (codes "bytes") (omega arith) e)
+bytes_operands words (Do (Scan lo hi)) e h = absurd (unequal (codes "scan") (codes "bytes") (omega arith) e)
+bytes_operands words (Move from to amount) e h = absurd (unequal (codes "move") (codes "bytes") (omega arith) e)
+
 pub del_operands : (words : List ℕ) (action : Action) → name_of action ≡ codes "del" → HasOperands words action → (k : ℕ) × IsNumber words k
 del_operands words (Do (Get k)) e h = absurd (unequal (codes "get") (codes "del") (omega arith) e)
-del_operands words (Do (Put k v)) e h = absurd (unequal (codes "put") (codes "del") (omega arith) e)
+del_operands words (Do (Put k (Num v))) e h = absurd (unequal (codes "put") (codes "del") (omega arith) e)
+del_operands words (Do (Put k (Bytes v))) e h = absurd (unequal (codes "bytes") (codes "del") (omega arith) e)
 del_operands words (Do (Del k)) e h = (k, h)
 del_operands words (Do (Scan lo hi)) e h = absurd (unequal (codes "scan") (codes "del") (omega arith) e)
 del_operands words (Move from to amount) e h = absurd (unequal (codes "move") (codes "del") (omega arith) e)
 
 pub scan_operands : (words : List ℕ) (action : Action) → name_of action ≡ codes "scan" → HasOperands words action → (lo hi : ℕ) × AreTwo words lo hi × (lo ≤ hi)
 scan_operands words (Do (Get k)) e h = absurd (unequal (codes "get") (codes "scan") (omega arith) e)
-scan_operands words (Do (Put k v)) e h = absurd (unequal (codes "put") (codes "scan") (omega arith) e)
+scan_operands words (Do (Put k (Num v))) e h = absurd (unequal (codes "put") (codes "scan") (omega arith) e)
+scan_operands words (Do (Put k (Bytes v))) e h = absurd (unequal (codes "bytes") (codes "scan") (omega arith) e)
 scan_operands words (Do (Del k)) e h = absurd (unequal (codes "del") (codes "scan") (omega arith) e)
 scan_operands words (Do (Scan lo hi)) e h = (lo, hi, h.0, h.1)
 scan_operands words (Move from to amount) e h = absurd (unequal (codes "move") (codes "scan") (omega arith) e)
 
 pub move_operands : (words : List ℕ) (action : Action) → name_of action ≡ codes "move" → HasOperands words action → (from to amount : ℕ) × AreThree words from to amount × (from ≢ to)
 move_operands words (Do (Get k)) e h = absurd (unequal (codes "get") (codes "move") (omega arith) e)
-move_operands words (Do (Put k v)) e h = absurd (unequal (codes "put") (codes "move") (omega arith) e)
+move_operands words (Do (Put k (Num v))) e h = absurd (unequal (codes "put") (codes "move") (omega arith) e)
+move_operands words (Do (Put k (Bytes v))) e h = absurd (unequal (codes "bytes") (codes "move") (omega arith) e)
 move_operands words (Do (Del k)) e h = absurd (unequal (codes "del") (codes "move") (omega arith) e)
 move_operands words (Do (Scan lo hi)) e h = absurd (unequal (codes "scan") (codes "move") (omega arith) e)
 move_operands words (Move from to amount) e h = (from, to, amount, h.0, h.1)
@@ -83,42 +102,56 @@ move_operands words (Move from to amount) e h = (from, to, amount, h.0, h.1)
 
 same_get : (words : List ℕ) (k : ℕ) (b : Action) → name_of b ≡ codes "get" → IsNumber words k → HasOperands words b → Do (Get k) ≡ b
 same_get words k (Do (Get m)) e ha hb = ap (λ (x : ℕ). Do (Get x)) (number_once words k m ha hb)
-same_get words k (Do (Put m n)) e ha hb = absurd (unequal (codes "put") (codes "get") (omega arith) e)
+same_get words k (Do (Put m (Num n))) e ha hb = absurd (unequal (codes "put") (codes "get") (omega arith) e)
+same_get words k (Do (Put m (Bytes n))) e ha hb = absurd (unequal (codes "bytes") (codes "get") (omega arith) e)
 same_get words k (Do (Del m)) e ha hb = absurd (unequal (codes "del") (codes "get") (omega arith) e)
 same_get words k (Do (Scan m n)) e ha hb = absurd (unequal (codes "scan") (codes "get") (omega arith) e)
 same_get words k (Move l m n) e ha hb = absurd (unequal (codes "move") (codes "get") (omega arith) e)
 
-same_put : (words : List ℕ) (k v : ℕ) (b : Action) → name_of b ≡ codes "put" → AreTwo words k v → HasOperands words b → Do (Put k v) ≡ b
+same_put : (words : List ℕ) (k v : ℕ) (b : Action) → name_of b ≡ codes "put" → AreTwo words k v → HasOperands words b → Do (Put k (Num v)) ≡ b
 same_put words k v (Do (Get m)) e ha hb = absurd (unequal (codes "get") (codes "put") (omega arith) e)
-same_put words k v (Do (Put m n)) e ha hb = let same = two_once words k v m n ha hb in let one : k ≡ m = same.0 in let two : v ≡ n = same.1 in cc
+same_put words k v (Do (Put m (Num n))) e ha hb = let same = two_once words k v m n ha hb in let one : k ≡ m = same.0 in let two : v ≡ n = same.1 in cc
+same_put words k v (Do (Put m (Bytes n))) e ha hb = absurd (unequal (codes "bytes") (codes "put") (omega arith) e)
 same_put words k v (Do (Del m)) e ha hb = absurd (unequal (codes "del") (codes "put") (omega arith) e)
 same_put words k v (Do (Scan m n)) e ha hb = absurd (unequal (codes "scan") (codes "put") (omega arith) e)
 same_put words k v (Move l m n) e ha hb = absurd (unequal (codes "move") (codes "put") (omega arith) e)
 
+same_bytes : (words : List ℕ) (k : ℕ) (v : List ℕ) (b : Action) → name_of b ≡ codes "bytes" → AreKeyAndText words k v → HasOperands words b → Do (Put k (Bytes v)) ≡ b
+same_bytes words k v (Do (Get m)) e ha hb = absurd (unequal (codes "get") (codes "bytes") (omega arith) e)
+same_bytes words k v (Do (Put m (Num n))) e ha hb = absurd (unequal (codes "put") (codes "bytes") (omega arith) e)
+same_bytes words k v (Do (Put m (Bytes n))) e ha hb = let same = text_once words k v m n ha hb in let one : k ≡ m = same.0 in let two : v ≡ n = same.1 in cc
+same_bytes words k v (Do (Del m)) e ha hb = absurd (unequal (codes "del") (codes "bytes") (omega arith) e)
+same_bytes words k v (Do (Scan m n)) e ha hb = absurd (unequal (codes "scan") (codes "bytes") (omega arith) e)
+same_bytes words k v (Move l m n) e ha hb = absurd (unequal (codes "move") (codes "bytes") (omega arith) e)
+
 same_del : (words : List ℕ) (k : ℕ) (b : Action) → name_of b ≡ codes "del" → IsNumber words k → HasOperands words b → Do (Del k) ≡ b
 same_del words k (Do (Get m)) e ha hb = absurd (unequal (codes "get") (codes "del") (omega arith) e)
-same_del words k (Do (Put m n)) e ha hb = absurd (unequal (codes "put") (codes "del") (omega arith) e)
+same_del words k (Do (Put m (Num n))) e ha hb = absurd (unequal (codes "put") (codes "del") (omega arith) e)
+same_del words k (Do (Put m (Bytes n))) e ha hb = absurd (unequal (codes "bytes") (codes "del") (omega arith) e)
 same_del words k (Do (Del m)) e ha hb = ap (λ (x : ℕ). Do (Del x)) (number_once words k m ha hb)
 same_del words k (Do (Scan m n)) e ha hb = absurd (unequal (codes "scan") (codes "del") (omega arith) e)
 same_del words k (Move l m n) e ha hb = absurd (unequal (codes "move") (codes "del") (omega arith) e)
 
 same_scan : (words : List ℕ) (k v : ℕ) (b : Action) → name_of b ≡ codes "scan" → AreTwo words k v × (k ≤ v) → HasOperands words b → Do (Scan k v) ≡ b
 same_scan words k v (Do (Get m)) e ha hb = absurd (unequal (codes "get") (codes "scan") (omega arith) e)
-same_scan words k v (Do (Put m n)) e ha hb = absurd (unequal (codes "put") (codes "scan") (omega arith) e)
+same_scan words k v (Do (Put m (Num n))) e ha hb = absurd (unequal (codes "put") (codes "scan") (omega arith) e)
+same_scan words k v (Do (Put m (Bytes n))) e ha hb = absurd (unequal (codes "bytes") (codes "scan") (omega arith) e)
 same_scan words k v (Do (Del m)) e ha hb = absurd (unequal (codes "del") (codes "scan") (omega arith) e)
 same_scan words k v (Do (Scan m n)) e ha hb = let same = two_once words k v m n ha.0 hb.0 in let one : k ≡ m = same.0 in let two : v ≡ n = same.1 in cc
 same_scan words k v (Move l m n) e ha hb = absurd (unequal (codes "move") (codes "scan") (omega arith) e)
 
 same_move : (words : List ℕ) (i j k : ℕ) (b : Action) → name_of b ≡ codes "move" → AreThree words i j k × (i ≢ j) → HasOperands words b → Move i j k ≡ b
 same_move words i j k (Do (Get m)) e ha hb = absurd (unequal (codes "get") (codes "move") (omega arith) e)
-same_move words i j k (Do (Put m n)) e ha hb = absurd (unequal (codes "put") (codes "move") (omega arith) e)
+same_move words i j k (Do (Put m (Num n))) e ha hb = absurd (unequal (codes "put") (codes "move") (omega arith) e)
+same_move words i j k (Do (Put m (Bytes n))) e ha hb = absurd (unequal (codes "bytes") (codes "move") (omega arith) e)
 same_move words i j k (Do (Del m)) e ha hb = absurd (unequal (codes "del") (codes "move") (omega arith) e)
 same_move words i j k (Do (Scan m n)) e ha hb = absurd (unequal (codes "scan") (codes "move") (omega arith) e)
 same_move words i j k (Move l m n) e ha hb = let same = three_once words i j k l m n ha.0 hb.0 in let one : i ≡ l = same.0 in let two : j ≡ m = same.1 in let three : k ≡ n = same.2 in cc
 
 same_operands : (words : List ℕ) (a b : Action) → name_of a ≡ name_of b → HasOperands words a → HasOperands words b → a ≡ b
 same_operands words (Do (Get k)) b e ha hb = same_get words k b (sym e) ha hb
-same_operands words (Do (Put k v)) b e ha hb = same_put words k v b (sym e) ha hb
+same_operands words (Do (Put k (Num v))) b e ha hb = same_put words k v b (sym e) ha hb
+same_operands words (Do (Put k (Bytes v))) b e ha hb = same_bytes words k v b (sym e) ha hb
 same_operands words (Do (Del k)) b e ha hb = same_del words k b (sym e) ha hb
 same_operands words (Do (Scan lo hi)) b e ha hb = same_scan words lo hi b (sym e) ha hb
 same_operands words (Move from to amount) b e ha hb = same_move words from to amount b (sym e) ha hb

@@ -1,9 +1,12 @@
 -- Where a text of words is parted.
-use Rattle.std.proofs.Common.{◌≡◌, ℕ, suc, ◌<◌, List, [], ◌∷◌, ◌++◌, length, slice_index, subst, refl, sym, ◌∙◌, arith, ◌==◌, false}
+use Rattle.std.proofs.Common.{◌≡◌, ℕ, suc, ◌<◌, List, [], ◌∷◌, ◌++◌, length, slice_index, subst, refl, sym, ap, ◌∙◌, arith, ◌==◌, ◌%◌, false, codes, Ok, Err, inl, inr}
 use Rattle.std.proofs.lemmas.Bool.{ne_eqb}
 use Rattle.std.proofs.lemmas.Str.Parse.{digit_at}
+use Rattle.hex.specs.Hex.{decode_of}
+use Rattle.hex.specs.declared.error.FromHexError.TheVariants.{OddLength}
+use Rattle.hex.proofs.HexLemmas.{decode_of-odd, decode_of-same}
 use Rattle.script_lang.specs.Reading.{Lacks}
-use Rattle.script_lang.specs.Grammar.{IsNumber, AreTwo, AreThree, lines_of}
+use Rattle.script_lang.specs.Grammar.{IsNumber, AreTwo, AreThree, IsText, AreKeyAndText, lines_of}
 
 -- a number has no space
 pub number_has_no_space : (word : List ℕ) (n : ℕ) → IsNumber word n → Lacks 32 word
@@ -46,6 +49,17 @@ three_by_words text a b is none k m n (c, d, same, first, others) =
     let Q : List ℕ → Type 0 = λ w. AreTwo w m n in
     (subst P (sym e.0) first, subst Q (sym e.1) others)
 
+pub text_by_words : (text a b : List ℕ) → text ≡ a ++ 32 ∷ b → Lacks 32 a → (m : ℕ) (n : List ℕ) → AreKeyAndText text m n → IsNumber a m × IsText b n
+text_by_words text a b is none m n (c, d, same, first, second) =
+    let e = parted_alike a b c d none (number_has_no_space c m first) (sym is ∙ same) in
+    let P : List ℕ → Type 0 = λ w. IsNumber w m in
+    let Q : List ℕ → Type 0 = λ w. IsText w n in
+    (subst P (sym e.0) first, subst Q (sym e.1) second)
+
+-- `-` is no digits
+no_dash : (word bytes : List ℕ) → word ≡ codes "-" → decode_of word ≡ Ok bytes → ⊥
+no_dash word bytes is e = let no : Err OddLength ≡ Ok bytes = sym (decode_of-odd word (ap (λ w. length w % 2) is)) ∙ e in cc
+
 -- a line ends at the first line feed, or with the text
 pub line_cut : (a b : List ℕ) → Lacks 10 a → lines_of (a ++ 10 ∷ b) ≡ a ∷ lines_of b
 line_cut [] b none = refl
@@ -72,6 +86,17 @@ pub two_once : (words : List ℕ) (k v m n : ℕ) → AreTwo words k v → AreTw
 two_once words k v m n (a, b, is, one, two) other =
     let parts = two_by_words words a b is (number_has_no_space a k one) m n other in
     (number_once a k m one parts.0, number_once b v n two parts.1)
+
+pub text_is_one : (word a b : List ℕ) → IsText word a → IsText word b → a ≡ b
+text_is_one word a b (inl x) (inl y) = x.1 ∙ sym y.1
+text_is_one word a b (inl x) (inr y) = absurd (no_dash word b x.0 y.decodes)
+text_is_one word a b (inr x) (inl y) = absurd (no_dash word a y.0 x.decodes)
+text_is_one word a b (inr x) (inr y) = decode_of-same word a b x.decodes y.decodes
+
+pub text_once : (words : List ℕ) (k : ℕ) (v : List ℕ) (m : ℕ) (n : List ℕ) → AreKeyAndText words k v → AreKeyAndText words m n → (k ≡ m) × (v ≡ n)
+text_once words k v m n (a, b, is, one, two) other =
+    let parts = text_by_words words a b is (number_has_no_space a k one) m n other in
+    (number_once a k m one parts.0, text_is_one b v n two parts.1)
 
 pub three_once : (words : List ℕ) (i j k l m n : ℕ) → AreThree words i j k → AreThree words l m n → (i ≡ l) × (j ≡ m) × (k ≡ n)
 three_once words i j k l m n (a, b, is, one, two) other =

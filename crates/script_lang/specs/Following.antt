@@ -1,5 +1,7 @@
 -- What a transaction does, given the answers that it was given so far.
 use Rattle.std.specs.Prelude.{ℕ, ◌+◌, ◌-◌, ◌^◌, ◌&&◌, nat_le, nat_lt, cond, List, [], ◌∷◌, ◌++◌, length, drop, slice_get, Option, Some, None}
+use Rattle.clv_base.specs.declared.values.Value.{Value as ValueType}
+use Rattle.clv_base.specs.declared.values.Value.TheVariants.{Num, Bytes}
 use Rattle.clv_base.specs.declared.ops.Op.{Op}
 use Rattle.clv_base.specs.declared.ops.Op.TheVariants.{Get, Put}
 use Rattle.clv_base.specs.declared.ops.Answer.{Answer}
@@ -8,19 +10,21 @@ use Rattle.script_lang.specs.Bodies.{Action}
 use Rattle.script_lang.specs.Grammar.{Do, Move}
 
 -- the value that was found; of a scan, or where there is no answer yet, none
-abbrev pub value_of : Answer → Option ℕ
+abbrev pub value_of : Answer → Option ValueType
 value_of (Value v) = v
 value_of (Pairs ps) = None
 
-abbrev pub first_value : List Answer → Option ℕ
+abbrev pub first_value : List Answer → Option ValueType
 first_value [] = None
 first_value (a ∷ answers) = value_of a
 
--- where both keys have values, there is enough and there is room, the amount goes from the one to the other
-abbrev pub puts : ℕ → ℕ → ℕ → Option ℕ → Option ℕ → List Op
-puts from to amount (Some a) (Some b) = cond (nat_le amount a && nat_lt (b + amount) (2 ^ 64)) (Put from (a - amount) ∷ Put to (b + amount) ∷ []) []
+-- where both keys have numbers, there is enough and there is room, the amount goes from the one to the other
+abbrev pub puts : ℕ → ℕ → ℕ → Option ValueType → Option ValueType → List Op
+puts from to amount (Some (Num a)) (Some (Num b)) = cond (nat_le amount a && nat_lt (b + amount) (2 ^ 64)) (Put from (Num (a - amount)) ∷ Put to (Num (b + amount)) ∷ []) []
 puts from to amount None b = []
-puts from to amount (Some a) None = []
+puts from to amount (Some (Num a)) None = []
+puts from to amount (Some (Num a)) (Some (Bytes bytes)) = []
+puts from to amount (Some (Bytes bytes)) b = []
 
 -- the operations of an action, given the answers from its first on: a move looks at both keys first
 abbrev pub action_ops : Action → List Answer → List Op

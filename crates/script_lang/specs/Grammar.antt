@@ -1,7 +1,9 @@
 -- The grammar of scripts: lines, what each means, and where it may stand.
-use Rattle.std.specs.Prelude.{◌≡◌, ◌≢◌, ◌⊎◌, ℕ, suc, ◌<◌, ◌≤◌, ◌^◌, Bool, true, ◌==◌, nat_lt, cond, List, [], ◌∷◌, ◌++◌, length, codes, slice_index, Option, Some, None}
+use Rattle.std.specs.Prelude.{◌≡◌, ◌≢◌, ◌⊎◌, ℕ, suc, ◌<◌, ◌≤◌, ◌^◌, Bool, true, ◌||◌, ◌==◌, nat_lt, cond, List, [], ◌∷◌, ◌++◌, length, codes, slice_index, Option, Some, None, Ok}
 use Rattle.std.specs.List.{list_all}
 use Rattle.std.specs.Str.Parse.{IsNumeral, digits_value}
+use Rattle.hex.specs.Hex.{decode_of}
+use Rattle.clv_base.specs.declared.values.Value.TheVariants.{Num, Bytes}
 use Rattle.clv_base.specs.declared.ops.Op.TheVariants.{Get, Put, Del, Scan}
 use Rattle.script_lang.specs.Bodies.{Action, Ending, Body}
 pub use Rattle.script_lang.specs.declared.actions.Action.TheVariants.{Do, Move}
@@ -42,24 +44,46 @@ AreTwo text m n = (first second : List ℕ) × (text ≡ first ++ 32 ∷ second)
 abbrev pub AreThree : List ℕ → ℕ → ℕ → ℕ → Type 0
 AreThree text k m n = (first others : List ℕ) × (text ≡ first ++ 32 ∷ others) × IsNumber first k × AreTwo others m n
 
+-- a word spells these bytes, at most 200: two digits a byte, in lower case, or `-` for no byte
+abbrev pub has_no_upper : List ℕ → Bool
+has_no_upper word = list_all (λ b. nat_lt b 65 || nat_lt 70 b) word
+
+pub record AreDigits (word bytes : List ℕ) : Type 0 where
+  pub some : 0 < length word
+  pub few : length word ≤ 400
+  pub lower : has_no_upper word ≡ true
+  pub decodes : decode_of word ≡ Ok bytes
+
+abbrev pub IsText : List ℕ → List ℕ → Type 0
+IsText word bytes = ((word ≡ codes "-") × (bytes ≡ [])) ⊎ AreDigits word bytes
+
+abbrev pub AreKeyAndText : List ℕ → ℕ → List ℕ → Type 0
+AreKeyAndText text k bytes = (first second : List ℕ) × (text ≡ first ++ 32 ∷ second) × IsNumber first k × IsText second bytes
+
 -- the word that an action begins with
 abbrev pub name_of : Action → List ℕ
 name_of (Do (Get k)) = codes "get"
-name_of (Do (Put k v)) = codes "put"
+name_of (Do (Put k (Num v))) = codes "put"
+name_of (Do (Put k (Bytes bytes))) = codes "bytes"
 name_of (Do (Del k)) = codes "del"
 name_of (Do (Scan lo hi)) = codes "scan"
 name_of (Move from to amount) = codes "move"
 
--- the numbers that follow it: a scan's bounds don't fall, and a move's keys differ
+-- the words that follow it: a scan's bounds don't fall, and a move's keys differ
 abbrev pub HasOperands : List ℕ → Action → Type 0
 HasOperands words (Do (Get k)) = IsNumber words k
-HasOperands words (Do (Put k v)) = AreTwo words k v
+HasOperands words (Do (Put k (Num v))) = AreTwo words k v
+HasOperands words (Do (Put k (Bytes bytes))) = AreKeyAndText words k bytes
 HasOperands words (Do (Del k)) = IsNumber words k
 HasOperands words (Do (Scan lo hi)) = AreTwo words lo hi × (lo ≤ hi)
 HasOperands words (Move from to amount) = AreThree words from to amount × (from ≢ to)
 
 abbrev pub IsAction : List ℕ → Action → Type 0
 IsAction bytes action = (words : List ℕ) × (bytes ≡ name_of action ++ 32 ∷ words) × HasOperands words action
+
+-- the words of a line that puts a text, whatever stands behind the verb
+abbrev pub PutsText : List ℕ → Type 0
+PutsText bytes = (words : List ℕ) × (bytes ≡ codes "bytes" ++ 32 ∷ words)
 
 abbrev pub IsEnding : List ℕ → Ending → Type 0
 IsEnding bytes Commit = bytes ≡ codes "commit"

@@ -1,6 +1,7 @@
 -- What holds of every script.
 use Rattle.std.specs.Prelude.{◌≡◌, ◌≤◌, ℕ, suc, ◌+◌, ◌^◌, Bool, true, not, nat_lt, nat_le, ◌==◌, ◌&&◌, List, [], ◌∷◌, length}
 use Rattle.std.specs.List.{list_all}
+use Rattle.clv_base.specs.Values.{fits_value}
 use Rattle.clv_base.specs.declared.ops.Op.{Op}
 use Rattle.clv_base.specs.declared.ops.Op.TheVariants.{Get, Put, Del, Scan}
 use Rattle.script_lang.specs.Bodies.{Action, Body}
@@ -21,13 +22,13 @@ RefusalsHaveOneLine = (bytes : List ℕ) (line other : ℕ) → IsRefused bytes 
 
 -- ---- bounds
 
--- numbers below 2^64; a scan's bounds don't fall, and a move's keys differ
+-- numbers below 2^64, and texts of at most 200 bytes; a scan's bounds don't fall, and a move's keys differ
 abbrev pub is_word : ℕ → Bool
 is_word n = nat_lt n (2 ^ 64)
 
 abbrev pub is_narrow_op : Op → Bool
 is_narrow_op (Get k) = is_word k
-is_narrow_op (Put k v) = is_word k && is_word v
+is_narrow_op (Put k v) = is_word k && fits_value v
 is_narrow_op (Del k) = is_word k
 is_narrow_op (Scan lo hi) = nat_le lo hi && is_word hi
 

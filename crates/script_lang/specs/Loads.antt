@@ -1,5 +1,6 @@
 -- The script that is made from a number.
 use Rattle.std.specs.Prelude.{ℕ, zero, suc, ◌+◌, ◌-◌, ◌*◌, ◌/◌, ◌%◌, ◌^◌, ◌==◌, Bool, true, false, List, [], ◌∷◌}
+use Rattle.clv_base.specs.declared.values.Value.TheVariants.{Num}
 use Rattle.clv_base.specs.declared.ops.Op.TheVariants.{Put}
 use Rattle.script_lang.specs.declared.actions.Action.{Action}
 use Rattle.script_lang.specs.declared.actions.Action.TheVariants.{Do, Move}
@@ -38,7 +39,7 @@ transfers accounts x (suc n) = body (transfer accounts x ∷ []) Commit ∷ tran
 -- 1000 under each of n keys from k
 abbrev pub fill : ℕ → ℕ → List Action
 fill k zero = []
-fill k (suc n) = Do (Put k 1000) ∷ fill (suc k) n
+fill k (suc n) = Do (Put k (Num 1000)) ∷ fill (suc k) n
 
 -- the first session begins by filling the accounts
 abbrev pub after_filling : Bool → ℕ → List Body → List Body

@@ -2,7 +2,7 @@
 use Rattle.std.specs.Prelude.{◌≡◌, ◌≢◌, ◌<◌, ℕ, length, slice_index, Bool, true, false, List, Option, Some, None, codes}
 use Rattle.script_lang.specs.Grammar.{Reading}
 use Rattle.script_lang.specs.declared.lines.Verb.{Verb}
-use Rattle.script_lang.specs.declared.lines.Verb.TheVariants.{Get, Put, Del, Scan, Move}
+use Rattle.script_lang.specs.declared.lines.Verb.TheVariants.{Get, Put, Bytes, Del, Scan, Move}
 
 -- the line was taken, and led to this; or it has no place
 abbrev pub Goes : Bool → Option Reading → Reading → Type 0
@@ -17,6 +17,7 @@ Lacks byte bytes = (k : ℕ) → k < length bytes → slice_index bytes k ≢ by
 abbrev pub verb_text : Verb → List ℕ
 verb_text Get = codes "get"
 verb_text Put = codes "put"
+verb_text Bytes = codes "bytes"
 verb_text Del = codes "del"
 verb_text Scan = codes "scan"
 verb_text Move = codes "move"

@@ -1,11 +1,11 @@
 // What the lines of a transaction ask for.
 
-use clv_base::ops::Op;
+use clv_base::kept::KeptOp;
 
-/// A line of a transaction: an operation, or an amount that moves from one key to another where both have values and there is room.
-#[derive(Clone, Copy, PartialEq, Eq)]
+/// A line of a transaction: an operation, or an amount that moves from one key to another where both have numbers and there is room.
+#[derive(Drop)]
 pub enum Action {
-    Do(Op),
+    Do(KeptOp),
     Move { from: u64, to: u64, amount: u64 },
 }
 

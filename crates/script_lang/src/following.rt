@@ -8,9 +8,10 @@ ghost use Rattle.script_lang.specs.Places.{StandsAt, StepsTo, rest_from, after_l
 
 use crate::actions::Action;
 use clv_base::ops::{Answer, Op};
+use clv_base::values::{Value, copy_of};
 
 // What of a move is still to be done.
-#[derive(Clone, Copy)]
+#[derive(Drop)]
 pub enum Stage {
     // Nothing: the next line begins.
     AtLine,
@@ -19,7 +20,7 @@ pub enum Stage {
         from: u64,
         to: u64,
         amount: u64,
-        found: Option<u64>,
+        found: Option<Value>,
     },
     Puts {
         one: Op,
@@ -36,11 +37,11 @@ pub struct Following<'a> {
     left: &'a [Action],
 }
 
-fn value_of(answer: &Answer) -> Option<u64>
+fn value_of(answer: &Answer) -> Option<Value>
     ensures { result ≡ value_in answer.now }
 {
     match answer {
-        Answer::Value(value) => *value,
+        Answer::Value(value) => copy_of(value),
         Answer::Pairs(_) => None,
     }
 }
@@ -50,36 +51,39 @@ fn puts_of(
     from: u64,
     to: u64,
     amount: u64,
-    source: Option<u64>,
-    target: Option<u64>,
+    source: &Option<Value>,
+    target: &Option<Value>,
 ) -> Option<(Op, Op)>
-    ensures { MatchOption result (puts from to amount source target ≡ []) (λ p. puts from to amount source target ≡ p.0 ∷ p.1 ∷ []) }
+    ensures { MatchOption result (puts from to amount source.now target.now ≡ []) (λ p. puts from to amount source.now target.now ≡ p.0 ∷ p.1 ∷ []) }
 {
-    let (Some(a), Some(b)) = (source, target) else {
+    let (Some(Value::Num(a)), Some(Value::Num(b))) = (source, target) else {
         return None;
     };
-    if amount > a {
+    if amount > *a {
         return None;
     }
     match b.checked_add(amount) {
-        Some(sum) => Some((Op::Put(from, a - amount), Op::Put(to, sum))),
+        Some(sum) => Some((
+            Op::Put(from, Value::Num(*a - amount)),
+            Op::Put(to, Value::Num(sum)),
+        )),
         None => None,
     }
 }
 
 // The first operation of what is left.
-fn first_op(stage: Stage, left: &[Action]) -> Option<Op>
-    ensures { result ≡ slice_get (rest_from stage left.now []) 0 }
+fn first_op(stage: &Stage, left: &[Action]) -> Option<Op>
+    ensures { result ≡ slice_get (rest_from stage.now left.now []) 0 }
 {
     match stage {
         Stage::AtLine => match left.split_first() {
-            Some((Action::Do(op), _)) => Some(*op),
+            Some((Action::Do(op), _)) => Some(op.op()),
             Some((Action::Move { from, .. }, _)) => Some(Op::Get(*from)),
             None => None,
         },
-        Stage::Second { to, .. } => Some(Op::Get(to)),
-        Stage::Puts { one, .. } => Some(one),
-        Stage::LastPut(two) => Some(two),
+        Stage::Second { to, .. } => Some(Op::Get(*to)),
+        Stage::Puts { one, .. } => Some(one.copy()),
+        Stage::LastPut(two) => Some(two.copy()),
     }
 }
 
@@ -104,8 +108,14 @@ fn begun<'a>(left: &'a [Action], answer: &Answer) -> (Stage, &'a [Action])
 }
 
 // What is left of a move after these looks.
-fn looked_twice(from: u64, to: u64, amount: u64, source: Option<u64>, target: Option<u64>) -> Stage
-    ensures { (left : List AnAction) (more : List AnAnswer) → after_looks (puts from to amount source target) left more ≡ rest_from result left more }
+fn looked_twice(
+    from: u64,
+    to: u64,
+    amount: u64,
+    source: &Option<Value>,
+    target: &Option<Value>,
+) -> Stage
+    ensures { (left : List AnAction) (more : List AnAnswer) → after_looks (puts from to amount source.now target.now) left more ≡ rest_from result left more }
 {
     match puts_of(from, to, amount, source, target) {
         Some((one, two)) => Stage::Puts { one, two },
@@ -128,14 +138,14 @@ impl<'a> Following<'a> {
     pub fn next(&self) -> Option<Op>
         ensures { (actions : List AnAction) (answers : List AnAnswer) → StandsAt actions answers self.now → result ≡ next_op actions answers }
     {
-        first_op(self.stage, self.left)
+        first_op(&self.stage, self.left)
     }
 
     // Goes one operation further.
     fn step(&mut self, answer: &Answer)
         ensures { StepsTo self.old.stage self.old.left.now answer.now self.new.stage self.new.left.now }
     {
-        match self.stage {
+        match &self.stage {
             Stage::AtLine => {
                 let (stage, left) = begun(self.left, answer);
                 self.stage = stage;
@@ -146,8 +156,14 @@ impl<'a> Following<'a> {
                 to,
                 amount,
                 found,
-            } => self.stage = looked_twice(from, to, amount, found, value_of(answer)),
-            Stage::Puts { two, .. } => self.stage = Stage::LastPut(two),
+            } => {
+                let stage = looked_twice(*from, *to, *amount, found, &value_of(answer));
+                self.stage = stage;
+            }
+            Stage::Puts { two, .. } => {
+                let last = two.copy();
+                self.stage = Stage::LastPut(last);
+            }
             Stage::LastPut(_) => self.stage = Stage::AtLine,
         }
     }

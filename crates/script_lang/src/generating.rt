@@ -7,7 +7,9 @@ ghost use Rattle.script_lang.specs.Loads.{fill, next_state, transfer, transfers 
 
 use crate::numbers::Numbers;
 use crate::{Action, Ending, Memory, Script, Session, Transaction};
+use clv_base::kept::KeptOp;
 use clv_base::ops::Op;
+use clv_base::values::Value;
 use std::alloc::Global;
 
 const FIRST_VALUE: u64 = 1000;
@@ -18,7 +20,7 @@ fn filling(alloc: Global, accounts: u64) -> Result<Transaction, Memory>
 {
     let mut actions = Vec::new(alloc);
     for account in 0..accounts {
-        actions.push(Action::Do(Op::Put(account, FIRST_VALUE)))?;
+        actions.push(Action::Do(KeptOp::new(Op::Put(account, Value::Num(FIRST_VALUE)))))?;
     }
     Ok(Transaction::new(actions, Ending::Commit))
 }

@@ -19,7 +19,7 @@ pub mod workload_laws;
 pub use actions::{Action, Ending};
 pub use following::Following;
 pub use generating::generate;
-pub use lines::{Line, line_of, number_of, parted};
+pub use lines::{Line, is_blank, line_of, number_of, parted};
 pub use parsing::{MOST_BYTES, ScriptError, parse};
 pub use script::{Script, Session, Transaction};
 

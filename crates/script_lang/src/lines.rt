@@ -1,17 +1,23 @@
 // One line of a script.
 
-ghost use Rattle.std.specs.Prelude.{◌≡◌, ◌≢◌, ◌⊎◌, ◌↔◌, ◌≤◌, ℕ, [], ◌∷◌, ◌++◌, List, length, MatchOption, IsTrue, ◌<◌};
+ghost use Rattle.std.specs.Prelude.{◌≡◌, ◌≢◌, ◌⊎◌, ◌↔◌, ◌≤◌, ℕ, [], ◌∷◌, ◌++◌, List, length, MatchOption, IfOk, OnErr, IsTrue, ◌<◌};
 ghost use Rattle.script_lang.specs.Bodies.{Action as AnAction, Ending as AnEnding};
+ghost use Rattle.clv_base.specs.declared.values.Value.{Value as ValueType};
 ghost use Rattle.script_lang.specs.declared.lines.Verb.{Verb as AVerb};
 ghost use Rattle.script_lang.specs.Reading.{Lacks, verb_text};
-ghost use Rattle.script_lang.specs.Grammar.{IsNumber, IsComment, AreTwo, AreThree, HasOperands, IsAction, IsEnding, IsLine, name_of, is_ascii};
+ghost use Rattle.script_lang.specs.Grammar.{IsNumber, IsComment, AreTwo, AreThree, HasOperands, IsText, AreKeyAndText, PutsText, has_no_upper, IsAction, IsEnding, IsLine, name_of, is_ascii};
 
 use crate::actions::{Action, Ending};
+use clv_base::kept::KeptOp;
 use clv_base::ops::Op;
+use clv_base::texts::ByteText;
+use clv_base::values::Value;
+use hex::FromHexError;
+use std::alloc::{AllocError, Global};
 use std::str;
 
 /// What a line says.
-#[derive(Clone, Copy, PartialEq, Eq)]
+#[derive(Drop)]
 pub enum Line {
     /// Nothing: an empty line, or a comment.
     Blank,
@@ -30,6 +36,7 @@ pub enum Line {
 pub enum Verb {
     Get,
     Put,
+    Bytes,
     Del,
     Scan,
     Move,
@@ -109,6 +116,9 @@ fn verb_of(word: &[u8]) -> Option<Verb>
     if word == b"put".as_slice() {
         return Some(Verb::Put);
     }
+    if word == b"bytes".as_slice() {
+        return Some(Verb::Bytes);
+    }
     if word == b"del".as_slice() {
         return Some(Verb::Del);
     }
@@ -153,42 +163,99 @@ fn move_of(words: &[u8]) -> Option<Action>
     }
 }
 
-// The action of a verb with these words behind it.
-fn with_operands(verb: Verb, words: &[u8]) -> Option<Action>
+// Whether no byte is a digit in upper case.
+fn is_lower(word: &[u8]) -> bool
+    ensures { result ≡ has_no_upper word.now }
+{
+    word.iter().all(|b| *b < 65 || *b > 70)
+}
+
+// The text that a word spells: two digits a byte, or `-` for no byte.
+fn text_of(alloc: Global, word: &[u8]) -> Result<Option<ByteText>, AllocError>
+    ensures { IfOk result (λ found. MatchOption found ((bytes : List ℕ) → IsText word.now bytes → ⊥) (λ bytes. IsText word.now bytes)) }
+{
+    if word == b"-".as_slice() {
+        return Ok(Some(ByteText::new(alloc, &[])?));
+    }
+    if word.is_empty() || word.len() > 400 || !is_lower(word) {
+        return Ok(None);
+    }
+    match hex::decode(alloc, word) {
+        Ok(bytes) => Ok(Some(ByteText::new(alloc, bytes.as_slice())?)),
+        Err(FromHexError::OutOfMemory) => Err(AllocError),
+        Err(_) => Ok(None),
+    }
+}
+
+// A key, and the text that is put under it.
+fn bytes_of(alloc: Global, words: &[u8]) -> Result<Option<Op>, AllocError>
+    ensures { IfOk result (λ found. MatchOption found ((k : ℕ) (bytes : List ℕ) → AreKeyAndText words.now k bytes → ⊥) (λ op. (k : ℕ) × (bytes : List ℕ) × (op ≡ Op.Put k (ValueType.Bytes bytes)) × AreKeyAndText words.now k bytes)) }
+{
+    let Some((first, second)) = parted(words, b' ') else {
+        return Ok(None);
+    };
+    let Some(key) = number_of(first) else {
+        return Ok(None);
+    };
+    match text_of(alloc, second)? {
+        Some(text) => Ok(Some(Op::Put(key, Value::Bytes(text)))),
+        None => Ok(None),
+    }
+}
+
+// The action of a verb whose words are numbers.
+fn with_numbers(verb: Verb, words: &[u8]) -> Option<Action>
+    requires { verb ≢ AVerb.Bytes }
     ensures { MatchOption result ((action : AnAction) → name_of action ≡ verb_text verb → HasOperands words.now action → ⊥) (λ action. (name_of action ≡ verb_text verb) × HasOperands words.now action) }
 {
     match verb {
         Verb::Get => match number_of(words) {
-            Some(key) => Some(Action::Do(Op::Get(key))),
+            Some(key) => Some(Action::Do(KeptOp::new(Op::Get(key)))),
             None => None,
         },
         Verb::Put => match two_numbers(words) {
-            Some((key, value)) => Some(Action::Do(Op::Put(key, value))),
+            Some((key, value)) => Some(Action::Do(KeptOp::new(Op::Put(key, Value::Num(value))))),
             None => None,
         },
         Verb::Del => match number_of(words) {
-            Some(key) => Some(Action::Do(Op::Del(key))),
+            Some(key) => Some(Action::Do(KeptOp::new(Op::Del(key)))),
             None => None,
         },
         Verb::Scan => match scan_of(words) {
-            Some(op) => Some(Action::Do(op)),
+            Some(op) => Some(Action::Do(KeptOp::new(op))),
             None => None,
         },
         Verb::Move => move_of(words),
+        Verb::Bytes => unreachable!(),
+    }
+}
+
+// The action of a verb with these words behind it.
+fn with_operands(alloc: Global, verb: Verb, words: &[u8]) -> Result<Option<Action>, AllocError>
+    ensures ok { IfOk result (λ found. MatchOption found ((action : AnAction) → name_of action ≡ verb_text verb → HasOperands words.now action → ⊥) (λ action. (name_of action ≡ verb_text verb) × HasOperands words.now action)) }
+    ensures err { OnErr result (verb ≡ AVerb.Bytes) }
+{
+    match verb {
+        Verb::Bytes => match bytes_of(alloc, words)? {
+            Some(op) => Ok(Some(Action::Do(KeptOp::new(op)))),
+            None => Ok(None),
+        },
+        other => Ok(with_numbers(other, words)),
     }
 }
 
 // The action that a line spells.
-fn action_of(bytes: &[u8]) -> Option<Action>
-    ensures { MatchOption result ((action : AnAction) → IsAction bytes.now action → ⊥) (λ action. IsAction bytes.now action) }
+fn action_of(alloc: Global, bytes: &[u8]) -> Result<Option<Action>, AllocError>
+    ensures ok { IfOk result (λ found. MatchOption found ((action : AnAction) → IsAction bytes.now action → ⊥) (λ action. IsAction bytes.now action)) }
+    ensures err { OnErr result (PutsText bytes.now) }
 {
     let Some((word, words)) = parted(bytes, b' ') else {
-        return None;
+        return Ok(None);
     };
     let Some(verb) = verb_of(word) else {
-        return None;
+        return Ok(None);
     };
-    with_operands(verb, words)
+    with_operands(alloc, verb, words)
 }
 
 fn ending_of(bytes: &[u8]) -> Option<Ending>
@@ -203,7 +270,8 @@ fn ending_of(bytes: &[u8]) -> Option<Ending>
     None
 }
 
-fn is_blank(bytes: &[u8]) -> bool
+/// Whether a line is empty or a comment.
+pub fn is_blank(bytes: &[u8]) -> bool
     ensures { IsTrue result ↔ ((bytes.now ≡ []) ⊎ IsComment bytes.now) }
 {
     match bytes {
@@ -213,24 +281,25 @@ fn is_blank(bytes: &[u8]) -> bool
     }
 }
 
-/// What a line says, if it is in the grammar at some place.
-pub fn line_of(bytes: &[u8]) -> Option<Line>
-    ensures { MatchOption result ((line : Line) → IsLine bytes.now line → ⊥) (λ line. IsLine bytes.now line) }
+/// What a line says, if it is in the grammar at some place. Only a line that puts a text takes memory.
+pub fn line_of(alloc: Global, bytes: &[u8]) -> Result<Option<Line>, AllocError>
+    ensures ok { IfOk result (λ found. MatchOption found ((line : Line) → IsLine bytes.now line → ⊥) (λ line. IsLine bytes.now line)) }
+    ensures err { OnErr result (PutsText bytes.now) }
 {
     if is_blank(bytes) {
-        return Some(Line::Blank);
+        return Ok(Some(Line::Blank));
     }
     if bytes == b"session".as_slice() {
-        return Some(Line::Session);
+        return Ok(Some(Line::Session));
     }
     if bytes == b"begin".as_slice() {
-        return Some(Line::Begin);
+        return Ok(Some(Line::Begin));
     }
     if let Some(ending) = ending_of(bytes) {
-        return Some(Line::End(ending));
+        return Ok(Some(Line::End(ending)));
     }
-    match action_of(bytes) {
-        Some(action) => Some(Line::Act(action)),
-        None => None,
+    match action_of(alloc, bytes)? {
+        Some(action) => Ok(Some(Line::Act(action))),
+        None => Ok(None),
     }
 }

@@ -46,7 +46,10 @@ pub fn parse(alloc: Global, bytes: &[u8]) -> Result<Script, ScriptError>
     while !rest.is_empty() {
         let (line, behind) = cut_line(rest);
         number += 1;
-        let Some(line) = line_of(line) else {
+        let Ok(line) = line_of(alloc, line) else {
+            return Err(ScriptError::Memory);
+        };
+        let Some(line) = line else {
             return Err(ScriptError::Refused { line: number });
         };
         let Ok(has_place) = reader.take(alloc, line) else {

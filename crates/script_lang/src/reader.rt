@@ -30,11 +30,11 @@ impl Model for Reader {
 }
 
 // The transaction of these lines, in a list of exactly their length: what a growing list leaves over is most of a short one.
-fn closed(alloc: Global, actions: Vec<Action>, ending: Ending) -> Result<Transaction, AllocError>
-    ensures { IfOk result (λ t. t ≡ body actions.items ending) }
+fn closed(mut actions: Vec<Action>, ending: Ending) -> Transaction
+    ensures { result ≡ body actions.items ending }
 {
-    let exact = actions.as_slice().to_vec(alloc)?;
-    Ok(Transaction::new(exact, ending))
+    actions.shrink_to_fit();
+    Transaction::new(actions, ending)
 }
 
 impl Reader {
@@ -98,7 +98,7 @@ impl Reader {
     }
 
     // The open transaction ends in its session.
-    fn end_transaction(&mut self, alloc: Global, ending: Ending) -> Result<bool, AllocError>
+    fn end_transaction(&mut self, ending: Ending) -> Result<bool, AllocError>
         ensures { IfOk result (λ went. Goes went (after_line self.old (Line.End ending)) self.new) }
     {
         let Some(actions) = self.current.take() else {
@@ -107,7 +107,7 @@ impl Reader {
         let Some(session) = &mut self.session else {
             return Ok(false);
         };
-        session.add(closed(alloc, actions, ending)?)?;
+        session.add(closed(actions, ending))?;
         Ok(true)
     }
 
@@ -120,7 +120,7 @@ impl Reader {
             Line::Session => self.open_session(alloc),
             Line::Begin => Ok(self.open_transaction(alloc)),
             Line::Act(action) => self.add(action),
-            Line::End(ending) => self.end_transaction(alloc, ending),
+            Line::End(ending) => self.end_transaction(ending),
         }
     }
 

@@ -9,6 +9,8 @@ use Rattle.std.proofs.lemmas.Option.{slice_get_cases}
 use Rattle.std.proofs.lemmas.List.Folds.{list_any-append}
 use Rattle.clv_base.specs.declared.names.TxId.{TxId}
 use Rattle.clv_base.specs.declared.names.Birth.{Birth}
+use Rattle.clv_base.specs.declared.values.Value.{Value as ValueType}
+use Rattle.clv_base.specs.declared.values.Value.TheVariants.{Num, Bytes}
 use Rattle.clv_base.specs.declared.ops.Op.{Op}
 use Rattle.clv_base.specs.declared.ops.Op.TheVariants.{Get, Put, Del, Scan}
 use Rattle.clv_base.specs.declared.ops.Answer.{Answer}
@@ -131,7 +133,7 @@ touches_all touched after es here all by n h = at (either (is_touched es n) (is_
 
 -- ---- what each operation of narrow lines passes
 
-module _ (test : Op → Bool) (narrow_pass : (op : Op) → is_narrow_op op ≡ true → test op ≡ true) (get_passes : (k : ℕ) → test (Get k) ≡ true) (put_passes : (k v : ℕ) → test (Put k v) ≡ true) where
+module _ (test : Op → Bool) (narrow_pass : (op : Op) → is_narrow_op op ≡ true → test op ≡ true) (get_passes : (k : ℕ) → test (Get k) ≡ true) (put_passes : (k : ℕ) (v : ValueType) → test (Put k v) ≡ true) where
   all_pass : (xs ys : List Op) → list_all test xs ≡ true → list_all test ys ≡ true → list_all test (xs ++ ys) ≡ true
   all_pass [] ys h k = k
   all_pass (x ∷ xs) ys h k = let p = and_parts (test x) (list_all test xs) h in ap (λ b. b && list_all test (xs ++ ys)) p.0 ∙ all_pass xs ys p.1 k
@@ -139,14 +141,16 @@ module _ (test : Op → Bool) (narrow_pass : (op : Op) → is_narrow_op op ≡ t
   one_passes : (op : Op) (ops : List Op) → test op ≡ true → list_all test ops ≡ true → list_all test (op ∷ ops) ≡ true
   one_passes op ops h k = ap (λ b. b && list_all test ops) h ∙ k
 
-  puts_pass : (from to amount : ℕ) (source target : Option ℕ) → list_all test (puts from to amount source target) ≡ true
-  puts_pass from to amount (Some a) (Some b) = at _
+  puts_pass : (from to amount : ℕ) (source target : Option ValueType) → list_all test (puts from to amount source target) ≡ true
+  puts_pass from to amount (Some (Num a)) (Some (Num b)) = at _
     where
-      at : (c : Bool) → list_all test (cond c (Put from (a - amount) ∷ Put to (b + amount) ∷ []) []) ≡ true
-      at true = one_passes (Put from (a - amount)) (Put to (b + amount) ∷ []) (put_passes from (a - amount)) (one_passes (Put to (b + amount)) [] (put_passes to (b + amount)) refl)
+      at : (c : Bool) → list_all test (cond c (Put from (Num (a - amount)) ∷ Put to (Num (b + amount)) ∷ []) []) ≡ true
+      at true = one_passes (Put from (Num (a - amount))) (Put to (Num (b + amount)) ∷ []) (put_passes from (Num (a - amount))) (one_passes (Put to (Num (b + amount))) [] (put_passes to (Num (b + amount))) refl)
       at false = refl
   puts_pass from to amount None b = refl
-  puts_pass from to amount (Some a) None = refl
+  puts_pass from to amount (Some (Num a)) None = refl
+  puts_pass from to amount (Some (Num a)) (Some (Bytes bytes)) = refl
+  puts_pass from to amount (Some (Bytes bytes)) b = refl
 
   action_passes : (action : Action) (answers : List Answer) → is_narrow action ≡ true → list_all test (action_ops action answers) ≡ true
   action_passes (Do op) answers h = one_passes op [] (narrow_pass op h) refl

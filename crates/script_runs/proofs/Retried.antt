@@ -3,6 +3,7 @@ use Rattle.std.proofs.Common.{◌≡◌, refl, sym, subst, ℕ, [], ◌∷◌, O
 use Rattle.clv_base.specs.declared.names.TxId.{TxId}
 use Rattle.clv_base.specs.declared.names.Birth.{Birth}
 use Rattle.clv_base.specs.declared.ops.Op.{Op}
+use Rattle.clv_base.specs.declared.values.Value.TheVariants.{Num}
 use Rattle.clv_base.specs.declared.ops.Op.TheVariants.{Get, Put, Scan}
 use Rattle.clv_base.specs.declared.ops.Answer.{Answer}
 use Rattle.clv_base.specs.declared.ops.Answer.TheVariants.{Value, Pairs}
@@ -31,7 +32,7 @@ keyed tx birth nth n stamp epoch seen o answer p a =
 -- ---- the transfer
 
 abbrev died : Try
-died = record { tx = named 2 1; answers = Value (Some 100) ∷ []; end = end.Aborted (Died (named 1 1)); entries = first_try }
+died = record { tx = named 2 1; answers = Value (Some (Num 100)) ∷ []; end = end.Aborted (Died (named 1 1)); entries = first_try }
 
 died_is : IsTry splits transfer (born 1 1) died
 died_is =
@@ -39,7 +40,7 @@ died_is =
       before = on 0 2 (op 1 (born 1 1) 1 None (Get 1)) (value 100) ∷ [];
       behind = on 1 3 (op 1 (born 1 1) 2 None (Get 11)) (Dead (Died (named 1 1))) ∷ on 0 4 (Drop (named 2 1)) Dropped ∷ [];
       entries_are = refl;
-      operations = operation _ _ _ _ _ _ [] _ refl (keyed (named 2 1) (born 1 1) 1 0 2 0 None (Get 1) (Value (Some 100)) refl refl) (no_operation _);
+      operations = operation _ _ _ _ _ _ [] _ refl (keyed (named 2 1) (born 1 1) 1 0 2 0 None (Get 1) (Value (Some (Num 100))) refl refl) (no_operation _);
       ends =
           in_operation (Get 11) (Died (named 1 1)) 1 (on 1 3 (op 1 (born 1 1) 2 None (Get 11)) (Dead (Died (named 1 1))) ∷ []) (on 0 4 (Drop (named 2 1)) Dropped ∷ []) refl
           (record {
@@ -59,21 +60,21 @@ died_is =
     }
 
 abbrev committed : Try
-committed = record { tx = named 2 2; answers = Value (Some 100) ∷ Value (Some 5) ∷ Value (Some 100) ∷ Value (Some 5) ∷ []; end = end.Acknowledged; entries = second_try }
+committed = record { tx = named 2 2; answers = Value (Some (Num 100)) ∷ Value (Some (Num 5)) ∷ Value (Some (Num 100)) ∷ Value (Some (Num 5)) ∷ []; end = end.Acknowledged; entries = second_try }
 
 committed_is : IsTry splits transfer (born 1 1) committed
 committed_is =
     record {
       before =
-          on 0 6 (op 2 (born 1 1) 1 None (Get 1)) (value 100) ∷ on 1 7 (op 2 (born 1 1) 2 None (Get 11)) (value 5) ∷ on 0 8 (op 2 (born 1 1) 3 (Some 0) (Put 1 70)) (value 100)
-          ∷ on 1 9 (op 2 (born 1 1) 4 (Some 0) (Put 11 35)) (value 5) ∷ [];
+          on 0 6 (op 2 (born 1 1) 1 None (Get 1)) (value 100) ∷ on 1 7 (op 2 (born 1 1) 2 None (Get 11)) (value 5) ∷ on 0 8 (op 2 (born 1 1) 3 (Some 0) (Put 1 (Num 70))) (value 100)
+          ∷ on 1 9 (op 2 (born 1 1) 4 (Some 0) (Put 11 (Num 35))) (value 5) ∷ [];
       behind = on 0 10 (Request (named 2 2) ((0, 0) ∷ (1, 0) ∷ [])) Asked ∷ on 0 20 (Look (named 2 2)) Acknowledged ∷ [];
       entries_are = refl;
       operations =
-          operation _ _ _ _ _ _ _ _ refl (keyed (named 2 2) (born 1 1) 1 0 6 0 None (Get 1) (Value (Some 100)) refl refl)
-          (operation _ _ _ _ _ _ _ _ refl (keyed (named 2 2) (born 1 1) 2 1 7 0 None (Get 11) (Value (Some 5)) refl refl)
-          (operation _ _ _ _ _ _ _ _ refl (keyed (named 2 2) (born 1 1) 3 0 8 0 (Some 0) (Put 1 70) (Value (Some 100)) refl refl)
-          (operation _ _ _ _ _ _ _ _ refl (keyed (named 2 2) (born 1 1) 4 1 9 0 (Some 0) (Put 11 35) (Value (Some 5)) refl refl) (no_operation _))));
+          operation _ _ _ _ _ _ _ _ refl (keyed (named 2 2) (born 1 1) 1 0 6 0 None (Get 1) (Value (Some (Num 100))) refl refl)
+          (operation _ _ _ _ _ _ _ _ refl (keyed (named 2 2) (born 1 1) 2 1 7 0 None (Get 11) (Value (Some (Num 5))) refl refl)
+          (operation _ _ _ _ _ _ _ _ refl (keyed (named 2 2) (born 1 1) 3 0 8 0 (Some 0) (Put 1 (Num 70)) (Value (Some (Num 100))) refl refl)
+          (operation _ _ _ _ _ _ _ _ refl (keyed (named 2 2) (born 1 1) 4 1 9 0 (Some 0) (Put 11 (Num 35)) (Value (Some (Num 5))) refl refl) (no_operation _))));
       ends =
           acknowledged 0 _ _ (record { all = refl; ending_is = refl }) (record { shard = refl; touched = (0, 0) ∷ (1, 0) ∷ []; event = refl; outcome = refl })
           (record { shard = refl; event = refl; outcome = refl });
@@ -82,19 +83,19 @@ committed_is =
 -- ---- the scan
 
 abbrev scanned : Try
-scanned = record { tx = named 2 3; answers = Pairs ((1, 70) ∷ (11, 35) ∷ []) ∷ []; end = end.Asked; entries = only_try }
+scanned = record { tx = named 2 3; answers = Pairs ((1, Num 70) ∷ (11, Num 35) ∷ []) ∷ []; end = end.Asked; entries = only_try }
 
 scanned_is : IsTry splits look_round (born 21 3) scanned
 scanned_is =
     record {
       before =
-          on 0 22 (op 3 (born 21 3) 1 None (Scan 0 9)) (Answered (Pairs ((1, 70) ∷ [])) 0) ∷ on 1 23 (op 3 (born 21 3) 1 None (Scan 10 20)) (Answered (Pairs ((11, 35) ∷ [])) 0) ∷ [];
+          on 0 22 (op 3 (born 21 3) 1 None (Scan 0 9)) (Answered (Pairs ((1, Num 70) ∷ [])) 0) ∷ on 1 23 (op 3 (born 21 3) 1 None (Scan 10 20)) (Answered (Pairs ((11, Num 35) ∷ [])) 0) ∷ [];
       behind = on 0 24 (Drop (named 2 3)) Dropped ∷ on 1 25 (Drop (named 2 3)) Dropped ∷ [];
       entries_are = refl;
       operations =
           operation _ _ _ _ _ _ [] _ refl
           (record {
-            answers = Pairs ((1, 70) ∷ []) ∷ Pairs ((11, 35) ∷ []) ∷ [];
+            answers = Pairs ((1, Num 70) ∷ []) ∷ Pairs ((11, Num 35) ∷ []) ∷ [];
             parts =
                 part _ _ 0 _ _ _ _ (record { shard = refl; seen = None; event = refl; outcome = refl })
                 (part _ _ 0 _ _ _ _ (record { shard = refl; seen = None; event = refl; outcome = refl }) no_part);
@@ -140,14 +141,14 @@ begun_is =
       entries_are = refl;
       operations = no_operation _;
       ends =
-          down 1 (on 0 7 (op 2 (born 6 2) 1 None (Scan 0 9)) (Answered (Pairs ((1, 100) ∷ [])) 0) ∷ []) (on 0 8 (Drop (named 2 2)) Dropped ∷ [])
+          down 1 (on 0 7 (op 2 (born 6 2) 1 None (Scan 0 9)) (Answered (Pairs ((1, Num 100) ∷ [])) 0) ∷ []) (on 0 8 (Drop (named 2 2)) Dropped ∷ [])
           (operation_begun (Scan 0 20) _ refl
           (record {
             done = (0, Scan 0 9) ∷ [];
             next = (1, Scan 10 20);
             left = [];
             parts = refl;
-            answers = Pairs ((1, 100) ∷ []) ∷ [];
+            answers = Pairs ((1, Num 100) ∷ []) ∷ [];
             answered = part _ _ 0 _ _ _ _ (record { shard = refl; seen = None; event = refl; outcome = refl }) no_part;
           }))
           (record { event = refl; outcome = refl; touched = refl; other = λ h. cc }, tt);

@@ -2,6 +2,7 @@
 use Rattle.std.specs.Prelude.{◌≡◌, ℕ, true, List, [], ◌∷◌, ◌++◌, Option, Some, None}
 use Rattle.clv_base.specs.declared.names.TxId.{TxId}
 use Rattle.clv_base.specs.declared.names.Birth.{Birth}
+use Rattle.clv_base.specs.declared.values.Value.TheVariants.{Num}
 use Rattle.clv_base.specs.declared.ops.Op.{Op}
 use Rattle.clv_base.specs.declared.ops.Op.TheVariants.{Get, Put, Scan}
 use Rattle.clv_base.specs.declared.ops.Answer.TheVariants.{Value, Pairs}
@@ -45,7 +46,7 @@ abbrev pub op : ℕ → Birth → ℕ → Option ℕ → Op → Event
 op serial birth nth seen o = OpEvent (named 2 serial) birth nth seen o
 
 abbrev pub value : ℕ → Outcome
-value v = Answered (Value (Some v)) 0
+value v = Answered (Value (Some (Num v))) 0
 
 -- its second look meets an older transaction: it dies, and its part on shard 0 is dropped
 abbrev pub first_try : History
@@ -60,8 +61,8 @@ abbrev pub second_try : History
 second_try =
     on 0 6 (op 2 (born 1 1) 1 None (Get 1)) (value 100)
     ∷ on 1 7 (op 2 (born 1 1) 2 None (Get 11)) (value 5)
-    ∷ on 0 8 (op 2 (born 1 1) 3 (Some 0) (Put 1 70)) (value 100)
-    ∷ on 1 9 (op 2 (born 1 1) 4 (Some 0) (Put 11 35)) (value 5)
+    ∷ on 0 8 (op 2 (born 1 1) 3 (Some 0) (Put 1 (Num 70))) (value 100)
+    ∷ on 1 9 (op 2 (born 1 1) 4 (Some 0) (Put 11 (Num 35))) (value 5)
     ∷ on 0 10 (Request (named 2 2) ((0, 0) ∷ (1, 0) ∷ [])) Asked
     ∷ on 0 20 (Look (named 2 2)) Acknowledged
     ∷ []
@@ -69,8 +70,8 @@ second_try =
 -- the scan has a part on each shard, and both are dropped
 abbrev pub only_try : History
 only_try =
-    on 0 22 (op 3 (born 21 3) 1 None (Scan 0 9)) (Answered (Pairs ((1, 70) ∷ [])) 0)
-    ∷ on 1 23 (op 3 (born 21 3) 1 None (Scan 10 20)) (Answered (Pairs ((11, 35) ∷ [])) 0)
+    on 0 22 (op 3 (born 21 3) 1 None (Scan 0 9)) (Answered (Pairs ((1, Num 70) ∷ [])) 0)
+    ∷ on 1 23 (op 3 (born 21 3) 1 None (Scan 10 20)) (Answered (Pairs ((11, Num 35) ∷ [])) 0)
     ∷ on 0 24 (Drop (named 2 3)) Dropped
     ∷ on 1 25 (Drop (named 2 3)) Dropped
     ∷ []
@@ -85,7 +86,7 @@ TransferIsSession = is_session splits 1 2 (first_try ++ second_try ++ only_try) 
 -- where only one try is wanted the transfer is given up; then a shard is found down at the second part of the scan
 abbrev pub stopped_try : History
 stopped_try =
-    on 0 7 (op 2 (born 6 2) 1 None (Scan 0 9)) (Answered (Pairs ((1, 100) ∷ [])) 0)
+    on 0 7 (op 2 (born 6 2) 1 None (Scan 0 9)) (Answered (Pairs ((1, Num 100) ∷ [])) 0)
     ∷ on 0 8 (Drop (named 2 2)) Dropped
     ∷ []
 

@@ -1,5 +1,6 @@
 -- The entries of a transaction's operations.
 use Rattle.std.specs.Prelude.{◌≡◌, ℕ, zero, suc, cond, max, min, nat_le, List, [], ◌∷◌, ◌++◌, Option, Some, None}
+use Rattle.clv_base.specs.declared.values.Value.{Value as ValueType}
 use Rattle.clv_base.specs.declared.names.TxId.{TxId}
 use Rattle.clv_base.specs.declared.names.Birth.{Birth}
 use Rattle.clv_base.specs.declared.causes.AbortCause.{AbortCause}
@@ -40,7 +41,7 @@ parts_of splits (Scan lo hi) = scan_parts splits lo hi 0 (shard_count splits)
 -- ---- their answers, put together
 
 -- all pairs, one part's after another's
-abbrev pub pairs_of : List Answer → List (ℕ × ℕ)
+abbrev pub pairs_of : List Answer → List (ℕ × ValueType)
 pairs_of [] = []
 pairs_of (Value v ∷ answers) = pairs_of answers
 pairs_of (Pairs ps ∷ answers) = ps ++ pairs_of answers

@@ -91,13 +91,13 @@ pub trait SessionCalls {
         ensures grounds { IfErr result (grounds self.new) };
 
     /// The next operation of the active transaction, on all shards that it meets. Where it died of it, its other parts are dropped.
-    fn operate(&mut self, alloc: Global, op: Op) -> Result<Answer, TryEnd>
+    fn operate(&mut self, alloc: Global, op: &Op) -> Result<Answer, TryEnd>
         requires session { holds self.old }
         requires active { (tx : TxId) × (birth : BirthIs) × (nth : ℕ) × (touched : ℕ → Bool) × ((seen self.old).standing ≡ Active tx birth nth touched) }
-        requires range { has_range op ≡ true }
+        requires range { has_range op.now ≡ true }
         ensures session { holds self.new }
         ensures base { base self.new ≡ base self.old }
-        ensures told { (tx : TxId) (birth : BirthIs) (nth : ℕ) (touched : ℕ → Bool) → (seen self.old).standing ≡ Active tx birth nth touched → OperateTold tx birth nth touched op result (seen self.old) (seen self.new) }
+        ensures told { (tx : TxId) (birth : BirthIs) (nth : ℕ) (touched : ℕ → Bool) → (seen self.old).standing ≡ Active tx birth nth touched → OperateTold tx birth nth touched op.now result (seen self.old) (seen self.new) }
         ensures misses { Keeps (missed self.old) (missed self.new) }
         ensures grounds { OnRefusal (grounds self.new) result };
 

@@ -14,6 +14,7 @@ ghost use Rattle.script_runs.specs.Keeping.{TouchedBy, is_asked as is_asked_in, 
 use crate::calls::{SessionCalls, Stage};
 use crate::fates::{Fate, fate_of};
 use crate::{StopCause, TryEnd};
+use clv_base::kept::KeptOp;
 use clv_base::names::TxId;
 use script_lang::{Action, Ending, Following, Transaction};
 use session_books::books::{Book, Operations, Row};
@@ -42,10 +43,10 @@ fn do_lines<R: Wait, C: SessionCalls>(
         let Some(op) = following.next() else {
             return Ok(Operations::new(done));
         };
-        match session.operate(alloc, op) {
+        match session.operate(alloc, &op) {
             Ok(answer) => {
                 following.answered(&answer);
-                if done.push((op, answer)).is_err() {
+                if done.push((KeptOp::new(op), answer)).is_err() {
                     session.tell_lack();
                     return Err(TryEnd::Stopped(StopCause::Memory));
                 }

@@ -1,5 +1,6 @@
 -- The parts of a scan, which are one operation.
 use Rattle.std.specs.Prelude.{ℕ, Bool, false, cond, ◌==◌, List, [], ◌∷◌, ◌++◌, Option, Some, None}
+use Rattle.clv_base.specs.declared.values.Value.{Value as ValueType}
 use Rattle.clv_base.specs.declared.ops.Op.{Op}
 use Rattle.clv_base.specs.declared.ops.Op.TheVariants.{Scan}
 use Rattle.clv_base.specs.declared.ops.Answer.{Answer}
@@ -7,7 +8,7 @@ use Rattle.clv_base.specs.declared.ops.Answer.TheVariants.{Value, Pairs}
 use Rattle.session_books.specs.declared.told.Told.{Told}
 
 -- the pairs of an answer
-abbrev pub pairs_of : Answer → List (ℕ × ℕ)
+abbrev pub pairs_of : Answer → List (ℕ × ValueType)
 pairs_of (Value v) = []
 pairs_of (Pairs ps) = ps
 
@@ -25,7 +26,7 @@ abbrev pub upper_of : ℕ → List Told → ℕ
 upper_of hi [] = hi
 upper_of hi (t ∷ ts) = upper_of (upper hi t.op) ts
 
-abbrev pub all_pairs : List Told → List (ℕ × ℕ)
+abbrev pub all_pairs : List Told → List (ℕ × ValueType)
 all_pairs [] = []
 all_pairs (t ∷ ts) = pairs_of t.answer ++ all_pairs ts
 

@@ -5,8 +5,9 @@ ghost use Rattle.session_books.specs.Counts.{nothing_counted};
 
 use crate::Memory;
 use crate::counts::Counts;
+use clv_base::kept::KeptOp;
 use clv_base::names::{Point, TxId};
-use clv_base::ops::{Answer, Op};
+use clv_base::ops::Answer;
 use quiet_list::Told;
 use std::alloc::Global;
 use std::marker::Model;
@@ -14,7 +15,7 @@ use std::marker::Model;
 /// Operations with their answers, in order; a scan is one.
 #[derive(Drop)]
 pub struct Operations {
-    items: Vec<(Op, Answer)>,
+    items: Vec<(KeptOp, Answer)>,
 }
 
 impl Model for Operations {
@@ -29,14 +30,14 @@ impl Model for Operations {
 
 impl Operations {
     /// The list of the vector's operations, in its order. Takes no memory.
-    pub fn new(items: Vec<(Op, Answer)>) -> Self
+    pub fn new(items: Vec<(KeptOp, Answer)>) -> Self
         ensures { result ≡ items.items }
     {
         Operations { items }
     }
 
     /// The operations, in order.
-    pub fn as_slice(&self) -> &[(Op, Answer)]
+    pub fn as_slice(&self) -> &[(KeptOp, Answer)]
         ensures { result.now ≡ self.now }
     {
         self.items.as_slice()

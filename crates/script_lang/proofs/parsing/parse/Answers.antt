@@ -9,23 +9,23 @@ returns-then-bytes-gt-MOST_BYTES-clause-refused c = λ n e. let first : 0 ≡ n 
 pub loop-rest-init : goal.loop-rest-init
 loop-rest-init c = record { taken = ([], refl, refl, sym c.new-reader.ensures); count = omega arith; short = omega arith }
 
-pub returns-in_default-clause-refused : goal.returns-in_default-clause-refused
-returns-in_default-clause-refused c = λ n e.
+pub returns-in_default-line-clause-refused : goal.returns-in_default-line-clause-refused
+returns-in_default-line-clause-refused c = λ n e.
     refused_at c.args.bytes.now c.loop-rest.rest.now c.cut_line.result.0.now c.cut_line.result.1.now c.loop-rest.number c.loop-rest.reader
-    c.loop-rest.invariant.short c.loop-rest.invariant.taken c.cut_line.ensures.cut (no_place_of _ _ c.in_default.ensures) n (cc)
+    c.loop-rest.invariant.short c.loop-rest.invariant.taken c.cut_line.ensures.cut (no_place_of _ _ (rw c.in_default-line.is at c.in-Ok.ensures.ok)) n (cc)
 
 pub returns-then-not-has_place-clause-refused : goal.returns-then-not-has_place-clause-refused
 returns-then-not-has_place-clause-refused c = λ n e.
-    let none = went_not _ _ _ c.in-Ok.ensures c.if-not-has_place.true in
+    let none = went_not _ _ _ c.in-Ok-take.ensures c.if-not-has_place.true in
     refused_at c.args.bytes.now c.loop-rest.rest.now c.cut_line.result.0.now c.cut_line.result.1.now c.loop-rest.number c.loop-rest.reader
-    c.loop-rest.invariant.short c.loop-rest.invariant.taken c.cut_line.ensures.cut (no_place_by _ _ c.in-Some.line c.in-Some.ensures none) n (cc)
+    c.loop-rest.invariant.short c.loop-rest.invariant.taken c.cut_line.ensures.cut (no_place_by _ _ c.in-Some.line (rw c.in-Some.is at c.in-Ok.ensures.ok) none) n (cc)
 
 pub loop-rest-preserved : goal.loop-rest-preserved
 loop-rest-preserved c =
-    let next = went_on _ _ _ c.in-Ok.ensures c.if-not-has_place.false in
+    let next = went_on _ _ _ c.in-Ok-take.ensures c.if-not-has_place.false in
     record {
       taken = taken_one c.args.bytes.now c.loop-rest.rest.now c.cut_line.result.0.now c.cut_line.result.1.now c.loop-rest.number
-          c.loop-rest.reader c.take.new.self c.in-Some.line c.loop-rest.invariant.taken c.cut_line.ensures.cut c.in-Some.ensures next;
+          c.loop-rest.reader c.take.new.self c.in-Some.line c.loop-rest.invariant.taken c.cut_line.ensures.cut (rw c.in-Some.is at c.in-Ok.ensures.ok) next;
       count = omega arith;
       short = c.loop-rest.invariant.short;
     }

@@ -1,4 +1,4 @@
-use Rattle.std.proofs.Common.{◌∙◌, ◌++◌, ◌∷◌, [], refl, sym, subst, length}
+use Rattle.std.proofs.Common.{◌∙◌, ◌++◌, ◌∷◌, [], refl, sym, ap, subst, length}
 use Rattle.std.proofs.lemmas.Option.{slice_get_within}
 use Rattle.script_lang.specs.Following.{all_ops}
 use Rattle.script_runs.proofs.Doing.{Doing, pushed, unanswered_told, nothing_done, one_done, next_has_range, all_answered}
@@ -42,7 +42,9 @@ loop-preserved g c = record {
       let next = sym (c.next-in-loop.ensures c.args.lines.now d.done.answers d.place) ∙ c.in-Some-next.is in
       let t = c.in-Ok.ensures.told tx birth (length d.done.answers) d.done.touched d.done.standing_is in
       let place = c.answered.ensures c.args.lines.now d.done.answers d.place (slice_get_within (all_ops c.args.lines.now d.done.answers) (length d.done.answers) c.in-Some-next.op next) in
-      subst (Doing tx birth c.args.lines.now (g.C.SessionCalls.seen c.args.session.now) (g.C.SessionCalls.seen c.operate.new.self) c.answered.new.self) (pushed c.push.result c.push.new.self.items (c.loop.done.items ++ (c.in-Some-next.op, c.in-Ok.answer) ∷ []) c.loop.done.items c.push.ensures.items (sym c.is_err.ensures.value ∙ c.if-is_err.false))
+      subst (Doing tx birth c.args.lines.now (g.C.SessionCalls.seen c.args.session.now) (g.C.SessionCalls.seen c.operate.new.self) c.answered.new.self)
+      (ap (λ o. c.loop.done.items ++ (o, c.in-Ok.answer) ∷ []) (sym c.new-in-Ok.ensures)
+      ∙ pushed c.push.result c.push.new.self.items (c.loop.done.items ++ (c.new-in-Ok.result, c.in-Ok.answer) ∷ []) c.loop.done.items c.push.ensures.items (sym c.is_err.ensures.value ∙ c.if-is_err.false))
       (one_done tx birth c.args.lines.now (g.C.SessionCalls.seen c.args.session.now) (g.C.SessionCalls.seen c.loop.session) (g.C.SessionCalls.seen c.operate.new.self) c.loop.following c.answered.new.self c.loop.done.items
       c.in-Some-next.op c.in-Ok.answer d next t.0 t.1 t.2 t.3 t.4 t.5 place);
 }
