@@ -3,7 +3,10 @@ use Rattle.std.specs.Prelude.{ℕ, List, [], ◌∷◌, ◌++◌, map, codes, Op
 use Rattle.serde_json.specs.Data.{Data, null, number, unsigned, string, array, object, member, no_members}
 use Rattle.serde_json.specs.View.{items_of}
 use Rattle.serde_json.specs.Written.{compact_text}
+use Rattle.hex.specs.Hex.{encode_lower}
 use Rattle.clv_base.specs.declared.names.TxId.{TxId}
+use Rattle.clv_base.specs.declared.values.Value.{Value as ValueType}
+use Rattle.clv_base.specs.declared.values.Value.TheVariants.{Num, Bytes}
 use Rattle.clv_base.specs.declared.ops.Op.{Op}
 use Rattle.clv_base.specs.declared.ops.Op.TheVariants.{Get, Put, Del, Scan}
 use Rattle.clv_base.specs.declared.ops.Answer.{Answer}
@@ -24,13 +27,18 @@ list ds = array (items_of ds)
 abbrev pub row : List ℕ → List ℕ → Data → Data
 row word numbers last = list (string word ∷ map num numbers ++ last ∷ [])
 
--- a value, or null where there is none
-abbrev pub optional : Option ℕ → Data
-optional None = null
-optional (Some v) = num v
+-- a number, or a text as two digits a byte
+abbrev pub value_data : ValueType → Data
+value_data (Num n) = num n
+value_data (Bytes bytes) = string (encode_lower bytes)
 
-abbrev pub pair : ℕ × ℕ → Data
-pair p = list (num p.0 ∷ num p.1 ∷ [])
+-- a value, or null where there is none
+abbrev pub optional : Option ValueType → Data
+optional None = null
+optional (Some v) = value_data v
+
+abbrev pub pair : ℕ × ValueType → Data
+pair p = list (num p.0 ∷ value_data p.1 ∷ [])
 
 -- what was answered
 abbrev pub answer : Answer → Data
@@ -40,7 +48,7 @@ answer (Pairs ps) = list (map pair ps)
 -- an operation with its answer
 abbrev pub operation : Op → Answer → Data
 operation (Get k) a = list (string (codes "get") ∷ num k ∷ answer a ∷ [])
-operation (Put k v) a = list (string (codes "put") ∷ num k ∷ num v ∷ answer a ∷ [])
+operation (Put k v) a = list (string (codes "put") ∷ num k ∷ value_data v ∷ answer a ∷ [])
 operation (Del k) a = list (string (codes "del") ∷ num k ∷ answer a ∷ [])
 operation (Scan lo hi) a = list (string (codes "scan") ∷ num lo ∷ num hi ∷ list (map pair (pairs_of a)) ∷ [])
 
