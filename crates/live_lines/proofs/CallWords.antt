@@ -1,5 +1,5 @@
 -- The words of a call are those of one line of a script, or `retry`.
-use Rattle.std.proofs.Common.{◌≡◌, ℕ, ◌≤◌, List, ◌∷◌, ◌++◌, codes, refl, sym, subst, ap, ◌∙◌, Option, Some, None, MatchOption, Bool, IsTrue, ◌↔◌, ◌⊎◌, inl, inr}
+use Rattle.std.proofs.Common.{◌≡◌, ℕ, ◌≤◌, List, ◌∷◌, ◌++◌, codes, refl, sym, subst, ◌∙◌, Option, Some, None, MatchOption, ◌⊎◌, inl, inr}
 use Rattle.script_lang.specs.declared.lines.Line.{Line}
 use Rattle.script_lang.specs.declared.lines.Line.TheVariants as script
 use Rattle.script_lang.specs.declared.actions.Action.TheVariants.{Do, Move}
@@ -9,7 +9,7 @@ use Rattle.script_lang.specs.Reading.{Lacks}
 use Rattle.script_lang.proofs.Laws.{one_meaning, number_has_no_space, parted_alike, number_once}
 use Rattle.live_lines.specs.declared.calls.Call.{Call}
 use Rattle.live_lines.specs.declared.calls.Call.TheVariants.{Begin, Retry, Operate, Commit, Abort}
-use Rattle.live_lines.specs.Requests.{IsCall, IsBlank, IsHead, call_in}
+use Rattle.live_lines.specs.Requests.{IsCall, IsHead, call_in}
 
 -- a call other than `retry` is a line that spells it
 pub line_for : (words : List ℕ) (call : Call) → IsCall words call → (words ≡ codes "retry") ⊎ ((line : Line) × IsLine words line × (call_in line ≡ Some call))
@@ -52,11 +52,6 @@ called words line None other is e = no_call words other (spells_none words line 
 
 pub uncalled : (words : List ℕ) → (words ≡ codes "retry" → ⊥) → ((line : Line) → IsLine words line → ⊥) → (call : Call) → IsCall words call → ⊥
 uncalled words other none = no_call words other (λ line call is spells. none line is)
-
--- whether a line is blank
-pub blank_by : (bytes : List ℕ) (line : Line) (b : Bool) → IsLine bytes line → (IsTrue b ↔ (line ≡ script.Blank)) → IsTrue b ↔ IsBlank bytes
-blank_by bytes line b is told =
-    (λ yes. subst (λ (l : Line). IsLine bytes l) (told.0 yes) is, λ blank. told.1 (one_meaning bytes line script.Blank is blank))
 
 -- the number that a line begins with is that of its first word
 pub no_number :

@@ -3,7 +3,10 @@ use Rattle.std.specs.Prelude.{ℕ, List, [], ◌∷◌, ◌++◌, map, codes, Op
 use Rattle.serde_json.specs.Data.{Data, null, number, unsigned, string, array}
 use Rattle.serde_json.specs.View.{items_of}
 use Rattle.serde_json.specs.Written.{compact_text}
+use Rattle.hex.specs.Hex.{encode_lower}
 use Rattle.clv_base.specs.declared.names.TxId.{TxId}
+use Rattle.clv_base.specs.declared.values.Value.{Value as ValueType}
+use Rattle.clv_base.specs.declared.values.Value.TheVariants.{Num, Bytes}
 use Rattle.clv_base.specs.declared.ops.Op.{Op}
 use Rattle.clv_base.specs.declared.ops.Op.TheVariants.{Get, Put, Del, Scan}
 use Rattle.clv_base.specs.declared.ops.Answer.{Answer}
@@ -31,13 +34,18 @@ list ds = array (items_of ds)
 abbrev pub row : ℕ → List ℕ → List ℕ → List Data
 row session word numbers = num session ∷ string word ∷ map num numbers
 
--- a value, or null where there is none
-abbrev pub optional : Option ℕ → Data
-optional None = null
-optional (Some v) = num v
+-- a number, or a text as two digits a byte
+abbrev pub value_data : ValueType → Data
+value_data (Num n) = num n
+value_data (Bytes bytes) = string (encode_lower bytes)
 
-abbrev pub pair : ℕ × ℕ → Data
-pair p = list (num p.0 ∷ num p.1 ∷ [])
+-- a value, or null where there is none
+abbrev pub optional : Option ValueType → Data
+optional None = null
+optional (Some v) = value_data v
+
+abbrev pub pair : ℕ × ValueType → Data
+pair p = list (num p.0 ∷ value_data p.1 ∷ [])
 
 -- what was answered
 abbrev pub answer : Answer → Data
@@ -48,18 +56,12 @@ answer (Pairs ps) = list (map pair ps)
 abbrev pub name : TxId → Data
 name tx = list (num tx.run ∷ num tx.session ∷ num tx.serial ∷ [])
 
--- the word of an operation, and its numbers
-abbrev pub word_of : Op → List ℕ
-word_of (Get k) = codes "get"
-word_of (Put k v) = codes "put"
-word_of (Del k) = codes "del"
-word_of (Scan lo hi) = codes "scan"
-
-abbrev pub numbers_of : Op → List ℕ
-numbers_of (Get k) = k ∷ []
-numbers_of (Put k v) = k ∷ v ∷ []
-numbers_of (Del k) = k ∷ []
-numbers_of (Scan lo hi) = lo ∷ hi ∷ []
+-- a session's operation, without its answer
+abbrev pub operation : ℕ → Op → List Data
+operation session (Get k) = row session (codes "get") (k ∷ [])
+operation session (Put k v) = row session (codes "put") (k ∷ []) ++ value_data v ∷ []
+operation session (Del k) = row session (codes "del") (k ∷ [])
+operation session (Scan lo hi) = row session (codes "scan") (lo ∷ hi ∷ [])
 
 -- why a part votes no
 abbrev pub why : NoWhy → List Data
@@ -82,11 +84,12 @@ refusal_text refusal.NoTx = codes "no transaction is active"
 refusal_text refusal.NoRetry = codes "nothing to try again"
 refusal_text refusal.Ended = codes "the session has ended"
 refusal_text refusal.TooLong = codes "the line is too long"
+refusal_text refusal.NoMemory = codes "no memory for the text"
 
 -- what a session's reply tells
 abbrev pub told : ℕ → Reply → List Data
 told session (Begun serial) = row session (codes "begin") (serial ∷ [])
-told session (Answered op a) = row session (word_of op) (numbers_of op) ++ answer a ∷ []
+told session (Answered op a) = operation session op ++ answer a ∷ []
 told session (Committed serial) = row session (codes "committed") (serial ∷ [])
 told session (Empty serial) = row session (codes "empty") (serial ∷ [])
 told session (Aborted why_) = row session (codes "aborted") [] ++ cause_of why_

@@ -4,7 +4,7 @@ use Rattle.script_lang.specs.declared.lines.Line.{Line}
 use Rattle.script_lang.specs.declared.lines.Line.TheVariants as script
 use Rattle.script_lang.specs.declared.actions.Action.TheVariants.{Do, Move}
 use Rattle.script_lang.specs.declared.actions.Ending.TheVariants as ending
-use Rattle.script_lang.specs.Grammar.{IsNumber, IsAction, IsEnding, IsComment}
+use Rattle.script_lang.specs.Grammar.{IsNumber, IsAction, IsEnding, IsComment, PutsText}
 use Rattle.live_lines.specs.declared.calls.Call.{Call}
 use Rattle.live_lines.specs.declared.calls.Call.TheVariants.{Begin, Retry, Operate, Commit, Abort}
 use Rattle.live_lines.specs.declared.calls.Asked.{Asked}
@@ -28,10 +28,11 @@ IsHead sessions bytes s words = (word : List ℕ) × (bytes ≡ word ++ 32 ∷ w
 abbrev pub IsBlank : List ℕ → Type 0
 IsBlank bytes = (bytes ≡ []) ⊎ IsComment bytes
 
--- the words ask for this call, or for none
+-- the words ask for this call, or for none; or they put a text for which there was no memory
 abbrev pub Asks : List ℕ → Asked → Type 0
 Asks words (asks.Call call) = IsCall words call
 Asks words asks.Unknown = (call : Call) → IsCall words call → ⊥
+Asks words asks.NoMemory = PutsText words
 
 -- what a line of the input is
 abbrev pub Reads : ℕ → List ℕ → Request → Type 0

@@ -4,7 +4,7 @@ use clv_base::causes::AbortCause;
 use clv_base::ops::{Answer, Op};
 
 /// A call of a session.
-#[derive(Clone, Copy, PartialEq, Eq)]
+#[derive(Drop)]
 pub enum Call {
     Begin,
     /// Begins another try of the last transaction, with its birth.
@@ -14,11 +14,13 @@ pub enum Call {
     Abort,
 }
 
-/// What a line asks of the session that it names: a call, or nothing that a session knows.
-#[derive(Clone, Copy, PartialEq, Eq)]
+/// What a line asks of the session that it names: a call, or nothing that can be done.
+#[derive(Drop)]
 pub enum Asked {
     Call(Call),
     Unknown,
+    /// To put a text for which there was no memory.
+    NoMemory,
 }
 
 /// Why nothing was done.
@@ -38,6 +40,8 @@ pub enum Refusal {
     Ended,
     /// The line is too long.
     TooLong,
+    /// There was no memory for the line's text.
+    NoMemory,
 }
 
 /// What a session answers.

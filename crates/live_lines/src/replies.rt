@@ -4,13 +4,15 @@ ghost use Rattle.std.specs.Prelude.{◌≡◌, ◌++◌, ◌∷◌, [], IfOk, On
 ghost use Rattle.serde_json.specs.Data.{string};
 ghost use Rattle.serde_json.specs.Written.{has_float};
 ghost use Rattle.serde_json.specs.View.{view};
-ghost use Rattle.live_lines.specs.Replies.{line as line_of, num, list as list_of, row as row_of, optional as optional_value, pair as pair_value, answer as answer_data, name as name_data, word_of as word_by, numbers_of as numbers_by, why as why_data, cause_of as cause_data, refusal_text as refusal_by, told as told_data, reply_line};
+ghost use Rattle.live_lines.specs.Replies.{line as line_of, num, list as list_of, row as row_of, value_data, optional as optional_value, pair as pair_value, answer as answer_data, name as name_data, operation as operation_data, why as why_data, cause_of as cause_data, refusal_text as refusal_by, told as told_data, reply_line};
 
 use crate::Memory;
 use crate::calls::{Refusal, Reply};
 use clv_base::causes::{AbortCause, NoWhy};
 use clv_base::names::TxId;
 use clv_base::ops::{Answer, Op};
+use clv_base::values::Value as Stored;
+use hex::encode;
 use serde_json::Value;
 use std::alloc::Global;
 
@@ -51,21 +53,41 @@ fn row(alloc: Global, session: u64, word: &str, numbers: &[u64]) -> Result<Vec<V
     Ok(values)
 }
 
-fn optional(value: Option<u64>) -> Value
-    ensures { view result ≡ optional_value value }
+// A number, or the text's bytes as two digits each.
+fn stored(alloc: Global, value: &Stored) -> Result<Value, Memory>
+    ensures { IfOk result (λ v. view v ≡ value_data value.now) }
 {
     match value {
-        Some(number) => Value::from(number),
-        None => Value::Null,
+        Stored::Num(number) => Ok(Value::from(*number)),
+        Stored::Bytes(text) => Ok(Value::String(encode(alloc, text.as_slice())?)),
     }
 }
 
+fn optional(alloc: Global, value: &Option<Stored>) -> Result<Value, Memory>
+    ensures { IfOk result (λ v. view v ≡ optional_value value.now) }
+{
+    match value {
+        Some(value) => stored(alloc, value),
+        None => Ok(Value::Null),
+    }
+}
+
+fn pair(alloc: Global, key: u64, value: &Stored) -> Result<Value, Memory>
+    ensures { IfOk result (λ v. view v ≡ pair_value (key, value.now)) }
+{
+    let told = stored(alloc, value)?;
+    let mut values = Vec::new(alloc);
+    values.push(Value::from(key))?;
+    values.push(told)?;
+    Ok(Value::Array(values))
+}
+
 // The pairs are added to a list of values.
-fn add_pairs(alloc: Global, values: &mut Vec<Value>, pairs: &[(u64, u64)]) -> Result<(), Memory>
+fn add_pairs(alloc: Global, values: &mut Vec<Value>, pairs: &[(u64, Stored)]) -> Result<(), Memory>
     ensures { OnOk result (map view values.new.items ≡ map view values.old.items ++ map pair_value pairs.now) }
 {
     for entry in pairs {
-        values.push(numbers(alloc, &[entry.0, entry.1])?)?;
+        values.push(pair(alloc, entry.0, &entry.1)?)?;
     }
     Ok(())
 }
@@ -74,7 +96,7 @@ fn answer_value(alloc: Global, answer: &Answer) -> Result<Value, Memory>
     ensures { IfOk result (λ v. view v ≡ answer_data answer.now) }
 {
     match answer {
-        Answer::Value(value) => Ok(optional(*value)),
+        Answer::Value(value) => optional(alloc, value),
         Answer::Pairs(pairs) => {
             let mut values = Vec::new(alloc);
             add_pairs(alloc, &mut values, pairs.as_slice())?;
@@ -89,20 +111,29 @@ fn name(alloc: Global, tx: TxId) -> Result<Value, Memory>
     numbers(alloc, &[tx.run as u64, tx.session as u64, tx.serial])
 }
 
+// What a Put puts, behind its key.
+fn put_row(alloc: Global, session: u64, key: u64, value: &Stored) -> Result<Vec<Value>, Memory>
+    ensures { IfOk result (λ values. map view values.items ≡ row_of session (codes "put") (key ∷ []) ++ value_data value.now ∷ []) }
+{
+    let mut values = row(alloc, session, "put", &[key])?;
+    values.push(stored(alloc, value)?)?;
+    Ok(values)
+}
+
 // An operation, without its answer.
-fn operation(alloc: Global, session: u64, op: Op) -> Result<Vec<Value>, Memory>
-    ensures { IfOk result (λ values. map view values.items ≡ row_of session (word_by op) (numbers_by op)) }
+fn operation(alloc: Global, session: u64, op: &Op) -> Result<Vec<Value>, Memory>
+    ensures { IfOk result (λ values. map view values.items ≡ operation_data session op.now) }
 {
     match op {
-        Op::Get(key) => row(alloc, session, "get", &[key]),
-        Op::Put(key, value) => row(alloc, session, "put", &[key, value]),
-        Op::Del(key) => row(alloc, session, "del", &[key]),
-        Op::Scan(low, high) => row(alloc, session, "scan", &[low, high]),
+        Op::Get(key) => row(alloc, session, "get", &[*key]),
+        Op::Put(key, value) => put_row(alloc, session, *key, value),
+        Op::Del(key) => row(alloc, session, "del", &[*key]),
+        Op::Scan(low, high) => row(alloc, session, "scan", &[*low, *high]),
     }
 }
 
-fn answered(alloc: Global, session: u64, op: Op, answer: &Answer) -> Result<Vec<Value>, Memory>
-    ensures { IfOk result (λ values. map view values.items ≡ row_of session (word_by op) (numbers_by op) ++ answer_data answer.now ∷ []) }
+fn answered(alloc: Global, session: u64, op: &Op, answer: &Answer) -> Result<Vec<Value>, Memory>
+    ensures { IfOk result (λ values. map view values.items ≡ operation_data session op.now ++ answer_data answer.now ∷ []) }
 {
     let mut values = operation(alloc, session, op)?;
     values.push(answer_value(alloc, answer)?)?;
@@ -176,6 +207,7 @@ fn refusal_text(refusal: Refusal) -> &'static str
         Refusal::NoRetry => "nothing to try again",
         Refusal::Ended => "the session has ended",
         Refusal::TooLong => "the line is too long",
+        Refusal::NoMemory => "no memory for the text",
     }
 }
 
@@ -192,7 +224,7 @@ fn told(alloc: Global, session: u64, reply: &Reply) -> Result<Vec<Value>, Memory
 {
     match reply {
         Reply::Begun { serial } => row(alloc, session, "begin", &[*serial]),
-        Reply::Answered { op, answer } => answered(alloc, session, *op, answer),
+        Reply::Answered { op, answer } => answered(alloc, session, op, answer),
         Reply::Committed { serial } => row(alloc, session, "committed", &[*serial]),
         Reply::Empty { serial } => row(alloc, session, "empty", &[*serial]),
         Reply::Aborted(cause) => aborted(alloc, session, *cause),

@@ -1,14 +1,17 @@
 // What a line of the input asks for.
 
-ghost use Rattle.std.specs.Prelude.{◌≡◌, ◌⊎◌, ◌≤◌, ℕ, List, [], IsTrue, ◌↔◌, MatchOption};
+ghost use Rattle.std.specs.Prelude.{◌≡◌, ℕ, List, MatchOption, IfOk, OnErr};
+ghost use Rattle.script_lang.specs.Grammar.{PutsText};
 ghost use Rattle.live_lines.specs.declared.calls.Call.{Call as ACall};
-ghost use Rattle.live_lines.specs.Requests.{IsHead, IsCall, Asks, IsBlank, Reads, call_in};
+ghost use Rattle.live_lines.specs.Requests.{IsHead, IsCall, Asks, Reads, call_in};
 
+use crate::Memory;
 use crate::calls::{Asked, Call};
-use script_lang::{Action, Ending, Line, line_of, number_of, parted};
+use script_lang::{Action, Ending, Line, is_blank, line_of, number_of, parted};
+use std::alloc::Global;
 
 /// What a line of the input is.
-#[derive(Clone, Copy, PartialEq, Eq)]
+#[derive(Drop)]
 pub enum Request {
     /// Nothing: an empty line, or a comment.
     Blank,
@@ -40,7 +43,7 @@ fn call_by(line: Line) -> Option<Call>
 {
     match line {
         Line::Begin => Some(Call::Begin),
-        Line::Act(Action::Do(op)) => Some(Call::Operate(op)),
+        Line::Act(Action::Do(op)) => Some(Call::Operate(op.op())),
         Line::End(Ending::Commit) => Some(Call::Commit),
         Line::End(Ending::Abort) => Some(Call::Abort),
         _ => None,
@@ -48,48 +51,31 @@ fn call_by(line: Line) -> Option<Call>
 }
 
 // The call that these words are.
-fn call_of(words: &[u8]) -> Option<Call>
-    ensures { MatchOption result ((call : ACall) → IsCall words.now call → ⊥) (λ call. IsCall words.now call) }
+fn call_of(alloc: Global, words: &[u8]) -> Result<Option<Call>, Memory>
+    ensures err { OnErr result (PutsText words.now) }
+    ensures ok { IfOk result (λ found. MatchOption found ((call : ACall) → IsCall words.now call → ⊥) (λ call. IsCall words.now call)) }
 {
     if words == b"retry".as_slice() {
-        return Some(Call::Retry);
+        return Ok(Some(Call::Retry));
     }
-    match line_of(words) {
-        Some(line) => call_by(line),
-        None => None,
+    match line_of(alloc, words)? {
+        Some(line) => Ok(call_by(line)),
+        None => Ok(None),
     }
 }
 
-fn asked_of(words: &[u8]) -> Asked
+fn asked_of(alloc: Global, words: &[u8]) -> Asked
     ensures { Asks words.now result }
 {
-    match call_of(words) {
-        Some(call) => Asked::Call(call),
-        None => Asked::Unknown,
+    match call_of(alloc, words) {
+        Ok(Some(call)) => Asked::Call(call),
+        Ok(None) => Asked::Unknown,
+        Err(Memory) => Asked::NoMemory,
     }
 }
 
-fn says_nothing(line: Line) -> bool
-    ensures { IsTrue result ↔ (line ≡ Line.Blank) }
-{
-    match line {
-        Line::Blank => true,
-        _ => false,
-    }
-}
-
-// Whether a line is empty or a comment.
-fn is_blank(bytes: &[u8]) -> bool
-    ensures { IsTrue result ↔ IsBlank bytes.now }
-{
-    match line_of(bytes) {
-        Some(line) => says_nothing(line),
-        None => false,
-    }
-}
-
-/// What a line of the input asks for, where sessions have the numbers from 1 to this one.
-pub fn request_of(bytes: &[u8], sessions: u64) -> Request
+/// What a line of the input asks for, where sessions have the numbers from 1 to this one. Only a line that puts a text takes memory.
+pub fn request_of(alloc: Global, bytes: &[u8], sessions: u64) -> Request
     ensures { Reads sessions bytes.now result }
 {
     if is_blank(bytes) {
@@ -98,7 +84,7 @@ pub fn request_of(bytes: &[u8], sessions: u64) -> Request
     match head_of(bytes, sessions) {
         Some((session, words)) => Request::Of {
             session,
-            asked: asked_of(words),
+            asked: asked_of(alloc, words),
         },
         None => Request::NoSession,
     }

@@ -156,7 +156,7 @@ fn operate<C: SessionCalls>(alloc: Global, session: &mut C, op: Op) -> Step
     ensures did { Did (asks.Call (calls.Operate op)) result.reply (C.seen session.old) (C.seen session.new) }
     ensures course { Goes (C.grounds session.new) result.course (C.seen session.new) }
 {
-    match session.operate(alloc, op) {
+    match session.operate(alloc, &op) {
         Ok(answer) => goes_on(Reply::Answered { op, answer }, false),
         Err(end) => end_by(alloc, session, end),
     }
@@ -230,11 +230,11 @@ fn call_at_rest<C: SessionCalls>(alloc: Global, session: &mut C, course: Course,
 }
 
 // Whether the bounds of a scan rise.
-fn has_range(op: Op) -> bool
-    ensures { result ≡ ranges op }
+fn has_range(op: &Op) -> bool
+    ensures { result ≡ ranges op.now }
 {
     match op {
-        Op::Scan(low, high) => low <= high,
+        Op::Scan(low, high) => *low <= *high,
         _ => true,
     }
 }
@@ -253,7 +253,7 @@ fn call_in_tx<C: SessionCalls>(alloc: Global, session: &mut C, course: Course, c
 {
     match call {
         Call::Operate(op) => {
-            if has_range(op) {
+            if has_range(&op) {
                 operate(alloc, session, op)
             } else {
                 refuse(Refusal::Unknown, course)
@@ -304,5 +304,6 @@ pub(crate) fn answer<C: SessionCalls>(
     match asked {
         Asked::Call(call) => call_of(alloc, session, course, call),
         Asked::Unknown => refuse(Refusal::Unknown, course),
+        Asked::NoMemory => refuse(Refusal::NoMemory, course),
     }
 }

@@ -9,7 +9,7 @@ use crate::signals::Signals;
 use io_model::{ReadError, Source};
 use live_lines::{Asked, Cutter, Refusal, Reply, Request, request_of};
 use live_sessions::{Gone, Outbox};
-use rtrb::Producer;
+use rtrb::{Producer, PushError};
 use std::alloc::{AllocError, Global};
 use std::sync::Wait;
 
@@ -48,18 +48,22 @@ impl<'a, R: Wait> Reader<'a, R> {
         let rt = self.own.rt;
         let bell = signals.bell_of(0);
         let place = session as usize;
+        let mut asked = asked;
         let mut lies = false;
         for _ in rt.forever() {
             let heard = bell.heard();
             if signals.is_gone() {
                 return Err(Gone);
             }
-            if self.lines[place - 1].push(asked).is_ok() {
-                if lies {
-                    bell.rise();
+            match self.lines[place - 1].push(asked) {
+                Ok(()) => {
+                    if lies {
+                        bell.rise();
+                    }
+                    signals.bell_of(place).ring();
+                    return Ok(());
                 }
-                signals.bell_of(place).ring();
-                return Ok(());
+                Err(PushError::Full(back)) => asked = back,
             }
             if lies {
                 bell.sleep(rt, heard);
@@ -78,24 +82,24 @@ impl<'a, R: Wait> Reader<'a, R> {
     }
 
     // A line of the input; none where it is too long.
-    fn take_line(&mut self, line: Option<&[u8]>) -> Result<(), Gone>
+    fn take_line(&mut self, alloc: Global, line: Option<&[u8]>) -> Result<(), Gone>
         ensures { HandsLine (option_map (λ l. l.now) line.entry) self.old.lines.items self.new.lines.items self.old.own.answers self.new.own.answers result }
     {
         let Some(bytes) = line else {
             return self.refuse(Refusal::TooLong);
         };
-        match request_of(bytes, self.lines.len() as u64) {
+        match request_of(alloc, bytes, self.lines.len() as u64) {
             Request::Blank => Ok(()),
             Request::Of { session, asked } => self.hand(session, asked),
             Request::NoSession => self.refuse(Refusal::NoSession),
         }
     }
 
-    fn take_byte(&mut self, cutter: &mut Cutter, byte: u8) -> Result<(), Gone>
+    fn take_byte(&mut self, alloc: Global, cutter: &mut Cutter, byte: u8) -> Result<(), Gone>
         ensures { HandsByte cutter.old cutter.new byte self.old.lines.items self.new.lines.items self.old.own.answers self.new.own.answers result }
     {
         if byte == b'\n' {
-            self.take_line(cutter.line())?;
+            self.take_line(alloc, cutter.line())?;
             cutter.begin();
         } else {
             cutter.take(byte);
@@ -103,23 +107,23 @@ impl<'a, R: Wait> Reader<'a, R> {
         Ok(())
     }
 
-    fn take_bytes(&mut self, cutter: &mut Cutter, bytes: &[u8]) -> Result<(), Gone>
+    fn take_bytes(&mut self, alloc: Global, cutter: &mut Cutter, bytes: &[u8]) -> Result<(), Gone>
         ensures { HandsBytes cutter.old cutter.new bytes.now self.old.lines.items self.new.lines.items self.old.own.answers self.new.own.answers result }
     {
         for byte in bytes {
-            self.take_byte(cutter, *byte)?;
+            self.take_byte(alloc, cutter, *byte)?;
         }
         Ok(())
     }
 
     // The last line may have no line feed.
-    fn take_last(&mut self, cutter: &Cutter) -> Read
+    fn take_last(&mut self, alloc: Global, cutter: &Cutter) -> Read
         ensures { HandsLast cutter.now self.old.lines.items self.new.lines.items self.old.own.answers self.new.own.answers result }
     {
         if !cutter.has_begun() {
             return Read::Whole;
         }
-        match self.take_line(cutter.line()) {
+        match self.take_line(alloc, cutter.line()) {
             Ok(()) => Read::Whole,
             Err(Gone) => Read::Gone,
         }
@@ -128,6 +132,7 @@ impl<'a, R: Wait> Reader<'a, R> {
     // Reads the next bytes, and takes them; at the end of the input, or where nobody takes answers, it says how far it was read.
     fn read_some<S: Source>(
         &mut self,
+        alloc: Global,
         source: &mut S,
         piece: &mut [u8],
         cutter: &mut Cutter,
@@ -138,9 +143,9 @@ impl<'a, R: Wait> Reader<'a, R> {
     {
         let count = source.read(piece)?;
         if count == 0 {
-            return Ok(Some(self.take_last(cutter)));
+            return Ok(Some(self.take_last(alloc, cutter)));
         }
-        match self.take_bytes(cutter, &piece[..count]) {
+        match self.take_bytes(alloc, cutter, &piece[..count]) {
             Ok(()) => Ok(None),
             Err(Gone) => Ok(Some(Read::Gone)),
         }
@@ -157,7 +162,7 @@ impl<'a, R: Wait> Reader<'a, R> {
         let mut piece = zeros(alloc, PIECE)?;
         let mut cutter = Cutter::new(alloc)?;
         for _ in self.own.rt.forever() {
-            if let Some(read) = self.read_some(source, piece.as_mut_slice(), &mut cutter)? {
+            if let Some(read) = self.read_some(alloc, source, piece.as_mut_slice(), &mut cutter)? {
                 return Ok(read);
             }
         }

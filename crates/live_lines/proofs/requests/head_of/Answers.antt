@@ -1,4 +1,4 @@
-use Rattle.std.proofs.Common.{arith, ◌≡◌, ◌⊎◌}
+use Rattle.std.proofs.Common.{arith}
 use Rattle.script_lang.proofs.Laws.{not_parted}
 use Rattle.live_lines.proofs.CallWords.{no_number, one_number}
 use Rattle.live_lines.proofs.requests.head_of.Goals as goal
