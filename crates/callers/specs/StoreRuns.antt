@@ -1,5 +1,5 @@
 -- What calls of a store do, whatever the store keeps its records in.
-use Rattle.std.specs.Prelude.{◌==◌, ℕ, cond, not, List, [], ◌∷◌, map, Some, None}
+use Rattle.std.specs.Prelude.{◌==◌, ℕ, Bool, true, false, cond, not, List, [], ◌∷◌, map, Some, None}
 use Rattle.std.specs.List.{filter}
 use Rattle.clv_base.specs.Needs.{Records, found_at, found_by, is_there, value_at, record_set, lower_anchor, records_between}
 use Rattle.clv_base.specs.declared.modes.Found.{Found}
@@ -11,6 +11,12 @@ use Rattle.callers.specs.declared.store_answers.StoreAnswer.TheVariants.{There, 
 -- the record at the key becomes a ghost, where there is one
 abbrev pub hidden : ℕ → Records → Records
 hidden k rs = cond (is_there (found_at k rs)) (record_set k None rs) rs
+
+-- whether it is a ghost
+abbrev pub is_ghost_found : Found → Bool
+is_ghost_found Found.Ghost = true
+is_ghost_found (Found.Live v) = false
+is_ghost_found Found.Absent = false
 
 -- the record at the key goes, where it is this
 abbrev pub purged_where : Found → ℕ → Records → Records

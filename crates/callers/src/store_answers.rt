@@ -2,6 +2,7 @@
 ghost use Rattle.std.specs.Prelude.{◌≡◌};
 
 use clv_base::modes::{Anchor, Found};
+use clv_base::values::Value;
 use std::marker::Model;
 
 /// Keys with what stands there, which contracts see as a list.
@@ -41,7 +42,7 @@ pub enum StoreAnswer {
     /// What stands at the key, or stood there before it was hidden or purged.
     There(Found),
     /// The live value before.
-    Before(Option<u64>),
+    Before(Option<Value>),
     /// The greatest record below.
     Below(Anchor),
     /// The records in bounds, by rising keys.

@@ -1,12 +1,14 @@
 //! Calls of a store.
 
+use clv_base::values::Value;
+
 /// A call of a store, on a key.
-#[derive(Clone, Copy, Drop)]
+#[derive(Drop)]
 pub enum StoreCall {
     /// What stands at the key.
     Get(u64),
     /// Sets the value at the key, and makes room for it first.
-    Set { key: u64, value: u64 },
+    Set { key: u64, value: Value },
     /// Makes the record at the key a ghost, where there is one.
     Hide(u64),
     /// Takes the record at the key away, where it is a ghost.

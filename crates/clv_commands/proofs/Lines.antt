@@ -2,6 +2,8 @@
 use Rattle.std.proofs.Common.{◌≡◌, refl, sym, ap, ap₂, subst, ◌∙◌, ◌⊎◌, inl, inr, ℕ, zero, suc, ◌+◌, ◌^◌, ◌==◌, nat_le, nat_lt, ◌&&◌, Bool, true, false, cond, List, [], ◌∷◌, ◌++◌, drop, map, Option, Some, None, slice_get}
 use Rattle.std.specs.List.{AllByRecursion}
 use Rattle.std.proofs.lemmas.List.{map-append}
+use Rattle.clv_base.specs.declared.values.Value.{Value as ValueType}
+use Rattle.clv_base.specs.declared.values.Value.TheVariants.{Num, Bytes}
 use Rattle.clv_base.specs.declared.ops.Op.{Op}
 use Rattle.clv_base.specs.declared.ops.Op.TheVariants.{Get, Put, Del, Scan}
 use Rattle.clv_base.specs.declared.ops.Answer.{Answer}
@@ -59,14 +61,16 @@ fill_of_keys : (k n : ℕ) (answers : List Answer) → AllByRecursion IsOfKey (a
 fill_of_keys k zero answers = tt
 fill_of_keys k (suc n) answers = (tt, fill_of_keys (suc k) n (drop 1 answers))
 
-puts_chosen : (c : Bool) (from to a b : ℕ) → AllByRecursion IsOfKey (cond c (Put from a ∷ Put to b ∷ []) [])
+puts_chosen : (c : Bool) (from to : ℕ) (a b : ValueType) → AllByRecursion IsOfKey (cond c (Put from a ∷ Put to b ∷ []) [])
 puts_chosen true from to a b = (tt, (tt, tt))
 puts_chosen false from to a b = tt
 
-puts_of_keys : (from to amount : ℕ) (a b : Option ℕ) → AllByRecursion IsOfKey (puts from to amount a b)
+puts_of_keys : (from to amount : ℕ) (a b : Option ValueType) → AllByRecursion IsOfKey (puts from to amount a b)
 puts_of_keys from to amount None b = tt
-puts_of_keys from to amount (Some a) None = tt
-puts_of_keys from to amount (Some a) (Some b) = puts_chosen _ from to _ _
+puts_of_keys from to amount (Some (Num a)) None = tt
+puts_of_keys from to amount (Some (Num a)) (Some (Num b)) = puts_chosen _ from to _ _
+puts_of_keys from to amount (Some (Num a)) (Some (Bytes bytes)) = tt
+puts_of_keys from to amount (Some (Bytes bytes)) b = tt
 
 move_of_keys : (from to amount : ℕ) (answers : List Answer) → AllByRecursion IsOfKey (all_ops (Move from to amount ∷ []) answers)
 move_of_keys from to amount answers =
@@ -123,4 +127,4 @@ parts_alone splits (op ∷ ops) keys = ap₂ (λ xs ys. xs ++ ys) (one_op splits
 -- a filling asks for no answer
 pub fill_alike : (k n : ℕ) (answers others : List Answer) → all_ops (fill k n) answers ≡ all_ops (fill k n) others
 fill_alike k zero answers others = refl
-fill_alike k (suc n) answers others = ap (λ l. Put k 1000 ∷ l) (fill_alike (suc k) n (drop 1 answers) (drop 1 others))
+fill_alike k (suc n) answers others = ap (λ l. Put k (Num 1000) ∷ l) (fill_alike (suc k) n (drop 1 answers) (drop 1 others))

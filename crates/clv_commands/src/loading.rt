@@ -7,7 +7,7 @@ ghost use Rattle.history_replay.specs.Entries.{Kept};
 ghost use Rattle.ordered_store.specs.InTurn.{live_in_turn};
 ghost use Rattle.command_line.specs.declared.commands.Command.TheVariants as commands;
 ghost use Rattle.command_line.specs.declared.status.Status.TheVariants.{Fine};
-ghost use Rattle.report_text.specs.Loads.{values_sum};
+ghost use Rattle.report_text.specs.Loads.{number_in as number_by, values_sum};
 ghost use Rattle.report_text.specs.Sinks.{TakesText, Causes};
 ghost use Rattle.workload_laws.specs.Sums.{accounts_sum as sum_of};
 ghost use Rattle.script_lang.specs.Laws.{is_narrow_body};
@@ -23,6 +23,7 @@ use crate::sums::loads_keep_their_sum;
 use cluster_opening::OpenError;
 use cluster_runs::replay::runs_replay;
 use cluster_runs::{Plan, Ran, Start, run_script};
+use clv_base::values::Value;
 use command_line::{Status, after_text};
 use io_model::{House, Pace, Sink, write_all};
 use lock_index::HashedLocks;
@@ -63,15 +64,25 @@ fn script_of(alloc: Global, work: Work) -> Result<Script, AllocError>
     )
 }
 
-// The sum of the values of all keys up to one, for which 64 bits are enough.
-fn total(pairs: &[(u64, u64)], last: u64) -> u64
+// The number that a value is; a text counts nothing.
+fn number_in(value: &Value) -> u64
+    ensures { result ≡ number_by value.now }
+{
+    match value {
+        Value::Num(number) => *number,
+        Value::Bytes(_) => 0,
+    }
+}
+
+// The sum of the numbers of all keys up to one, for which 64 bits are enough.
+fn total(pairs: &[(u64, Value)], last: u64) -> u64
     requires room { values_sum (map_between 0 last pairs.now) < 2 ^ 64 }
     ensures { result ≡ values_sum (map_between 0 last pairs.now) }
 {
     let mut sum: u64 = 0;
     for pair in pairs {
         if pair.0 <= last {
-            sum += pair.1;
+            sum += number_in(&pair.1);
         }
     }
     sum

@@ -24,9 +24,9 @@ impl Session {
         }
     }
 
-    fn follow_answer(&mut self, shard: u32, nth: u64, op: Op, outcome: &Outcome)
+    fn follow_answer(&mut self, shard: u32, nth: u64, op: &Op, outcome: &Outcome)
         requires { shard < 16 }
-        ensures { (t : SessionState) → 0 < self.old.tx.serial → op_answered shard nth op self.old outcome.now ≡ Some t → self.new ≡ t }
+        ensures { (t : SessionState) → 0 < self.old.tx.serial → op_answered shard nth op.now self.old outcome.now ≡ Some t → self.new ≡ t }
     {
         if self.tx().serial == 0 {
             return;
@@ -38,9 +38,17 @@ impl Session {
         }
     }
 
-    fn follow_op(&mut self, shard: u32, tx: TxId, birth: Birth, nth: u64, op: Op, outcome: &Outcome)
+    fn follow_op(
+        &mut self,
+        shard: u32,
+        tx: TxId,
+        birth: Birth,
+        nth: u64,
+        op: &Op,
+        outcome: &Outcome,
+    )
         requires { shard < 16 }
-        ensures { (splits : List ℕ) (seen : _) (t : SessionState) → op_in_session splits shard nth seen op outcome.now (session_for self.old tx birth) ≡ Some t → self.new ≡ t }
+        ensures { (splits : List ℕ) (seen : _) (t : SessionState) → op_in_session splits shard nth seen op.now outcome.now (session_for self.old tx birth) ≡ Some t → self.new ≡ t }
     {
         self.follow_birth(tx, birth);
         self.follow_answer(shard, nth, op, outcome);
@@ -90,7 +98,7 @@ impl Session {
                 nth,
                 seen: _,
                 op,
-            } => self.follow_op(shard, *tx, *birth, *nth, *op, outcome),
+            } => self.follow_op(shard, *tx, *birth, *nth, &op.op(), outcome),
             Event::Request { .. } if last.serial != 0 => self.follow_request(shard, outcome),
             Event::Look { .. } if last.serial != 0 => self.follow_look(outcome),
             Event::Drop { .. } => self.follow_drop(),

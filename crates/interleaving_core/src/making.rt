@@ -30,12 +30,12 @@ fn in_span(splits: &Splits, shard: u32, key: u64) -> bool
     }
 }
 
-fn lies_in(splits: &Splits, shard: u32, op: Op) -> bool
-    ensures { result ≡ lies splits.now shard op }
+fn lies_in(splits: &Splits, shard: u32, op: &Op) -> bool
+    ensures { result ≡ lies splits.now shard op.now }
 {
     match op {
-        Op::Get(key) | Op::Put(key, _) | Op::Del(key) => in_span(splits, shard, key),
-        Op::Scan(low, high) => in_span(splits, shard, low) && in_span(splits, shard, high),
+        Op::Get(key) | Op::Put(key, _) | Op::Del(key) => in_span(splits, shard, *key),
+        Op::Scan(low, high) => in_span(splits, shard, *low) && in_span(splits, shard, *high),
     }
 }
 
@@ -81,8 +81,8 @@ impl Session {
     }
 
     // Whether the operation has its number, lies in the shard, and names the epoch that was answered there.
-    fn fits(&self, splits: &Splits, shard: u32, nth: u64, seen: Option<u64>, op: Op) -> bool
-        ensures { result ≡ (numbers self.now shard nth op && lies splits.now shard op && same_option seen (lookup (◌==◌ shard) self.now.touched)) }
+    fn fits(&self, splits: &Splits, shard: u32, nth: u64, seen: Option<u64>, op: &Op) -> bool
+        ensures { result ≡ (numbers self.now shard nth op.now && lies splits.now shard op.now && same_option seen (lookup (◌==◌ shard) self.now.touched)) }
     {
         self.is_number(shard, nth, op) && lies_in(splits, shard, op) && seen == self.seen(shard)
     }
@@ -96,10 +96,10 @@ impl Session {
         birth: Birth,
         nth: u64,
         seen: Option<u64>,
-        op: Op,
+        op: &Op,
     ) -> bool
         requires { tx_same tx self.now.tx ≡ false }
-        ensures may { result ≡ is_some (op_in_session splits.now shard nth seen op (Answered (Value None) 0) (session_for self.now tx birth)) }
+        ensures may { result ≡ is_some (op_in_session splits.now shard nth seen op.now (Answered (Value None) 0) (session_for self.now tx birth)) }
         ensures spelled { result ≡ true → is_session_number self.now.tx.session ≡ true → tx_has_spelling tx ≡ true }
     {
         self.begins(tx, birth) && nth == 1 && lies_in(splits, shard, op) && seen.is_none()
@@ -113,9 +113,9 @@ impl Session {
         birth: Birth,
         nth: u64,
         seen: Option<u64>,
-        op: Op,
+        op: &Op,
     ) -> bool
-        ensures may { result ≡ is_some (op_in_session splits.now shard nth seen op (Answered (Value None) 0) (session_for self.now tx birth)) }
+        ensures may { result ≡ is_some (op_in_session splits.now shard nth seen op.now (Answered (Value None) 0) (session_for self.now tx birth)) }
         ensures spelled { result ≡ true → is_session_number self.now.tx.session ≡ true → tx_has_spelling tx ≡ true }
     {
         if self.is_last(tx) {
@@ -193,7 +193,7 @@ impl Session {
                 nth,
                 seen,
                 op,
-            } => Ok(self.may_op(splits, shard, *tx, *birth, *nth, *seen, *op)),
+            } => Ok(self.may_op(splits, shard, *tx, *birth, *nth, *seen, &op.op())),
             Event::Request { tx, parts } => self.may_request(alloc, shard, *tx, parts),
             Event::Look { tx } => Ok(self.may_look(shard, *tx)),
             Event::Drop { tx } => Ok(self.may_be_dropped(*tx)),

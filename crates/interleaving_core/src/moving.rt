@@ -12,6 +12,7 @@ ghost use Rattle.interleaving_core.specs.Making.{MakesEntry};
 
 use crate::{ListGate, Seat, flush_in, flush_out, restart, step};
 use clv_base::events::{CoreStep, Entry, Event, Outcome};
+use clv_base::kept::KeptOp;
 use machine_calls::{Flier, Machine, Restarter};
 use std::alloc::{AllocError, Global};
 
@@ -30,7 +31,7 @@ fn copy_event(event: &Event) -> Result<Event, AllocError>
             birth: *birth,
             nth: *nth,
             seen: *seen,
-            op: *op,
+            op: KeptOp::new(op.op()),
         },
         Event::Request { tx, parts } => Event::Request {
             tx: *tx,

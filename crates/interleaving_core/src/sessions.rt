@@ -33,8 +33,8 @@ impl Model for Session {
     ghost invariant = { λ s. IsPlaced s.walker s.scanned s.place };
 }
 
-fn scanned_by(shard: u32, op: Op) -> Option<u32>
-    ensures { result ≡ scan_shard shard op }
+fn scanned_by(shard: u32, op: &Op) -> Option<u32>
+    ensures { result ≡ scan_shard shard op.now }
 {
     match op {
         Op::Scan(..) => Some(shard),
@@ -187,8 +187,8 @@ impl Session {
     }
 
     // Whether the operation goes on the last part scan.
-    fn scans_on(&self, shard: u32, nth: u64, op: Op) -> bool
-        ensures { result ≡ ((nth == self.now.nth) && goes_on_scan self.now.scanned (scan_shard shard op)) }
+    fn scans_on(&self, shard: u32, nth: u64, op: &Op) -> bool
+        ensures { result ≡ ((nth == self.now.nth) && goes_on_scan self.now.scanned (scan_shard shard op.now)) }
     {
         match (self.scanned, scanned_by(shard, op)) {
             (Some(last), Some(next)) => nth == self.nth() && last < next,
@@ -197,8 +197,8 @@ impl Session {
     }
 
     /// Whether the operation has its number.
-    pub(crate) fn is_number(&self, shard: u32, nth: u64, op: Op) -> bool
-        ensures { result ≡ numbers self.now shard nth op }
+    pub(crate) fn is_number(&self, shard: u32, nth: u64, op: &Op) -> bool
+        ensures { result ≡ numbers self.now shard nth op.now }
     {
         (nth != 0 && nth - 1 == self.nth()) || self.scans_on(shard, nth, op)
     }
@@ -213,9 +213,9 @@ impl Session {
     }
 
     /// The operation was answered.
-    pub(crate) fn answered(&mut self, shard: u32, nth: u64, op: Op, epoch: u64)
+    pub(crate) fn answered(&mut self, shard: u32, nth: u64, op: &Op, epoch: u64)
         requires { (shard < 16) × (0 < self.old.tx.serial) }
-        ensures { self.new ≡ record self.old { nth = nth; scanned = scan_shard shard op; touched = touch shard epoch self.old.touched } }
+        ensures { self.new ≡ record self.old { nth = nth; scanned = scan_shard shard op.now; touched = touch shard epoch self.old.touched } }
     {
         if let Some(place) = &mut self.place {
             place.answered(shard, nth, op, epoch);
@@ -224,9 +224,9 @@ impl Session {
     }
 
     /// The transaction died of it.
-    pub(crate) fn died(&mut self, shard: u32, nth: u64, op: Op)
+    pub(crate) fn died(&mut self, shard: u32, nth: u64, op: &Op)
         requires { 0 < self.old.tx.serial }
-        ensures { self.new ≡ record self.old { nth = nth; scanned = scan_shard shard op; phase = Ended } }
+        ensures { self.new ≡ record self.old { nth = nth; scanned = scan_shard shard op.now; phase = Ended } }
     {
         if let Some(place) = &mut self.place {
             place.died(shard, nth, op);

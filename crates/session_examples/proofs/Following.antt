@@ -1,5 +1,6 @@
 -- What a session's calls make of its walker.
 use Rattle.std.proofs.Common.{◌≡◌, ◌∙◌, sym, ap, subst, ℕ, Bool, true, false, nat_lt, List, [], ◌++◌, append_assoc, append-nil, Option, Some, None, Result, Ok, Err, inl, inr}
+use Rattle.clv_base.specs.declared.values.Value.{Value as ValueType}
 use Rattle.clv_base.specs.declared.names.TxId.{TxId}
 use Rattle.clv_base.specs.declared.ops.Op.{Op}
 use Rattle.cluster_turns.specs.declared.shards.Shards.{Shards}
@@ -88,26 +89,26 @@ module _ {M S G : Type 0} (sh : Shards M S G) where
 
   -- ---- operations
 
-  pub point_later : (w v : Walker M S G) (s t : Progress) (op : Op) (key : ℕ) (r : Result (Option ℕ) OpError) → IsSession sh w s → PointCalled sh w s op key r v t → IsLater w v
+  pub point_later : (w v : Walker M S G) (s t : Progress) (op : Op) (key : ℕ) (r : Result (Option ValueType) OpError) → IsSession sh w s → PointCalled sh w s op key r v t → IsLater w v
   point_later w v Idle t op key r h c = same_later w v c.1
   point_later w v (Active p) t op key r h c = let b = h.stands.born in let k = c.told.turns b.birth b.is in turns_later w v w.clock v.clock (k.asking ++ k.leaving) c.walker.0 k.took
   point_later w v (Worn p) t op key r h c = same_later w v c.1
   point_later w v (Asked p home stamp) t op key r h c = same_later w v c.1
   point_later w v (Ended p) t op key r h c = same_later w v c.1
 
-  range_later : (w v : Walker M S G) (s t : Progress) (lo hi : ℕ) (r : Result (List (ℕ × ℕ)) OpError) → IsSession sh w s → RangeCalled sh w s lo hi r v t → IsLater w v
+  range_later : (w v : Walker M S G) (s t : Progress) (lo hi : ℕ) (r : Result (List (ℕ × ValueType)) OpError) → IsSession sh w s → RangeCalled sh w s lo hi r v t → IsLater w v
   range_later w v Idle t lo hi r h c = same_later w v c.1
   range_later w v (Active p) t lo hi r h c = let b = h.stands.born in let k = c.turns b.birth b.is in turns_later w v w.clock v.clock k.turns c.walker.0 k.took
   range_later w v (Worn p) t lo hi r h c = same_later w v c.1
   range_later w v (Asked p home stamp) t lo hi r h c = same_later w v c.1
   range_later w v (Ended p) t lo hi r h c = same_later w v c.1
 
-  beside_later : (o : Option TxId) (falls : Bool) (w v : Walker M S G) (s t : Progress) (lo hi : ℕ) (r : Result (List (ℕ × ℕ)) OpError) → IsSession sh w s → RangeBeside o falls sh w s lo hi r v t → IsLater w v
+  beside_later : (o : Option TxId) (falls : Bool) (w v : Walker M S G) (s t : Progress) (lo hi : ℕ) (r : Result (List (ℕ × ValueType)) OpError) → IsSession sh w s → RangeBeside o falls sh w s lo hi r v t → IsLater w v
   beside_later (Some tx) true w v s t lo hi r h c = same_later w v c.1
   beside_later (Some tx) false w v s t lo hi r h c = range_later w v s t lo hi r h c
   beside_later None falls w v s t lo hi r h c = range_later w v s t lo hi r h c
 
-  pub scan_later : (w v : Walker M S G) (s t : Progress) (lo hi : ℕ) (r : Result (List (ℕ × ℕ)) OpError) → IsSession sh w s → ScanCalled sh w s lo hi r v t → IsLater w v
+  pub scan_later : (w v : Walker M S G) (s t : Progress) (lo hi : ℕ) (r : Result (List (ℕ × ValueType)) OpError) → IsSession sh w s → ScanCalled sh w s lo hi r v t → IsLater w v
   scan_later w v s t lo hi r h c = beside_later _ (nat_lt hi lo) w v s t lo hi r h c
 
   -- ---- ends

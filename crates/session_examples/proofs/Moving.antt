@@ -2,6 +2,8 @@
 use Rattle.std.proofs.Common.{◌≡◌, ◌∙◌, refl, sym, ap, subst, ℕ, suc, ◌≤◌, ◌+◌, ◌-◌, Bool, false, List, [], ◌∷◌, ◌++◌, append_assoc, append-nil, length, length-append, Option, Some, None, Result, Ok, Err, arith}
 use Rattle.std.specs.Prelude.{IfOk}
 use Rattle.std.proofs.lemmas.List.Elements.{filter-append}
+use Rattle.clv_base.specs.declared.values.Value.{Value as ValueType}
+use Rattle.clv_base.specs.declared.values.Value.TheVariants.{Num, Bytes}
 use Rattle.clv_base.specs.declared.names.TxId.{TxId}
 use Rattle.clv_base.specs.declared.names.Birth.{Birth}
 use Rattle.clv_base.specs.declared.names.Point.{Point}
@@ -55,7 +57,7 @@ module _ {M S G : Type 0} (sh : Shards M S G) where
   active_is : (w : Walker M S G) (s : Progress) (p : SessionState) → IsSession sh w s → s ≡ Active p → IsActive sh w p
   active_is w s p h is = subst (StandsIn sh w) is h.stands
 
-  op_made : (w u v : Walker M S G) (s t : Progress) (op : Op) (key : ℕ) (r : Result (Option ℕ) OpError) (value : Option ℕ) (ops : List Op) (answers : List Answer) → IsSession sh u s → IsAt key op → (d : Doing sh w u s ops answers) → (m : PointMade sh u d.place op key r v t)
+  op_made : (w u v : Walker M S G) (s t : Progress) (op : Op) (key : ℕ) (r : Result (Option ValueType) OpError) (value : Option ValueType) (ops : List Op) (answers : List Answer) → IsSession sh u s → IsAt key op → (d : Doing sh w u s ops answers) → (m : PointMade sh u d.place op key r v t)
       → m.answer ≡ Ok value → Doing sh w v t (ops ++ op ∷ []) (answers ++ Value value ∷ [])
   op_made w u v s t op key r value ops answers h is_at d m is =
       let p = d.place in
@@ -82,33 +84,34 @@ module _ {M S G : Type 0} (sh : Shards M S G) where
       }
 
   -- of the active transaction that the call found
-  at_place : (w u v : Walker M S G) (s t : Progress) (op : Op) (key : ℕ) (r : Result (Option ℕ) OpError) (ops : List Op) (answers : List Answer) (d : Doing sh w u s ops answers) → PointCalled sh u s op key r v t → PointMade sh u d.place op key r v t
+  at_place : (w u v : Walker M S G) (s t : Progress) (op : Op) (key : ℕ) (r : Result (Option ValueType) OpError) (ops : List Op) (answers : List Answer) (d : Doing sh w u s ops answers) → PointCalled sh u s op key r v t → PointMade sh u d.place op key r v t
   at_place w u v s t op key r ops answers d c = subst (λ x. PointCalled sh u x op key r v t) d.is c
 
   -- a key that was read
-  value_by : (w u v : Walker M S G) (s t : Progress) (key : ℕ) (r : Result (Option ℕ) OpError) (ops : List Op) (answers : List Answer) → IsSession sh u s → (d : Doing sh w u s ops answers) → (m : PointMade sh u d.place (Get key) key r v t)
-      → (e : Result (Option ℕ) OpFailure) → m.answer ≡ e → IfOk (value_end key e) (λ value. Doing sh w v t (ops ++ Get key ∷ []) (answers ++ Value (Some value) ∷ []))
-  value_by w u v s t key r ops answers h d m (Ok (Some value)) is = op_made w u v s t (Get key) key r (Some value) ops answers h gets d m is
+  value_by : (w u v : Walker M S G) (s t : Progress) (key : ℕ) (r : Result (Option ValueType) OpError) (ops : List Op) (answers : List Answer) → IsSession sh u s → (d : Doing sh w u s ops answers) → (m : PointMade sh u d.place (Get key) key r v t)
+      → (e : Result (Option ValueType) OpFailure) → m.answer ≡ e → IfOk (value_end key e) (λ value. Doing sh w v t (ops ++ Get key ∷ []) (answers ++ Value (Some (Num value)) ∷ []))
+  value_by w u v s t key r ops answers h d m (Ok (Some (Num n))) is = op_made w u v s t (Get key) key r (Some (Num n)) ops answers h gets d m is
+  value_by w u v s t key r ops answers h d m (Ok (Some (Bytes bytes))) is = tt
   value_by w u v s t key r ops answers h d m (Ok None) is = tt
   value_by w u v s t key r ops answers h d m (Err e) is = tt
 
-  pub value_done : (w u v : Walker M S G) (s t : Progress) (key : ℕ) (r : Result (Option ℕ) OpError) (x : Result ℕ Failure) (ops : List Op) (answers : List Answer) → IsSession sh u s → PointCalled sh u s (Get key) key r v t
-      → ((e : Result (Option ℕ) OpFailure) → r ≡ answer_told e → x ≡ value_end key e) → Doing sh w u s ops answers → IfOk x (λ value. Doing sh w v t (ops ++ Get key ∷ []) (answers ++ Value (Some value) ∷ []))
+  pub value_done : (w u v : Walker M S G) (s t : Progress) (key : ℕ) (r : Result (Option ValueType) OpError) (x : Result ℕ Failure) (ops : List Op) (answers : List Answer) → IsSession sh u s → PointCalled sh u s (Get key) key r v t
+      → ((e : Result (Option ValueType) OpFailure) → r ≡ answer_told e → x ≡ value_end key e) → Doing sh w u s ops answers → IfOk x (λ value. Doing sh w v t (ops ++ Get key ∷ []) (answers ++ Value (Some (Num value)) ∷ []))
   value_done w u v s t key r x ops answers h c told d =
       let m = at_place w u v s t (Get key) key r ops answers d c in
-      subst (λ y. IfOk y (λ value. Doing sh w v t (ops ++ Get key ∷ []) (answers ++ Value (Some value) ∷ []))) (sym (told m.answer m.is)) (value_by w u v s t key r ops answers h d m m.answer refl)
+      subst (λ y. IfOk y (λ value. Doing sh w v t (ops ++ Get key ∷ []) (answers ++ Value (Some (Num value)) ∷ []))) (sym (told m.answer m.is)) (value_by w u v s t key r ops answers h d m m.answer refl)
 
   -- one that was written
-  written_by : (w u v : Walker M S G) (s t : Progress) (key value : ℕ) (r : Result (Option ℕ) OpError) (ops : List Op) (answers : List Answer) → IsSession sh u s → (d : Doing sh w u s ops answers) → (m : PointMade sh u d.place (Put key value) key r v t)
-      → (e : Result (Option ℕ) OpFailure) → m.answer ≡ e → IfOk (written_end e) (λ u. (before : Option ℕ) × Doing sh w v t (ops ++ Put key value ∷ []) (answers ++ Value before ∷ []))
+  written_by : (w u v : Walker M S G) (s t : Progress) (key : ℕ) (value : ValueType) (r : Result (Option ValueType) OpError) (ops : List Op) (answers : List Answer) → IsSession sh u s → (d : Doing sh w u s ops answers) → (m : PointMade sh u d.place (Put key value) key r v t)
+      → (e : Result (Option ValueType) OpFailure) → m.answer ≡ e → IfOk (written_end e) (λ u. (before : Option ValueType) × Doing sh w v t (ops ++ Put key value ∷ []) (answers ++ Value before ∷ []))
   written_by w u v s t key value r ops answers h d m (Ok before) is = (before, op_made w u v s t (Put key value) key r before ops answers h (puts value) d m is)
   written_by w u v s t key value r ops answers h d m (Err e) is = tt
 
-  pub written_done : (w u v : Walker M S G) (s t : Progress) (key value : ℕ) (r : Result (Option ℕ) OpError) (x : Result Unit Failure) (ops : List Op) (answers : List Answer) → IsSession sh u s → PointCalled sh u s (Put key value) key r v t
-      → ((e : Result (Option ℕ) OpFailure) → r ≡ answer_told e → x ≡ written_end e) → Doing sh w u s ops answers → IfOk x (λ u. (before : Option ℕ) × Doing sh w v t (ops ++ Put key value ∷ []) (answers ++ Value before ∷ []))
+  pub written_done : (w u v : Walker M S G) (s t : Progress) (key : ℕ) (value : ValueType) (r : Result (Option ValueType) OpError) (x : Result Unit Failure) (ops : List Op) (answers : List Answer) → IsSession sh u s → PointCalled sh u s (Put key value) key r v t
+      → ((e : Result (Option ValueType) OpFailure) → r ≡ answer_told e → x ≡ written_end e) → Doing sh w u s ops answers → IfOk x (λ u. (before : Option ValueType) × Doing sh w v t (ops ++ Put key value ∷ []) (answers ++ Value before ∷ []))
   written_done w u v s t key value r x ops answers h c told d =
       let m = at_place w u v s t (Put key value) key r ops answers d c in
-      subst (λ y. IfOk y (λ u. (before : Option ℕ) × Doing sh w v t (ops ++ Put key value ∷ []) (answers ++ Value before ∷ []))) (sym (told m.answer m.is)) (written_by w u v s t key value r ops answers h d m m.answer refl)
+      subst (λ y. IfOk y (λ u. (before : Option ValueType) × Doing sh w v t (ops ++ Put key value ∷ []) (answers ++ Value before ∷ []))) (sym (told m.answer m.is)) (written_by w u v s t key value r ops answers h d m m.answer refl)
 
   -- ---- a commit
 
@@ -137,7 +140,7 @@ module _ {M S G : Type 0} (sh : Shards M S G) where
   -- ---- a transfer
 
   all_moved : (w v : Walker M S G) (from to amount left sum holds other : ℕ) (one two : Answer) → amount ≤ holds → left ≡ holds - amount → sum ≡ other + amount
-      → HasAcknowledged sh (Get from ∷ Get to ∷ Put from left ∷ Put to sum ∷ []) (Value (Some holds) ∷ Value (Some other) ∷ one ∷ two ∷ []) w v → HasMoved sh from to amount w v
+      → HasAcknowledged sh (Get from ∷ Get to ∷ Put from (Num left) ∷ Put to (Num sum) ∷ []) (Value (Some (Num holds)) ∷ Value (Some (Num other)) ∷ one ∷ two ∷ []) w v → HasMoved sh from to amount w v
   all_moved w v from to amount left sum holds other one two covered less more a = (
     [],
     a.0,
@@ -149,13 +152,13 @@ module _ {M S G : Type 0} (sh : Shards M S G) where
       one = one;
       two = two;
       acknowledged =
-          subst (λ y. Acknowledges sh.splits (Get from ∷ Get to ∷ Put from (holds - amount) ∷ Put to y ∷ []) (Value (Some holds) ∷ Value (Some other) ∷ one ∷ two ∷ []) a.0) more
-          (subst (λ y. Acknowledges sh.splits (Get from ∷ Get to ∷ Put from y ∷ Put to sum ∷ []) (Value (Some holds) ∷ Value (Some other) ∷ one ∷ two ∷ []) a.0) less a.2);
+          subst (λ y. Acknowledges sh.splits (Get from ∷ Get to ∷ Put from (Num (holds - amount)) ∷ Put to (Num y) ∷ []) (Value (Some (Num holds)) ∷ Value (Some (Num other)) ∷ one ∷ two ∷ []) a.0) more
+          (subst (λ y. Acknowledges sh.splits (Get from ∷ Get to ∷ Put from (Num y) ∷ Put to (Num sum) ∷ []) (Value (Some (Num holds)) ∷ Value (Some (Num other)) ∷ one ∷ two ∷ []) a.0) less a.2);
     },
   )
 
   pub if_moved : (x : Result Unit Failure) (w v : Walker M S G) (from to amount left sum holds other : ℕ) (one two : Answer) → amount ≤ holds → left ≡ holds - amount → sum ≡ other + amount
-      → IfOk x (λ u. HasAcknowledged sh (Get from ∷ Get to ∷ Put from left ∷ Put to sum ∷ []) (Value (Some holds) ∷ Value (Some other) ∷ one ∷ two ∷ []) w v) → IfOk x (λ u. HasMoved sh from to amount w v)
+      → IfOk x (λ u. HasAcknowledged sh (Get from ∷ Get to ∷ Put from (Num left) ∷ Put to (Num sum) ∷ []) (Value (Some (Num holds)) ∷ Value (Some (Num other)) ∷ one ∷ two ∷ []) w v) → IfOk x (λ u. HasMoved sh from to amount w v)
   if_moved (Ok u) w v from to amount left sum holds other one two covered less more a = all_moved w v from to amount left sum holds other one two covered less more a
   if_moved (Err e) w v from to amount left sum holds other one two covered less more a = tt
 

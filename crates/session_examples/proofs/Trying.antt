@@ -2,6 +2,8 @@
 use Rattle.std.proofs.Common.{◌≡◌, ◌≢◌, ◌∙◌, refl, sym, ap, subst, ℕ, true, false, List, [], append-nil, Option, Some, None, Result, Ok, Err, inl, inr}
 use Rattle.std.specs.Prelude.{⊤, IfOk, IfErr}
 use Rattle.std.proofs.lemmas.Bool.{both_ways}
+use Rattle.clv_base.specs.declared.values.Value.{Value as ValueType}
+use Rattle.clv_base.specs.declared.values.Value.TheVariants.{Num, Bytes}
 use Rattle.clv_base.specs.declared.names.TxId.{TxId}
 use Rattle.clv_base.specs.declared.names.Birth.{Birth}
 use Rattle.clv_base.specs.declared.names.Point.{Point}
@@ -48,15 +50,16 @@ use Rattle.session_examples.specs.Moves.{IsFresh, made_by}
 -- ---- operations
 
 -- a key that was read, by how that was answered
-pub value_goes : (key : ℕ) (q : SessionState) (e : Result (Option ℕ) OpFailure) → GoesOnAs (value_end key e) (after_op q (has_died e))
-value_goes key q (Ok (Some value)) = refl
+pub value_goes : (key : ℕ) (q : SessionState) (e : Result (Option ValueType) OpFailure) → GoesOnAs (value_end key e) (after_op q (has_died e))
+value_goes key q (Ok (Some (Num n))) = refl
+value_goes key q (Ok (Some (Bytes bytes))) = refl
 value_goes key q (Ok None) = refl
 value_goes key q (Err (op.Aborted cause)) = refl
 value_goes key q (Err (op.Down n)) = tt
 value_goes key q (Err (op.Worn at)) = tt
 value_goes key q (Err op.Memory) = tt
 
-pub written_goes : (q : SessionState) (e : Result (Option ℕ) OpFailure) → GoesOnAs (written_end e) (after_op q (has_died e))
+pub written_goes : (q : SessionState) (e : Result (Option ValueType) OpFailure) → GoesOnAs (written_end e) (after_op q (has_died e))
 written_goes q (Ok before) = refl
 written_goes q (Err (op.Aborted cause)) = refl
 written_goes q (Err (op.Down n)) = tt
@@ -145,28 +148,28 @@ module _ {M S G : Type 0} (sh : Shards M S G) where
 
   -- ---- the active transaction
 
-  point_is : (w v : Walker M S G) (s t : Progress) (o : Op) (key : ℕ) (r : Result (Option ℕ) OpError) → is_open s ≡ true → PointCalled sh w s o key r v t → (p : SessionState) × (s ≡ Active p) × PointMade sh w p o key r v t
+  point_is : (w v : Walker M S G) (s t : Progress) (o : Op) (key : ℕ) (r : Result (Option ValueType) OpError) → is_open s ≡ true → PointCalled sh w s o key r v t → (p : SessionState) × (s ≡ Active p) × PointMade sh w p o key r v t
   point_is w v Idle t o key r h c = absurd (both_ways false refl h)
   point_is w v (Active p) t o key r h c = (p, refl, c)
   point_is w v (Worn p) t o key r h c = absurd (both_ways false refl h)
   point_is w v (Asked p home stamp) t o key r h c = absurd (both_ways false refl h)
   point_is w v (Ended p) t o key r h c = absurd (both_ways false refl h)
 
-  pub look_goes : (w v : Walker M S G) (s t : Progress) (key : ℕ) (r : Result (Option ℕ) OpError) (x : Result ℕ Failure) → is_open s ≡ true → PointCalled sh w s (Get key) key r v t
-      → ((e : Result (Option ℕ) OpFailure) → r ≡ answer_told e → x ≡ value_end key e) → GoesOnAs x t
+  pub look_goes : (w v : Walker M S G) (s t : Progress) (key : ℕ) (r : Result (Option ValueType) OpError) (x : Result ℕ Failure) → is_open s ≡ true → PointCalled sh w s (Get key) key r v t
+      → ((e : Result (Option ValueType) OpFailure) → r ≡ answer_told e → x ≡ value_end key e) → GoesOnAs x t
   look_goes w v s t key r x h c told =
       let k = point_is w v s t (Get key) key r h c in
       let m = k.2 in
       subst (λ y. GoesOnAs y t) (sym (told m.answer m.is)) (subst (GoesOnAs (value_end key m.answer)) (sym m.then) (value_goes key m.place m.answer))
 
-  pub write_goes : (w v : Walker M S G) (s t : Progress) (key value : ℕ) (r : Result (Option ℕ) OpError) (x : Result Unit Failure) → is_open s ≡ true → PointCalled sh w s (Put key value) key r v t
-      → ((e : Result (Option ℕ) OpFailure) → r ≡ answer_told e → x ≡ written_end e) → GoesOnAs x t
+  pub write_goes : (w v : Walker M S G) (s t : Progress) (key : ℕ) (value : ValueType) (r : Result (Option ValueType) OpError) (x : Result Unit Failure) → is_open s ≡ true → PointCalled sh w s (Put key value) key r v t
+      → ((e : Result (Option ValueType) OpFailure) → r ≡ answer_told e → x ≡ written_end e) → GoesOnAs x t
   write_goes w v s t key value r x h c told =
       let k = point_is w v s t (Put key value) key r h c in
       let m = k.2 in
       subst (λ y. GoesOnAs y t) (sym (told m.answer m.is)) (subst (GoesOnAs (written_end m.answer)) (sym m.then) (written_goes m.place m.answer))
 
-  pub point_told : (w v : Walker M S G) (s t : Progress) (o : Op) (key : ℕ) (r : Result (Option ℕ) OpError) → is_open s ≡ true → PointCalled sh w s o key r v t → (e : Result (Option ℕ) OpFailure) × (r ≡ answer_told e)
+  pub point_told : (w v : Walker M S G) (s t : Progress) (o : Op) (key : ℕ) (r : Result (Option ValueType) OpError) → is_open s ≡ true → PointCalled sh w s o key r v t → (e : Result (Option ValueType) OpFailure) × (r ≡ answer_told e)
   point_told w v s t o key r h c = let k = point_is w v s t o key r h c in let m = k.2 in (m.answer, m.is)
 
   commit_is : (w v : Walker M S G) (s t : Progress) (r : Result Settled CommitError) → is_open s ≡ true → CommitCalled sh w s r v t → (p : SessionState) × (s ≡ Active p) × CommitMade sh w p r v t

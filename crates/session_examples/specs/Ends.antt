@@ -1,5 +1,7 @@
 -- How a transfer ends, and its try.
 use Rattle.std.specs.Prelude.{◌≡◌, ⊤, ℕ, Bool, true, false, Option, Some, None, Result, Ok, Err}
+use Rattle.clv_base.specs.declared.values.Value.TheVariants.{Num, Bytes}
+use Rattle.clv_base.specs.declared.values.Value.{Value as ValueType}
 use Rattle.clv_base.specs.declared.names.TxId.{TxId}
 use Rattle.session_ops.specs.declared.operating.OpError.{OpError}
 use Rattle.session_ops.specs.declared.operating.OpError.TheVariants as op
@@ -49,19 +51,20 @@ EndsAs (Err stop) t = ⊤
 
 -- ---- within a try
 
--- what the answers of a session's calls are to a try; a key that is read must be there
+-- what the answers of a session's calls are to a try; a key that is read must hold a number
 abbrev pub failure_end : OpError → Failure
 failure_end (op.Aborted cause) = failed.Aborted cause
 failure_end (op.Down n) = failed.Stopped (stop.Down n)
 failure_end (op.Worn at) = failed.Stopped (stop.Worn at)
 failure_end op.Memory = failed.Stopped stop.Memory
 
-abbrev pub value_end : ℕ → Result (Option ℕ) OpError → Result ℕ Failure
-value_end key (Ok (Some value)) = Ok value
+abbrev pub value_end : ℕ → Result (Option ValueType) OpError → Result ℕ Failure
+value_end key (Ok (Some (Num n))) = Ok n
+value_end key (Ok (Some (Bytes bytes))) = Err (failed.Refused (Missing key))
 value_end key (Ok None) = Err (failed.Refused (Missing key))
 value_end key (Err e) = Err (failure_end e)
 
-abbrev pub written_end : Result (Option ℕ) OpError → Result Unit Failure
+abbrev pub written_end : Result (Option ValueType) OpError → Result Unit Failure
 written_end (Ok before) = Ok tt
 written_end (Err e) = Err (failure_end e)
 

@@ -1,5 +1,6 @@
 -- What a transfer makes of its session's entries.
 use Rattle.std.specs.Prelude.{◌≡◌, ⊤, ℕ, ◌≤◌, ◌+◌, ◌-◌, List, [], ◌∷◌, ◌++◌, length, Some, Result, Ok, Err}
+use Rattle.clv_base.specs.declared.values.Value.TheVariants.{Num}
 use Rattle.clv_base.specs.declared.names.TxId.{TxId}
 use Rattle.clv_base.specs.declared.names.Birth.{Birth}
 use Rattle.clv_base.specs.declared.ops.Op.{Op}
@@ -44,7 +45,7 @@ pub record Moves (splits : List ℕ) (from to amount : ℕ) (es : History) : Typ
   pub covered : amount ≤ holds
   pub one : Answer
   pub two : Answer
-  pub acknowledged : Acknowledges splits (Get from ∷ Get to ∷ Put from (holds - amount) ∷ Put to (other + amount) ∷ []) (Value (Some holds) ∷ Value (Some other) ∷ one ∷ two ∷ []) es
+  pub acknowledged : Acknowledges splits (Get from ∷ Get to ∷ Put from (Num (holds - amount)) ∷ Put to (Num (other + amount)) ∷ []) (Value (Some (Num holds)) ∷ Value (Some (Num other)) ∷ one ∷ two ∷ []) es
 
 -- ---- a session's
 
@@ -72,7 +73,7 @@ module _ {M S G : Type 0} where
   abbrev pub IsPlanned : Shards M S G → ℕ → ℕ → ℕ → Walker M S G → ℕ → ℕ → Walker M S G → Progress → Type 0
   IsPlanned sh from to amount w left sum v t =
       (holds other : ℕ) × (amount ≤ holds) × (left ≡ holds - amount) × (sum ≡ other + amount)
-      × Doing sh w v t (Get from ∷ Get to ∷ []) (Value (Some holds) ∷ Value (Some other) ∷ [])
+      × Doing sh w v t (Get from ∷ Get to ∷ []) (Value (Some (Num holds)) ∷ Value (Some (Num other)) ∷ [])
 
   -- since the walker w one transaction of these operations was acknowledged
   abbrev pub HasAcknowledged : Shards M S G → List Op → List Answer → Walker M S G → Walker M S G → Type 0

@@ -50,8 +50,7 @@ pub(crate) fn call_all<M: Flier, P: Pace, R: Wait>(
     ensures len { vec_len result ≡ vec_len answers + length calls.now }
 {
     for call in calls {
-        let one = *call;
-        answers.push_reserved(make_call(alloc, session, one));
+        answers.push_reserved(make_call(alloc, session, call.copy()));
     }
     answers
 }

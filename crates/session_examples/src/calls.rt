@@ -6,6 +6,7 @@ ghost use Rattle.session_examples.specs.Calls.{Called};
 
 use clv_base::lists::Pairs;
 use clv_base::names::TxId;
+use clv_base::values::Value;
 use io_model::Pace;
 use machine_calls::Flier;
 use session_api::{AbortError, BeginError, CommitError, OpError, RetryError, Session, Settled};
@@ -13,16 +14,37 @@ use std::alloc::Global;
 use std::sync::Wait;
 
 /// A call of a session.
-#[derive(Clone, Copy, PartialEq, Eq)]
+#[derive(Drop)]
 pub enum Call {
     Begin,
     Retry,
     Get { key: u64 },
-    Put { key: u64, value: u64 },
+    Put { key: u64, value: Value },
     Del { key: u64 },
     Scan { lo: u64, hi: u64 },
     Commit,
     Abort,
+}
+
+impl Call {
+    /// The same call once more. Takes no memory.
+    pub fn copy(&self) -> Call
+        ensures { result ≡ self.now }
+    {
+        match self {
+            Call::Begin => Call::Begin,
+            Call::Retry => Call::Retry,
+            Call::Get { key } => Call::Get { key: *key },
+            Call::Put { key, value } => Call::Put {
+                key: *key,
+                value: value.copy(),
+            },
+            Call::Del { key } => Call::Del { key: *key },
+            Call::Scan { lo, hi } => Call::Scan { lo: *lo, hi: *hi },
+            Call::Commit => Call::Commit,
+            Call::Abort => Call::Abort,
+        }
+    }
 }
 
 /// What a call was answered.
@@ -30,7 +52,7 @@ pub enum Call {
 pub enum Said {
     Begun(Result<TxId, BeginError>),
     Retried(Result<TxId, RetryError>),
-    Value(Result<Option<u64>, OpError>),
+    Value(Result<Option<Value>, OpError>),
     Pairs(Result<Pairs, OpError>),
     Settled(Result<Settled, CommitError>),
     Aborted(Result<(), AbortError>),

@@ -2,9 +2,11 @@
 ghost use Rattle.std.specs.Prelude.{◌≡◌, ◌≢◌, ◌≤◌, ◌-◌, ◌+◌, ◌++◌, ◌∷◌, [], ℕ, List, length, Option, Result, Some, None, Ok, Err, true, false, IfOk, IfErr};
 ghost use Rattle.clv_base.specs.declared.names.TxId.{TxId as TxIdIs};
 ghost use Rattle.clv_base.specs.declared.ops.Op.{Op as OpIs};
+ghost use Rattle.clv_base.specs.declared.values.Value.{Value as ValueType};
+ghost use Rattle.clv_base.specs.declared.values.Value.TheVariants.{Num};
 ghost use Rattle.clv_base.specs.declared.ops.Op.TheVariants.{Get, Put};
 ghost use Rattle.clv_base.specs.declared.ops.Answer.{Answer as AnswerIs};
-ghost use Rattle.clv_base.specs.declared.ops.Answer.TheVariants.{Value};
+ghost use Rattle.clv_base.specs.declared.ops.Answer.TheVariants.{Value as Told};
 ghost use Rattle.session_ops.specs.declared.operating.OpError.{OpError as OpFailure};
 ghost use Rattle.session_ops.specs.declared.committing.Settled.{Settled as SettledIs};
 ghost use Rattle.session_ops.specs.declared.committing.CommitError.{CommitError as CommitFailure};
@@ -16,6 +18,7 @@ ghost use Rattle.session_examples.specs.Moves.{IsFresh, Doing, HasAcknowledged, 
 
 use clv_base::causes::AbortCause;
 use clv_base::names::TxId;
+use clv_base::values::Value;
 use io_model::Pace;
 use machine_calls::Flier;
 use session_api::{AbortError, BeginError, CommitError, OpError, RetryError, Session, Settled};
@@ -25,7 +28,7 @@ use std::sync::Wait;
 /// Why nothing is to be moved.
 #[derive(Clone, Copy, PartialEq, Eq)]
 pub enum Refusal {
-    /// There is no value at this key.
+    /// There is no number at this key.
     Missing { key: u64 },
     /// The one holds only this.
     Overdrawn { holds: u64 },
@@ -81,21 +84,22 @@ fn of_op(error: OpError) -> Failure
     }
 }
 
-// A key was read, at which there must be a value.
-fn value_at(key: u64, answer: Result<Option<u64>, OpError>) -> Result<u64, Failure>
-    requires made { (e : Result (Option ℕ) OpFailure) × (answer ≡ answer_told e) }
-    ensures told { (e : Result (Option ℕ) OpFailure) → answer ≡ answer_told e → result ≡ value_end key e }
+// A key was read, at which there must be a number.
+fn value_at(key: u64, answer: Result<Option<Value>, OpError>) -> Result<u64, Failure>
+    requires made { (e : Result (Option ValueType) OpFailure) × (answer ≡ answer_told e) }
+    ensures told { (e : Result (Option ValueType) OpFailure) → answer ≡ answer_told e → result ≡ value_end key e }
 {
     match answer {
-        Ok(Some(value)) => Ok(value),
+        Ok(Some(Value::Num(number))) => Ok(number),
+        Ok(Some(Value::Bytes(_text))) => Err(Failure::Refused(Refusal::Missing { key })),
         Ok(None) => Err(Failure::Refused(Refusal::Missing { key })),
         Err(error) => Err(of_op(error)),
     }
 }
 
-fn written(answer: Result<Option<u64>, OpError>) -> Result<(), Failure>
-    requires made { (e : Result (Option ℕ) OpFailure) × (answer ≡ answer_told e) }
-    ensures told { (e : Result (Option ℕ) OpFailure) → answer ≡ answer_told e → result ≡ written_end e }
+fn written(answer: Result<Option<Value>, OpError>) -> Result<(), Failure>
+    requires made { (e : Result (Option ValueType) OpFailure) × (answer ≡ answer_told e) }
+    ensures told { (e : Result (Option ValueType) OpFailure) → answer ≡ answer_told e → result ≡ written_end e }
 {
     match answer {
         Ok(_before) => Ok(()),
@@ -187,7 +191,7 @@ fn look<M: Flier, P: Pace, R: Wait>(
     ensures shards { session.new.shards ≡ session.old.shards }
     ensures later { IsLater session.old.walker session.new.walker }
     ensures goes { GoesOnAs result session.new.progress }
-    ensures done { (w : _) (ops : List OpIs) (answers : List AnswerIs) → Doing session.old.shards.now w session.old.walker session.old.progress ops answers → IfOk result (λ value. Doing session.old.shards.now w session.new.walker session.new.progress (ops ++ Get key ∷ []) (answers ++ Value (Some value) ∷ [])) }
+    ensures done { (w : _) (ops : List OpIs) (answers : List AnswerIs) → Doing session.old.shards.now w session.old.walker session.old.progress ops answers → IfOk result (λ value. Doing session.old.shards.now w session.new.walker session.new.progress (ops ++ Get key ∷ []) (answers ++ Told (Some (Num value)) ∷ [])) }
 {
     let answer = session.get(alloc, key);
     value_at(key, answer)
@@ -205,9 +209,9 @@ fn write<M: Flier, P: Pace, R: Wait>(
     ensures shards { session.new.shards ≡ session.old.shards }
     ensures later { IsLater session.old.walker session.new.walker }
     ensures goes { GoesOnAs result session.new.progress }
-    ensures done { (w : _) (ops : List OpIs) (answers : List AnswerIs) → Doing session.old.shards.now w session.old.walker session.old.progress ops answers → IfOk result (λ u. (before : Option ℕ) × Doing session.old.shards.now w session.new.walker session.new.progress (ops ++ Put key value ∷ []) (answers ++ Value before ∷ [])) }
+    ensures done { (w : _) (ops : List OpIs) (answers : List AnswerIs) → Doing session.old.shards.now w session.old.walker session.old.progress ops answers → IfOk result (λ u. (before : Option ValueType) × Doing session.old.shards.now w session.new.walker session.new.progress (ops ++ Put key (Num value) ∷ []) (answers ++ Told before ∷ [])) }
 {
-    let answer = session.put(alloc, key, value);
+    let answer = session.put(alloc, key, Value::Num(value));
     written(answer)
 }
 

@@ -1,5 +1,6 @@
 use Rattle.std.proofs.Common.{◌≡◌, Some, sym, ap, subst, ◌∙◌, ◌&&◌}
 use Rattle.clv_base.specs.declared.events.Event.{Event}
+use Rattle.clv_base.specs.declared.events.Event.TheVariants.{Op as OpEvent}
 use Rattle.clv_base.specs.Orders.{tx_same}
 use Rattle.clv_base.specs.Sessions.{is_touching, same_touched, is_lowest, stands_at, requested, looked, session_after}
 use Rattle.interleaving_core.proofs.SessionPlacing.{serial_zero}
@@ -7,7 +8,10 @@ use Rattle.interleaving_core.proofs.Entries.{passed, not_touching, not_standing}
 use Rattle.interleaving_core.proofs.sessions.Session.follow.Goals as goal
 
 pub returns-in-Op : goal.returns-in-Op
-returns-in-Op c splits t h = c.follow_op.ensures splits c.in-Op.seen t (subst (λ (e : Event). session_after splits c.args.shard c.args.self.now e c.args.outcome.now ≡ Some t) c.in-Op.is h)
+returns-in-Op c splits t h =
+    c.follow_op.ensures splits c.in-Op.seen t
+    (subst (λ (e : Event). session_after splits c.args.shard c.args.self.now e c.args.outcome.now ≡ Some t)
+    (c.in-Op.is ∙ ap (λ o. OpEvent c.in-Op.tx c.in-Op.birth c.in-Op.nth c.in-Op.seen o) (sym c.op.ensures)) h)
 
 pub returns-in-Request : goal.returns-in-Request
 returns-in-Request c splits t h =
