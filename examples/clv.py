@@ -27,6 +27,9 @@ import subprocess
 import threading
 
 
+NO_MEMORY = "no memory for the text"
+
+
 class Failure(Exception):
     """A transaction that isn't committed."""
 
@@ -59,27 +62,33 @@ class Left(Exception):
     """A transaction was left by `abort`."""
 
 
+def value_of(told):
+    """A value that the store tells: a text comes as its digits."""
+    return bytes.fromhex(told) if isinstance(told, str) else told
+
+
 class Transaction:
-    """A transaction of a session, while it is active. Keys and values are whole numbers from 0, below 2^64."""
+    """A transaction of a session, while it is active. Keys are whole numbers from 0, below 2^64; a value is such a number, or up to 200 `bytes`."""
 
     def __init__(self, session, serial):
         self.session, self.serial = session, serial
 
     def get(self, key):
         """The value at a key, or None."""
-        return self.session.ask(f"get {key}")[-1]
+        return value_of(self.session.ask(f"get {key}")[-1])
 
     def put(self, key, value):
-        """Sets it; gives the value before."""
-        return self.session.ask(f"put {key} {value}")[-1]
+        """Sets it; gives the value before. `MemoryError` where the store has no memory for the text: the transaction goes on."""
+        words = f"bytes {key} {value.hex() or '-'}" if isinstance(value, bytes) else f"put {key} {value}"
+        return value_of(self.session.ask(words)[-1])
 
     def delete(self, key):
         """Takes it away; gives the value before."""
-        return self.session.ask(f"del {key}")[-1]
+        return value_of(self.session.ask(f"del {key}")[-1])
 
     def scan(self, low, high):
         """All pairs from one key to another, both in, by rising keys."""
-        return [tuple(pair) for pair in self.session.ask(f"scan {low} {high}")[-1]]
+        return [(key, value_of(told)) for key, told in self.session.ask(f"scan {low} {high}")[-1]]
 
     def abort(self):
         """Leaves the block, or the work that was given to `run`: nothing of the transaction is done."""
@@ -125,6 +134,8 @@ class Session:
             self.answers.put(None)
             raise Gone
         word = answer[1]
+        if word == "refused" and answer[2] == NO_MEMORY:
+            raise MemoryError(answer[2])
         if word == "refused":
             raise Refused(words, answer[2])
         self.is_active = word in ("begin", "get", "put", "del", "scan")

@@ -11,6 +11,7 @@ import json
 import os
 import queue
 import random
+import select
 import signal
 import subprocess
 import sys
@@ -133,6 +134,22 @@ TRANSCRIPT = [
     ("3 commit", [3, "committed", 1]),
     ("4 put 5 2", [4, "put", 5, 2, 1]),
     ("4 commit", [4, "committed", 2]),
+    # A text is told as its digits.
+    ("7 bytes 9 00ff", refused(7, "no transaction is active")),
+    ("7 begin", [7, "begin", 1]),
+    ("7 bytes 9 00ff", [7, "put", 9, "00ff", None]),
+    ("7 bytes 13 -", [7, "put", 13, "", None]),
+    ("7 put 9 3", [7, "put", 9, 3, "00ff"]),
+    ("7 bytes 9 " + "ab" * 200, [7, "put", 9, "ab" * 200, 3]),
+    ("7 bytes 9 " + "ab" * 201, refused(7, "no request")),
+    ("7 bytes 9 0", refused(7, "no request")),
+    ("7 bytes 9 0A", refused(7, "no request")),
+    ("7 bytes 9", refused(7, "no request")),
+    ("7 get 9", [7, "get", 9, "ab" * 200]),
+    ("7 bytes 9 0d0a", [7, "put", 9, "0d0a", "ab" * 200]),
+    ("7 scan 8 20", [7, "scan", 8, 20, [[9, "0d0a"], [11, 6], [13, ""]]]),
+    ("7 del 13", [7, "del", 13, ""]),
+    ("7 commit", [7, "committed", 1]),
 ]
 
 
@@ -156,7 +173,7 @@ def transcript(checks, program):
         status, left, err = live.end()
         checks.check("end of input", (status, left, err) == (0, [], ""), (status, left, err))
         shown = folder.run("show")
-        checks.check("what stands", shown.out == "[1,100]\n[5,2]\n[8,1]\n[11,6]\n", shown)
+        checks.check("what stands", shown.out == "[1,100]\n[5,2]\n[8,1]\n[9,\"0d0a\"]\n[11,6]\n", shown)
 
 
 def whole_input(checks, program):
@@ -375,8 +392,10 @@ class Client:
         self.committed, self.unknown = [], []
 
     def fresh(self):
+        """A number, or every third time a text."""
         self.value += 1
-        return self.number * 1_000_000 + self.value
+        value = self.number * 1_000_000 + self.value
+        return value.to_bytes(8, "big") if self.value % 3 == 0 else value
 
     def one(self, session, numbers, keys):
         """One transaction, tried until it is committed; its operations with their answers."""
@@ -503,7 +522,7 @@ def order(transactions, sessions, keys):
                 ready.append(it)
     if passed != len(transactions):
         raise Wrong(f"no order of {len(transactions) - passed} of {len(transactions)} transactions gives their answers")
-    return {key: chain[-1] for key, chain in chains.items()}
+    return {key: logs.told(chain[-1]) for key, chain in chains.items()}
 
 
 def meets(checks, case, numbers, program):
@@ -569,7 +588,10 @@ def goes_away(checks, case, numbers, program):
         sender.start()
         got = b""
         for _ in range(numbers.randrange(1, 5)):
-            got += process.stdout.read(numbers.randrange(1, 3000))
+            size = numbers.randrange(1, 3000)
+            # Where all answers were read, no more come.
+            if select.select([process.stdout], [], [], 2)[0]:
+                got += process.stdout.read(size)
         is_gone = numbers.random() < 0.5
         if is_gone:
             process.stdout.close()

@@ -4,10 +4,12 @@ Written from docs/FORMAT.md and the rules of logs in docs/PROTOCOL.md, it shares
 A record is a tuple of its kind and its fields, as docs/FORMAT.md has them, with None for none; a transaction is (run, session, serial).
 """
 
+import json
 import struct
 
 BEYOND = 1 << 64
 LONGEST_BATCH = 1048576
+LONGEST_TEXT = 200
 MOST_SHARDS, MOST_PARTS, MOST_PREDECESSORS, MOST_SESSIONS = 16, 15, 1024, 64
 LAST_RUN = (1 << 32) - 1
 NO_UNDO = BEYOND - 1
@@ -38,6 +40,9 @@ def spell_transaction(transaction):
 
 
 def spell_value(value):
+    """None, a number, or a text as bytes."""
+    if isinstance(value, bytes):
+        return bytes([2, len(value)]) + value
     return b"\0" if value is None else b"\1" + struct.pack("<Q", value)
 
 
@@ -103,10 +108,19 @@ class Cursor:
         return run, session, serial
 
     def value(self):
-        is_there = self.number(1)
-        if is_there > 1:
+        kind = self.number(1)
+        if kind == 2:
+            return self.text(self.number(1))
+        if kind > 1:
             raise ValueError
-        return self.number(8) if is_there else None
+        return self.number(8) if kind else None
+
+    def text(self, size):
+        if size > LONGEST_TEXT or self.end - self.place < size:
+            raise ValueError
+        found = self.data[self.place : self.place + size]
+        self.place += size
+        return bytes(found)
 
     def shard(self):
         found = self.number(4)
@@ -391,6 +405,11 @@ def last_run(logs):
     return max([run for facts in logs for run, _ in facts.restarts], default=0)
 
 
+def told(value):
+    """A value as reports tell it: a text as its digits."""
+    return value.hex() if isinstance(value, bytes) else value
+
+
 def stands(logs):
     """The map that logs stand for: what the committed transactions wrote."""
     done, pairs = {it for facts in logs for it in facts.committed}, {}
@@ -398,7 +417,7 @@ def stands(logs):
         for record in facts.records:
             if record[0] == "UPDATE" and record[1] in done:
                 pairs[record[2]] = record[4]
-    return {key: value for key, value in pairs.items() if value is not None}
+    return {key: told(value) for key, value in pairs.items() if value is not None}
 
 
 def map_of(files):
@@ -407,4 +426,4 @@ def map_of(files):
 
 def shown(pairs):
     """What `show` writes of a map."""
-    return "".join(f"[{key},{pairs[key]}]\n" for key in sorted(pairs))
+    return "".join(f"[{key},{json.dumps(pairs[key])}]\n" for key in sorted(pairs))

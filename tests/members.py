@@ -21,7 +21,7 @@ def members(opened, run):
     for facts in opened:
         for record in facts.records:
             if record[0] == "UPDATE" and record[1] in found:
-                found[record[1]][record[2]] = record[4]
+                found[record[1]][record[2]] = logs.told(record[4])
     return found
 
 

@@ -46,6 +46,8 @@ put 21 7
 put 1 9
 commit
 """
+# Texts over a number and under one, the longest and the shortest.
+TEXTS = b"session\nbegin\nput 1 7\nbytes 1 -\nbytes 11 " + 200 * b"5a" + b"\ncommit\nbegin\nput 11 3\nabort\n"
 LOAD = "load --seed 7 --sessions 3 --accounts 4 --transfers 2".split()
 # Splits, a script that ran before, the words, the script.
 COMMANDS = [
@@ -55,6 +57,7 @@ COMMANDS = [
     ("two sessions", (), b"", RUN, MEETING),
     ("three sessions on one shard", (), b"", RUN, ONE_SHARD),
     ("three sessions", (10, 20), SPREAD, RUN, DYING),
+    ("texts", (), TEXTS, RUN, TEXTS),
     ("show", (10, 20), SPREAD, ("show",), b""),
     ("load", (50,), b"", LOAD, b""),
     ("make", None, b"", ("make", "10"), b""),

@@ -11,7 +11,7 @@ class Wrong(Exception):
 
 
 class Transaction:
-    """A transaction of a script: its lines as lists of a word and numbers, and whether it ends by `commit`."""
+    """A transaction of a script: its lines as lists of a word and numbers, and whether it ends by `commit`. A text is a string of its digits."""
 
     def __init__(self):
         self.lines, self.commits = [], False
@@ -28,6 +28,9 @@ def sessions_of(script):
             sessions[-1].append(Transaction())
         elif word in ("commit", "abort"):
             sessions[-1][-1].commits = word == "commit"
+        elif word == "bytes":
+            key, digits = numbers
+            sessions[-1][-1].lines.append(["put", int(key), digits.replace("-", "")])
         elif not word.startswith("#"):
             sessions[-1][-1].lines.append([word, *map(int, numbers)])
     return sessions
@@ -40,10 +43,10 @@ def put(pairs, key, value):
 
 
 def move(pairs, source, target, amount):
-    """Reads both, and moves the amount where both are there, the source has it and the target has room for it."""
+    """Reads both, and moves the amount where both are numbers, the source has it and the target has room for it."""
     low, high = pairs.get(source), pairs.get(target)
     done = [["get", source, low], ["get", target, high]]
-    if low is not None and high is not None and low >= amount and high + amount < BEYOND:
+    if isinstance(low, int) and isinstance(high, int) and low >= amount and high + amount < BEYOND:
         done += [put(pairs, source, low - amount), put(pairs, target, high + amount)]
     return done
 

@@ -39,10 +39,18 @@ def value_at(numbers):
     return LAST - numbers.randrange(3) if numbers.random() < 0.05 else numbers.randrange(100)
 
 
+def text_at(numbers):
+    """A text's digits: short ones mostly, now and then none or the longest."""
+    size = numbers.choice((0, 1, 2, 3, 8, 200))
+    return numbers.randbytes(size).hex() or "-"
+
+
 def line_at(numbers, keys):
     word, key = numbers.choice(WORDS), numbers.choice(keys)
     if word in ("get", "del"):
         return f"{word} {key}"
+    if word == "put" and numbers.random() < 0.2:
+        return f"bytes {key} {text_at(numbers)}"
     if word == "put":
         return f"put {key} {value_at(numbers)}"
     other = numbers.choice(keys)

@@ -106,6 +106,27 @@ REPORTS = [
         line_of('["put",0,7,null],["scan",0,0,[[0,7]]]') + counts(1),
     ),
     (
+        "texts: one of two bytes, one of none, the longest, over a number and under one",
+        (10,),
+        one("bytes 7 00ff", "get 7", "bytes 7 -", "put 7 5", "bytes 11 " + 200 * "5a", "scan 0 99", "del 11", "get 11"),
+        line_of(
+            '["put",7,"00ff",null],["get",7,"00ff"],["put",7,"","00ff"],["put",7,5,""],["put",11,"' + 200 * "5a" + '",null],'
+            '["scan",0,99,[[7,5],[11,"' + 200 * "5a" + '"]]],["del",11,"' + 200 * "5a" + '"],["get",11,null]'
+        )
+        + counts(1),
+    ),
+    (
+        "no move where one of the two is a text, and an abort that brings texts back",
+        (10,),
+        b"session\nbegin\nbytes 1 0a\nput 2 7\nbytes 11 -\ncommit\nbegin\nmove 1 2 0\ncommit\nbegin\nmove 2 11 0\ncommit\n"
+        b"begin\nput 1 3\nbytes 2 ff\ndel 11\nabort\nbegin\nscan 0 99\ncommit\n",
+        line_of('["put",1,"0a",null],["put",2,7,null],["put",11,"",null]')
+        + line_of('["get",1,"0a"],["get",2,7]', 2)
+        + line_of('["get",2,7],["get",11,""]', 3)
+        + line_of('["scan",0,99,[[1,"0a"],[2,7],[11,""]]]', 5)
+        + counts(4, 1),
+    ),
+    (
         "empty lines and remarks",
         (),
         b"# one\n\nsession\n#\nbegin\n\nput 5 10\n# two\ncommit\n\n",
@@ -136,6 +157,15 @@ REFUSED_SCRIPTS = [
     (b"session\nbegin\nget\ncommit\n", 3),
     (b"session\nbegin\nget 1 2\ncommit\n", 3),
     (b"session\nbegin\nput 1\ncommit\n", 3),
+    (b"session\nbegin\nput 1 -\ncommit\n", 3),
+    (b"session\nbegin\nbytes 1\ncommit\n", 3),
+    (b"session\nbegin\nbytes 1 \ncommit\n", 3),
+    (b"session\nbegin\nbytes 1 0\ncommit\n", 3),
+    (b"session\nbegin\nbytes 1 0A\ncommit\n", 3),
+    (b"session\nbegin\nbytes 1 0g\ncommit\n", 3),
+    (b"session\nbegin\nbytes 1 --\ncommit\n", 3),
+    (b"session\nbegin\nbytes 1 00 \ncommit\n", 3),
+    (b"session\nbegin\nbytes 1 " + 402 * b"0" + b"\ncommit\n", 3),
     (b"session\nbegin\nGET 1\ncommit\n", 3),
     (b"session\nbegin\nget  1\ncommit\n", 3),
     (b"session\nbegin\nget 1 \ncommit\n", 3),
