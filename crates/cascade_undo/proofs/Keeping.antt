@@ -9,8 +9,9 @@ use Rattle.std.proofs.lemmas.Bool.{both_ways}
 use Rattle.clv_base.specs.declared.values.Value.{Value as ValueType}
 use Rattle.clv_base.specs.declared.names.TxId.{TxId}
 use Rattle.clv_base.specs.declared.logs.LogRecord.{LogRecord}
-use Rattle.clv_base.specs.declared.logs.LogRecord.TheVariants.{Update, Abort}
+use Rattle.clv_base.specs.declared.logs.LogRecord.TheVariants.{Update, Abort, Add, Unadd}
 use Rattle.clv_base.specs.Orders.{tx_in}
+use Rattle.clv_base.specs.declared.changes.Change.TheVariants.{Sets}
 use Rattle.clv_base.specs.Logs.{StandingUpdate, standing, wrote_in}
 use Rattle.clv_base.specs.Undo.{aborts_of}
 use Rattle.clv_base.specs.Needs.{Records, found_at, found_by, is_there, record_set}
@@ -41,7 +42,7 @@ pub have_more : (set : List TxId) (log after : List LogRecord) (rs qs : Records)
     → after ≡ log ++ Update tx key before x ∷ [] → qs ≡ record_set key v rs → HaveRecords set (standing after) qs
 have_more set log after rs qs tx key v before x have e q =
     subst (λ l. HaveRecords set l qs) (sym (ap standing e ∙ standing_more log (Update tx key before x)))
-    (subst (λ l. HaveRecords set (record { lsn = 0 + length log; tx = tx; key = key; before = before; after = x } ∷ standing log) l) (sym q)
+    (subst (λ l. HaveRecords set (record { lsn = 0 + length log; tx = tx; key = key; change = Sets before x } ∷ standing log) l) (sym q)
     ((λ _. set_is_there key v rs), all_mono _ _ (λ w h i. there_set key w.key v rs (h i)) (standing log) have))
 
 -- ---- room

@@ -2,6 +2,7 @@ pub mod Standing
 pub mod Splitting
 pub mod Newest
 pub mod Restoring
+pub mod Folds
 pub mod Stepping
 pub mod Aborting
 pub mod Growing

@@ -1,5 +1,5 @@
 -- Records with one set back.
-use Rattle.std.proofs.Common.{◌≡◌, ℕ, ◌<◌, true, false, cond, ◌==◌, [], ◌∷◌, map, Option, Some, None, refl, sym, ap, ◌∙◌, eq-eqb, arith}
+use Rattle.std.proofs.Common.{◌≡◌, ℕ, ◌<◌, Bool, true, false, cond, ◌==◌, [], ◌∷◌, map, Option, Some, None, refl, sym, ap, ◌∙◌, eqb-true, eq-eqb, arith}
 use Rattle.std.proofs.lemmas.Bool.{both_ways, ne_eqb}
 use Rattle.std.proofs.lemmas.Bool.Decides.{nat_tests}
 use Rattle.std.specs.Map.{lookup}
@@ -7,7 +7,7 @@ use Rattle.std.specs.declared.cmp.Ordering.{Ordering}
 use Rattle.std.specs.declared.cmp.Ordering.TheVariants.{Less, Equal, Greater}
 use Rattle.std.specs.Ordering.{nat_cmp, match_ordering}
 use Rattle.clv_base.specs.declared.values.Value.{Value as ValueType}
-use Rattle.clv_base.specs.Needs.{Records, found_at, found_by, is_there, record_set}
+use Rattle.clv_base.specs.Needs.{Records, found_at, found_by, is_there, live_of, record_set, value_at}
 use Rattle.ordered_store.proofs.Laws.{Above, Rises, above_less}
 use Rattle.ordered_store.proofs.Laws.{none_above}
 use Rattle.law_base.proofs.Bools.{by_bool as both}
@@ -52,3 +52,26 @@ there_stays k v [] j = refl
 there_stays k v (r ∷ rs) j =
     both (λ b. is_there (found_by (cond b (Some (cond (r.0 == k) v r.1)) (lookup (◌==◌ j) (set_back k v rs)))) ≡ is_there (found_by (cond b (Some r.1) (lookup (◌==◌ j) rs)))) (j == r.0)
     (λ _. there_by (cond (r.0 == k) v r.1) ∙ sym (there_by r.1)) (λ _. there_stays k v rs j)
+
+-- the value there is the one that was set back, and other keys keep theirs
+live_there : (v : Option ValueType) → live_of (found_by (Some v)) ≡ v
+live_there None = refl
+live_there (Some x) = refl
+
+pub value_back : (k : ℕ) (v : Option ValueType) (rs : Records) → is_there (found_at k rs) ≡ true → value_at k (set_back k v rs) ≡ v
+value_back k v [] e = absurd (both_ways false refl e)
+value_back k v (r ∷ rs) e = at (k == r.0) refl e (value_back k v rs)
+  where
+    at : (b : Bool) → (k == r.0) ≡ b → is_there (found_by (cond b (Some r.1) (lookup (◌==◌ k) rs))) ≡ true → (is_there (found_at k rs) ≡ true → value_at k (set_back k v rs) ≡ v)
+        → live_of (found_by (cond b (Some (cond (r.0 == k) v r.1)) (lookup (◌==◌ k) (set_back k v rs)))) ≡ v
+    at true q h more = ap (λ b. live_of (found_by (Some (cond b v r.1)))) (eq-eqb r.0 k (sym (eqb-true k r.0 q))) ∙ live_there v
+    at false q h more = more h
+
+pub value_beside : (k : ℕ) (v : Option ValueType) (rs : Records) (j : ℕ) → (j == k) ≡ false → value_at j (set_back k v rs) ≡ value_at j rs
+value_beside k v [] j other = refl
+value_beside k v (r ∷ rs) j other = at (j == r.0) refl (value_beside k v rs j other)
+  where
+    at : (b : Bool) → (j == r.0) ≡ b → value_at j (set_back k v rs) ≡ value_at j rs
+        → live_of (found_by (cond b (Some (cond (r.0 == k) v r.1)) (lookup (◌==◌ j) (set_back k v rs)))) ≡ live_of (found_by (cond b (Some r.1) (lookup (◌==◌ j) rs)))
+    at true q more = ap (λ b. live_of (found_by (Some (cond b v r.1)))) (ap (λ n. n == k) (sym (eqb-true j r.0 q)) ∙ other)
+    at false q more = more

@@ -25,7 +25,7 @@ use Rattle.clv_base.specs.Events.{happen, landed, with_entry}
 use Rattle.clv_base.specs.Journals.{reply_state}
 use Rattle.law_base.specs.Items.{Item}
 use Rattle.clv_base.specs.declared.logs.LogRecord.{LogRecord}
-use Rattle.clv_base.specs.declared.logs.LogRecord.TheVariants.{Update, Prepare as PrepareRecord, Restart as RestartRecord}
+use Rattle.clv_base.specs.declared.logs.LogRecord.TheVariants.{Update, Prepare as PrepareRecord, Restart as RestartRecord, Add, Unadd}
 use Rattle.std.specs.List.{list_all}
 use Rattle.clv_base.specs.Logs.{committed_in, in_doubt}
 use Rattle.clv_base.specs.LogRules.{listed_in}

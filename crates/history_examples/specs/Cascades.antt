@@ -8,7 +8,7 @@ use Rattle.clv_base.specs.declared.causes.Vote.TheVariants.{No}
 use Rattle.clv_base.specs.declared.events.Event.TheVariants.{Stop}
 use Rattle.clv_base.specs.declared.events.Outcome.TheVariants.{Aborted, Answered, Asked, Dead, Sent, Stopped, Taken, Up}
 use Rattle.clv_base.specs.declared.logs.LogRecord.{LogRecord}
-use Rattle.clv_base.specs.declared.logs.LogRecord.TheVariants.{Abort, Clr, Prepare, Restart, Update}
+use Rattle.clv_base.specs.declared.logs.LogRecord.TheVariants.{Abort, Clr, Prepare, Restart, Update, Add, Unadd}
 use Rattle.clv_base.specs.declared.messages.Message.TheVariants.{Decide, Prepare as PrepareMessage, Vote as VoteMessage}
 use Rattle.clv_base.specs.declared.modes.Anchor.TheVariants.{At, Low}
 use Rattle.clv_base.specs.declared.modes.Part.TheVariants.{N, X}

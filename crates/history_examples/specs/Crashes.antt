@@ -4,7 +4,7 @@ use Rattle.clv_base.specs.Invariants.{is_sound}
 use Rattle.clv_base.specs.declared.causes.AbortCause.TheVariants.{Restarted}
 use Rattle.clv_base.specs.declared.events.Event.TheVariants.{Stop}
 use Rattle.clv_base.specs.declared.events.Outcome.TheVariants.{Aborted, Acknowledged, Answered, Asked, Dead, Down, Durable, Failed, NotYet, Out, Stopped, Up}
-use Rattle.clv_base.specs.declared.logs.LogRecord.TheVariants.{Commit, Restart, Update}
+use Rattle.clv_base.specs.declared.logs.LogRecord.TheVariants.{Commit, Restart, Update, Add, Unadd}
 use Rattle.clv_base.specs.declared.ops.Answer.TheVariants.{Value}
 use Rattle.clv_base.specs.declared.ops.Op.TheVariants.{Del, Get, Put}
 use Rattle.history_examples.specs.Playing.{Act, Event_at, Land_at, Played, Restart_at, Shows, again, first, flush_out, look, new_world, play, play_legal, request, tx}

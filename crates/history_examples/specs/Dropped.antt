@@ -6,7 +6,7 @@ use Rattle.clv_base.specs.declared.ops.Op.TheVariants.{Put}
 use Rattle.clv_base.specs.declared.ops.Answer.TheVariants.{Value}
 use Rattle.clv_base.specs.declared.causes.AbortCause.TheVariants.{Restarted}
 use Rattle.clv_base.specs.declared.logs.LogRecord.{LogRecord}
-use Rattle.clv_base.specs.declared.logs.LogRecord.TheVariants.{Update, Clr, Abort, Restart as RestartRecord}
+use Rattle.clv_base.specs.declared.logs.LogRecord.TheVariants.{Update, Clr, Abort, Restart as RestartRecord, Add, Unadd}
 use Rattle.clv_base.specs.declared.events.Event.TheVariants.{Op as OpEvent, Drop, FlushOut, FlushIn, Stop, Restart}
 use Rattle.clv_base.specs.declared.events.Outcome.TheVariants.{Answered, Dead, Dropped, Out, Durable, Stopped, Up}
 use Rattle.clv_base.specs.declared.events.Entry.{Entry}

@@ -11,7 +11,7 @@ use Rattle.clv_base.specs.Restarts.{log_left}
 use Rattle.clv_base.specs.Runs.{is_legal_by_tests}
 use Rattle.clv_base.specs.State.{Shard}
 use Rattle.clv_base.specs.declared.logs.LogRecord.{LogRecord}
-use Rattle.clv_base.specs.declared.logs.LogRecord.TheVariants.{Commit, Restart, Update}
+use Rattle.clv_base.specs.declared.logs.LogRecord.TheVariants.{Commit, Restart, Update, Add, Unadd}
 use Rattle.clv_base.specs.declared.ops.Answer.{Answer}
 use Rattle.clv_base.specs.declared.ops.Answer.TheVariants.{Pairs, Value}
 use Rattle.clv_base.specs.declared.ops.Op.{Op}

@@ -9,7 +9,7 @@ use Rattle.clv_base.specs.declared.causes.Vote.TheVariants.{No, Yes}
 use Rattle.clv_base.specs.declared.events.Event.TheVariants.{Remind, Send, Stop}
 use Rattle.clv_base.specs.declared.events.Outcome.{Outcome}
 use Rattle.clv_base.specs.declared.events.Outcome.TheVariants.{Aborted, Acknowledged, Answered, Asked, Durable, NotYet, Nothing, Out, Reminded, Sent, Stopped, Taken, Up}
-use Rattle.clv_base.specs.declared.logs.LogRecord.TheVariants.{Abort, Clr, Commit, End, Prepare, Restart, Update}
+use Rattle.clv_base.specs.declared.logs.LogRecord.TheVariants.{Abort, Clr, Commit, End, Prepare, Restart, Update, Add, Unadd}
 use Rattle.clv_base.specs.declared.messages.Message.TheVariants.{Ask, Decide, Done, Prepare as PrepareMessage, Vote as VoteMessage}
 use Rattle.clv_base.specs.declared.ops.Answer.TheVariants.{Value}
 use Rattle.clv_base.specs.declared.ops.Op.TheVariants.{Put}

@@ -7,7 +7,7 @@ use Rattle.clv_base.specs.Restarts.{log_after_restart, log_up_to_epoch, misfit, 
 use Rattle.clv_base.specs.Shards.{not_rising, shard_of, span}
 use Rattle.clv_base.specs.State.{Shard, with_local}
 use Rattle.clv_base.specs.declared.logs.LogRecord.{LogRecord}
-use Rattle.clv_base.specs.declared.logs.LogRecord.TheVariants.{Abort, Commit, Prepare, Restart, Update}
+use Rattle.clv_base.specs.declared.logs.LogRecord.TheVariants.{Abort, Commit, Prepare, Restart, Update, Add, Unadd}
 use Rattle.history_examples.specs.Playing.{tx}
 use Rattle.std.specs.Prelude.{List, None, Some, [], drop, false, map, take, ℕ, ◌++◌, ◌∷◌, ◌≡◌}
 

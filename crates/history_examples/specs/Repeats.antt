@@ -5,7 +5,7 @@ use Rattle.clv_base.specs.LogRules.{apart}
 use Rattle.clv_base.specs.declared.causes.Vote.TheVariants.{Read, Yes}
 use Rattle.clv_base.specs.declared.events.Event.TheVariants.{Deliver, Remind, Send}
 use Rattle.clv_base.specs.declared.events.Outcome.TheVariants.{Answered, Asked, Durable, Nothing, Out, Reminded, Sent, Stale, Taken}
-use Rattle.clv_base.specs.declared.logs.LogRecord.TheVariants.{Commit, End, Prepare, Restart, Update}
+use Rattle.clv_base.specs.declared.logs.LogRecord.TheVariants.{Commit, End, Prepare, Restart, Update, Add, Unadd}
 use Rattle.clv_base.specs.declared.messages.Message.{Message}
 use Rattle.clv_base.specs.declared.messages.Message.TheVariants.{Ask, Decide, Done, Prepare as PrepareMessage, Vote as VoteMessage}
 use Rattle.clv_base.specs.declared.ops.Answer.TheVariants.{Value}

@@ -7,7 +7,7 @@ use Rattle.clv_base.specs.declared.ops.Answer.TheVariants.{Value}
 use Rattle.clv_base.specs.declared.causes.AbortCause.TheVariants.{Predecessor}
 use Rattle.clv_base.specs.declared.messages.Message.TheVariants.{Decide, Ask}
 use Rattle.clv_base.specs.declared.logs.LogRecord.{LogRecord}
-use Rattle.clv_base.specs.declared.logs.LogRecord.TheVariants.{Update, Clr, Prepare as PrepareRecord, Abort, Restart as RestartRecord}
+use Rattle.clv_base.specs.declared.logs.LogRecord.TheVariants.{Update, Clr, Prepare as PrepareRecord, Abort, Restart as RestartRecord, Add, Unadd}
 use Rattle.clv_base.specs.declared.events.Event.TheVariants.{Op as OpEvent, Request, Look, Send, Deliver, Remind, FlushOut, FlushIn}
 use Rattle.clv_base.specs.declared.events.Outcome.TheVariants.{Answered, Asked, Aborted, Sent, Taken, Reminded, Out, Durable}
 use Rattle.clv_base.specs.declared.events.Entry.{Entry}

@@ -11,7 +11,7 @@ use Rattle.clv_base.specs.State.{Shard}
 use Rattle.clv_base.specs.declared.causes.AbortCause.TheVariants.{Died}
 use Rattle.clv_base.specs.declared.events.Event.TheVariants.{Op as OpEvent}
 use Rattle.clv_base.specs.declared.events.Outcome.TheVariants.{Answered, Asked, Dead, Wait}
-use Rattle.clv_base.specs.declared.logs.LogRecord.TheVariants.{Commit, Restart, Update}
+use Rattle.clv_base.specs.declared.logs.LogRecord.TheVariants.{Commit, Restart, Update, Add, Unadd}
 use Rattle.clv_base.specs.declared.names.Birth.{Birth}
 use Rattle.clv_base.specs.declared.names.TxId.{TxId}
 use Rattle.clv_base.specs.declared.ops.Answer.TheVariants.{Value}

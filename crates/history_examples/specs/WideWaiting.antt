@@ -5,7 +5,7 @@ use Rattle.clv_base.specs.declared.names.TxId.{TxId}
 use Rattle.clv_base.specs.declared.ops.Op.TheVariants.{Put}
 use Rattle.clv_base.specs.declared.ops.Answer.TheVariants.{Value}
 use Rattle.clv_base.specs.declared.logs.LogRecord.{LogRecord}
-use Rattle.clv_base.specs.declared.logs.LogRecord.TheVariants.{Update, Prepare as PrepareRecord, Restart as RestartRecord}
+use Rattle.clv_base.specs.declared.logs.LogRecord.TheVariants.{Update, Prepare as PrepareRecord, Restart as RestartRecord, Add, Unadd}
 use Rattle.clv_base.specs.declared.events.Event.TheVariants.{Op as OpEvent}
 use Rattle.clv_base.specs.declared.events.Outcome.TheVariants.{Answered}
 use Rattle.clv_base.specs.Journals.{History, final_of}

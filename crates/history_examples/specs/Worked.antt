@@ -5,7 +5,7 @@ use Rattle.clv_base.specs.declared.ops.Op.TheVariants.{Get, Put}
 use Rattle.clv_base.specs.declared.ops.Answer.TheVariants.{Value}
 use Rattle.clv_base.specs.declared.causes.AbortCause.TheVariants.{Restarted}
 use Rattle.clv_base.specs.declared.logs.LogRecord.{LogRecord}
-use Rattle.clv_base.specs.declared.logs.LogRecord.TheVariants.{Update, Clr, Commit, Abort, Restart as RestartRecord}
+use Rattle.clv_base.specs.declared.logs.LogRecord.TheVariants.{Update, Clr, Commit, Abort, Restart as RestartRecord, Add, Unadd}
 use Rattle.clv_base.specs.declared.events.Event.{Event}
 use Rattle.clv_base.specs.declared.events.Event.TheVariants.{Op as OpEvent, Request, Look, FlushOut, FlushIn, Stop, Restart}
 use Rattle.clv_base.specs.declared.events.Outcome.{Outcome}

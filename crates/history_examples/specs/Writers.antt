@@ -7,7 +7,7 @@ use Rattle.clv_base.specs.Logs.{stands}
 use Rattle.clv_base.specs.Runs.{run_events}
 use Rattle.clv_base.specs.declared.events.Event.TheVariants.{FlushIn, FlushOut, Look, Op as OpEvent, Request, Send}
 use Rattle.clv_base.specs.declared.events.Outcome.TheVariants.{Acknowledged, Answered, Asked, Durable, Out}
-use Rattle.clv_base.specs.declared.logs.LogRecord.TheVariants.{Commit, Restart, Update}
+use Rattle.clv_base.specs.declared.logs.LogRecord.TheVariants.{Commit, Restart, Update, Add, Unadd}
 use Rattle.clv_base.specs.declared.ops.Answer.TheVariants.{Value}
 use Rattle.clv_base.specs.declared.ops.Op.TheVariants.{Del, Get, Put}
 use Rattle.history_examples.specs.Playing.{Land_at, Played, Shows, again, birth, core_step, first, flush_out, look, new_world, play, request, tx}

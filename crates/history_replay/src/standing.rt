@@ -1,6 +1,6 @@
 // What logs stand for.
 
-ghost use Rattle.std.specs.Prelude.{◌≡◌, ◌||◌, map, [], IfOk, OnOk};
+ghost use Rattle.std.specs.Prelude.{◌≡◌, ◌||◌, map, [], ◌∷◌, IfOk, OnOk};
 ghost use Rattle.clv_base.specs.declared.names.TxId.{TxId as Tx};
 ghost use Rattle.clv_base.specs.Logs.{committed_in, committed_somewhere, fold_updates, stands_from, stands as stands_for};
 ghost use Rattle.clv_base.specs.Maps.{map_set};
@@ -50,16 +50,32 @@ fn set_to(pairs: &mut KeyMap, key: u64, after: &Option<Value>) -> Result<(), Mem
     Ok(())
 }
 
-// Each UPDATE of a transaction of the set is done, in the log's order.
-fn fold(pairs: &mut KeyMap, set: &TxSet, log: &[LogRecord]) -> Result<(), Memory>
-    ensures { OnOk result (pairs.new ≡ fold_updates (has_member set.now) log.now pairs.old) }
+// A record that is an UPDATE or ADD of a transaction of the set is done.
+fn fold_one(pairs: &mut KeyMap, set: &TxSet, record: &LogRecord) -> Result<(), Memory>
+    ensures { OnOk result (pairs.new ≡ fold_updates (has_member set.now) (record.now ∷ []) pairs.old) }
 {
-    for record in log {
-        if let LogRecord::Update { tx, key, after, .. } = record {
+    match record {
+        LogRecord::Update { tx, key, after, .. } => {
             if set.contains(*tx) {
                 set_to(pairs, *key, after)?;
             }
         }
+        LogRecord::Add { tx, key, by } => {
+            if set.contains(*tx) {
+                pairs.add(*key, *by)?;
+            }
+        }
+        _ => {}
+    }
+    Ok(())
+}
+
+// Each UPDATE and ADD of a transaction of the set is done, in the log's order.
+fn fold(pairs: &mut KeyMap, set: &TxSet, log: &[LogRecord]) -> Result<(), Memory>
+    ensures { OnOk result (pairs.new ≡ fold_updates (has_member set.now) log.now pairs.old) }
+{
+    for record in log {
+        fold_one(pairs, set, record)?;
     }
     Ok(())
 }
@@ -74,7 +90,7 @@ fn fold_all(pairs: &mut KeyMap, set: &TxSet, logs: &[Vec<LogRecord>]) -> Result<
 }
 
 /// The map that a set of logs stands for: from the empty map, log by log and in order of LSN, each UPDATE of a transaction that has a
-/// COMMIT in some of the logs sets its key to the value after. Each record takes time logarithmic in the records.
+/// COMMIT in some of the logs sets its key to the value after, and each ADD of one adds to the number at its key. Each record takes time logarithmic in the records.
 pub fn stands(alloc: Global, logs: &[Vec<LogRecord>]) -> Result<KeyMap, Memory>
     ensures { IfOk result (λ pairs. pairs ≡ stands_for (map (λ l. l.items) logs.now)) }
 {

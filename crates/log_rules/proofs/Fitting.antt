@@ -4,7 +4,7 @@ use Rattle.std.specs.List.{list_all}
 use Rattle.clv_base.specs.declared.values.Value.{Value as ValueType}
 use Rattle.clv_base.specs.declared.names.TxId.{TxId}
 use Rattle.clv_base.specs.declared.logs.LogRecord.{LogRecord}
-use Rattle.clv_base.specs.declared.logs.LogRecord.TheVariants.{Update, Clr, Prepare, Commit, Abort, End, Restart}
+use Rattle.clv_base.specs.declared.logs.LogRecord.TheVariants.{Update, Clr, Prepare, Commit, Abort, End, Restart, Add, Unadd}
 use Rattle.clv_base.specs.Orders.{tx_same, tx_in}
 use Rattle.clv_base.specs.Logs.{StandingUpdate, is_update_of, is_prepare_of, is_commit_of, wrote_in, committed_in, prepared_in, aborted_in, ended_in, prepare_of, commit_parts, standing, newest_at, newest_of, without_newest, value_in}
 use Rattle.clv_base.specs.Values.{same_optional_value}
@@ -222,3 +222,5 @@ module _ (shard : ℕ) (x : Index) (records : List LogRecord) (n : ℕ) (s : Sou
   fits_is (Commit tx parts) = commit_is tx parts
   fits_is (Abort tx) = abort_is shard x (take n records) s i tx
   fits_is (End tx) = end_is tx
+  fits_is (Add tx key by) = update_is shard x (take n records) s i tx key before after
+  fits_is (Unadd tx undo_next key by) = clr_is shard x (take n records) s i tx undo_next key after

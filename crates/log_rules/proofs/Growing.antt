@@ -4,7 +4,7 @@ use Rattle.std.proofs.lemmas.Bool.{lt-ltb, le-ltb}
 use Rattle.std.proofs.lemmas.List.{length_push}
 use Rattle.clv_base.specs.declared.names.TxId.{TxId}
 use Rattle.clv_base.specs.declared.logs.LogRecord.{LogRecord}
-use Rattle.clv_base.specs.declared.logs.LogRecord.TheVariants.{Restart}
+use Rattle.clv_base.specs.declared.logs.LogRecord.TheVariants.{Restart, Add, Unadd}
 use Rattle.clv_base.specs.Logs.{is_update_of, wrote_in}
 use Rattle.clv_base.specs.LogRules.{before_restart, since_restart}
 use Rattle.log_analysis.specs.Facts.{first_place, last_place_from, first_update_lsn, last_update_lsn}

@@ -6,7 +6,7 @@ use Rattle.std.proofs.lemmas.Bool.{lt-ltb, ltb-true, or_cases, ne_eqb}
 use Rattle.clv_base.specs.declared.values.Value.{Value as ValueType}
 use Rattle.clv_base.specs.declared.names.TxId.{TxId}
 use Rattle.clv_base.specs.declared.logs.LogRecord.{LogRecord}
-use Rattle.clv_base.specs.declared.logs.LogRecord.TheVariants.{Update, Clr, Prepare, Commit, Abort, End, Restart}
+use Rattle.clv_base.specs.declared.logs.LogRecord.TheVariants.{Update, Clr, Prepare, Commit, Abort, End, Restart, Add, Unadd}
 use Rattle.clv_base.specs.Orders.{tx_same, tx_in}
 use Rattle.clv_base.specs.Logs.{StandingUpdate, is_commit_of, is_abort_of, committed_in, prepared_in, aborted_in, standing, newest_at, newest_of, without_newest}
 use Rattle.clv_base.specs.LogRules.{last_restart, above_restarts, before_restart, since_restart, listed_in, may_follow, compensates}
@@ -414,6 +414,8 @@ grows_between shard x y z log (Prepare tx home listed) s i at may above a knows 
 grows_between shard x y z log (Commit tx parts) s i at may above a knows = after_commit shard x y log s i tx parts z a knows
 grows_between shard x y z log (Abort tx) s i at may above a knows = after_abort shard x y log s i tx may z a knows
 grows_between shard x y z log (End tx) s i at may above a knows = after_end shard x y log s i tx z a knows
+grows_between shard x y z log (Add tx key by) s i at may above a knows = after_update shard x y log s i tx key before after at may z a knows
+grows_between shard x y z log (Unadd tx undo_next key by) s i at may above a knows = after_clr shard x y log s i tx undo_next key after may z a knows
 
 same_facts : (x z : Index) (n : ℕ) (r : LogRecord) → Places x z n r → z.facts ≡ x.facts
 same_facts x z n (Restart run epoch) a = a.facts
@@ -423,6 +425,8 @@ same_facts x z n (Prepare tx home listed) a = a.keeps.facts
 same_facts x z n (Commit tx parts) a = a.keeps.facts
 same_facts x z n (Abort tx) a = a.keeps.facts
 same_facts x z n (End tx) a = a.keeps.facts
+same_facts x z n (Add tx key by) a = a.keeps.facts
+same_facts x z n (Unadd tx undo_next key by) a = a.keeps.facts
 
 same_records : (x z : Index) (n : ℕ) (r : LogRecord) → Places x z n r → z.writes.records ≡ x.writes.records
 same_records x z n (Restart run epoch) a = ap (λ w. w.records) a.writes
@@ -432,6 +436,8 @@ same_records x z n (Prepare tx home listed) a = ap (λ w. w.records) a.writes
 same_records x z n (Commit tx parts) a = ap (λ w. w.records) a.writes
 same_records x z n (Abort tx) a = ap (λ w. w.records) a.writes
 same_records x z n (End tx) a = ap (λ w. w.records) a.writes
+same_records x z n (Add tx key by) a = a.records
+same_records x z n (Unadd tx undo_next key by) a = a.records
 
 pub keeps_records : (x y : Index) (n : ℕ) (r : LogRecord) → Adds x y n r → y.writes.records ≡ x.writes.records
 keeps_records x y n r a = ap (λ v. v.writes.records) a.rest ∙ same_records x a.between n r a.places

@@ -4,7 +4,7 @@ use Rattle.std.specs.List.{list_all}
 use Rattle.clv_base.specs.declared.values.Value.{Value as ValueType}
 use Rattle.clv_base.specs.declared.names.TxId.{TxId}
 use Rattle.clv_base.specs.declared.logs.LogRecord.{LogRecord}
-use Rattle.clv_base.specs.declared.logs.LogRecord.TheVariants.{Update, Clr, Prepare, Commit, Abort}
+use Rattle.clv_base.specs.declared.logs.LogRecord.TheVariants.{Update, Clr, Prepare, Commit, Abort, Add, Unadd}
 use Rattle.clv_base.specs.Orders.{tx_same}
 use Rattle.clv_base.specs.Logs.{wrote_in, committed_in, prepared_in, aborted_in, standing, newest_of}
 use Rattle.clv_base.specs.LogRules.{since_restart, writes_below, compensates, may_follow}

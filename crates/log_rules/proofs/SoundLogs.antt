@@ -5,7 +5,7 @@ use Rattle.std.proofs.lemmas.Bool.{both_ways, or_cases, or_parts, or_right}
 use Rattle.std.proofs.lemmas.List.{length_push}
 use Rattle.clv_base.specs.declared.names.TxId.{TxId}
 use Rattle.clv_base.specs.declared.logs.LogRecord.{LogRecord}
-use Rattle.clv_base.specs.declared.logs.LogRecord.TheVariants.{Update, Clr, Prepare, Commit, Abort, End, Restart}
+use Rattle.clv_base.specs.declared.logs.LogRecord.TheVariants.{Update, Clr, Prepare, Commit, Abort, End, Restart, Add, Unadd}
 use Rattle.clv_base.specs.Orders.{tx_same}
 use Rattle.clv_base.specs.Logs.{StandingUpdate, is_update_of, is_commit_of, is_prepare_of, is_abort_of, wrote_in, committed_in, prepared_in, aborted_in, prepare_of, standing, standing_after, newest_of, without_newest}
 use Rattle.clv_base.specs.LogRules.{since_restart, may_follow}
@@ -164,6 +164,11 @@ module _ (shard : ℕ) (log : List LogRecord) (s : Sound log) where
   sinks_after (Abort tx) may = sinks_other (Abort tx) (λ t. refl) (standing log) s.sinks
   sinks_after (End tx) may = sinks_other (End tx) (λ t. refl) (standing log) s.sinks
   sinks_after (Restart run epoch) may = sinks_other (Restart run epoch) (λ t. refl) (standing log) s.sinks
+  sinks_after (Add tx key by) may =
+      let rule = update_rule shard log tx key before after may in
+      let r : LogRecord = Add tx key by in
+      (λ e. absurd (both_ways _ rule.uncommitted (sym (any_other (is_commit_of tx) log r refl) ∙ e)), sinks_other r (λ t. refl) (standing log) s.sinks)
+  sinks_after (Unadd tx undo_next key by) may = sinks_other (Unadd tx undo_next key by) (λ t. refl) (without_newest tx (standing log)) (sinks_without (committed_in log) tx (standing log) s.sinks)
 
   -- where the record is neither a COMMIT nor an ABORT
   fates_other : (r : LogRecord) → ((t : TxId) → is_commit_of t r ≡ false) → ((t : TxId) → is_abort_of t r ≡ false) → (t : TxId) → committed_in (log ++ r ∷ []) t ≡ true → aborted_in (log ++ r ∷ []) t ≡ false
@@ -184,6 +189,8 @@ module _ (shard : ℕ) (log : List LogRecord) (s : Sound log) where
   fates_after (Prepare tx home listed) may t e = fates_other (Prepare tx home listed) (λ t. refl) (λ t. refl) t e
   fates_after (End tx) may t e = fates_other (End tx) (λ t. refl) (λ t. refl) t e
   fates_after (Restart run epoch) may t e = fates_other (Restart run epoch) (λ t. refl) (λ t. refl) t e
+  fates_after (Add tx key by) may t e = fates_other (Add tx key by) (λ t. refl) (λ t. refl) t e
+  fates_after (Unadd tx undo_next key by) may t e = fates_other (Unadd tx undo_next key by) (λ t. refl) (λ t. refl) t e
 
   -- where the record is no UPDATE and its writes stand
   stands_other : (r : LogRecord) → ((t : TxId) → is_update_of t r ≡ false) → (t : TxId) → wrote_in (log ++ r ∷ []) t ≡ true → aborted_in (log ++ r ∷ []) t ≡ false → is_some (newest_of t (standing log)) ≡ true
@@ -207,6 +214,17 @@ module _ (shard : ℕ) (log : List LogRecord) (s : Sound log) where
   stands_after (Abort tx) may t wrote unaborted = stands_other (Abort tx) (λ t. refl) t wrote unaborted
   stands_after (End tx) may t wrote unaborted = stands_other (End tx) (λ t. refl) t wrote unaborted
   stands_after (Restart run epoch) may t wrote unaborted = stands_other (Restart run epoch) (λ t. refl) t wrote unaborted
+  stands_after (Add tx key by) may t wrote unaborted =
+      let r : LogRecord = Add tx key by in
+      both (λ b. tx_same t tx ≡ b → is_some (cond b (Some (record { lsn = length log; tx = tx; key = key; before = before; after = after })) (newest_of t (standing log))) ≡ true) (tx_same t tx) (λ _ own. refl)
+      (λ _ other. s.stands t (sym (any_other (is_update_of t) log r other) ∙ wrote) (any_less (is_abort_of t) log r unaborted)) refl
+  stands_after (Unadd tx undo_next key by) may t wrote unaborted =
+      let r : LogRecord = Unadd tx undo_next key by in
+      let rule = clr_rule shard log tx undo_next key after may in
+      let was : aborted_in log t ≡ false = any_less (is_abort_of t) log r unaborted in
+      both (λ b. tx_same tx t ≡ b → is_some (newest_of t (without_newest tx (standing log))) ≡ true) (tx_same tx t)
+      (λ _ own. absurd (both_ways _ was (sym (ap (aborted_in log) (tx_true tx t own)) ∙ rule.aborted)))
+      (λ _ other. ap is_some (of_other tx t (standing log) other) ∙ stands_other r (λ u. refl) t wrote unaborted) refl
 
   wrote_other : (r : LogRecord) → ((t : TxId) → is_prepare_of t r ≡ false) → (t : TxId) → prepared_in (log ++ r ∷ []) t ≡ true → wrote_in (log ++ r ∷ []) t ≡ true
   wrote_other r no_prepare t e = any_more (is_update_of t) log r (s.wrote t (sym (any_other (is_prepare_of t) log r (no_prepare t)) ∙ e))
@@ -222,6 +240,8 @@ module _ (shard : ℕ) (log : List LogRecord) (s : Sound log) where
   wrote_after (Abort tx) may t e = wrote_other (Abort tx) (λ t. refl) t e
   wrote_after (End tx) may t e = wrote_other (End tx) (λ t. refl) t e
   wrote_after (Restart run epoch) may t e = wrote_other (Restart run epoch) (λ t. refl) t e
+  wrote_after (Add tx key by) may t e = wrote_other (Add tx key by) (λ t. refl) t e
+  wrote_after (Unadd tx undo_next key by) may t e = wrote_other (Unadd tx undo_next key by) (λ t. refl) t e
 
   once_new : (r : LogRecord) → may_follow shard log r ≡ true → EachPrepare (λ t home listed. prepare_of (log ++ r ∷ []) t ≡ Some (home, listed)) (r ∷ [])
   once_new (Prepare tx home listed) may =

@@ -1,4 +1,5 @@
 pub mod Writes
+pub mod Shares
 pub mod Listers
 pub mod Rules
 pub mod Adding

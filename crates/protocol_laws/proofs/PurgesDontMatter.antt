@@ -1,5 +1,5 @@
 -- Ghosts may go early: what is due doesn't look at records, and an undo meets none that is a ghost without a lock.
-use Rattle.std.proofs.Common.{◌≡◌, refl, sym, ap, subst, ◌∙◌, ℕ, zero, suc, ⊎_elim, Bool, true, false, cond, not, ◌&&◌, ◌==◌, List, [], ◌∷◌, ◌++◌, Option, Some, None, unwrap_or, eqb-true}
+use Rattle.std.proofs.Common.{◌≡◌, refl, sym, ap, subst, ◌∙◌, ℕ, zero, suc, ⊎_elim, Bool, true, false, cond, not, ◌&&◌, ◌==◌, List, [], ◌∷◌, ◌++◌, Option, Some, None, eqb-true}
 use Rattle.std.proofs.lemmas.Bool.{both_ways, or_cases, and_parts, cond_both, cond-true, cond-false, false_from_ne_true}
 use Rattle.std.specs.List.{AllByRecursion, filter}
 use Rattle.clv_base.specs.declared.values.Value.{Value as ValueType}
@@ -16,11 +16,11 @@ use Rattle.clv_base.specs.declared.state.Request.{Request}
 use Rattle.clv_base.specs.declared.state.Ruling.{Ruling}
 use Rattle.clv_base.specs.declared.state.Ruling.TheVariants.{Commit as CommitVerdict, Acknowledge, Abort as AbortVerdict, End as EndVerdict}
 use Rattle.clv_base.specs.Orders.{tx_same, tx_in, tx_get, anchor_same}
-use Rattle.clv_base.specs.Logs.{StandingUpdate, standing, standing_from}
+use Rattle.clv_base.specs.Logs.{StandingUpdate, standing, standing_from, fold_at}
 use Rattle.clv_base.specs.Locks.{Locks, release}
 use Rattle.clv_base.specs.Needs.{Records, is_locked_or_live, without_ghosts}
 use Rattle.clv_base.specs.State.{Shard, Local, with_local, is_present}
-use Rattle.clv_base.specs.Undo.{stage_of, value_before, records_without, release_parts, doomed_by, doomed_here, roll_back}
+use Rattle.clv_base.specs.Undo.{stage_of, is_written_by, writes_outside, record_without, records_without, release_parts, doomed_by, doomed_here, roll_back}
 use Rattle.clv_base.specs.Facts.{facts_of, has_durable_commit}
 use Rattle.clv_base.specs.Participant.{vote_by}
 use Rattle.clv_base.specs.Coordinator.{ruling_by}
@@ -91,40 +91,32 @@ alike_released set locks rs qs h =
     ∙ ap (without_ghosts (release set locks)) h
     ∙ filter_twice (is_locked_or_live (release set locks)) (is_locked_or_live locks) (stays_more set locks) qs
 
--- a key of which a value before was found is one that the set wrote
+-- a key that the set wrote is held
 abbrev AreHeld : List TxId → Locks → List StandingUpdate → Type 0
 AreHeld set locks ws = AllByRecursion (λ (w : StandingUpdate). tx_in w.tx set ≡ true → is_held_at w.key locks ≡ true) ws
 
-before_held : (set : List TxId) (k : ℕ) (locks : Locks) (ws : List StandingUpdate) → AreHeld set locks ws → (v : Option ValueType) → value_before set k ws ≡ Some v → is_held_at k locks ≡ true
-before_held set k locks [] a v e = absurd cc
-before_held set k locks (w ∷ ws) a v e = at (value_before set k ws) e (before_held set k locks ws a.1)
-  where
-    here : (b : Bool) → (tx_in w.tx set && (k == w.key)) ≡ b → cond b (Some w.before) None ≡ Some v → is_held_at k locks ≡ true
-    here true t e = let p = and_parts (tx_in w.tx set) (k == w.key) t in subst (λ j. is_held_at j locks ≡ true) (sym (eqb-true k w.key p.1)) (a.0 p.0)
-    here false t e = absurd cc
-
-    at : (o : Option (Option ValueType)) → elim o [ Some b ↦ Some b | None ↦ cond (tx_in w.tx set && (k == w.key)) (Some w.before) None ] ≡ Some v
-        → ((u : Option ValueType) → o ≡ Some u → is_held_at k locks ≡ true) → is_held_at k locks ≡ true
-    at (Some b) e more = more b refl
-    at None e more = here (tx_in w.tx set && (k == w.key)) refl e
-
-abbrev undone : List TxId → List StandingUpdate → ℕ × Option ValueType → ℕ × Option ValueType
-undone set ws r = (r.0, unwrap_or (value_before set r.0 ws) r.1)
+written_held : (set : List TxId) (k : ℕ) (locks : Locks) (ws : List StandingUpdate) → AreHeld set locks ws → is_written_by set k ws ≡ true → is_held_at k locks ≡ true
+written_held set k locks [] a e = absurd (both_ways false refl e)
+written_held set k locks (w ∷ ws) a e =
+    ⊎_elim
+    (λ t. let p = and_parts (tx_in w.tx set) (k == w.key) t in subst (λ j. is_held_at j locks ≡ true) (sym (eqb-true k w.key p.1)) (a.0 p.0))
+    (λ t. written_held set k locks ws a.1 t)
+    (or_cases (tx_in w.tx set && (k == w.key)) (is_written_by set k ws) e)
 
 -- a ghost without a lock is one after the undo
-gone_still : (set : List TxId) (locks : Locks) (ws : List StandingUpdate) → AreHeld set locks ws → (r : ℕ × Option ValueType) → is_locked_or_live locks r ≡ false → is_locked_or_live (release set locks) (undone set ws r) ≡ false
+gone_still : (set : List TxId) (locks : Locks) (ws : List StandingUpdate) → AreHeld set locks ws → (r : ℕ × Option ValueType) → is_locked_or_live locks r ≡ false → is_locked_or_live (release set locks) (record_without set ws r) ≡ false
 gone_still set locks ws a r h = at r.1 h
   where
-    at : (v : Option ValueType) → is_locked_or_live locks (r.0, v) ≡ false → is_locked_or_live (release set locks) (r.0, unwrap_or (value_before set r.0 ws) v) ≡ false
+    at : (v : Option ValueType) → is_locked_or_live locks (r.0, v) ≡ false → is_locked_or_live (release set locks) (r.0, cond (is_written_by set r.0 ws) (fold_at r.0 None (writes_outside set ws)) v) ≡ false
     at (Some v) h = absurd (both_ways _ h refl)
-    at None h = by (value_before set r.0 ws) refl
+    at None h = when (is_written_by set r.0 ws) refl
       where
         free : is_held_at r.0 locks ≡ false
         free = sym (twice (is_held_at r.0 locks)) ∙ h
 
-        by : (o : Option (Option ValueType)) → value_before set r.0 ws ≡ o → is_locked_or_live (release set locks) (r.0, unwrap_or o None) ≡ false
-        by None e = false_from_ne_true _ (λ s. both_ways _ free (release_held set r.0 locks (sym (twice (is_held_at r.0 (release set locks))) ∙ s)))
-        by (Some v) e = absurd (both_ways _ free (before_held set r.0 locks ws a v e))
+        when : (b : Bool) → is_written_by set r.0 ws ≡ b → is_locked_or_live (release set locks) (r.0, cond b (fold_at r.0 None (writes_outside set ws)) None) ≡ false
+        when false e = false_from_ne_true _ (λ s. both_ways _ free (release_held set r.0 locks (sym (twice (is_held_at r.0 (release set locks))) ∙ s)))
+        when true e = absurd (both_ways _ free (written_held set r.0 locks ws a e))
 
 undo_purged : (set : List TxId) (locks : Locks) (ws : List StandingUpdate) → AreHeld set locks ws → (rs : Records)
     → without_ghosts (release set locks) (records_without set ws (without_ghosts locks rs)) ≡ without_ghosts (release set locks) (records_without set ws rs)
@@ -135,9 +127,9 @@ undo_purged set locks ws a (r ∷ rs) = at (is_locked_or_live locks r) refl (und
     few = release set locks
 
     at : (b : Bool) → is_locked_or_live locks r ≡ b → without_ghosts (release set locks) (records_without set ws (without_ghosts locks rs)) ≡ without_ghosts (release set locks) (records_without set ws rs)
-        → without_ghosts (release set locks) (records_without set ws (cond b (r ∷ without_ghosts locks rs) (without_ghosts locks rs))) ≡ without_ghosts (release set locks) (undone set ws r ∷ records_without set ws rs)
-    at true e more = ap (λ l. cond (is_locked_or_live (release set locks) (undone set ws r)) (undone set ws r ∷ l) l) more
-    at false e more = more ∙ sym (cond-false (is_locked_or_live (release set locks) (undone set ws r)) (undone set ws r ∷ without_ghosts (release set locks) (records_without set ws rs)) (without_ghosts (release set locks) (records_without set ws rs)) (gone_still set locks ws a r e))
+        → without_ghosts (release set locks) (records_without set ws (cond b (r ∷ without_ghosts locks rs) (without_ghosts locks rs))) ≡ without_ghosts (release set locks) (record_without set ws r ∷ records_without set ws rs)
+    at true e more = ap (λ l. cond (is_locked_or_live (release set locks) (record_without set ws r)) (record_without set ws r ∷ l) l) more
+    at false e more = more ∙ sym (cond-false (is_locked_or_live (release set locks) (record_without set ws r)) (record_without set ws r ∷ without_ghosts (release set locks) (records_without set ws rs)) (without_ghosts (release set locks) (records_without set ws rs)) (gone_still set locks ws a r e))
 
 alike_undone : (set : List TxId) (locks : Locks) (ws : List StandingUpdate) (rs qs : Records) → AreHeld set locks ws → Alike locks rs qs → Alike (release set locks) (records_without set ws rs) (records_without set ws qs)
 alike_undone set locks ws rs qs a h = sym (undo_purged set locks ws a rs) ∙ ap (λ l. without_ghosts (release set locks) (records_without set ws l)) h ∙ undo_purged set locks ws a qs

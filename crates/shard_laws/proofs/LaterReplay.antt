@@ -201,7 +201,7 @@ module _ (shard run : ℕ) (before : List LogRecord) (may : MayServe shard run b
       ∙ sym (keys_top (filter (of_kept pick) (filter (of_kept (is_winner shard before)) (standing before))) (filter (of_kept pick) (pile (found_items shard before) base)) q
       (keys_filter (of_kept pick) (filter (of_kept (is_winner shard before)) (standing before)) (pile (found_items shard before) base) (split_start shard run before may)))
       ∙ ap (top_value q) (filter_within pick (is_winner shard before) (standing before) picked_wins)
-      ∙ sym (fold_values pick 0 before [] [] q (whole_log pick before undone_unpicked) refl))
+      ∙ sym (fold_values pick 0 before [] [] q (whole_log pick before undone_unpicked) (λ j. refl)))
 
   -- ---- with all that was answered
 

@@ -1,7 +1,6 @@
 -- Histories of one shard alone, with restarts; its members; and what is to be shown of them.
 use Rattle.std.specs.Prelude.{◌⊎◌, ◌≡◌, ⊤, ℕ, ◌+◌, ◌≤◌, ◌<◌, ◌&&◌, Bool, true, false, ◌||◌, not, List, [], ◌∷◌, ◌++◌, map, take, length, Option, Some, None, cond, zero, suc}
 use Rattle.std.specs.List.{list_any, list_all, filter}
-use Rattle.clv_base.specs.declared.values.Value.{Value as ValueType}
 use Rattle.clv_base.specs.declared.names.TxId.{TxId}
 use Rattle.clv_base.specs.declared.names.Birth.{Birth}
 use Rattle.clv_base.specs.declared.state.Stage.{Stage}
@@ -10,9 +9,11 @@ use Rattle.clv_base.specs.declared.state.Held.{Held}
 use Rattle.clv_base.specs.declared.logs.LogRecord.{LogRecord}
 use Rattle.clv_base.specs.declared.logs.LogRecord.TheVariants.{Prepare as PrepareRecord}
 use Rattle.clv_base.specs.declared.ops.Op.{Op}
-use Rattle.clv_base.specs.declared.ops.Op.TheVariants.{Put, Del}
+use Rattle.clv_base.specs.declared.ops.Op.TheVariants.{Put, Del, Add}
 use Rattle.clv_base.specs.declared.ops.Answer.{Answer}
-use Rattle.clv_base.specs.declared.ops.Answer.TheVariants.{Value}
+use Rattle.clv_base.specs.declared.ops.Answer.TheVariants.{Value, Added}
+use Rattle.clv_base.specs.declared.changes.Change.{Change}
+use Rattle.clv_base.specs.declared.changes.Change.TheVariants.{Sets, Adds}
 use Rattle.clv_base.specs.declared.events.Event.{Event}
 use Rattle.clv_base.specs.declared.events.Event.TheVariants.{Op as OpEvent, Request as RequestEvent, Look, Drop, Deliver, FlushIn, Restart as RestartEvent}
 use Rattle.clv_base.specs.declared.events.Outcome.{Outcome}
@@ -155,13 +156,18 @@ is_doomed None = false
 
 -- ---- what a log leaves in doubt, as transactions that acted before
 
--- an UPDATE as the operation that it logs, with its answer
-abbrev pub found_op : ℕ → Option ValueType → Op
-found_op k None = Del k
-found_op k (Some v) = Put k v
+-- an UPDATE or ADD as the operation that it logs, with its answer
+abbrev pub found_op : ℕ → Change → Op
+found_op k (Sets before None) = Del k
+found_op k (Sets before (Some v)) = Put k v
+found_op k (Adds by) = Add k by
+
+abbrev pub found_told : Change → Answer
+found_told (Sets before after) = Value before
+found_told (Adds by) = Added true
 
 abbrev pub found_item : StandingUpdate → Item
-found_item w = record { tx = w.tx; op = found_op w.key w.after; answer = Value w.before; lsn = w.lsn }
+found_item w = record { tx = w.tx; op = found_op w.key w.change; answer = found_told w.change; lsn = w.lsn }
 
 -- those of writes, which come the newest first, in the order of the log
 abbrev pub items_found : (TxId → Bool) → List StandingUpdate → List Item

@@ -4,7 +4,7 @@ use Rattle.std.proofs.lemmas.Bool.Decides.{nat_tests}
 use Rattle.std.specs.List.{common_prefix_len}
 use Rattle.std.proofs.lemmas.List.{at_drop_more}
 use Rattle.clv_base.specs.declared.logs.LogRecord.{LogRecord}
-use Rattle.clv_base.specs.declared.logs.LogRecord.TheVariants.{Restart}
+use Rattle.clv_base.specs.declared.logs.LogRecord.TheVariants.{Restart, Add, Unadd}
 use Rattle.clv_base.specs.Values.{same_list}
 use Rattle.clv_base.specs.LogRules.{same_record}
 use Rattle.clv_base.specs.Restarts.{restarts_up}

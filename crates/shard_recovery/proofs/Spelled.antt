@@ -3,7 +3,7 @@ use Rattle.std.proofs.Common.{◌≡◌, ℕ, ◌-◌, ◌^◌, ◌≤◌, true,
 use Rattle.std.proofs.lemmas.Bool.{and_from}
 use Rattle.std.specs.List.{list_all, filter}
 use Rattle.clv_base.specs.declared.logs.LogRecord.{LogRecord}
-use Rattle.clv_base.specs.declared.logs.LogRecord.TheVariants.{Abort, Restart}
+use Rattle.clv_base.specs.declared.logs.LogRecord.TheVariants.{Abort, Restart, Add, Unadd}
 use Rattle.clv_base.specs.Logs.{standing, writers, aborted_in, is_winner}
 use Rattle.clv_base.specs.FileRules.{has_spelling, tx_has_spelling}
 use Rattle.clv_base.specs.Undo.{clrs_of}

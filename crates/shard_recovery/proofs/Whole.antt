@@ -3,7 +3,7 @@ use Rattle.std.proofs.Common.{◌≡◌, ℕ, ◌≤◌, Bool, true, false, cond
 use Rattle.std.specs.List.{filter}
 use Rattle.clv_base.specs.declared.names.TxId.{TxId}
 use Rattle.clv_base.specs.declared.logs.LogRecord.{LogRecord}
-use Rattle.clv_base.specs.declared.logs.LogRecord.TheVariants.{Abort, Restart}
+use Rattle.clv_base.specs.declared.logs.LogRecord.TheVariants.{Abort, Restart, Add, Unadd}
 use Rattle.clv_base.specs.Orders.{Table}
 use Rattle.clv_base.specs.Logs.{StandingUpdate, standing, aborted_in}
 use Rattle.clv_base.specs.Undo.{clrs_of}

@@ -1,5 +1,5 @@
 -- Each ghost bears a lock, whatever was done, and a purge leaves what a part did.
-use Rattle.std.proofs.Common.{◌≡◌, ℕ, Bool, true, false, cond, not, ◌&&◌, ◌==◌, List, [], ◌∷◌, unwrap_or, Option, Some, None, refl, sym, ap, subst, ◌∙◌, ⊎_elim, eqb-true}
+use Rattle.std.proofs.Common.{◌≡◌, ℕ, Bool, true, false, cond, not, ◌&&◌, ◌==◌, List, [], ◌∷◌, Option, Some, None, refl, sym, ap, subst, ◌∙◌, ⊎_elim, eqb-true}
 use Rattle.std.proofs.lemmas.Bool.{both_ways, not-false, and_from, and_parts, or_cases}
 use Rattle.std.specs.List.{AllByRecursion}
 use Rattle.std.specs.declared.cmp.Ordering.{Ordering}
@@ -12,11 +12,11 @@ use Rattle.clv_base.specs.declared.modes.Anchor.TheVariants.{At}
 use Rattle.clv_base.specs.declared.modes.Part.TheVariants.{N}
 use Rattle.clv_base.specs.declared.modes.Need.{Need}
 use Rattle.clv_base.specs.Orders.{tx_in, anchor_same}
-use Rattle.clv_base.specs.Logs.{StandingUpdate, standing}
+use Rattle.clv_base.specs.Logs.{StandingUpdate, standing, fold_at}
 use Rattle.clv_base.specs.Locks.{Locks}
 use Rattle.clv_base.specs.Needs.{Records, found_by, is_there, record_set, is_locked_or_live}
 use Rattle.clv_base.specs.State.{Local}
-use Rattle.clv_base.specs.Undo.{value_before, records_without}
+use Rattle.clv_base.specs.Undo.{is_written_by, writes_outside, records_without}
 use Rattle.clv_base.specs.OneShard.{purge}
 use Rattle.clv_base.proofs.SameNames.{or_left, or_right, tx_self, nat_cmp_true}
 use Rattle.law_base.proofs.Anchors.{record_kept}
@@ -89,29 +89,24 @@ module _ (tx : TxId) (birth : Birth) (needs : List Need) (insert : Option Insert
 
 -- ---- what is undone
 
--- a key of which a value before was found is one that the set wrote
-before_held : (set : List TxId) (k : ℕ) (locks : Locks) (ws : List StandingUpdate) → AllByRecursion (λ (w : StandingUpdate). tx_in w.tx set ≡ true → is_held_at w.key locks ≡ true) ws
-    → (v : Option ValueType) → value_before set k ws ≡ Some v → is_held_at k locks ≡ true
-before_held set k locks [] a v e = absurd cc
-before_held set k locks (w ∷ ws) a v e = at (value_before set k ws) e (before_held set k locks ws a.1)
-  where
-    here : (b : Bool) → (tx_in w.tx set && (k == w.key)) ≡ b → cond b (Some w.before) None ≡ Some v → is_held_at k locks ≡ true
-    here true t e = let p = and_parts (tx_in w.tx set) (k == w.key) t in subst (λ j. is_held_at j locks ≡ true) (sym (eqb-true k w.key p.1)) (a.0 p.0)
-    here false t e = absurd cc
-
-    at : (o : Option (Option ValueType)) → elim o [ Some b ↦ Some b | None ↦ cond (tx_in w.tx set && (k == w.key)) (Some w.before) None ] ≡ Some v
-        → ((u : Option ValueType) → o ≡ Some u → is_held_at k locks ≡ true) → is_held_at k locks ≡ true
-    at (Some b) e more = more b refl
-    at None e more = here (tx_in w.tx set && (k == w.key)) refl e
+-- a key that the set wrote is held
+written_held : (set : List TxId) (k : ℕ) (locks : Locks) (ws : List StandingUpdate) → AllByRecursion (λ (w : StandingUpdate). tx_in w.tx set ≡ true → is_held_at w.key locks ≡ true) ws
+    → is_written_by set k ws ≡ true → is_held_at k locks ≡ true
+written_held set k locks [] a e = absurd (both_ways false refl e)
+written_held set k locks (w ∷ ws) a e =
+    ⊎_elim
+    (λ t. let p = and_parts (tx_in w.tx set) (k == w.key) t in subst (λ j. is_held_at j locks ≡ true) (sym (eqb-true k w.key p.1)) (a.0 p.0))
+    (λ t. written_held set k locks ws a.1 t)
+    (or_cases (tx_in w.tx set && (k == w.key)) (is_written_by set k ws) e)
 
 undone_all : (set : List TxId) (ws : List StandingUpdate) (locks : Locks) (rs : Records) → AllByRecursion (λ (w : StandingUpdate). tx_in w.tx set ≡ true → is_held_at w.key locks ≡ true) ws
     → AllStay locks rs → AllStay locks (records_without set ws rs)
 undone_all set ws locks [] held a = tt
-undone_all set ws locks (r ∷ rs) held a = (at (value_before set r.0 ws) (before_held set r.0 locks ws held), undone_all set ws locks rs held a.1)
+undone_all set ws locks (r ∷ rs) held a = (at (is_written_by set r.0 ws) (written_held set r.0 locks ws held), undone_all set ws locks rs held a.1)
   where
-    at : (o : Option (Option ValueType)) → ((v : Option ValueType) → o ≡ Some v → is_held_at r.0 locks ≡ true) → is_locked_or_live locks (r.0, unwrap_or o r.1) ≡ true
-    at None h = a.0
-    at (Some v) h = held_stays locks r.0 (h v refl) v
+    at : (b : Bool) → (b ≡ true → is_held_at r.0 locks ≡ true) → is_locked_or_live locks (r.0, cond b (fold_at r.0 None (writes_outside set ws)) r.1) ≡ true
+    at false h = a.0
+    at true h = held_stays locks r.0 (h refl) (fold_at r.0 None (writes_outside set ws))
 
 -- an undo of parts that are here leaves ghosts alone that their locks are on
 pub undone_ghosts_are_locked : (set : List TxId) (l : Local) (spare : ℕ) → IsSound l spare → ((t : TxId) → tx_in t set ≡ true → is_here l t ≡ true)

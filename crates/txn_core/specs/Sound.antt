@@ -3,7 +3,7 @@ use Rattle.std.specs.Prelude.{◌≡◌, ℕ, ◌+◌, ◌≤◌, ◌⊎◌, min
 use Rattle.std.specs.List.{AllByRecursion, filter, list_any}
 use Rattle.clv_base.specs.declared.names.TxId.{TxId}
 use Rattle.clv_base.specs.declared.logs.LogRecord.{LogRecord}
-use Rattle.clv_base.specs.declared.logs.LogRecord.TheVariants.{Update}
+use Rattle.clv_base.specs.declared.logs.LogRecord.TheVariants.{Update, Add, Unadd}
 use Rattle.clv_base.specs.declared.modes.Anchor.TheVariants.{At}
 use Rattle.clv_base.specs.declared.modes.Need.{Need}
 use Rattle.clv_base.specs.declared.state.Stage.{Stage}
@@ -41,6 +41,7 @@ IsHeld l w = is_here l w.tx ≡ true → (is_there (found_at w.key l.records) �
 -- whether a record is an UPDATE of a transaction that passes
 abbrev pub is_update_by : (TxId → Bool) → LogRecord → Bool
 is_update_by test (Update tx key before after) = test tx
+is_update_by test (Add tx key by) = test tx
 is_update_by test _ = false
 
 -- how many UPDATEs of such transactions the log has
@@ -51,6 +52,7 @@ updates_by test log = length (filter (is_update_by test) log)
 abbrev pub writers : List LogRecord → List TxId
 writers [] = []
 writers (Update tx key before after ∷ rs) = cond (wrote_in rs tx) (writers rs) (tx ∷ writers rs)
+writers (Add tx key by ∷ rs) = cond (wrote_in rs tx) (writers rs) (tx ∷ writers rs)
 writers (_ ∷ rs) = writers rs
 
 -- how many such transactions have an UPDATE in the log

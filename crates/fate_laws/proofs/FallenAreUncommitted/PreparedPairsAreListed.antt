@@ -7,10 +7,11 @@ use Rattle.clv_base.specs.declared.names.Birth.{Birth}
 use Rattle.clv_base.specs.declared.ops.Op.{Op}
 use Rattle.clv_base.specs.declared.ops.Op.TheVariants.{Get, Put, Del, Scan}
 use Rattle.clv_base.specs.declared.logs.LogRecord.{LogRecord}
-use Rattle.clv_base.specs.declared.logs.LogRecord.TheVariants.{Update, Prepare, Commit}
+use Rattle.clv_base.specs.declared.logs.LogRecord.TheVariants.{Update, Prepare, Commit, Add, Unadd}
 use Rattle.clv_base.specs.declared.state.Held.{Held}
 use Rattle.clv_base.specs.declared.state.Stage.TheVariants.{Active, Closed}
 use Rattle.clv_base.specs.Orders.{Table, tx_same, tx_in, tx_get, pair_insert}
+use Rattle.clv_base.specs.declared.changes.Change.{Change}
 use Rattle.clv_base.specs.Logs.{committed_in, prepared_in, wrote_in, prepare_of}
 use Rattle.clv_base.specs.Locks.{violated, take_all, release, close_locks}
 use Rattle.clv_base.specs.Needs.{needs_of, writes_of, value_at, key_of, inserts, found_at, Records}
@@ -96,7 +97,7 @@ new_pair tx (q ∷ qs) pairs t p e =
     ⊎_elim (λ a. ⊎_elim (λ b. inl b) (λ b. let c = and_parts (tx_same t tx) (tx_same p q) b in inr (or_left (tx_same q p) (tx_in p qs) (tx_flip p q c.1))) (insert_from pairs (tx, q) t p a))
     (λ a. inr (or_right (tx_same q p) (tx_in p qs) a)) (new_pair tx qs (pair_insert (tx, q) pairs) t p e)
 
-inserting : (op : Op) (rs : Records) (b : Option ValueType) (k : ℕ) → inserts op (found_at (key_of op) rs) ≡ Some k → (w : ℕ × Option ValueType × Option ValueType) × (writes_of op b ≡ Some w)
+inserting : (op : Op) (rs : Records) (b : Option ValueType) (k : ℕ) → inserts op (found_at (key_of op) rs) ≡ Some k → (w : ℕ × Change) × (writes_of op b ≡ Some w)
 inserting (Put j v) rs b k e = ((j, b, Some v), refl)
 inserting (Get j) rs b k e = absurd (none_some k e)
 inserting (Del j) rs b k e = absurd (none_some k e)
@@ -142,16 +143,16 @@ lined_performed l tx birth op P rows closed st u p = by_write (writes_of op (val
     is_met t q o i e =
         ⊎_elim (λ k. p.met t q o k e) (λ k. absurd (both_ways _ u (subst (λ z. prepared_in l.log z ≡ true) k (prepared_there l.log t o e)))) (add_from tx (violated tx (needs_of op l.records) l.locks) l.pairs t q i)
 
-    locks_by : (log : List LogRecord) → ((t : TxId) → wrote_in l.log t ≡ true → wrote_in log t ≡ true) → ((w : ℕ × Option ValueType × Option ValueType) → writes_of op (value_at (key_of op) l.records) ≡ Some w → wrote_in log tx ≡ true)
+    locks_by : (log : List LogRecord) → ((t : TxId) → wrote_in l.log t ≡ true → wrote_in log t ≡ true) → ((w : ℕ × Change) → writes_of op (value_at (key_of op) l.records) ≡ Some w → wrote_in log tx ≡ true)
         → Writers (λ t. wrote_in log t ≡ true) (locked tx birth op l).locks
     locks_by log more mine =
         writers_insert (λ t. wrote_in log t ≡ true) tx birth l.records (inserts op (found_at (key_of op) l.records)) (take_all tx birth (needs_of op l.records) l.locks) (λ k e. insert_writes log mine k e)
         (writers_all (λ t. wrote_in log t ≡ true) tx birth (needs_of op l.records) l.locks (needs_write (λ t. wrote_in log t ≡ true) tx op l.records mine) (writers_more (λ t. wrote_in l.log t ≡ true) (λ t. wrote_in log t ≡ true) more l.locks p.writers))
       where
-        insert_writes : (log : List LogRecord) → ((w : ℕ × Option ValueType × Option ValueType) → writes_of op (value_at (key_of op) l.records) ≡ Some w → wrote_in log tx ≡ true) → (k : ℕ) → inserts op (found_at (key_of op) l.records) ≡ Some k → wrote_in log tx ≡ true
+        insert_writes : (log : List LogRecord) → ((w : ℕ × Change) → writes_of op (value_at (key_of op) l.records) ≡ Some w → wrote_in log tx ≡ true) → (k : ℕ) → inserts op (found_at (key_of op) l.records) ≡ Some k → wrote_in log tx ≡ true
         insert_writes log mine k e = let w = inserting op l.records (value_at (key_of op) l.records) k e in mine w.0 w.1
 
-    by_write : (w : Option (ℕ × Option ValueType × Option ValueType)) → writes_of op (value_at (key_of op) l.records) ≡ w → Lined (written tx w (locked tx birth op l))
+    by_write : (w : Option (ℕ × Change)) → writes_of op (value_at (key_of op) l.records) ≡ w → Lined (written tx w (locked tx birth op l))
     by_write None e = record {
       writers = locks_by l.log (λ t k. k) (λ w f. absurd (none_some w (sym e ∙ f)));
       decided = λ t c w. p.decided t (was_closed t c).1 w;

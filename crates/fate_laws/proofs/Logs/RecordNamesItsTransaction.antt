@@ -4,7 +4,7 @@ use Rattle.std.specs.List.{list_any}
 use Rattle.std.proofs.lemmas.Bool.{both_ways, or_cases, or_left, or_right}
 use Rattle.clv_base.specs.declared.names.TxId.{TxId}
 use Rattle.clv_base.specs.declared.logs.LogRecord.{LogRecord}
-use Rattle.clv_base.specs.declared.logs.LogRecord.TheVariants.{Update, Prepare, Commit}
+use Rattle.clv_base.specs.declared.logs.LogRecord.TheVariants.{Update, Prepare, Commit, Add, Unadd}
 use Rattle.clv_base.specs.Logs.{is_record_of, is_update_of, is_prepare_of, is_commit_of, wrote_in, prepared_in, committed_in}
 
 any_more : (f g : LogRecord → Bool) (log : List LogRecord) → ((r : LogRecord) → f r ≡ true → g r ≡ true) → list_any f log ≡ true → list_any g log ≡ true

@@ -11,7 +11,7 @@ use Rattle.clv_base.specs.declared.ops.Answer.{Answer}
 use Rattle.clv_base.specs.declared.causes.AbortCause.{AbortCause}
 use Rattle.clv_base.specs.declared.causes.Vote.TheVariants.{Yes, Read, No}
 use Rattle.clv_base.specs.declared.logs.LogRecord.{LogRecord}
-use Rattle.clv_base.specs.declared.logs.LogRecord.TheVariants.{Update, Prepare as PrepareRecord, Commit, End}
+use Rattle.clv_base.specs.declared.logs.LogRecord.TheVariants.{Update, Prepare as PrepareRecord, Commit, End, Add, Unadd}
 use Rattle.clv_base.specs.declared.state.Held.{Held}
 use Rattle.clv_base.specs.declared.state.Request.{Request}
 use Rattle.clv_base.specs.declared.state.Stage.{Stage}
@@ -21,6 +21,7 @@ use Rattle.clv_base.specs.declared.events.Event.{Event}
 use Rattle.clv_base.specs.declared.events.Event.TheVariants.{Op as OpEvent}
 use Rattle.clv_base.specs.declared.events.Outcome.{Outcome}
 use Rattle.clv_base.specs.Orders.{Table, tx_same, tx_in, tx_get}
+use Rattle.clv_base.specs.declared.changes.Change.{Change}
 use Rattle.clv_base.specs.Logs.{wrote_in, prepared_in, committed_in, standing, in_doubt}
 use Rattle.clv_base.specs.Needs.{writes_of, value_at, key_of}
 use Rattle.clv_base.specs.State.{Shard, Local, is_present}
@@ -160,7 +161,7 @@ quiet_closed l u t home one a k =
     quiet_more l (close_part u home one l) (closing (wrote_in l.log u) one u home (undecided_of l u)) t refl (foreign_closing t u home (wrote_in l.log u) one (undecided_of l u) (tx_ne t u n))
     (subst IsOut (sym (closed_other l.parts u t (tx_ne u t (λ e. n (sym e))))) k.out) k
 
-quiet_written : (l : Local) (u t : TxId) (w : Option (ℕ × Option ValueType × Option ValueType)) → tx_same t u ≡ false → Quiet l t → Quiet (written u w l) t
+quiet_written : (l : Local) (u t : TxId) (w : Option (ℕ × Change)) → tx_same t u ≡ false → Quiet l t → Quiet (written u w l) t
 quiet_written l u t None n k = k
 quiet_written l u t (Some w) n k = quiet_more l (written u (Some w) l) (Update u w.0 w.1 w.2 ∷ []) t refl (foreign_update t u w.0 w.1 w.2 n) k.out k
 

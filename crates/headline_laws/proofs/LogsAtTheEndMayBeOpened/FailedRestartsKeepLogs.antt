@@ -6,7 +6,7 @@ use Rattle.std.proofs.lemmas.Bool.{both_ways, false_from_ne_true, or_left}
 use Rattle.std.proofs.lemmas.List.Folds.{list_any-append}
 use Rattle.clv_base.specs.declared.names.TxId.{TxId}
 use Rattle.clv_base.specs.declared.logs.LogRecord.{LogRecord}
-use Rattle.clv_base.specs.declared.logs.LogRecord.TheVariants.{Update, Commit, End}
+use Rattle.clv_base.specs.declared.logs.LogRecord.TheVariants.{Update, Commit, End, Add, Unadd}
 use Rattle.clv_base.specs.Orders.{tx_in}
 use Rattle.clv_base.specs.State.{Shard}
 use Rattle.clv_base.specs.Logs.{is_update_of, is_commit_of, is_end_of, is_abort_of, wrote_in, committed_in, ended_in, aborted_in, in_doubt}

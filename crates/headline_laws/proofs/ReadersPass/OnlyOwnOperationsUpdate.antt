@@ -11,12 +11,13 @@ use Rattle.clv_base.specs.declared.ops.Answer.{Answer}
 use Rattle.clv_base.specs.declared.causes.AbortCause.{AbortCause}
 use Rattle.clv_base.specs.declared.causes.Vote.TheVariants.{Yes, Read, No}
 use Rattle.clv_base.specs.declared.logs.LogRecord.{LogRecord}
-use Rattle.clv_base.specs.declared.logs.LogRecord.TheVariants.{Update, Commit, Abort, End, Restart}
+use Rattle.clv_base.specs.declared.logs.LogRecord.TheVariants.{Update, Commit, Abort, End, Restart, Add, Unadd}
 use Rattle.clv_base.specs.declared.events.Event.{Event}
 use Rattle.clv_base.specs.declared.events.Event.TheVariants.{Op as OpEvent}
 use Rattle.clv_base.specs.declared.events.Outcome.{Outcome}
 use Rattle.clv_base.specs.declared.state.Ruling.TheVariants.{Commit as CommitVerdict, Acknowledge, Abort as AbortVerdict, End as EndVerdict}
 use Rattle.clv_base.specs.Orders.{tx_same}
+use Rattle.clv_base.specs.declared.changes.Change.{Change}
 use Rattle.clv_base.specs.Logs.{wrote_in, aborted_in, is_update_of, standing}
 use Rattle.clv_base.specs.State.{Shard, Local, is_present}
 use Rattle.clv_base.specs.Undo.{stage_of, aborts_of, clrs_of, doomed_here, roll_back}
@@ -56,7 +57,7 @@ plain_more xs ys a t h = ⊎_elim (λ x. x) (λ x. absurd (both_ways _ (unwritte
 rolled : (tx : TxId) (l : Local) → NoMoreUpdates l.log (roll_back tx l).log
 rolled tx l t h =
     plain_more l.log (aborts_of l.log (doomed_here l tx)) (all_map IsNoUpdate (λ u. Abort u) (filter (wrote_in l.log) (doomed_here l tx)) (λ u t. refl)) t
-    (plain_more (l.log ++ aborts_of l.log (doomed_here l tx)) (clrs_of (doomed_here l tx) (standing l.log)) (all_clrs IsNoUpdate (λ w n t. refl) (doomed_here l tx) (standing l.log)) t h)
+    (plain_more (l.log ++ aborts_of l.log (doomed_here l tx)) (clrs_of (doomed_here l tx) (standing l.log)) (all_clrs IsNoUpdate (λ t n k v u. refl) (λ t n k by u. refl) (doomed_here l tx) (standing l.log)) t h)
 
 rolled_if : (b : Bool) (tx : TxId) (l : Local) → NoMoreUpdates l.log (rolled_back_if b tx l).log
 rolled_if true tx l = rolled tx l
@@ -92,7 +93,7 @@ died_updates : (l m : Local) (u : TxId) (birth : Birth) (seen : Option ℕ) (op 
 died_updates l _ u birth seen op c dies = λ t h. h
 died_updates l _ u birth seen op c rolls = rolled u l
 
-written_updates : (u t : TxId) (w : Option (ℕ × Option ValueType × Option ValueType)) (l : Local) → (u ≡ t → ⊥) → wrote_in (written u w l).log t ≡ true → wrote_in l.log t ≡ true
+written_updates : (u t : TxId) (w : Option (ℕ × Change)) (l : Local) → (u ≡ t → ⊥) → wrote_in (written u w l).log t ≡ true → wrote_in l.log t ≡ true
 written_updates u t None l n h = h
 written_updates u t (Some w) l n h =
     ⊎_elim (λ x. x) (λ x. absurd (⊎_elim (λ e. n (sym (tx_true t u e))) (λ e. both_ways false refl e) (or_cases (tx_same t u) false x)))
@@ -119,7 +120,7 @@ step_updates s _ t _ n h = h
 restart_have : (shard : ℕ) (log : List LogRecord) (run epoch : ℕ) → AllByRecursion IsNoUpdate (restart_records shard log run epoch)
 restart_have shard log run epoch =
     all_append _ (undo_records shard log) (Restart run epoch ∷ [])
-    (all_append _ _ _ (all_map IsNoUpdate (λ u. Abort u) (filter (λ t. not (aborted_in log t)) (losers shard log)) (λ u t. refl)) (all_clrs IsNoUpdate (λ w n t. refl) (losers shard log) (standing log))) ((λ t. refl), tt)
+    (all_append _ _ _ (all_map IsNoUpdate (λ u. Abort u) (filter (λ t. not (aborted_in log t)) (losers shard log)) (λ u t. refl)) (all_clrs IsNoUpdate (λ t n k v u. refl) (λ t n k by u. refl) (losers shard log) (standing log))) ((λ t. refl), tt)
 
 take_have : (n : ℕ) (xs : List LogRecord) → AllByRecursion IsNoUpdate xs → AllByRecursion IsNoUpdate (take n xs)
 take_have zero xs a = tt

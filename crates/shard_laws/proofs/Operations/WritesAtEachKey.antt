@@ -4,9 +4,10 @@ use Rattle.std.specs.List.{AllByRecursion, filter}
 use Rattle.std.proofs.lemmas.Bool.{cond_both, cond-true}
 use Rattle.clv_base.specs.declared.values.Value.{Value as ValueType}
 use Rattle.clv_base.specs.declared.names.TxId.{TxId}
-use Rattle.clv_base.specs.Logs.{StandingUpdate, newest_at}
+use Rattle.clv_base.specs.declared.changes.Change.{Change}
+use Rattle.clv_base.specs.Logs.{StandingUpdate, changed}
 use Rattle.law_base.specs.Items.{on_top}
-use Rattle.law_base.proofs.Running.{top_value, after_of}
+use Rattle.law_base.proofs.Running.{top_value}
 use Rattle.law_base.proofs.Lists.{filters_swap}
 
 -- the writes at a key
@@ -19,21 +20,21 @@ SameAtKeys ws vs = (q : ℕ) → key_writes q ws ≡ key_writes q vs
 pub keys_filter : (f : StandingUpdate → Bool) (ws vs : List StandingUpdate) → SameAtKeys ws vs → SameAtKeys (filter f ws) (filter f vs)
 keys_filter f ws vs e q = filters_swap (λ w. q == w.key) f ws ∙ ap (filter f) (e q) ∙ sym (filters_swap (λ w. q == w.key) f vs)
 
--- the newest write at a key is among those at the key
+-- the fold of a key is that of the writes at the key
 pub top_at : (q : ℕ) (ws : List StandingUpdate) → top_value q (key_writes q ws) ≡ top_value q ws
 top_at q [] = refl
 top_at q (w ∷ ws) = at (q == w.key) refl (top_at q ws)
   where
-    at : (b : Bool) → (q == w.key) ≡ b → top_value q (key_writes q ws) ≡ top_value q ws → top_value q (cond b (w ∷ key_writes q ws) (key_writes q ws)) ≡ after_of (cond b (Some w) (newest_at q ws))
-    at true e ih = ap after_of (cond-true (q == w.key) (Some w) (newest_at q (key_writes q ws)) e)
+    at : (b : Bool) → (q == w.key) ≡ b → top_value q (key_writes q ws) ≡ top_value q ws → top_value q (cond b (w ∷ key_writes q ws) (key_writes q ws)) ≡ cond b (changed w.change (top_value q ws)) (top_value q ws)
+    at true e ih = cond-true (q == w.key) (changed w.change (top_value q (key_writes q ws))) (top_value q (key_writes q ws)) e ∙ ap (changed w.change) ih
     at false e ih = ih
 
 pub keys_top : (ws vs : List StandingUpdate) (q : ℕ) → SameAtKeys ws vs → top_value q ws ≡ top_value q vs
 keys_top ws vs q e = sym (top_at q ws) ∙ ap (top_value q) (e q) ∙ top_at q vs
 
-pub keys_on_top : (tx : TxId) (lsn : ℕ) (w : Option (ℕ × Option ValueType × Option ValueType)) (ws vs : List StandingUpdate) → SameAtKeys ws vs → SameAtKeys (on_top tx lsn w ws) (on_top tx lsn w vs)
+pub keys_on_top : (tx : TxId) (lsn : ℕ) (w : Option (ℕ × Change)) (ws vs : List StandingUpdate) → SameAtKeys ws vs → SameAtKeys (on_top tx lsn w ws) (on_top tx lsn w vs)
 keys_on_top tx lsn None ws vs e q = e q
-keys_on_top tx lsn (Some w) ws vs e q = ap (λ l. cond (q == w.0) (record { lsn = lsn; tx = tx; key = w.0; before = w.1; after = w.2 } ∷ l) l) (e q)
+keys_on_top tx lsn (Some w) ws vs e q = ap (λ l. cond (q == w.0) (record { lsn = lsn; tx = tx; key = w.0; change = w.1 } ∷ l) l) (e q)
 
 -- what holds of each at each key holds of each
 all_at : (P : StandingUpdate → Type 0) (q : ℕ) (ws : List StandingUpdate) → AllByRecursion P ws → AllByRecursion P (key_writes q ws)

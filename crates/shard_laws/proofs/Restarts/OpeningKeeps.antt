@@ -9,7 +9,7 @@ use Rattle.std.proofs.Math.Bool.{or-false}
 use Rattle.std.proofs.lemmas.Option.{none-some}
 use Rattle.clv_base.specs.declared.names.TxId.{TxId}
 use Rattle.clv_base.specs.declared.logs.LogRecord.{LogRecord}
-use Rattle.clv_base.specs.declared.logs.LogRecord.TheVariants.{Abort, Restart}
+use Rattle.clv_base.specs.declared.logs.LogRecord.TheVariants.{Abort, Restart, Add, Unadd}
 use Rattle.clv_base.specs.declared.causes.Vote.{Vote}
 use Rattle.clv_base.specs.declared.causes.Vote.TheVariants.{Read}
 use Rattle.clv_base.specs.declared.state.Stage.TheVariants.{Active, Closed, Gone}
@@ -142,7 +142,7 @@ module _ (shard run : ℕ) (before : List LogRecord) (may : MayServe shard run b
   map_is = fold_alike (committed_somewhere (before ∷ [])) (committed_in before) before [] (λ t. or-false (committed_in before t))
 
   pub start_value : (k : ℕ) → map_get k (stands (before ∷ [])) ≡ top_value k (filter (of_kept (committed_in before)) (standing before))
-  start_value k = ap (map_get k) map_is ∙ fold_values (committed_in before) 0 before [] [] k (whole_log (committed_in before) before (λ t u. undone_open shard before t order u)) refl
+  start_value k = ap (map_get k) map_is ∙ fold_values (committed_in before) 0 before [] [] k (whole_log (committed_in before) before (λ t u. undone_open shard before t order u)) (λ j. refl)
 
   base_done : (ws : List StandingUpdate) → AllByRecursion (λ w. commit_durable Now (length Now) w.tx ≡ true) (filter (of_kept (committed_in before)) ws)
   base_done [] = tt

@@ -11,13 +11,14 @@ use Rattle.clv_base.specs.declared.names.TxId.{TxId}
 use Rattle.clv_base.specs.declared.causes.Vote.{Vote}
 use Rattle.clv_base.specs.declared.causes.Vote.TheVariants.{Read}
 use Rattle.clv_base.specs.declared.logs.LogRecord.{LogRecord}
-use Rattle.clv_base.specs.declared.logs.LogRecord.TheVariants.{Update}
+use Rattle.clv_base.specs.declared.logs.LogRecord.TheVariants.{Update, Add, Unadd}
 use Rattle.clv_base.specs.declared.state.Stage.{Stage}
 use Rattle.clv_base.specs.declared.state.Stage.TheVariants.{Active, Closed, Gone}
 use Rattle.clv_base.specs.declared.state.Request.{Request}
 use Rattle.clv_base.specs.declared.state.RequestState.TheVariants.{Undecided, Finished}
 use Rattle.clv_base.specs.declared.state.Voter.{Voter}
 use Rattle.clv_base.specs.Orders.{Table, tx_same, tx_in, tx_get}
+use Rattle.clv_base.specs.declared.changes.Change.{Change}
 use Rattle.clv_base.specs.Logs.{StandingUpdate, standing, committed_in, prepared_in, wrote_in, is_update_of, is_commit_of, in_doubt, is_winner, fold_updates, is_abort_of}
 use Rattle.clv_base.specs.Locks.{Locks}
 use Rattle.clv_base.specs.State.{Shard, is_present}
@@ -314,7 +315,7 @@ module _ (all : List Item) (g : Past) (s : Shard) (c epoch : ℕ) (log : List Lo
   kept_of P f [] a = tt
   kept_of P f (w ∷ ws) a = cond_both (f w.tx) (w ∷ filter (of_kept f) ws) (filter (of_kept f) ws) (AllByRecursion P) (λ e. (a.0, kept_of P f ws a.1)) (λ e. kept_of P f ws a.1)
 
-  key_is : (o : Option (ℕ × Option ValueType × Option ValueType)) (w : ℕ × Option ValueType × Option ValueType) (q : ℕ) → o ≡ Some w → is_write_at o q ≡ true → q ≡ w.0
+  key_is : (o : Option (ℕ × Change)) (w : ℕ × Change) (q : ℕ) → o ≡ Some w → is_write_at o q ≡ true → q ≡ w.0
   key_is o w q e i = eqb-true q w.0 (ap (λ z. is_write_at z q) (sym e) ∙ i)
 
   wrote_now : AllByRecursion (λ x. (q : ℕ) → writes x q ≡ true → (wins x.tx ≡ true) × (has_update log x.tx q ≡ true)) (filter (λ x. stays x.tx) g.items)

@@ -4,7 +4,7 @@ use Rattle.clv_base.specs.Undo.{records_without}
 use Rattle.ordered_store.proofs.Laws.{rises_from}
 use Rattle.cascade_undo.specs.Steps.{newest_in, AreBelow}
 use Rattle.cascade_undo.proofs.Newest.{below_end}
-use Rattle.cascade_undo.proofs.Stepping.{key_there, has_room, writes_step, records_step, there_step, below_step}
+use Rattle.cascade_undo.proofs.Stepping.{key_there, has_room, writes_step, records_step, may_step, below_step}
 use Rattle.cascade_undo.proofs.Growing.{advances_none, advances_more, log_at_last, records_at_last, length_at_last, room_at_last}
 use Rattle.cascade_undo.proofs.undoing.undo_writes.Goals as goal
 
@@ -13,14 +13,14 @@ loop-write-init g c = record {
   advances = advances_none c.args.set.now c.args.buffer.now;
   records = refl;
   below = subst (λ n. AreBelow c.args.set.now n (standing c.args.buffer.now.records)) (sym c.end-end.ensures.end) (below_end c.args.set.now c.args.buffer.now.records);
-  there = c.requires.there;
+  may = c.requires.may;
   room = c.requires.room;
   store_room = omega arith;
 }
 
 pub undo_write-requires-clause-there : goal.undo_write-requires-clause-there
 undo_write-requires-clause-there g c =
-    key_there c.args.set.now c.loop-write.buffer.records c.in-Some.write c.in-Some.ensures.newest (g.S.Store.records c.loop-write.store) c.loop-write.invariant.there
+    key_there c.args.set.now c.loop-write.buffer.records c.in-Some.write c.in-Some.ensures.newest (g.S.Store.records c.loop-write.store) c.loop-write.invariant.may.there
 
 pub undo_write-requires-clause-room : goal.undo_write-requires-clause-room
 undo_write-requires-clause-room g c =
@@ -38,14 +38,14 @@ loop-write-preserved g c =
     let set = c.args.set.now in let w = c.in-Some.write in let newest = c.in-Some.ensures.newest in
     let b = c.loop-write.buffer in let d = c.undo_write.new.buffer in let grown = c.undo_write.ensures.log in
     let rs = g.S.Store.records c.loop-write.store in let qs = g.S.Store.records c.undo_write.new.store in
-    let rises = rises_from rs (g.met.S.Store.rising c.loop-write.store) in let have = c.loop-write.invariant.there in
+    let rises = rises_from rs (g.met.S.Store.rising c.loop-write.store) in let may = c.loop-write.invariant.may in
     let one = writes_step set b.records w newest d.records grown in let most = c.loop-write.invariant.room in let less = c.undo_write.ensures.room in
     record {
       advances = advances_more set c.args.buffer.now b d w newest c.loop-write.invariant.advances grown c.undo_write.ensures.fronts less;
-      records = records_step set b.records w newest d.records grown rs qs rises have c.undo_write.ensures.records
+      records = records_step set b.records w newest d.records grown rs qs rises may c.undo_write.ensures.records
           (records_without c.args.set.now (standing c.args.buffer.now.records) (g.S.Store.records c.args.store.now)) c.loop-write.invariant.records;
       below = below_step set b.records w newest d.records grown;
-      there = there_step set b.records w newest d.records grown rs qs rises have c.undo_write.ensures.records;
+      may = may_step set b.records w newest d.records grown rs qs rises may c.undo_write.ensures.records;
       room = omega (arith, one, most, less);
       store_room = let first = c.loop-write.invariant.store_room in let next = c.undo_write.ensures.store_room in omega (arith, first, next);
     }

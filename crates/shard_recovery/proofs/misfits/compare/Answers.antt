@@ -1,6 +1,6 @@
 use Rattle.std.proofs.Common.{◌≡◌, suc, ◌+◌, ◌-◌, ◌&&◌, ◌==◌, nat_lt, ◌++◌, take, length, sym, ap, ◌∙◌}
 use Rattle.std.specs.List.{common_prefix_len, slice_range}
-use Rattle.clv_base.specs.declared.logs.LogRecord.TheVariants.{Restart}
+use Rattle.clv_base.specs.declared.logs.LogRecord.TheVariants.{Restart, Add, Unadd}
 use Rattle.clv_base.specs.LogRules.{same_record as same}
 use Rattle.clv_base.specs.Restarts.{greatest_epoch, undo_records, restarts_up}
 use Rattle.shard_recovery.proofs.MisfitWhole.{upto_is, whole_is, front_is}

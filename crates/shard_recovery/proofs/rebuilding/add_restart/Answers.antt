@@ -1,5 +1,5 @@
 use Rattle.std.proofs.Common.{rules, ◌≡◌, ◌++◌, ◌∷◌, []}
-use Rattle.clv_base.specs.declared.logs.LogRecord.TheVariants.{Restart}
+use Rattle.clv_base.specs.declared.logs.LogRecord.TheVariants.{Restart, Add, Unadd}
 use Rattle.shard_recovery.proofs.Whole.{log_whole_of_nobody}
 use Rattle.shard_recovery.proofs.rebuilding.add_restart.Goals as goal
 

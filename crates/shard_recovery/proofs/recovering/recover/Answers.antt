@@ -3,7 +3,7 @@ use Rattle.std.proofs.lemmas.Bool.Decides.{nat_tests}
 use Rattle.std.proofs.lemmas.List.{take_all}
 use Rattle.std.specs.List.{list_all}
 use Rattle.clv_base.specs.declared.logs.LogRecord.{LogRecord}
-use Rattle.clv_base.specs.declared.logs.LogRecord.TheVariants.{Restart}
+use Rattle.clv_base.specs.declared.logs.LogRecord.TheVariants.{Restart, Add, Unadd}
 use Rattle.clv_base.specs.FileRules.{has_spelling}
 use Rattle.clv_base.specs.Restarts.{log_after_restart}
 use Rattle.log_gate.specs.View.{Only}
