@@ -53,6 +53,7 @@ FILLED = {key: 1 for plan in PLANS for keys in plan for key in keys}
 FILLING = "\n".join(["session", "begin", *(f"put {key} {value}" for key, value in FILLED.items()), "commit", ""]).encode()
 SERVE = ("serve", "--sessions", str(SESSIONS))
 WORDS = {"begin": {"begin"}, "put": {"put"}, "commit": {"committed"}}
+MEMORY, ENDED = '[1,"memory"]', '[1,"refused","the session has ended"]'
 CAUSES = {"aborted", "down", "unsettled", "worn", "memory", "refused"}
 
 
@@ -125,6 +126,12 @@ class Trial:
         self.checks.check(f"{name}: the logs are as its calls left them", disks.read() == left, (disks.read(), left))
         self.judge_all(name, got, is_whole and got.status in (0, 6) and bool(got.out), disks.images())
         return got, trace
+
+    def told(self, script, **fault):
+        """One run of other lines."""
+        with Folder(self.program) as folder:
+            folder.put(self.start)
+            return self.library.run(folder, *SERVE, script=script, seconds=SECONDS, **fault)
 
     def bounded(self, name, limit, statuses):
         """One run with a bound of the system."""
@@ -217,6 +224,35 @@ def memory(trial, step):
             number += 1 if quiet else step
 
 
+# Lines of one session, each with what it may be answered while memory is wanting: a malformed text is told as that, whatever memory there is.
+NO_REQUEST, NO_TEXT = '[1,"refused","no request"]', '[1,"refused","no memory for the text"]'
+TEXTS = [
+    ("1 begin", {'[1,"begin",1]'}),
+    ("1 bytes 1 0g", {NO_REQUEST}),
+    ("1 bytes 1 00ff", {'[1,"put",1,"00ff",1]', NO_TEXT, MEMORY}),
+    ("1 bytes 1 00FF", {NO_REQUEST}),
+    ("1 bytes 1 000", {NO_REQUEST}),
+    ("1 bytes 1 -", {'[1,"put",1,"","00ff"]', '[1,"put",1,"",1]', NO_TEXT, MEMORY}),
+    ("1 commit", {'[1,"committed",1]', '[1,"empty",1]', MEMORY}),
+]
+
+
+def texts(trial, step):
+    """Each allocation finds no memory, while lines put texts and what is none."""
+    script = "".join(f"{line}\n" for line, _ in TEXTS).encode()
+    number, quiet, refused = 1, 0, 0
+    while quiet < QUIET:
+        got, trace = trial.told(script, alloc=f"{number}")
+        refused += NO_TEXT in got.out
+        has_ended = False
+        for (line, may), answer in zip(TEXTS, got.out.splitlines()):
+            trial.checks.check(f"allocation {number}, {line}", answer == ENDED if has_ended else answer in may, got)
+            has_ended = has_ended or answer == MEMORY
+        quiet = 0 if "alloc" in trace.faults else quiet + 1
+        number += 1 if quiet else step
+    trial.checks.check("some text found no memory", refused or step > 1, refused)
+
+
 def bounds(trial, step):
     for most in range(4 * MIB, 60 * MIB, 2 * MIB * step):
         # With less memory no program is loaded, which the system may tell by a status of its own.
@@ -237,6 +273,7 @@ def main():
             disks(trial, told.step)
             streams(trial)
             memory(trial, told.step)
+            texts(trial, told.step)
             bounds(trial, told.step)
             threads(trial)
     checks.end()

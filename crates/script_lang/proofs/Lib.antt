@@ -1,5 +1,6 @@
 pub mod Words
 pub mod Verbs
+pub mod Texts
 pub mod Meanings
 pub mod Steps
 pub mod Unique

@@ -81,9 +81,9 @@ HasOperands words (Move from to amount) = AreThree words from to amount × (from
 abbrev pub IsAction : List ℕ → Action → Type 0
 IsAction bytes action = (words : List ℕ) × (bytes ≡ name_of action ++ 32 ∷ words) × HasOperands words action
 
--- the words of a line that puts a text, whatever stands behind the verb
+-- a line that puts a text
 abbrev pub PutsText : List ℕ → Type 0
-PutsText bytes = (words : List ℕ) × (bytes ≡ codes "bytes" ++ 32 ∷ words)
+PutsText line = (k : ℕ) × (text : List ℕ) × IsAction line (Do (Put k (Bytes text)))
 
 abbrev pub IsEnding : List ℕ → Ending → Type 0
 IsEnding bytes Commit = bytes ≡ codes "commit"

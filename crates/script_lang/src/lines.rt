@@ -1,18 +1,20 @@
 // One line of a script.
 
 ghost use Rattle.std.specs.Prelude.{◌≡◌, ◌≢◌, ◌⊎◌, ◌↔◌, ◌≤◌, ℕ, [], ◌∷◌, ◌++◌, List, length, MatchOption, IfOk, OnErr, IsTrue, ◌<◌};
+ghost use Rattle.std.specs.Bool.{Decides};
+ghost use Rattle.std.specs.List.{list_all};
+ghost use Rattle.hex.specs.Hex.{is_hex_digit};
 ghost use Rattle.script_lang.specs.Bodies.{Action as AnAction, Ending as AnEnding};
 ghost use Rattle.clv_base.specs.declared.values.Value.{Value as ValueType};
 ghost use Rattle.script_lang.specs.declared.lines.Verb.{Verb as AVerb};
 ghost use Rattle.script_lang.specs.Reading.{Lacks, verb_text};
-ghost use Rattle.script_lang.specs.Grammar.{IsNumber, IsComment, AreTwo, AreThree, HasOperands, IsText, AreKeyAndText, PutsText, has_no_upper, IsAction, IsEnding, IsLine, name_of, is_ascii};
+ghost use Rattle.script_lang.specs.Grammar.{IsNumber, IsComment, AreTwo, AreThree, HasOperands, AreDigits, IsText, AreKeyAndText, PutsText, has_no_upper, IsAction, IsEnding, IsLine, name_of, is_ascii};
 
 use crate::actions::{Action, Ending};
 use clv_base::kept::KeptOp;
 use clv_base::ops::Op;
 use clv_base::texts::ByteText;
 use clv_base::values::Value;
-use hex::FromHexError;
 use std::alloc::{AllocError, Global};
 use std::str;
 
@@ -170,26 +172,44 @@ fn is_lower(word: &[u8]) -> bool
     word.iter().all(|b| *b < 65 || *b > 70)
 }
 
-// The text that a word spells: two digits a byte, or `-` for no byte.
+// Whether each byte is a digit.
+fn has_digits_alone(word: &[u8]) -> bool
+    ensures { result ≡ list_all is_hex_digit word.now }
+{
+    word.iter().all(|b| b.is_ascii_hexdigit())
+}
+
+// Whether a word is two digits a byte, of at most 200 bytes.
+fn are_digits(word: &[u8]) -> bool
+    ensures { Decides result ((bytes : List ℕ) × AreDigits word.now bytes) }
+{
+    if word.is_empty() || word.len() > 400 || word.len() % 2 != 0 {
+        return false;
+    }
+    is_lower(word) && has_digits_alone(word)
+}
+
+// The text that a word spells: two digits a byte, or `-` for no byte. Only a word that spells one takes memory.
 fn text_of(alloc: Global, word: &[u8]) -> Result<Option<ByteText>, AllocError>
-    ensures { IfOk result (λ found. MatchOption found ((bytes : List ℕ) → IsText word.now bytes → ⊥) (λ bytes. IsText word.now bytes)) }
+    ensures ok { IfOk result (λ found. MatchOption found ((bytes : List ℕ) → IsText word.now bytes → ⊥) (λ bytes. IsText word.now bytes)) }
+    ensures err { OnErr result ((bytes : List ℕ) × IsText word.now bytes) }
 {
     if word == b"-".as_slice() {
         return Ok(Some(ByteText::new(alloc, &[])?));
     }
-    if word.is_empty() || word.len() > 400 || !is_lower(word) {
+    if !are_digits(word) {
         return Ok(None);
     }
     match hex::decode(alloc, word) {
         Ok(bytes) => Ok(Some(ByteText::new(alloc, bytes.as_slice())?)),
-        Err(FromHexError::OutOfMemory) => Err(AllocError),
-        Err(_) => Ok(None),
+        Err(_) => Err(AllocError),
     }
 }
 
 // A key, and the text that is put under it.
 fn bytes_of(alloc: Global, words: &[u8]) -> Result<Option<Op>, AllocError>
-    ensures { IfOk result (λ found. MatchOption found ((k : ℕ) (bytes : List ℕ) → AreKeyAndText words.now k bytes → ⊥) (λ op. (k : ℕ) × (bytes : List ℕ) × (op ≡ Op.Put k (ValueType.Bytes bytes)) × AreKeyAndText words.now k bytes)) }
+    ensures ok { IfOk result (λ found. MatchOption found ((k : ℕ) (bytes : List ℕ) → AreKeyAndText words.now k bytes → ⊥) (λ op. (k : ℕ) × (bytes : List ℕ) × (op ≡ Op.Put k (ValueType.Bytes bytes)) × AreKeyAndText words.now k bytes)) }
+    ensures err { OnErr result ((k : ℕ) × (bytes : List ℕ) × AreKeyAndText words.now k bytes) }
 {
     let Some((first, second)) = parted(words, b' ') else {
         return Ok(None);
@@ -233,7 +253,7 @@ fn with_numbers(verb: Verb, words: &[u8]) -> Option<Action>
 // The action of a verb with these words behind it.
 fn with_operands(alloc: Global, verb: Verb, words: &[u8]) -> Result<Option<Action>, AllocError>
     ensures ok { IfOk result (λ found. MatchOption found ((action : AnAction) → name_of action ≡ verb_text verb → HasOperands words.now action → ⊥) (λ action. (name_of action ≡ verb_text verb) × HasOperands words.now action)) }
-    ensures err { OnErr result (verb ≡ AVerb.Bytes) }
+    ensures err { OnErr result ((verb ≡ AVerb.Bytes) × (k : ℕ) × (bytes : List ℕ) × AreKeyAndText words.now k bytes) }
 {
     match verb {
         Verb::Bytes => match bytes_of(alloc, words)? {
@@ -281,7 +301,7 @@ pub fn is_blank(bytes: &[u8]) -> bool
     }
 }
 
-/// What a line says, if it is in the grammar at some place. Only a line that puts a text takes memory.
+/// What a line says, if it is in the grammar at some place. Only a line that puts a text takes memory, and it is in the grammar.
 pub fn line_of(alloc: Global, bytes: &[u8]) -> Result<Option<Line>, AllocError>
     ensures ok { IfOk result (λ found. MatchOption found ((line : Line) → IsLine bytes.now line → ⊥) (λ line. IsLine bytes.now line)) }
     ensures err { OnErr result (PutsText bytes.now) }

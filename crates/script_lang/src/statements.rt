@@ -17,7 +17,7 @@ pub fn refusals_have_one_line()
     ensures { RefusalsHaveOneLine }
 {}
 
-/// Numbers of a script are below 2^64; a scan's bounds don't fall, and a move's keys differ.
+/// Numbers of a script are below 2^64, and texts have at most 200 bytes; a scan's bounds don't fall, and a move's keys differ.
 pub fn scripts_are_narrow()
     ensures { ScriptsAreNarrow }
 {}
