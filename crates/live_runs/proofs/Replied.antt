@@ -90,7 +90,7 @@ replied :
     (splits : List ℕ) (run walker : ℕ) (life : Life) (es : History) → Lived splits run walker life es
     → TellCommits life.replies es × TellAnswers splits life.replies es
 replied splits run walker life es l =
-    let tells = replies_tell_entries life.asked life.replies (l.first) (l.lived).last l.closed (l.lived).served (l.lived).closes in
+    let tells = replies_tell_entries life.asked life.replies (l.first) (l.lived).last l.closed (l.lived).course (l.lived).served (l.lived).closes in
     let are = replies_are_true life.asked life.replies l.first l.closed tells (l.new).entries_are in (
       subst (TellCommits life.replies) l.entries_are are.0,
       subst (λ s. TellAnswers s life.replies es) (l.new).splits_are (subst (TellAnswers (l.first).splits life.replies) l.entries_are are.2),

@@ -39,7 +39,8 @@ pub record IsNew (splits : List ℕ) (run walker : ℕ) (u : Seen) : Type 0 wher
   pub serial_is : u.serial ≡ 0
   pub standing_is : u.standing ≡ Idle None
 
--- the entries that a session's walker made are those of the calls that its lines ask for, in order, and of its end; each reply is that of its call
+-- the entries that a session's walker made are those of the calls that its lines ask for, in order, and of its end; each reply is that of its call, or a
+-- refusal for its cause
 pub record Lived (splits : List ℕ) (run walker : ℕ) (life : Life) (es : History) : Type 0 where
   pub first : Seen
   pub closed : Seen
@@ -94,7 +95,8 @@ pub record ServedAll (before now : ℕ → Option Story) (counts counts_now : �
   -- the lines that sessions took are the input's, and what the sink took are their replies
   pub took : (bytes : List ℕ) × Consumes left left' bytes × TookRequests sessions lives bytes refused
   pub told : TookReplies sessions (replies_in lives refused) taken taken' written
-  -- where all was fine, and nothing failed, the input was read to its end, and each line of a session was done and has its reply
+  -- where all was fine, and nothing failed, the input was read to its end, and each line of a session was done, or refused for its cause (as for want of
+  -- memory for its text), and has its reply
   pub all : status ≡ Fine → read ≡ Ok (tt {0}) → written ≡ Ok (tt {0}) → (bytes : List ℕ) × Ends left left' bytes × TookAllRequests sessions lives bytes refused
   -- what the status tells of disks and flushes; at worn stamps an entry has one so near their end that no more than the sessions' lines are between
   pub disks : DisksTold (shard_count splits) counts counts_now status

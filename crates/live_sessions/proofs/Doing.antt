@@ -15,7 +15,7 @@ use Rattle.script_runs.specs.declared.calls.Stage.{Stage}
 use Rattle.script_runs.specs.declared.calls.Stage.TheVariants as stage
 use Rattle.script_runs.specs.Seen.{Standing, Idle, Active, Asked, Seen, Misses, IsStage}
 use Rattle.script_runs.specs.Told.{OperateTold, CommitTold, AbortTold}
-use Rattle.live_sessions.specs.Served.{InTx, IsActive, Leaves, Drops, Did, EndTold, IsOtherEnd, reply_by}
+use Rattle.live_sessions.specs.Served.{InTx, IsActive, Leaves, Drops, ClosesBy, Did, EndTold, IsOtherEnd, reply_by}
 
 -- ---- drops
 
@@ -104,6 +104,16 @@ active_at Asked s b is e = absurd (let x : stage.Asked ≡ stage.Active b = sym 
 
 pub active_by : (u : Seen) (s : Stage) (b : Bool) → IsStage u.standing s → s ≡ stage.Active b → IsActive u
 active_by u s b is e = active_at u.standing s b is e
+
+-- ---- the end
+
+pub closes_dropped :
+    (ended : Option StopCause) (standing : Standing) (s : Stage) (b : Bool) (u v : Seen) → ((why : StopCause) → ended ≡ Some why → ⊥) → IsStage standing s → s ≡ stage.Active b → Drops u v
+    → ClosesBy ended standing u v
+closes_dropped None (Active tx birth nth touched) s b u v live is e dropped = dropped
+closes_dropped None (Idle again) s b u v live is e dropped = absurd (let x : stage.Idle ≡ stage.Active b = sym is ∙ e in cc)
+closes_dropped None Asked s b u v live is e dropped = absurd (let x : stage.Asked ≡ stage.Active b = sym is ∙ e in cc)
+closes_dropped (Some cause) standing s b u v live is e dropped = absurd (live cause refl)
 
 -- ---- one more
 

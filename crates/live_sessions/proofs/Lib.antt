@@ -1,4 +1,5 @@
 pub mod Doing
+pub mod Turning
 pub mod RepliesTellEntries
 pub mod RepliesAreTrue
 pub mod Laws

@@ -25,10 +25,11 @@ use Rattle.script_runs.specs.declared.ends.StopCause.{StopCause}
 use Rattle.script_runs.specs.declared.ends.StopCause.TheVariants.{Down, Unsettled, Worn, Memory}
 use Rattle.script_runs.specs.Operations.{IsPart, ArePartsAnswered, no_part, part, IsOperation, IsBegun, IsDeath, parts_of}
 use Rattle.script_runs.specs.Tries.{IsRequest, IsLook}
-use Rattle.script_runs.specs.Seen.{Seen, Grows, GrowsIn}
+use Rattle.script_runs.specs.Seen.{Standing, Idle, Active, Asked as StandsAsked, Seen, Grows, GrowsIn}
 use Rattle.script_runs.proofs.Laws.{grows_none, grows_over}
 use Rattle.script_runs.specs.Told.{AreDropsOf, IsUnanswered, RequestStands, StaysAsked, StaysUnasked, DiesAtRequest, AbortsAtLook}
-use Rattle.live_sessions.specs.Served.{InTx, Leaves, Drops, Did, Served, none_taken, line_taken, Closes}
+use Rattle.live_sessions.specs.declared.answering.Course.{Course}
+use Rattle.live_sessions.specs.Served.{InTx, Leaves, Drops, Did, Served, none_taken, line_taken, ClosesBy}
 use Rattle.live_sessions.specs.Replies.{AcknowledgeNone, Made, InTurn, no_reply, reply, Tells, RepliesTellEntries}
 
 -- ---- entries that acknowledge nothing
@@ -147,10 +148,10 @@ made asked r u v did = absurd did
 
 -- ---- all lines, and the end
 
-all_made : (asked : List Asked) (replies : List Reply) (u v : Seen) → Served asked replies u v → Adds (length asked) (InTurn u.splits replies) u v
-all_made _ _ _ _ (none_taken u) = by_same 0 (InTurn u.splits []) u u refl no_reply
-all_made _ _ _ _ (line_taken asked replies a r u m v before did) =
-    let f = all_made asked replies u m before in
+all_made : (asked : List Asked) (replies : List Reply) (u v : Seen) (course : Course) → Served asked replies u course v → Adds (length asked) (InTurn u.splits replies) u v
+all_made _ _ _ _ _ (none_taken u first new) = by_same 0 (InTurn u.splits []) u u refl no_reply
+all_made _ _ _ _ _ (line_taken asked replies a r u m v course next before did turns) =
+    let f = all_made asked replies u m course before in
     let g = made a r m v did in
     let one = length-append asked (a ∷ []) in (
       f.0 ++ g.0,
@@ -160,14 +161,18 @@ all_made _ _ _ _ (line_taken asked replies a r u m v before did) =
       reply replies r f.0 g.0 f.4 (subst (λ s. Made s r g.0) (f.3).splits_are g.4),
     )
 
-end_adds : (v w : Seen) → Closes v w → Adds 0 AcknowledgeNone v w
-end_adds v w (inl same) = by_same 0 AcknowledgeNone v w same (λ t. refl)
-end_adds v w (inr dropped) = drops_adds 0 v w dropped
+end_adds : (ended : Option StopCause) (standing : Standing) (v w : Seen) → ClosesBy ended standing v w → Adds 0 AcknowledgeNone v w
+end_adds None (Active tx birth nth touched) v w dropped = drops_adds 0 v w dropped
+end_adds None (Idle again) v w same = by_same 0 AcknowledgeNone v w same (λ t. refl)
+end_adds None StandsAsked v w same = by_same 0 AcknowledgeNone v w same (λ t. refl)
+end_adds (Some cause) (Active tx birth nth touched) v w same = by_same 0 AcknowledgeNone v w same (λ t. refl)
+end_adds (Some cause) (Idle again) v w same = by_same 0 AcknowledgeNone v w same (λ t. refl)
+end_adds (Some cause) StandsAsked v w same = by_same 0 AcknowledgeNone v w same (λ t. refl)
 
 pub replies_tell_entries : RepliesTellEntries
-replies_tell_entries asked replies u v w served closes =
-    let f = all_made asked replies u v served in
-    let g = end_adds v w closes in
+replies_tell_entries asked replies u v w course served closes =
+    let f = all_made asked replies u v course served in
+    let g = end_adds course.ended v.standing v w closes in
     record {
       es = f.0;
       end = g.0;

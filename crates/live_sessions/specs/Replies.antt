@@ -15,6 +15,7 @@ use Rattle.live_lines.specs.declared.calls.Reply.TheVariants.{Begun, Answered, C
 use Rattle.script_runs.specs.Operations.{IsOperation}
 use Rattle.script_runs.specs.Tries.{IsRequest, IsLook}
 use Rattle.script_runs.specs.Seen.{Seen, GrowsIn}
+use Rattle.live_sessions.specs.declared.answering.Course.{Course}
 use Rattle.live_sessions.specs.Served.{Served, Closes}
 
 -- these entries acknowledge nothing
@@ -85,7 +86,7 @@ pub record Tells (asked : List Asked) (replies : List Reply) (u w : Seen) : Type
   pub ended : AcknowledgeNone end
 
 abbrev pub RepliesTellEntries : Type 0
-RepliesTellEntries = (asked : List Asked) (replies : List Reply) (u v w : Seen) → Served asked replies u v → Closes v w → Tells asked replies u w
+RepliesTellEntries = (asked : List Asked) (replies : List Reply) (u v w : Seen) (course : Course) → Served asked replies u course v → Closes course v w → Tells asked replies u w
 
 -- so it is of each reply of a session that had no entries before
 abbrev pub RepliesAreTrue : Type 0

@@ -1,5 +1,5 @@
 -- What a live session's lines come to.
-use Rattle.std.specs.Prelude.{◌≡◌, ◌⊎◌, ⊤, ℕ, suc, Bool, true, false, List, [], ◌∷◌, ◌++◌, Option, Some, None, Result, Ok, Err}
+use Rattle.std.specs.Prelude.{◌≡◌, ◌⊎◌, ⊤, ℕ, Bool, true, false, List, [], ◌∷◌, ◌++◌, Option, Some, None, Result, Ok, Err}
 use Rattle.clv_base.specs.declared.names.TxId.{TxId}
 use Rattle.clv_base.specs.declared.names.Birth.{Birth}
 use Rattle.clv_base.specs.declared.causes.AbortCause.TheVariants as cause
@@ -8,6 +8,8 @@ use Rattle.live_lines.specs.declared.calls.Call.{Call}
 use Rattle.live_lines.specs.declared.calls.Call.TheVariants.{Begin, Retry, Operate, Commit, Abort}
 use Rattle.live_lines.specs.declared.calls.Asked.{Asked}
 use Rattle.live_lines.specs.declared.calls.Asked.TheVariants as asks
+use Rattle.live_lines.specs.declared.calls.Refusal.{Refusal}
+use Rattle.live_lines.specs.declared.calls.Refusal.TheVariants as refusal
 use Rattle.live_lines.specs.declared.calls.Reply.{Reply}
 use Rattle.live_lines.specs.declared.calls.Reply.TheVariants.{Begun, Answered, Committed, Empty, Aborted, Refused}
 use Rattle.live_lines.specs.declared.calls.Reply.TheVariants as tells
@@ -15,9 +17,9 @@ use Rattle.script_runs.specs.declared.ends.StopCause.{StopCause}
 use Rattle.script_runs.specs.declared.ends.StopCause.TheVariants.{Down, Unsettled, Worn, Memory}
 use Rattle.script_runs.specs.declared.ends.TryEnd.{TryEnd}
 use Rattle.script_runs.specs.declared.ends.TryEnd.TheVariants as end
-use Rattle.script_runs.specs.Seen.{Standing, Idle, Active, Seen, Grows, IsWornOut}
+use Rattle.script_runs.specs.Seen.{Standing, Idle, Active, Asked as RequestStands, Seen, Grows, IsWornOut}
 use Rattle.script_runs.specs.Ran.{IsIdle}
-use Rattle.script_runs.specs.Told.{BeginTold, RetryTold, OperateTold, CommitTold, AreDropsOf}
+use Rattle.script_runs.specs.Told.{has_range, BeginTold, RetryTold, OperateTold, CommitTold, AreDropsOf}
 use Rattle.live_sessions.specs.declared.answering.Course.{Course}
 
 -- the line that was taken, if one was
@@ -93,33 +95,90 @@ Did (asks.Call Abort) (Aborted cause.Asked) u v = InTx u (λ tx birth nth touche
 Did (asks.Call Abort) (tells.Worn at) u v = InTx u (λ tx birth nth touched. Leaves tx birth touched (Err (Worn at)) u v)
 Did asked reply u v = ⊥
 
+-- ---- refusals
+
+-- why a call is refused: it begins a transaction, and one is active; it needs one, and none is; there is none to try again; it is a scan whose bounds
+-- fall; or a request stands
+abbrev pub MayRefuseCall : Bool → Call → Refusal → Seen → Type 0
+MayRefuseCall may_retry call refusal.Ended u = u.standing ≡ RequestStands
+MayRefuseCall may_retry Begin refusal.Active u = IsActive u
+MayRefuseCall may_retry Retry refusal.Active u = IsActive u
+MayRefuseCall may_retry (Operate op) refusal.NoTx u = IsIdle u
+MayRefuseCall may_retry Commit refusal.NoTx u = IsIdle u
+MayRefuseCall may_retry Abort refusal.NoTx u = IsIdle u
+MayRefuseCall false Retry refusal.NoRetry u = IsIdle u
+MayRefuseCall may_retry (Operate op) refusal.Unknown u = IsActive u × (has_range op ≡ false)
+MayRefuseCall may_retry call why u = ⊥
+
+-- why a line is refused: where the session has ended, for that alone
+abbrev pub MayRefuseBy : Option StopCause → Bool → Asked → Refusal → Seen → Type 0
+MayRefuseBy (Some cause) may_retry asked why u = why ≡ refusal.Ended
+MayRefuseBy None may_retry (asks.Call call) why u = MayRefuseCall may_retry call why u
+MayRefuseBy None may_retry asks.Unknown why u = why ≡ refusal.Unknown
+MayRefuseBy None may_retry asks.NoMemory why u = why ≡ refusal.NoMemory
+
+abbrev pub MayRefuse : Course → Asked → Refusal → Seen → Type 0
+MayRefuse course asked why u = MayRefuseBy course.ended course.may_retry asked why u
+
+-- ---- how a session goes on
+
+-- it has not ended, and its last transaction may be tried again, or may not
+abbrev pub GoesOn : Bool → Course → Type 0
+GoesOn may_retry next = (next.may_retry ≡ may_retry) × (next.ended ≡ None)
+
+-- behind a reply that is no refusal. What was aborted may be tried again; so may what was dropped as a shard is down, unless stamps were wanting for it
+abbrev pub LeadsBy : Reply → Course → Seen → Type 0
+LeadsBy (Refused why) next v = ⊥
+LeadsBy (Aborted why) next v = GoesOn true next
+LeadsBy (tells.Down n) next v = GoesOn true next ⊎ ((at : ℕ) × (next.ended ≡ Some (Worn at)) × IsWornOut v)
+LeadsBy (tells.Unsettled n) next v = next.ended ≡ Some (Unsettled n)
+LeadsBy (tells.Worn at) next v = next.ended ≡ Some (Worn at)
+LeadsBy tells.Memory next v = next.ended ≡ Some Memory
+LeadsBy reply next v = GoesOn false next
+
+-- a further try that didn't begin as a shard was down is not tried again
+abbrev pub Leads : Call → Reply → Course → Seen → Type 0
+Leads Retry (tells.Down n) next v = GoesOn false next
+Leads call reply next v = LeadsBy reply next v
+
+-- from the one to the other by a line: it was refused for a cause, and all is as before; or it is a call, and the session had not ended
+abbrev pub Turns : Course → Asked → Reply → Course → Seen → Seen → Type 0
+Turns course asked (Refused why) next u v = MayRefuse course asked why u × (next ≡ course)
+Turns course (asks.Call call) reply next u v = (course.ended ≡ None) × Leads call reply next v
+Turns course asked reply next u v = ⊥
+
 -- ---- all lines
 
--- lines were done one after another, each with its reply
-pub data Served : List Asked → List Reply → Seen → Seen → Type 0 where
-  none_taken : (u : Seen) → Served [] [] u u
+-- lines were done one after another, each with its reply, and the session goes on so
+pub data Served : List Asked → List Reply → Seen → Course → Seen → Type 0 where
+  none_taken : (u : Seen) (first : Course) → GoesOn false first → Served [] [] u first u
   line_taken :
-      (asked : List Asked) (replies : List Reply) (a : Asked) (r : Reply) (u m v : Seen) → Served asked replies u m → Did a r m v
-      → Served (asked ++ a ∷ []) (replies ++ r ∷ []) u v
+      (asked : List Asked) (replies : List Reply) (a : Asked) (r : Reply) (u m v : Seen) (course next : Course)
+      → Served asked replies u course m → Did a r m v → Turns course a r next m v → Served (asked ++ a ∷ []) (replies ++ r ∷ []) u next v
 
 -- each reply was told; or all but the last one, as nobody takes replies any more
 abbrev pub AreTold : Bool → List Reply → List Reply → List Reply → Type 0
 AreTold true old new replies = new ≡ old ++ replies
 AreTold false old new replies = (front : List Reply) × (last : Reply) × (replies ≡ front ++ last ∷ []) × (new ≡ old ++ front)
 
--- the session's end: an open transaction is dropped
-abbrev pub Closes : Seen → Seen → Type 0
-Closes u v = (v ≡ u) ⊎ Drops u v
+-- the session's end: an open transaction is dropped, unless the session has ended before
+abbrev pub ClosesBy : Option StopCause → Standing → Seen → Seen → Type 0
+ClosesBy None (Active tx birth nth touched) u v = Drops u v
+ClosesBy ended standing u v = v ≡ u
+
+abbrev pub Closes : Course → Seen → Seen → Type 0
+Closes course u v = ClosesBy course.ended u.standing u v
 
 -- it did the lines that it took, told its replies, all of them or all but the last, and came to its end
 pub record HasServed (all_told : Bool) (taken taken' : List Asked) (told told' : List Reply) (u v : Seen) : Type 0 where
   pub asked : List Asked
   pub replies : List Reply
   pub last : Seen
+  pub course : Course
   pub took : taken' ≡ taken ++ asked
-  pub served : Served asked replies u last
+  pub served : Served asked replies u course last
   pub tells : AreTold all_told told told' replies
-  pub closes : Closes last v
+  pub closes : Closes course last v
 
 -- ---- a try that didn't end well
 

@@ -6,7 +6,7 @@ ghost use Rattle.script_runs.specs.Seen.{Keeps};
 ghost use Rattle.script_runs.specs.Told.{has_range as ranges};
 ghost use Rattle.script_runs.specs.Tried.{OnStop};
 ghost use Rattle.script_runs.specs.Ran.{IsIdle};
-ghost use Rattle.live_sessions.specs.Served.{IsActive, IsLast, Goes, Did, Drops, EndTold, IsOtherEnd, reply_by};
+ghost use Rattle.live_sessions.specs.Served.{IsActive, IsLast, Goes, GoesOn, Leads, LeadsBy, Turns, Did, Drops, EndTold, IsOtherEnd, reply_by};
 
 use clv_base::causes::AbortCause;
 use clv_base::ops::Op;
@@ -79,6 +79,7 @@ fn begin<C: SessionCalls>(session: &mut C) -> Step
     ensures base { C.base session.new ≡ C.base session.old }
     ensures misses { Keeps (C.missed session.old) (C.missed session.new) }
     ensures did { Did (asks.Call calls.Begin) result.reply (C.seen session.old) (C.seen session.new) }
+    ensures leads { Leads calls.Begin result.reply result.course (C.seen session.new) }
     ensures course { Goes (C.grounds session.new) result.course (C.seen session.new) }
 {
     match session.begin() {
@@ -98,6 +99,7 @@ fn retry<C: SessionCalls>(alloc: Global, session: &mut C) -> Step
     ensures base { C.base session.new ≡ C.base session.old }
     ensures misses { Keeps (C.missed session.old) (C.missed session.new) }
     ensures did { Did (asks.Call calls.Retry) result.reply (C.seen session.old) (C.seen session.new) }
+    ensures leads { Leads calls.Retry result.reply result.course (C.seen session.new) }
     ensures course { Goes (C.grounds session.new) result.course (C.seen session.new) }
 {
     match session.retry(alloc) {
@@ -119,6 +121,7 @@ fn drop_down<C: SessionCalls>(alloc: Global, session: &mut C, shard: u32) -> Ste
     ensures misses { Keeps (C.missed session.old) (C.missed session.new) }
     ensures reply { result.reply ≡ Reply.Down shard }
     ensures dropped { Drops (C.seen session.old) (C.seen session.new) }
+    ensures leads { LeadsBy result.reply result.course (C.seen session.new) }
     ensures course { Goes (C.grounds session.new) result.course (C.seen session.new) }
 {
     match session.abort(alloc) {
@@ -136,6 +139,7 @@ fn end_by<C: SessionCalls>(alloc: Global, session: &mut C, end: TryEnd) -> Step
     ensures base { C.base session.new ≡ C.base session.old }
     ensures misses { Keeps (C.missed session.old) (C.missed session.new) }
     ensures ended { EndTold end result.reply (C.seen session.old) (C.seen session.new) }
+    ensures leads { LeadsBy result.reply result.course (C.seen session.new) }
     ensures course { Goes (C.grounds session.new) result.course (C.seen session.new) }
 {
     match end {
@@ -154,6 +158,7 @@ fn operate<C: SessionCalls>(alloc: Global, session: &mut C, op: Op) -> Step
     ensures base { C.base session.new ≡ C.base session.old }
     ensures misses { Keeps (C.missed session.old) (C.missed session.new) }
     ensures did { Did (asks.Call (calls.Operate op)) result.reply (C.seen session.old) (C.seen session.new) }
+    ensures leads { Leads (calls.Operate op) result.reply result.course (C.seen session.new) }
     ensures course { Goes (C.grounds session.new) result.course (C.seen session.new) }
 {
     match session.operate(alloc, &op) {
@@ -169,6 +174,7 @@ fn commit<C: SessionCalls>(alloc: Global, session: &mut C) -> Step
     ensures base { C.base session.new ≡ C.base session.old }
     ensures misses { Keeps (C.missed session.old) (C.missed session.new) }
     ensures did { Did (asks.Call calls.Commit) result.reply (C.seen session.old) (C.seen session.new) }
+    ensures leads { Leads calls.Commit result.reply result.course (C.seen session.new) }
     ensures course { Goes (C.grounds session.new) result.course (C.seen session.new) }
 {
     let serial = session.name().serial;
@@ -186,6 +192,7 @@ fn abort<C: SessionCalls>(alloc: Global, session: &mut C) -> Step
     ensures base { C.base session.new ≡ C.base session.old }
     ensures misses { Keeps (C.missed session.old) (C.missed session.new) }
     ensures did { Did (asks.Call calls.Abort) result.reply (C.seen session.old) (C.seen session.new) }
+    ensures leads { Leads calls.Abort result.reply result.course (C.seen session.new) }
     ensures course { Goes (C.grounds session.new) result.course (C.seen session.new) }
 {
     match session.abort(alloc) {
@@ -214,6 +221,7 @@ fn call_at_rest<C: SessionCalls>(alloc: Global, session: &mut C, course: Course,
     ensures base { C.base session.new ≡ C.base session.old }
     ensures misses { Keeps (C.missed session.old) (C.missed session.new) }
     ensures did { Did (asks.Call call) result.reply (C.seen session.old) (C.seen session.new) }
+    ensures turns { Turns course (asks.Call call) result.reply result.course (C.seen session.old) (C.seen session.new) }
     ensures course { Goes (C.grounds session.new) result.course (C.seen session.new) }
 {
     match call {
@@ -249,6 +257,7 @@ fn call_in_tx<C: SessionCalls>(alloc: Global, session: &mut C, course: Course, c
     ensures base { C.base session.new ≡ C.base session.old }
     ensures misses { Keeps (C.missed session.old) (C.missed session.new) }
     ensures did { Did (asks.Call call) result.reply (C.seen session.old) (C.seen session.new) }
+    ensures turns { Turns course (asks.Call call) result.reply result.course (C.seen session.old) (C.seen session.new) }
     ensures course { Goes (C.grounds session.new) result.course (C.seen session.new) }
 {
     match call {
@@ -274,6 +283,7 @@ fn call_of<C: SessionCalls>(alloc: Global, session: &mut C, course: Course, call
     ensures base { C.base session.new ≡ C.base session.old }
     ensures misses { Keeps (C.missed session.old) (C.missed session.new) }
     ensures did { Did (asks.Call call) result.reply (C.seen session.old) (C.seen session.new) }
+    ensures turns { Turns course (asks.Call call) result.reply result.course (C.seen session.old) (C.seen session.new) }
     ensures course { Goes (C.grounds session.new) result.course (C.seen session.new) }
 {
     match session.stage() {
@@ -296,6 +306,7 @@ pub(crate) fn answer<C: SessionCalls>(
     ensures base { C.base session.new ≡ C.base session.old }
     ensures misses { Keeps (C.missed session.old) (C.missed session.new) }
     ensures did { Did asked result.reply (C.seen session.old) (C.seen session.new) }
+    ensures turns { Turns course asked result.reply result.course (C.seen session.old) (C.seen session.new) }
     ensures course { Goes (C.grounds session.new) result.course (C.seen session.new) }
 {
     if course.ended.is_some() {

@@ -17,7 +17,7 @@ fn close<C: SessionCalls>(alloc: Global, session: &mut C, course: Course) -> Res
     ensures session { C.holds session.new }
     ensures base { C.base session.new ≡ C.base session.old }
     ensures misses { Keeps (C.missed session.old) (C.missed session.new) }
-    ensures closes { Closes (C.seen session.old) (C.seen session.new) }
+    ensures closes { Closes course (C.seen session.old) (C.seen session.new) }
     ensures grounds { IfErr result (C.grounds session.new) }
 {
     if let Some(cause) = course.ended {
@@ -41,7 +41,7 @@ pub struct Ending {
 /// Does the lines that come into the inbox, one after another, and tells the answer of each, until no more come or nobody takes answers any more; then an open
 /// transaction is aborted.
 ///
-/// What it adds to the session's entries is what its lines ask for, in order, and each answer tells of it.
+/// What it adds to the session's entries is what its lines ask for, in order, and each answer tells of it. A line is refused for its cause alone.
 pub fn serve_session<R: Wait, C: SessionCalls, I: Inbox, O: Outbox>(
     rt: &R,
     alloc: Global,

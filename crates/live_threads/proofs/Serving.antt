@@ -1,5 +1,5 @@
 -- What all threads did, told of the places that stood in the seats.
-use Rattle.std.proofs.Common.{◌≡◌, inl, refl, sym, ap, ◌∙◌, subst, ℕ, zero, suc, ◌+◌, ◌<◌, Bool, true, false, ◌&&◌, List, [], ◌∷◌, ◌++◌, length, map, get_or, take, drop, Option, Some, None, Result, Ok, Err, append-nil, arith, Global}
+use Rattle.std.proofs.Common.{◌≡◌, refl, sym, ap, ◌∙◌, subst, ℕ, zero, suc, ◌+◌, ◌<◌, Bool, true, false, ◌&&◌, List, [], ◌∷◌, ◌++◌, length, map, get_or, take, drop, Option, Some, None, Result, Ok, Err, append-nil, arith, Global}
 use Rattle.std.specs.Prelude.{IsTrue}
 use Rattle.std.proofs.lemmas.List.{get_or-map, length-map}
 use Rattle.std.proofs.lemmas.Bool.{both_ways}
@@ -16,9 +16,9 @@ use Rattle.report_text.specs.declared.texts.ReportError.{ReportError}
 use Rattle.live_lines.specs.declared.calls.Asked.{Asked}
 use Rattle.live_lines.specs.declared.calls.Reply.{Reply}
 use Rattle.script_runs.specs.declared.ends.StopCause.{StopCause}
-use Rattle.script_runs.specs.Seen.{Seen, Misses}
+use Rattle.script_runs.specs.Seen.{Standing, Seen, Misses}
 use Rattle.script_runs.specs.Ran.{IsIdle}
-use Rattle.live_sessions.specs.Served.{HasServed, none_taken}
+use Rattle.live_sessions.specs.Served.{HasServed, ClosesBy, none_taken}
 use Rattle.live_streams.specs.Rings.{AreNew, ArePairs, AreFronts, AreAllTaken}
 use Rattle.live_streams.specs.Inputs.{TookInput, no_line}
 use Rattle.live_streams.specs.Handed.{ReadsLines, ReadTo}
@@ -89,13 +89,16 @@ no_reply : (k : ℕ) → replies_in idle_life [] k ≡ []
 no_reply zero = refl
 no_reply (suc k) = refl
 
+idle_closes : (u : Seen) → IsIdle u → ClosesBy None u.standing u u
+idle_closes u (again, is) = subst (λ (st : Standing). ClosesBy None st u u) (sym is) refl
+
 -- no session did anything
 pub nothing_done :
-    {S : Type 0} (seen : S → Seen) (places : List (Place S)) (n : ℕ) (left taken : Option (List ℕ)) (read : Result (Unit {0}) ReadError) (written : Result (Unit {0}) ReportError) → read ≡ Err fault.Memory → written ≡ Ok (tt {0})
+    {S : Type 0} (seen : S → Seen) (places : List (Place S)) (n : ℕ) (idle : (k : ℕ) (d : Place S) → k < length places → IsIdle (seen (get_or places k d).session)) (left taken : Option (List ℕ)) (read : Result (Unit {0}) ReadError) (written : Result (Unit {0}) ReportError) → read ≡ Err fault.Memory → written ≡ Ok (tt {0})
     → (lives : ℕ → Life) × HaveLived seen places places lives × Streamed n lives left left taken taken read written
-nothing_done seen places n left taken read written none fine = (
+nothing_done seen places n idle left taken read written none fine = (
   idle_life,
-  (λ k d low. record { last = seen (get_or places k d).session; served = none_taken (seen (get_or places k d).session); closes = inl refl }),
+  (λ k d low. record { last = seen (get_or places k d).session; course = record { may_retry = false; ended = None }; served = none_taken (seen (get_or places k d).session) _ (refl, refl); closes = idle_closes (seen (get_or places k d).session) (idle k d low) }),
   record {
     refused = [];
     took = ([], consumes_none left, record { handed = []; input = ([], lines_of [], refl, no_line); fronts = λ k low. ([], refl) });

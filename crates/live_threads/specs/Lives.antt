@@ -8,6 +8,7 @@ use Rattle.live_lines.specs.declared.calls.Reply.{Reply}
 use Rattle.live_lines.specs.declared.calls.Reply.TheVariants.{Refused}
 use Rattle.live_lines.specs.declared.calls.Refusal.{Refusal}
 use Rattle.script_runs.specs.Seen.{Seen}
+use Rattle.live_sessions.specs.declared.answering.Course.{Course}
 use Rattle.live_sessions.specs.Served.{Served, Closes}
 use Rattle.live_streams.specs.Inputs.{TookInput, TookAllInput, of_session}
 use Rattle.live_streams.specs.Outputs.{TookReplies}
@@ -21,8 +22,9 @@ pub record Life : Type 0 where
 -- it went from the one to the other by its lines, each with its reply, and its end
 pub record HasLived (life : Life) (first closed : Seen) : Type 0 where
   pub last : Seen
-  pub served : Served life.asked life.replies first last
-  pub closes : Closes last closed
+  pub course : Course
+  pub served : Served life.asked life.replies first course last
+  pub closes : Closes course last closed
 
 -- each session took a front of its lines of what was read, or all of them
 pub record TookRequests (sessions : ℕ) (lives : ℕ → Life) (bytes : List ℕ) (refused : List Refusal) : Type 0 where
@@ -44,7 +46,7 @@ pub record Streamed (sessions : ℕ) (lives : ℕ → Life) (left left' taken ta
   -- the lines that sessions took are the input's, and what the sink took are the lines of replies
   pub took : (bytes : List ℕ) × Consumes left left' bytes × TookRequests sessions lives bytes refused
   pub told : TookReplies sessions (replies_in lives refused) taken taken' written
-  -- where nothing failed, the input was read to its end, and each line of a session was done and has its reply
+  -- where nothing failed, the input was read to its end, and each line of a session was done, or refused for its cause, and has its reply
   pub all : read ≡ Ok (tt {0}) → written ≡ Ok (tt {0}) → (bytes : List ℕ) × Ends left left' bytes × TookAllRequests sessions lives bytes refused
 
 -- each place's session lived so

@@ -15,5 +15,6 @@ returns-in_default g c = record {
   base = c.end_by.ensures.base ∙ c.commit.ensures.base;
   misses = λ tx n es h. c.end_by.ensures.misses tx n es (c.commit.ensures.misses tx n es h);
   did = let a = c.requires.active in commit_did a.0 a.1 a.2 a.3 c.commit.result _ _ _ _ a.4 (c.commit.ensures.told a.0 a.1 a.2 a.3 a.4) c.end_by.ensures.ended;
+  leads = c.end_by.ensures.leads;
   course = c.end_by.ensures.course;
 }

@@ -15,7 +15,7 @@ loop-init g c = record {
   replies = [];
   took = search rules;
   told = search rules;
-  served = none_taken (g.C.SessionCalls.seen c.args.session.now);
+  served = none_taken (g.C.SessionCalls.seen c.args.session.now) _ (refl, refl);
   inbox = g.met.I.Inbox.itself c.args.inbox.now;
   outbox = g.met.O.Outbox.itself c.args.outbox.now;
 }
@@ -31,7 +31,7 @@ loop-preserved g c =
       replies = i.replies ++ c.answer-reply.result.reply ∷ [];
       took = more _ _ i.asked c.in-Some-take.asked _ i.took c.in-Some-take.ensures.taken;
       told = more _ _ i.replies c.answer-reply.result.reply _ i.told c.in-Ok.ensures.ok;
-      served = line_taken i.asked i.replies c.in-Some-take.asked c.answer-reply.result.reply _ _ _ i.served c.answer-reply.ensures.did;
+      served = line_taken i.asked i.replies c.in-Some-take.asked c.answer-reply.result.reply _ _ _ _ _ i.served c.answer-reply.ensures.did c.answer-reply.ensures.turns;
       inbox = g.met.I.Inbox.still c.args.inbox.now c.loop.inbox c.take.new.self i.inbox c.take.ensures.same;
       outbox = g.met.O.Outbox.still c.args.outbox.now c.loop.outbox c.tell.new.self i.outbox c.tell.ensures.same;
     }
@@ -42,8 +42,9 @@ returns-in-Err-clause-served g c =
       asked = i.asked ++ c.in-Some-take.asked ∷ [];
       replies = i.replies ++ c.answer-reply.result.reply ∷ [];
       last = g.C.SessionCalls.seen c.answer-reply.new.session;
+      course = c.answer-reply.result.course;
       took = more _ _ i.asked c.in-Some-take.asked _ i.took c.in-Some-take.ensures.taken;
-      served = line_taken i.asked i.replies c.in-Some-take.asked c.answer-reply.result.reply _ _ _ i.served c.answer-reply.ensures.did;
+      served = line_taken i.asked i.replies c.in-Some-take.asked c.answer-reply.result.reply _ _ _ _ _ i.served c.answer-reply.ensures.did c.answer-reply.ensures.turns;
       tells = (i.replies, c.answer-reply.result.reply, refl, c.in-Err.ensures.gone ∙ i.told);
       closes = c.close-in-Err.ensures.closes;
     }

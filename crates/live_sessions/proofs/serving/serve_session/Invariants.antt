@@ -16,7 +16,7 @@ invariant-loop g l =
       replies : List Reply;
       took : g.I.Inbox.taken l.inbox ≡ g.I.Inbox.taken l.fn.inbox ++ asked;
       told : g.O.Outbox.told l.outbox ≡ g.O.Outbox.told l.fn.outbox ++ replies;
-      served : Served asked replies (g.C.SessionCalls.seen l.fn.session) (g.C.SessionCalls.seen l.session);
+      served : Served asked replies (g.C.SessionCalls.seen l.fn.session) l.course (g.C.SessionCalls.seen l.session);
       inbox : g.I.Inbox.same l.fn.inbox l.inbox;
       outbox : g.O.Outbox.same l.fn.outbox l.outbox;
     }
