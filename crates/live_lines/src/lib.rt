@@ -1,7 +1,7 @@
 //! The lines of live sessions: what a line of the input asks for, and the line that tells an answer.
 //!
 //! `request_of` reads a line exactly as the grammar says, and `add_reply` writes exactly the line of an answer. `Cutter` cuts the bytes of an input into its
-//! lines, one after another, as they come. It stands on scripts, whose words it takes, and on `serde_json`.
+//! lines, one after another, as they come. It stands on scripts, whose words it takes, and on `serde_json` and `hex`.
 #![tactic(auto)]
 
 mod calls;

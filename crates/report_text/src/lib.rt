@@ -2,7 +2,7 @@
 //!
 //! Each is exactly its definition, as compact JSON with a line feed after each line. A report is made whole before any of it is written, from the books that
 //! the sessions kept; `books_report` says that it is the report of the history. It stands on the definitions of `clv_base`, the books of `session_books`, the
-//! sinks of `io_model` and the writer of `serde_json`.
+//! sinks of `io_model`, the writer of `serde_json`, and `hex`.
 #![tactic(auto)]
 
 mod books;

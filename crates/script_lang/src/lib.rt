@@ -2,8 +2,8 @@
 //!
 //! `parse` meets the grammar both ways: what it accepts is the script's one meaning, and what it refuses names the first line
 //! outside the grammar at its place. `Following` tells what a transaction does next, given its answers so far. `generate` gives exactly the script
-//! of a workload's definition: it fills accounts, and then has each session move amounts between them. It stands on the operations of `clv_base`, and on
-//! `hex`, by which texts are spelled.
+//! of a workload's definition: it fills accounts, and then has each session move amounts between them. It stands on the operations of `clv_base`, and
+//! on `hex`, by which texts are spelled.
 #![tactic(auto)]
 
 mod actions;
