@@ -6,15 +6,18 @@ ghost use Rattle.report_text.specs.Sinks.{Causes};
 ghost use Rattle.script_runs.specs.Ran.{IsIdle};
 ghost use Rattle.script_runs.specs.Seen.{Keeps};
 ghost use Rattle.live_streams.specs.Rings.{AreNew};
+ghost use Rattle.live_streams.specs.Written.{Writes};
 ghost use Rattle.live_threads.specs.Lives.{Life, HaveLived, Streamed};
 
 use crate::ending::{read_as, written_as};
 use crate::seating::{Desk, Left, rise, sit};
 use crate::seats::{Place, Sits, serve_seats};
-use crate::works::{ReadsInput, WritesAnswers};
+use crate::works::ReadsInput;
 use io_model::{ReadError, Sink, Source};
-use live_streams::{Ends, Read, Signals};
+use live_lines::Reply;
+use live_streams::{Ends, Read, Signals, write_answers};
 use report_text::ReportError;
+use rtrb::Consumer;
 use script_runs::SessionCalls;
 use std::alloc::Global;
 use std::sync::Wait;
@@ -29,48 +32,35 @@ pub struct Streams {
 }
 
 // The reader and the writer beside each other, until both have ended.
-fn run_streams<
-    R: Threads + Wait + Sync,
-    I: ReadsInput,
-    W: WritesAnswers + Send,
-    S: Source,
-    K: Sink + Send,
->(
+fn run_streams<R: Threads + Wait + Sync, I: ReadsInput, S: Source, K: Sink + Send>(
     rt: &R,
     alloc: Global,
     signals: &Signals,
     reader: &mut I,
-    answers: &mut W,
+    answers: &mut Vec<Consumer<Reply>>,
     source: &mut S,
     sink: &mut K,
 ) -> (Result<Read, ReadError>, Result<(), ReportError>)
     ensures read { I.reads reader.old (S.left source.old) (S.left source.new) result.0 reader.new }
     ensures source { CountsReading (S.faults source.old) (S.faults source.new) result.0 }
-    ensures took { W.writes answers.old answers.new (K.taken sink.old) (K.taken sink.new) result.1 }
+    ensures took { Writes answers.old.items answers.new.items (K.taken sink.old) (K.taken sink.new) result.1 }
     ensures sink { Causes (K.faults sink.old) (K.faults sink.new) result.1 }
 {
     let own = alloc;
-    let mut write = || answers.write_out(rt, alloc, signals, sink);
+    let mut write = || write_answers(rt, alloc, signals, answers, sink);
     let mut read = || reader.read_input(own, source);
     let (written, read) = join_mut(rt, &mut write, &mut read);
     (read, written)
 }
 
 // And the sessions of all seats beside them.
-fn run_threads<
-    R: Threads + Wait + Sync,
-    X: Sits + Send,
-    I: ReadsInput,
-    W: WritesAnswers + Send,
-    S: Source,
-    K: Sink + Send,
->(
+fn run_threads<R: Threads + Wait + Sync, X: Sits + Send, I: ReadsInput, S: Source, K: Sink + Send>(
     rt: &R,
     alloc: Global,
     signals: &Signals,
     seats: &mut [X],
     reader: &mut I,
-    answers: &mut W,
+    answers: &mut Vec<Consumer<Reply>>,
     source: &mut S,
     sink: &mut K,
 ) -> (Result<Read, ReadError>, Result<(), ReportError>)
@@ -78,7 +68,7 @@ fn run_threads<
     ensures sat { (k : ℕ) (d : _) → k < length seats.old → X.sat (slice_index_or seats.old k d) (slice_index_or seats.new k d) }
     ensures read { I.reads reader.old (S.left source.old) (S.left source.new) result.0 reader.new }
     ensures source { CountsReading (S.faults source.old) (S.faults source.new) result.0 }
-    ensures took { W.writes answers.old answers.new (K.taken sink.old) (K.taken sink.new) result.1 }
+    ensures took { Writes answers.old.items answers.new.items (K.taken sink.old) (K.taken sink.new) result.1 }
     ensures sink { Causes (K.faults sink.old) (K.faults sink.new) result.1 }
 {
     let own = alloc;

@@ -1,18 +1,12 @@
-// The reader and the writer, by traits that hide what they stand on.
+// The reader, by a trait that hides what it stands on.
 ghost use Rattle.std.specs.Prelude.{ℕ, List, Option, Result};
 ghost use Rattle.io_model.specs.Streams.{CountsReading};
 ghost use Rattle.io_model.specs.declared.whole.ReadError.{ReadError as ErrorIs};
-ghost use Rattle.report_text.specs.Sinks.{Causes};
-ghost use Rattle.report_text.specs.declared.texts.ReportError.{ReportError as FaultIs};
 ghost use Rattle.live_streams.specs.Handed.{ReadsLines};
-ghost use Rattle.live_streams.specs.Written.{Writes};
 ghost use Rattle.live_streams.specs.declared.reading.Read.{Read as ReadIs};
 
-use io_model::{ReadError, Sink, Source};
-use live_lines::Reply;
-use live_streams::{Read, Reader, Signals, write_answers};
-use report_text::ReportError;
-use rtrb::Consumer;
+use io_model::{ReadError, Source};
+use live_streams::{Read, Reader};
 use std::alloc::Global;
 use std::sync::Wait;
 
@@ -31,35 +25,5 @@ impl<'a, R: Wait> ReadsInput for Reader<'a, R> {
 
     fn read_input<S: Source>(&mut self, alloc: Global, source: &mut S) -> Result<Read, ReadError> {
         self.read_all(alloc, source)
-    }
-}
-
-/// Who writes the answers.
-pub trait WritesAnswers {
-    /// What it did: from the one to the other, of the bytes that the sink had taken and those that it has taken now.
-    ghost writes: { Self → Self → Option (List ℕ) → Option (List ℕ) → Result (Unit {0}) FaultIs → Type 0 };
-
-    fn write_out<R: Wait, K: Sink>(
-        &mut self,
-        rt: &R,
-        alloc: Global,
-        signals: &Signals,
-        sink: &mut K,
-    ) -> Result<(), ReportError>
-        ensures writes { writes self.old self.new (K.taken sink.old) (K.taken sink.new) result }
-        ensures cause { Causes (K.faults sink.old) (K.faults sink.new) result };
-}
-
-impl WritesAnswers for Vec<Consumer<Reply>> {
-    ghost writes = { λ a b taken now result. Writes a.items b.items taken now result };
-
-    fn write_out<R: Wait, K: Sink>(
-        &mut self,
-        rt: &R,
-        alloc: Global,
-        signals: &Signals,
-        sink: &mut K,
-    ) -> Result<(), ReportError> {
-        write_answers(rt, alloc, signals, self, sink)
     }
 }
