@@ -11,6 +11,9 @@ What must hold after each run:
 - in each image of the logs that a crash may leave each transaction that was told as committed is there, each that was told as none isn't, and of the others, whose
   commit has no answer or `unsettled`, all or nothing is;
 - `show` tells what the image stands for, and live sessions go on from there.
+
+And while lines put texts, a malformed one is told as no request whatever memory there is, one that finds none is told as that, and a session that found none elsewhere
+has ended.
 """
 
 import errno
@@ -238,19 +241,21 @@ TEXTS = [
 
 
 def texts(trial, step):
-    """Each allocation finds no memory, while lines put texts and what is none."""
+    """Each allocation from the first answer on finds no memory, while lines put texts and what is none."""
     script = "".join(f"{line}\n" for line, _ in TEXTS).encode()
-    number, quiet, refused = 1, 0, 0
+    number, quiet, refused, is_near = 1, 0, 0, step == 1
     while quiet < QUIET:
         got, trace = trial.told(script, alloc=f"{number}")
+        if got.out and not is_near:
+            number, is_near = number - step, True
         refused += NO_TEXT in got.out
         has_ended = False
         for (line, may), answer in zip(TEXTS, got.out.splitlines()):
             trial.checks.check(f"allocation {number}, {line}", answer == ENDED if has_ended else answer in may, got)
             has_ended = has_ended or answer == MEMORY
         quiet = 0 if "alloc" in trace.faults else quiet + 1
-        number += 1 if quiet else step
-    trial.checks.check("some text found no memory", refused or step > 1, refused)
+        number += 1 if is_near else step
+    trial.checks.check("some text found no memory", refused, refused)
 
 
 def bounds(trial, step):
