@@ -3,7 +3,7 @@ use Rattle.std.specs.Prelude.{Option, Some, None}
 use Rattle.clv_base.specs.declared.values.Value.{Value}
 use Rattle.clv_base.specs.declared.values.Value.TheVariants as values
 use Rattle.clv_base.specs.declared.ops.Op.{Op}
-use Rattle.clv_base.specs.declared.ops.Op.TheVariants.{Get, Put, Del, Scan}
+use Rattle.clv_base.specs.declared.ops.Op.TheVariants.{Get, Put, Del, Scan, Add}
 use Rattle.clv_base.specs.declared.kept.HeldOp.{HeldOp}
 use Rattle.clv_base.specs.declared.kept.HeldOp.TheVariants as held
 use Rattle.clv_base.specs.declared.kept.Held.{Held}
@@ -21,3 +21,4 @@ op_of (held.PutNum k n) = Put k (values.Num n)
 op_of (held.PutBytes k bytes) = Put k (values.Bytes bytes)
 op_of (held.Del k) = Del k
 op_of (held.Scan lo hi) = Scan lo hi
+op_of (held.Add k by) = Add k by

@@ -4,12 +4,13 @@ use Rattle.std.specs.List.{filter, common_prefix_len}
 use Rattle.clv_base.specs.declared.names.TxId.{TxId}
 use Rattle.clv_base.specs.declared.names.Birth.{Birth}
 use Rattle.clv_base.specs.declared.logs.LogRecord.{LogRecord}
-use Rattle.clv_base.specs.declared.logs.LogRecord.TheVariants.{Update, Commit, Abort, Restart}
+use Rattle.clv_base.specs.declared.logs.LogRecord.TheVariants.{Update, Commit, Abort, Restart, Add}
 use Rattle.clv_base.specs.declared.events.Event.TheVariants.{Restart as RestartEvent}
 use Rattle.clv_base.specs.declared.events.Outcome.{Outcome}
 use Rattle.clv_base.specs.declared.events.Outcome.TheVariants.{Up, Nothing}
 use Rattle.clv_base.specs.declared.events.Entry.{Entry}
-use Rattle.clv_base.specs.declared.modes.Part.TheVariants.{X}
+use Rattle.clv_base.specs.declared.modes.Part.{Part}
+use Rattle.clv_base.specs.declared.modes.Part.TheVariants.{I, X}
 use Rattle.clv_base.specs.declared.modes.Anchor.TheVariants.{At}
 use Rattle.clv_base.specs.Orders.{Table, tx_in, tx_put}
 use Rattle.clv_base.specs.Maps.{KeyMap}
@@ -27,11 +28,11 @@ use Rattle.clv_base.specs.Events.{Does, CallAnswer, Quiet, stamped, next_stamp}
 
 -- ---- the log after a restart
 
--- the transactions with a standing UPDATE that are neither committed here nor in doubt here, rising
+-- the transactions with a standing UPDATE or ADD that are neither committed here nor in doubt here, rising
 abbrev pub losers : ℕ → List LogRecord → List TxId
 losers shard log = filter (λ t. not (is_winner shard log t)) (writers (standing log))
 
--- an ABORT for each loser that has none, then their CLRs, the greatest LSN first
+-- an ABORT for each loser that has none, then their CLRs and UNADDs, the greatest LSN first
 abbrev pub undo_records : ℕ → List LogRecord → List LogRecord
 undo_records shard log = map (λ t. Abort t) (filter (λ t. not (aborted_in log t)) (losers shard log)) ++ clrs_of (losers shard log) (standing log)
 
@@ -57,17 +58,22 @@ ghost_if_absent k rs (Live v) = rs
 abbrev pub with_ghosts : List TxId → List LogRecord → Records → Records
 with_ghosts txs [] rs = rs
 with_ghosts txs (Update tx key before after ∷ log) rs = with_ghosts txs log (cond (tx_in tx txs) (ghost_if_absent key rs (found_at key rs)) rs)
+with_ghosts txs (Add tx key by ∷ log) rs = with_ghosts txs log (cond (tx_in tx txs) (ghost_if_absent key rs (found_at key rs)) rs)
 with_ghosts txs (_ ∷ log) rs = with_ghosts txs log rs
 
 -- the age of a restored part: no rule compares it, as it is never active
 abbrev pub old_birth : TxId → Birth
 old_birth tx = record { stamp = 0; session = tx.session; serial = tx.serial }
 
--- key X, closed, on the keys that the transactions wrote
+-- a closed lock of a restored part
+abbrev pub restored_lock : TxId → ℕ → Part → Locks → Locks
+restored_lock tx key part locks = take_one (At key) (record { tx = tx; birth = old_birth tx; mode = on_key part; closed = true }) locks
+
+-- on the keys that the transactions wrote: key I where they only added, else key X
 abbrev pub restored_locks : List TxId → List LogRecord → Locks → Locks
 restored_locks txs [] locks = locks
-restored_locks txs (Update tx key before after ∷ log) locks =
-    restored_locks txs log (cond (tx_in tx txs) (take_one (At key) (record { tx = tx; birth = old_birth tx; mode = on_key X; closed = true }) locks) locks)
+restored_locks txs (Update tx key before after ∷ log) locks = restored_locks txs log (cond (tx_in tx txs) (restored_lock tx key X locks) locks)
+restored_locks txs (Add tx key by ∷ log) locks = restored_locks txs log (cond (tx_in tx txs) (restored_lock tx key I locks) locks)
 restored_locks txs (_ ∷ log) locks = restored_locks txs log locks
 
 abbrev pub restored_part : TxId → Held

@@ -87,6 +87,7 @@ enum HeldOp {
     PutBytes(u64, ByteText),
     Del(u64),
     Scan(u64, u64),
+    Add(u64, u64),
 }
 
 /// An operation, in the room of two numbers and its kind.
@@ -116,6 +117,7 @@ impl KeptOp {
             Op::Put(key, Value::Bytes(text)) => HeldOp::PutBytes(key, text),
             Op::Del(key) => HeldOp::Del(key),
             Op::Scan(low, high) => HeldOp::Scan(low, high),
+            Op::Add(key, by) => HeldOp::Add(key, by),
         };
         KeptOp { held }
     }
@@ -130,6 +132,7 @@ impl KeptOp {
             HeldOp::PutBytes(key, text) => Op::Put(*key, Value::Bytes(text.copy())),
             HeldOp::Del(key) => Op::Del(*key),
             HeldOp::Scan(low, high) => Op::Scan(*low, *high),
+            HeldOp::Add(key, by) => Op::Add(*key, *by),
         }
     }
 }

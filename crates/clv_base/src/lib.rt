@@ -5,6 +5,7 @@
 #![tactic(auto)]
 
 pub mod causes;
+pub mod changes;
 pub mod events;
 pub mod kept;
 pub mod lists;

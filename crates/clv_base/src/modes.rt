@@ -3,11 +3,12 @@
 use crate::names::{Birth, TxId};
 use crate::values::Value;
 
-/// What is held of a key or of a gap: nothing, a shared or an exclusive lock.
+/// What is held of a key or of a gap: nothing, a shared lock, one of those that add, or an exclusive lock.
 #[derive(Clone, Copy, PartialEq, Eq)]
 pub enum Part {
     N,
     S,
+    I,
     X,
 }
 

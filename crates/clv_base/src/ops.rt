@@ -6,13 +6,14 @@ use crate::lists::Pairs;
 use crate::values::Value;
 use std::alloc::AllocError;
 
-/// An operation: read a key; put a value at a key; delete a key; read all pairs between two keys, both in.
+/// An operation: read a key; put a value at a key; delete a key; read all pairs between two keys, both in; add to the number at a key, modulo 2^64.
 #[derive(PartialEq, Eq, Drop)]
 pub enum Op {
     Get(u64),
     Put(u64, Value),
     Del(u64),
     Scan(u64, u64),
+    Add(u64, u64),
 }
 
 impl Op {
@@ -25,6 +26,7 @@ impl Op {
             Op::Put(key, value) => Op::Put(*key, value.copy()),
             Op::Del(key) => Op::Del(*key),
             Op::Scan(low, high) => Op::Scan(*low, *high),
+            Op::Add(key, by) => Op::Add(*key, *by),
         }
     }
 }
@@ -39,9 +41,10 @@ impl Clone for Op {
     }
 }
 
-/// The answer of an operation: the value before, or none; of a scan the pairs, by rising keys.
+/// The answer of an operation: the value before, or none; of a scan the pairs, by rising keys; of an addition whether there was a number.
 #[derive(Clone, Drop)]
 pub enum Answer {
     Value(Option<Value>),
     Pairs(Pairs),
+    Added(bool),
 }

@@ -7,7 +7,7 @@ use Rattle.std.proofs.Math.Bool.{or-false}
 use Rattle.clv_base.specs.declared.values.Value.{Value as ValueType}
 use Rattle.clv_base.specs.declared.names.TxId.{TxId}
 use Rattle.clv_base.specs.declared.logs.LogRecord.{LogRecord}
-use Rattle.clv_base.specs.declared.logs.LogRecord.TheVariants.{Update, Clr, Prepare, Commit, Abort, End, Restart}
+use Rattle.clv_base.specs.declared.logs.LogRecord.TheVariants.{Update, Clr, Prepare, Commit, Abort, End, Restart, Add, Unadd}
 use Rattle.clv_base.specs.Orders.{tx_same, tx_in, tx_insert}
 use Rattle.clv_base.specs.Logs.{is_commit_of, is_abort_of, committed_in, aborted_in, standing, standing_after, doubt_by, in_doubt_from, in_doubt, is_winner}
 use Rattle.clv_base.proofs.SameNames.{insert_keeps, insert_has}
@@ -39,6 +39,8 @@ no_doubt_abort t log shard (Commit tx ps ∷ rs) so_far = no_doubt_abort t log s
 no_doubt_abort t log shard (Abort tx ∷ rs) so_far = no_doubt_abort t log shard rs so_far
 no_doubt_abort t log shard (End tx ∷ rs) so_far = no_doubt_abort t log shard rs so_far
 no_doubt_abort t log shard (Restart run epoch ∷ rs) so_far = no_doubt_abort t log shard rs so_far
+no_doubt_abort t log shard (Add tx k by ∷ rs) so_far = no_doubt_abort t log shard rs so_far
+no_doubt_abort t log shard (Unadd tx u k by ∷ rs) so_far = no_doubt_abort t log shard rs so_far
 
 no_doubt_clr : (t : TxId) (u : Option ℕ) (k : ℕ) (a : Option ValueType) (log : List LogRecord) (shard : ℕ) (rs : List LogRecord) (so_far : List TxId) → in_doubt_from log shard (rs ++ Clr t u k a ∷ []) so_far ≡ in_doubt_from log shard rs so_far
 no_doubt_clr t u k a log shard [] so_far = refl
@@ -49,6 +51,20 @@ no_doubt_clr t u k a log shard (Commit tx ps ∷ rs) so_far = no_doubt_clr t u k
 no_doubt_clr t u k a log shard (Abort tx ∷ rs) so_far = no_doubt_clr t u k a log shard rs so_far
 no_doubt_clr t u k a log shard (End tx ∷ rs) so_far = no_doubt_clr t u k a log shard rs so_far
 no_doubt_clr t u k a log shard (Restart run epoch ∷ rs) so_far = no_doubt_clr t u k a log shard rs so_far
+no_doubt_clr t u k a log shard (Add tx j by ∷ rs) so_far = no_doubt_clr t u k a log shard rs so_far
+no_doubt_clr t u k a log shard (Unadd tx v j by ∷ rs) so_far = no_doubt_clr t u k a log shard rs so_far
+
+no_doubt_unadd : (t : TxId) (u : Option ℕ) (k a : ℕ) (log : List LogRecord) (shard : ℕ) (rs : List LogRecord) (so_far : List TxId) → in_doubt_from log shard (rs ++ Unadd t u k a ∷ []) so_far ≡ in_doubt_from log shard rs so_far
+no_doubt_unadd t u k a log shard [] so_far = refl
+no_doubt_unadd t u k a log shard (Update tx j b c ∷ rs) so_far = no_doubt_unadd t u k a log shard rs so_far
+no_doubt_unadd t u k a log shard (Clr tx v j c ∷ rs) so_far = no_doubt_unadd t u k a log shard rs so_far
+no_doubt_unadd t u k a log shard (Prepare tx home ps ∷ rs) so_far = no_doubt_unadd t u k a log shard rs (cond (doubt_by log shard tx home ps so_far) (tx_insert tx so_far) so_far)
+no_doubt_unadd t u k a log shard (Commit tx ps ∷ rs) so_far = no_doubt_unadd t u k a log shard rs so_far
+no_doubt_unadd t u k a log shard (Abort tx ∷ rs) so_far = no_doubt_unadd t u k a log shard rs so_far
+no_doubt_unadd t u k a log shard (End tx ∷ rs) so_far = no_doubt_unadd t u k a log shard rs so_far
+no_doubt_unadd t u k a log shard (Restart run epoch ∷ rs) so_far = no_doubt_unadd t u k a log shard rs so_far
+no_doubt_unadd t u k a log shard (Add tx j by ∷ rs) so_far = no_doubt_unadd t u k a log shard rs so_far
+no_doubt_unadd t u k a log shard (Unadd tx v j by ∷ rs) so_far = no_doubt_unadd t u k a log shard rs so_far
 
 no_doubt_restart : (run epoch : ℕ) (log : List LogRecord) (shard : ℕ) (rs : List LogRecord) (so_far : List TxId) → in_doubt_from log shard (rs ++ Restart run epoch ∷ []) so_far ≡ in_doubt_from log shard rs so_far
 no_doubt_restart run epoch log shard [] so_far = refl
@@ -59,6 +75,8 @@ no_doubt_restart run epoch log shard (Commit tx ps ∷ rs) so_far = no_doubt_res
 no_doubt_restart run epoch log shard (Abort tx ∷ rs) so_far = no_doubt_restart run epoch log shard rs so_far
 no_doubt_restart run epoch log shard (End tx ∷ rs) so_far = no_doubt_restart run epoch log shard rs so_far
 no_doubt_restart run epoch log shard (Restart r e ∷ rs) so_far = no_doubt_restart run epoch log shard rs so_far
+no_doubt_restart run epoch log shard (Add tx k by ∷ rs) so_far = no_doubt_restart run epoch log shard rs so_far
+no_doubt_restart run epoch log shard (Unadd tx u k by ∷ rs) so_far = no_doubt_restart run epoch log shard rs so_far
 
 -- whom an ABORT aborts, and who is aborted by none
 abbrev pub is_it : TxId → TxId → Bool
@@ -72,6 +90,9 @@ abort_unlike t = record { no_commit = λ u. refl; aborts = λ u. refl; no_doubt 
 
 pub clr_unlike : (t : TxId) (u : Option ℕ) (k : ℕ) (a : Option ValueType) → Unlike nobody (Clr t u k a)
 clr_unlike t u k a = record { no_commit = λ v. refl; aborts = λ v. refl; no_doubt = no_doubt_clr t u k a }
+
+pub unadd_unlike : (t : TxId) (u : Option ℕ) (k a : ℕ) → Unlike nobody (Unadd t u k a)
+unadd_unlike t u k a = record { no_commit = λ v. refl; aborts = λ v. refl; no_doubt = no_doubt_unadd t u k a }
 
 pub restart_unlike : (run epoch : ℕ) → Unlike nobody (Restart run epoch)
 restart_unlike run epoch = record { no_commit = λ v. refl; aborts = λ v. refl; no_doubt = no_doubt_restart run epoch }
@@ -91,6 +112,8 @@ stays_in log shard (Commit tx ps ∷ rs) so_far u i = stays_in log shard rs so_f
 stays_in log shard (Abort tx ∷ rs) so_far u i = stays_in log shard rs so_far u i
 stays_in log shard (End tx ∷ rs) so_far u i = stays_in log shard rs so_far u i
 stays_in log shard (Restart run epoch ∷ rs) so_far u i = stays_in log shard rs so_far u i
+stays_in log shard (Add tx k by ∷ rs) so_far u i = stays_in log shard rs so_far u i
+stays_in log shard (Unadd tx v k by ∷ rs) so_far u i = stays_in log shard rs so_far u i
 
 all_alike : (f g : TxId → Bool) (xs : List TxId) → ((x : TxId) → f x ≡ g x) → list_all f xs ≡ list_all g xs
 all_alike f g [] h = refl
@@ -156,6 +179,8 @@ doubts_from g log r shard (Commit tx ps ∷ rs) so_far u h = doubts_from g log r
 doubts_from g log r shard (Abort tx ∷ rs) so_far u h = doubts_from g log r shard rs so_far u h
 doubts_from g log r shard (End tx ∷ rs) so_far u h = doubts_from g log r shard rs so_far u h
 doubts_from g log r shard (Restart run epoch ∷ rs) so_far u h = doubts_from g log r shard rs so_far u h
+doubts_from g log r shard (Add tx k by ∷ rs) so_far u h = doubts_from g log r shard rs so_far u h
+doubts_from g log r shard (Unadd tx v k by ∷ rs) so_far u h = doubts_from g log r shard rs so_far u h
 
 pub doubts_more : (g : TxId → Bool) (log : List LogRecord) (r : LogRecord) (shard : ℕ) → Unlike g r → Spared g (in_doubt shard log) → in_doubt shard (log ++ r ∷ []) ≡ in_doubt shard log
 doubts_more g log r shard u h = u.no_doubt (log ++ r ∷ []) shard log [] ∙ doubts_from g log r shard log [] u h

@@ -8,7 +8,7 @@ use Rattle.std.proofs.lemmas.Bool.{cases_Bool, both_ways, cond_both, cond-true, 
 use Rattle.clv_base.specs.declared.names.TxId.{TxId}
 use Rattle.clv_base.specs.declared.names.Birth.{Birth}
 use Rattle.clv_base.specs.declared.modes.Part.{Part}
-use Rattle.clv_base.specs.declared.modes.Part.TheVariants.{N, S, X}
+use Rattle.clv_base.specs.declared.modes.Part.TheVariants.{N, S, I, X}
 use Rattle.clv_base.specs.declared.modes.Mode.{Mode}
 use Rattle.clv_base.specs.declared.modes.Anchor.{Anchor}
 use Rattle.clv_base.specs.declared.modes.Anchor.TheVariants.{Low, At}
@@ -39,13 +39,20 @@ row_equal a tx r e = let p = then_same (anchor_cmp a r.0) (tx_cmp tx (r.1).tx) e
 
 -- ---- parts of modes
 
+-- how parts lie: N below S and I, these below X
 abbrev pub least : Part → Part → Bool
 least N held = true
 least S N = false
 least S S = true
+least S I = false
 least S X = true
+least I N = false
+least I S = false
+least I I = true
+least I X = true
 least X N = false
 least X S = false
+least X I = false
 least X X = true
 
 abbrev pub part_of : Bool → Mode → Part
@@ -57,10 +64,20 @@ join_left N a b e = refl
 join_left S N b e = absurd (both_ways false refl e)
 join_left S S N e = refl
 join_left S S S e = refl
+join_left S S I e = refl
 join_left S S X e = refl
+join_left S I b e = absurd (both_ways false refl e)
 join_left S X b e = refl
+join_left I N b e = absurd (both_ways false refl e)
+join_left I S b e = absurd (both_ways false refl e)
+join_left I I N e = refl
+join_left I I S e = refl
+join_left I I I e = refl
+join_left I I X e = refl
+join_left I X b e = refl
 join_left X N b e = absurd (both_ways false refl e)
 join_left X S b e = absurd (both_ways false refl e)
+join_left X I b e = absurd (both_ways false refl e)
 join_left X X b e = refl
 
 join_right : (p a b : Part) → least p b ≡ true → least p (part_join a b) ≡ true
@@ -68,14 +85,29 @@ join_right N a b e = refl
 join_right S a N e = absurd (both_ways false refl e)
 join_right S N S e = refl
 join_right S S S e = refl
+join_right S I S e = refl
 join_right S X S e = refl
+join_right S a I e = absurd (both_ways false refl e)
 join_right S N X e = refl
 join_right S S X e = refl
+join_right S I X e = refl
 join_right S X X e = refl
+join_right I a N e = absurd (both_ways false refl e)
+join_right I a S e = absurd (both_ways false refl e)
+join_right I N I e = refl
+join_right I S I e = refl
+join_right I I I e = refl
+join_right I X I e = refl
+join_right I N X e = refl
+join_right I S X e = refl
+join_right I I X e = refl
+join_right I X X e = refl
 join_right X a N e = absurd (both_ways false refl e)
 join_right X a S e = absurd (both_ways false refl e)
+join_right X a I e = absurd (both_ways false refl e)
 join_right X N X e = refl
 join_right X S X e = refl
+join_right X I X e = refl
 join_right X X X e = refl
 
 joins_left : (f : Bool) (p : Part) (m n : Mode) → least p (part_of f m) ≡ true → least p (part_of f (join m n)) ≡ true
@@ -180,13 +212,16 @@ split_keeps f p b u lower new locks e = copy_keeps f p b u lower new locks locks
 least_held : (q : Part) → least S q ≡ true → is_held q ≡ true
 least_held N e = e
 least_held S e = refl
+least_held I e = refl
 least_held X e = refl
 
 least_S : (p q : Part) → least S p ≡ true → least p q ≡ true → least S q ≡ true
 least_S N q e h = absurd (both_ways false refl e)
 least_S S q e h = h
+least_S I q e h = absurd (both_ways false refl e)
 least_S X N e h = absurd (both_ways false refl h)
 least_S X S e h = absurd (both_ways false refl h)
+least_S X I e h = absurd (both_ways false refl h)
 least_S X X e h = refl
 
 copy_gives : (p : Part) (u : TxId) (lower new : Anchor) (rs locks : Locks) → least S p ≡ true → holds false p lower u rs ≡ true → holds false p new u (copy_gaps lower new rs locks) ≡ true
@@ -296,24 +331,70 @@ granted_closed tx birth needs locks e =
 fits_less : (p q x y : Part) → least q x ≡ true → least p y ≡ true → part_compatible q p ≡ false → part_compatible x y ≡ false
 fits_less p N x y a b e = absurd (both_ways true e refl)
 fits_less N S x y a b e = absurd (both_ways true e refl)
+fits_less N I x y a b e = absurd (both_ways true e refl)
+fits_less N X x y a b e = absurd (both_ways true e refl)
 fits_less S S x y a b e = absurd (both_ways true e refl)
+fits_less I S N y a b e = absurd (both_ways false refl a)
+fits_less I S S N a b e = absurd (both_ways false refl b)
+fits_less I S S S a b e = absurd (both_ways false refl b)
+fits_less I S S I a b e = refl
+fits_less I S S X a b e = refl
+fits_less I S I y a b e = absurd (both_ways false refl a)
+fits_less I S X N a b e = absurd (both_ways false refl b)
+fits_less I S X S a b e = absurd (both_ways false refl b)
+fits_less I S X I a b e = refl
+fits_less I S X X a b e = refl
 fits_less X S N y a b e = absurd (both_ways false refl a)
 fits_less X S S N a b e = absurd (both_ways false refl b)
 fits_less X S S S a b e = absurd (both_ways false refl b)
+fits_less X S S I a b e = absurd (both_ways false refl b)
 fits_less X S S X a b e = refl
+fits_less X S I y a b e = absurd (both_ways false refl a)
 fits_less X S X N a b e = absurd (both_ways false refl b)
 fits_less X S X S a b e = absurd (both_ways false refl b)
+fits_less X S X I a b e = absurd (both_ways false refl b)
 fits_less X S X X a b e = refl
-fits_less N X x y a b e = absurd (both_ways true e refl)
+fits_less S I N y a b e = absurd (both_ways false refl a)
+fits_less S I S y a b e = absurd (both_ways false refl a)
+fits_less S I I N a b e = absurd (both_ways false refl b)
+fits_less S I I S a b e = refl
+fits_less S I I I a b e = absurd (both_ways false refl b)
+fits_less S I I X a b e = refl
+fits_less S I X N a b e = absurd (both_ways false refl b)
+fits_less S I X S a b e = refl
+fits_less S I X I a b e = absurd (both_ways false refl b)
+fits_less S I X X a b e = refl
+fits_less I I x y a b e = absurd (both_ways true e refl)
+fits_less X I N y a b e = absurd (both_ways false refl a)
+fits_less X I S y a b e = absurd (both_ways false refl a)
+fits_less X I I N a b e = absurd (both_ways false refl b)
+fits_less X I I S a b e = absurd (both_ways false refl b)
+fits_less X I I I a b e = absurd (both_ways false refl b)
+fits_less X I I X a b e = refl
+fits_less X I X N a b e = absurd (both_ways false refl b)
+fits_less X I X S a b e = absurd (both_ways false refl b)
+fits_less X I X I a b e = absurd (both_ways false refl b)
+fits_less X I X X a b e = refl
 fits_less S X N y a b e = absurd (both_ways false refl a)
 fits_less S X S y a b e = absurd (both_ways false refl a)
+fits_less S X I y a b e = absurd (both_ways false refl a)
 fits_less S X X N a b e = absurd (both_ways false refl b)
 fits_less S X X S a b e = refl
+fits_less S X X I a b e = absurd (both_ways false refl b)
 fits_less S X X X a b e = refl
+fits_less I X N y a b e = absurd (both_ways false refl a)
+fits_less I X S y a b e = absurd (both_ways false refl a)
+fits_less I X I y a b e = absurd (both_ways false refl a)
+fits_less I X X N a b e = absurd (both_ways false refl b)
+fits_less I X X S a b e = absurd (both_ways false refl b)
+fits_less I X X I a b e = refl
+fits_less I X X X a b e = refl
 fits_less X X N y a b e = absurd (both_ways false refl a)
 fits_less X X S y a b e = absurd (both_ways false refl a)
+fits_less X X I y a b e = absurd (both_ways false refl a)
 fits_less X X X N a b e = absurd (both_ways false refl b)
 fits_less X X X S a b e = absurd (both_ways false refl b)
+fits_less X X X I a b e = absurd (both_ways false refl b)
 fits_less X X X X a b e = refl
 
 and_l : (x y : Bool) → x ≡ false → (x && y) ≡ false
@@ -327,14 +408,22 @@ not_fit : (f : Bool) (p q : Part) (m h : Mode) → least q (part_of f m) ≡ tru
 not_fit true p q m h a b e = ap not (and_l _ (part_compatible m.gap h.gap) (fits_less p q m.key h.key a b e))
 not_fit false p q m h a b e = ap not (and_r (part_compatible m.key h.key) _ (fits_less p q m.gap h.gap a b e))
 
-written_X : (q x y : Part) → least q x ≡ true → least X y ≡ true → part_compatible q X ≡ false → part_writes x y ≡ true
-written_X q x N a b e = absurd (both_ways false refl b)
-written_X q x S a b e = absurd (both_ways false refl b)
-written_X q x X a b e = ap not (fits_less X q x X a refl e)
+-- a held part that is a write, and what doesn't fit it
+written_by : (p q x y : Part) → least I p ≡ true → least q x ≡ true → least p y ≡ true → part_compatible q p ≡ false → part_writes x y ≡ true
+written_by N q x y i a b e = absurd (both_ways false refl i)
+written_by S q x y i a b e = absurd (both_ways false refl i)
+written_by I q x N i a b e = absurd (both_ways false refl b)
+written_by I q x S i a b e = absurd (both_ways false refl b)
+written_by I q x I i a b e = ap not (fits_less I q x I a b e)
+written_by I q x X i a b e = ap not (fits_less I q x X a b e)
+written_by X q x N i a b e = absurd (both_ways false refl b)
+written_by X q x S i a b e = absurd (both_ways false refl b)
+written_by X q x I i a b e = absurd (both_ways false refl b)
+written_by X q x X i a b e = ap not (fits_less X q x X a b e)
 
-is_over : (f : Bool) (q : Part) (m h : Mode) → least q (part_of f m) ≡ true → least X (part_of f h) ≡ true → part_compatible q X ≡ false → writes m h ≡ true
-is_over true q m h a b e = or_left _ _ (written_X q m.key h.key a b e)
-is_over false q m h a b e = or_right (part_writes m.key h.key) _ (written_X q m.gap h.gap a b e)
+is_over : (f : Bool) (p q : Part) (m h : Mode) → least I p ≡ true → least q (part_of f m) ≡ true → least p (part_of f h) ≡ true → part_compatible q p ≡ false → writes m h ≡ true
+is_over true p q m h i a b e = or_left _ _ (written_by p q m.key h.key i a b e)
+is_over false p q m h i a b e = or_right (part_writes m.key h.key) _ (written_by p q m.gap h.gap i a b e)
 
 -- what is asked on an anchor meets a row that holds there
 meets_row : (test : Mode → Mode → Bool) (f : Bool) (p q : Part) (a : Anchor) (u : TxId) (r : Anchor × Holder) (ns : List Need) → ((m h : Mode) → least q (part_of f m) ≡ true → least p (part_of f h) ≡ true → test m h ≡ true) → asks f q a ns ≡ true → row_holds f p a u r ≡ true → meets test ns r ≡ true
@@ -375,21 +464,21 @@ violated_keeps tx u ns [] so_far e = e
 violated_keeps tx u ns (r ∷ rs) so_far e =
     violated_keeps tx u ns rs _ (cond_both (not (tx_same tx (r.1).tx) && (r.1).closed && meets writes ns r) (tx_insert (r.1).tx so_far) so_far (λ l. tx_in u l ≡ true) (λ t. insert_keeps (r.1).tx u so_far e) (λ t. e))
 
-violated_from : (P : TxId → Birth → Bool → Type 0) (tx u : TxId) (f : Bool) (q : Part) (a : Anchor) (ns : List Need) (locks : Locks) (so_far : List TxId) → Rows P locks → ((b : Birth) (c : Bool) → P u b c → c ≡ true)
-    → holds f X a u locks ≡ true → asks f q a ns ≡ true → part_compatible q X ≡ false → (tx ≡ u → ⊥) → tx_in u (violated_by tx ns locks so_far) ≡ true
-violated_from P tx u f q a ns [] so_far rows closed held asked clash ne = absurd (both_ways false refl held)
-violated_from P tx u f q a ns (r ∷ rs) so_far rows closed held asked clash ne =
+violated_from : (P : TxId → Birth → Bool → Type 0) (tx u : TxId) (f : Bool) (p q : Part) (a : Anchor) (ns : List Need) (locks : Locks) (so_far : List TxId) → Rows P locks → ((b : Birth) (c : Bool) → P u b c → c ≡ true)
+    → least I p ≡ true → holds f p a u locks ≡ true → asks f q a ns ≡ true → part_compatible q p ≡ false → (tx ≡ u → ⊥) → tx_in u (violated_by tx ns locks so_far) ≡ true
+violated_from P tx u f p q a ns [] so_far rows closed writing held asked clash ne = absurd (both_ways false refl held)
+violated_from P tx u f p q a ns (r ∷ rs) so_far rows closed writing held asked clash ne =
     ⊎_elim
-    (λ t. let same : u ≡ (r.1).tx = tx_true u (r.1).tx (row_parts f X a u r t).1 in
+    (λ t. let same : u ≡ (r.1).tx = tx_true u (r.1).tx (row_parts f p a u r t).1 in
     let here : (not (tx_same tx (r.1).tx) && (r.1).closed && meets writes ns r) ≡ true =
-    and_from _ _ (and_from _ _ (apart_row tx u f X a r ne t) (closed (r.1).birth (r.1).closed (subst (λ x. P x (r.1).birth (r.1).closed) (sym same) rows.0))) (meets_row writes f X q a u r ns (λ m h x y. is_over f q m h x y clash) asked t) in
+    and_from _ _ (and_from _ _ (apart_row tx u f p a r ne t) (closed (r.1).birth (r.1).closed (subst (λ x. P x (r.1).birth (r.1).closed) (sym same) rows.0))) (meets_row writes f p q a u r ns (λ m h x y. is_over f p q m h writing x y clash) asked t) in
     violated_keeps tx u ns rs _ (subst (λ l. tx_in u l ≡ true) (sym (cond-true _ (tx_insert (r.1).tx so_far) so_far here)) (subst (λ x. tx_in x (tx_insert (r.1).tx so_far) ≡ true) (sym same) (insert_has (r.1).tx so_far))))
-    (λ t. violated_from P tx u f q a ns rs _ rows.1 closed t asked clash ne)
-    (or_cases (row_holds f X a u r) (holds f X a u rs) held)
+    (λ t. violated_from P tx u f p q a ns rs _ rows.1 closed writing t asked clash ne)
+    (or_cases (row_holds f p a u r) (holds f p a u rs) held)
 
-pub violates : (P : TxId → Birth → Bool → Type 0) (tx u : TxId) (f : Bool) (q : Part) (a : Anchor) (ns : List Need) (locks : Locks) → Rows P locks → ((b : Birth) (c : Bool) → P u b c → c ≡ true)
-    → holds f X a u locks ≡ true → asks f q a ns ≡ true → part_compatible q X ≡ false → (tx ≡ u → ⊥) → tx_in u (violated tx ns locks) ≡ true
-violates P tx u f q a ns locks rows closed held asked clash ne = violated_from P tx u f q a ns locks [] rows closed held asked clash ne
+pub violates : (P : TxId → Birth → Bool → Type 0) (tx u : TxId) (f : Bool) (p q : Part) (a : Anchor) (ns : List Need) (locks : Locks) → Rows P locks → ((b : Birth) (c : Bool) → P u b c → c ≡ true)
+    → least I p ≡ true → holds f p a u locks ≡ true → asks f q a ns ≡ true → part_compatible q p ≡ false → (tx ≡ u → ⊥) → tx_in u (violated tx ns locks) ≡ true
+violates P tx u f p q a ns locks rows closed writing held asked clash ne = violated_from P tx u f p q a ns locks [] rows closed writing held asked clash ne
 
 -- who holds something has a row
 pub holder_row : (P : TxId → Birth → Bool → Type 0) (f : Bool) (p : Part) (a : Anchor) (u : TxId) (locks : Locks) → Rows P locks → holds f p a u locks ≡ true → (b : Birth) × (c : Bool) × P u b c

@@ -2,18 +2,20 @@
 use Rattle.std.proofs.Common.{◌≤◌, List, arith, [], ◌∷◌, ℕ, Option, Some, None, Result, Ok, Err, suc, ◌-◌, Bool, true, false, nat_lt, length, ◌≡◌, ◌+◌, ◌++◌, refl, sym, length-append, ◌<◌, ◌||◌, ap, ◌∙◌, ◌&&◌, subst, cond, map, zero, is_some, get_or, drop, take, ◌==◌, not, eq-eqb, ⊎_elim}
 use Rattle.clv_base.specs.declared.logs.LogRecord.{LogRecord}
 use Rattle.clv_base.specs.Restarts.{run_after, homes_of, pairs_of_listed, losers, undo_records, restart_records, restored_pairs, restored_locks, with_ghosts, ghost_if_absent}
-use Rattle.clv_base.specs.Logs.{record_size, fitting, committed_in, committed_somewhere, fold_updates, stands_from, place_from, prepared_in, prepare_of, standing, standing_after, aborted_in, StandingUpdate, standing_from, without_newest}
+use Rattle.clv_base.specs.declared.changes.Change.{Change}
+use Rattle.clv_base.specs.declared.changes.Change.TheVariants.{Sets, Adds}
+use Rattle.clv_base.specs.Logs.{is_setting, record_size, fitting, committed_in, committed_somewhere, fold_updates, stands_from, place_from, prepared_in, prepare_of, standing, standing_after, aborted_in, StandingUpdate, standing_from, without_newest}
 use Rattle.std.specs.Prelude.{slice_get, ⊤, is_none}
 use Rattle.std.proofs.Math.Seq.{get_or-append_seam}
 use Rattle.std.proofs.lemmas.Option.{slice_get_read}
-use Rattle.clv_base.specs.declared.logs.LogRecord.TheVariants.{Clr, Abort, Restart, Prepare, Update, Commit, End}
+use Rattle.clv_base.specs.declared.logs.LogRecord.TheVariants.{Clr, Abort, Restart, Prepare, Update, Commit, End, Add, Unadd}
 use Rattle.clv_base.specs.declared.names.TxId.{TxId}
 use Rattle.clv_base.specs.LogRules.{log_of, all_logs_from, disorder, may_follow, disorder_from, last_restart}
-use Rattle.clv_base.specs.Maps.{KeyMap, map_set}
+use Rattle.clv_base.specs.Maps.{KeyMap, map_get, map_set, map_add, plus}
 use Rattle.std.specs.List.{list_all, list_any, AllByRecursion, filter}
 use Rattle.std.proofs.lemmas.Bool.{and_parts, and_from, or_parts, both_ways, cond_both, or_cases}
 use Rattle.clv_base.specs.FileRules.{passes_file_rules, log_passes, has_spelling}
-use Rattle.clv_base.specs.Undo.{clrs_of, newest_lsn}
+use Rattle.clv_base.specs.Undo.{clrs_of, compensation, newest_lsn}
 use Rattle.law_base.proofs.Commits.{no_place_from}
 use Rattle.clv_base.specs.Journals.{History}
 use Rattle.clv_base.specs.History.{acknowledged_in, members, request_of, ops_in}
@@ -27,10 +29,11 @@ use Rattle.clv_base.proofs.Folding.{rising_set}
 use Rattle.law_base.proofs.Shards.{FromHistory}
 use Rattle.law_base.proofs.Names.{listed_have, all_without, shut_lock, lock_case, IsThere, ghost_keeps, own_lock, own_ghost}
 use Rattle.law_base.proofs.Lists.{all_append}
-use Rattle.clv_base.specs.declared.modes.Part.TheVariants.{X}
+use Rattle.clv_base.specs.declared.modes.Part.TheVariants.{I, X}
 use Rattle.clv_base.specs.declared.modes.Anchor.TheVariants.{At}
 use Rattle.clv_base.specs.Locks.{Locks, take_one}
-use Rattle.law_base.proofs.LockRows.{holds}
+use Rattle.clv_base.specs.declared.modes.Part.{Part}
+use Rattle.law_base.proofs.LockRows.{holds, least}
 use Rattle.clv_base.specs.Needs.{Records, found_at}
 use Rattle.law_base.proofs.Cells.{record_at}
 
@@ -56,6 +59,7 @@ get_seam front r rest = slice_get_read (front ++ r ∷ rest) (length (front ++ r
 abbrev pub IsUndo : LogRecord → Type 0
 IsUndo (Abort tx) = ⊤
 IsUndo (Clr tx undo_next key after) = ⊤
+IsUndo (Unadd tx undo_next key by) = ⊤
 IsUndo (Restart run epoch) = ⊤
 IsUndo _ = ⊥
 
@@ -63,9 +67,13 @@ pub aborts_undo : (ts : List TxId) → AllByRecursion IsUndo (map (λ t. Abort t
 aborts_undo [] = tt
 aborts_undo (t ∷ ts) = (tt, aborts_undo ts)
 
+pub compensation_undoes : (tx : TxId) (next : Option ℕ) (key : ℕ) (change : Change) → IsUndo (compensation tx next key change)
+compensation_undoes tx next key (Sets before after) = tt
+compensation_undoes tx next key (Adds by) = tt
+
 pub clrs_undo : (set : List TxId) (ws : List StandingUpdate) → AllByRecursion IsUndo (clrs_of set ws)
 clrs_undo set [] = tt
-clrs_undo set (w ∷ ws) = cond_both (tx_in w.tx set) (Clr w.tx (newest_lsn w.tx ws) w.key w.before ∷ clrs_of set ws) (clrs_of set ws) (AllByRecursion IsUndo) (λ i. (tt, clrs_undo set ws)) (λ i. clrs_undo set ws)
+clrs_undo set (w ∷ ws) = cond_both (tx_in w.tx set) (compensation w.tx (newest_lsn w.tx ws) w.key w.change ∷ clrs_of set ws) (clrs_of set ws) (AllByRecursion IsUndo) (λ i. (compensation_undoes w.tx (newest_lsn w.tx ws) w.key w.change, clrs_undo set ws)) (λ i. clrs_undo set ws)
 
 pub same_somewhere : (xs ys : List (List LogRecord)) (t : TxId) → length xs ≡ length ys → ((n : ℕ) → n < length ys → committed_in (log_of xs n) t ≡ committed_in (log_of ys n) t) → committed_somewhere xs t ≡ committed_somewhere ys t
 same_somewhere [] [] t e k = refl
@@ -186,10 +194,21 @@ fold_rises keep (Commit tx ps ∷ rs) m h = fold_rises keep rs m h
 fold_rises keep (Abort tx ∷ rs) m h = fold_rises keep rs m h
 fold_rises keep (End tx ∷ rs) m h = fold_rises keep rs m h
 fold_rises keep (Restart run epoch ∷ rs) m h = fold_rises keep rs m h
+fold_rises keep (Add tx key by ∷ rs) m h = fold_rises keep rs (cond (keep tx) (map_add key by m) m) (at (keep tx))
+  where
+    at : (b : Bool) → IsRising (cond b (map_add key by m) m)
+    at true = rising_set key (plus by (map_get key m)) m h
+    at false = h
+fold_rises keep (Unadd tx undo_next key by ∷ rs) m h = fold_rises keep rs m h
 
 abbrev pub is_update_at : TxId → ℕ → LogRecord → Bool
 is_update_at t q (Update tx key before after) = tx_same t tx && (q == key)
+is_update_at t q (Add tx key by) = tx_same t tx && (q == key)
 is_update_at t q _ = false
+
+abbrev pub is_setting_at : TxId → ℕ → LogRecord → Bool
+is_setting_at t q (Update tx key before after) = tx_same t tx && (q == key)
+is_setting_at t q _ = false
 
 pub some_log : {a b : List LogRecord} → Some a ≡ Some b → a ≡ b
 some_log h = cc
@@ -207,6 +226,7 @@ pub same_fold : (f k : TxId → Bool) → ((t : TxId) → f t ≡ k t) → (log 
 same_fold f k e [] [] m a = refl
 same_fold f k e [] (Abort tx ∷ more) m a = same_fold f k e [] more m a.1
 same_fold f k e [] (Clr tx u q v ∷ more) m a = same_fold f k e [] more m a.1
+same_fold f k e [] (Unadd tx u q by ∷ more) m a = same_fold f k e [] more m a.1
 same_fold f k e [] (Restart run epoch ∷ more) m a = same_fold f k e [] more m a.1
 same_fold f k e [] (Update tx q b v ∷ more) m a = absurd a.0
 same_fold f k e [] (Prepare tx home ps ∷ more) m a = absurd a.0
@@ -219,6 +239,9 @@ same_fold f k e (Commit tx ps ∷ log) more m a = same_fold f k e log more m a
 same_fold f k e (Abort tx ∷ log) more m a = same_fold f k e log more m a
 same_fold f k e (End tx ∷ log) more m a = same_fold f k e log more m a
 same_fold f k e (Restart run epoch ∷ log) more m a = same_fold f k e log more m a
+same_fold f k e [] (Add tx q by ∷ more) m a = absurd a.0
+same_fold f k e (Add tx q by ∷ log) more m a = ap (λ c. fold_updates f (log ++ more) (cond c (map_add q by m) m)) (e tx) ∙ same_fold f k e log more (cond (k tx) (map_add q by m) m) a
+same_fold f k e (Unadd tx u q by ∷ log) more m a = same_fold f k e log more m a
 
 pub from_history : (logs : List (List LogRecord)) (h es : History) → FromHistory h (members logs h es)
 from_history logs h [] = tt
@@ -257,7 +280,7 @@ pub standing_all : (log : List LogRecord) (n : ℕ) (rs : List LogRecord) (ws : 
     → AllByRecursion (λ w. has_update log w.tx w.key ≡ true) (standing_from n rs ws)
 standing_all log n [] ws h all = all
 standing_all log n (Update tx k b a ∷ rs) ws h all =
-    standing_all log (suc n) rs (record { lsn = n; tx = tx; key = k; before = b; after = a } ∷ ws) (λ t q e. h t q (or_right (tx_same t tx && (q == k)) _ e))
+    standing_all log (suc n) rs (record { lsn = n; tx = tx; key = k; change = Sets b a } ∷ ws) (λ t q e. h t q (or_right (tx_same t tx && (q == k)) _ e))
     (h tx k (or_left _ _ (and_from _ _ (tx_self tx) (eq-eqb k k refl))), all)
 standing_all log n (Clr tx u k a ∷ rs) ws h all = standing_all log (suc n) rs (without_newest tx ws) h (all_without _ tx ws all)
 standing_all log n (Prepare tx home ps ∷ rs) ws h all = standing_all log (suc n) rs ws h all
@@ -265,16 +288,40 @@ standing_all log n (Commit tx ps ∷ rs) ws h all = standing_all log (suc n) rs 
 standing_all log n (Abort tx ∷ rs) ws h all = standing_all log (suc n) rs ws h all
 standing_all log n (End tx ∷ rs) ws h all = standing_all log (suc n) rs ws h all
 standing_all log n (Restart run epoch ∷ rs) ws h all = standing_all log (suc n) rs ws h all
+standing_all log n (Add tx k by ∷ rs) ws h all =
+    standing_all log (suc n) rs (record { lsn = n; tx = tx; key = k; change = Adds by } ∷ ws) (λ t q e. h t q (or_right (tx_same t tx && (q == k)) _ e))
+    (h tx k (or_left _ _ (and_from _ _ (tx_self tx) (eq-eqb k k refl))), all)
+standing_all log n (Unadd tx u k by ∷ rs) ws h all = standing_all log (suc n) rs (without_newest tx ws) h (all_without _ tx ws all)
 
-pub locks_keep : (txs : List TxId) (log : List LogRecord) (locks : Locks) (t : TxId) (q : ℕ) → holds true X (At q) t locks ≡ true → holds true X (At q) t (restored_locks txs log locks) ≡ true
-locks_keep txs [] locks t q h = h
-locks_keep txs (Update tx key b a ∷ rs) locks t q h = locks_keep txs rs (cond (tx_in tx txs) (take_one (At key) (shut_lock tx) locks) locks) t q (lock_case txs tx key locks t q h)
-locks_keep txs (Clr tx u k a ∷ rs) locks t q h = locks_keep txs rs locks t q h
-locks_keep txs (Prepare tx home ps ∷ rs) locks t q h = locks_keep txs rs locks t q h
-locks_keep txs (Commit tx ps ∷ rs) locks t q h = locks_keep txs rs locks t q h
-locks_keep txs (Abort tx ∷ rs) locks t q h = locks_keep txs rs locks t q h
-locks_keep txs (End tx ∷ rs) locks t q h = locks_keep txs rs locks t q h
-locks_keep txs (Restart run epoch ∷ rs) locks t q h = locks_keep txs rs locks t q h
+abbrev pub has_setting : List LogRecord → TxId → ℕ → Bool
+has_setting log t q = list_any (is_setting_at t q) log
+
+pub settings_all : (log : List LogRecord) (n : ℕ) (rs : List LogRecord) (ws : List StandingUpdate) → ((t : TxId) (q : ℕ) → has_setting rs t q ≡ true → has_setting log t q ≡ true) → AllByRecursion (λ w. is_setting w.change ≡ true → has_setting log w.tx w.key ≡ true) ws
+    → AllByRecursion (λ w. is_setting w.change ≡ true → has_setting log w.tx w.key ≡ true) (standing_from n rs ws)
+settings_all log n [] ws h all = all
+settings_all log n (Update tx k b a ∷ rs) ws h all =
+    settings_all log (suc n) rs (record { lsn = n; tx = tx; key = k; change = Sets b a } ∷ ws) (λ t q e. h t q (or_right (tx_same t tx && (q == k)) _ e))
+    ((λ e. h tx k (or_left _ _ (and_from _ _ (tx_self tx) (eq-eqb k k refl)))), all)
+settings_all log n (Clr tx u k a ∷ rs) ws h all = settings_all log (suc n) rs (without_newest tx ws) h (all_without _ tx ws all)
+settings_all log n (Prepare tx home ps ∷ rs) ws h all = settings_all log (suc n) rs ws h all
+settings_all log n (Commit tx ps ∷ rs) ws h all = settings_all log (suc n) rs ws h all
+settings_all log n (Abort tx ∷ rs) ws h all = settings_all log (suc n) rs ws h all
+settings_all log n (End tx ∷ rs) ws h all = settings_all log (suc n) rs ws h all
+settings_all log n (Restart run epoch ∷ rs) ws h all = settings_all log (suc n) rs ws h all
+settings_all log n (Add tx k by ∷ rs) ws h all = settings_all log (suc n) rs (record { lsn = n; tx = tx; key = k; change = Adds by } ∷ ws) h ((λ e. absurd (both_ways false refl e)), all)
+settings_all log n (Unadd tx u k by ∷ rs) ws h all = settings_all log (suc n) rs (without_newest tx ws) h (all_without _ tx ws all)
+
+pub locks_keep : (p : Part) (txs : List TxId) (log : List LogRecord) (locks : Locks) (t : TxId) (q : ℕ) → holds true p (At q) t locks ≡ true → holds true p (At q) t (restored_locks txs log locks) ≡ true
+locks_keep p txs [] locks t q h = h
+locks_keep p txs (Update tx key b a ∷ rs) locks t q h = locks_keep p txs rs (cond (tx_in tx txs) (take_one (At key) (shut_lock tx X) locks) locks) t q (lock_case X p txs tx key locks t q h)
+locks_keep p txs (Clr tx u k a ∷ rs) locks t q h = locks_keep p txs rs locks t q h
+locks_keep p txs (Prepare tx home ps ∷ rs) locks t q h = locks_keep p txs rs locks t q h
+locks_keep p txs (Commit tx ps ∷ rs) locks t q h = locks_keep p txs rs locks t q h
+locks_keep p txs (Abort tx ∷ rs) locks t q h = locks_keep p txs rs locks t q h
+locks_keep p txs (End tx ∷ rs) locks t q h = locks_keep p txs rs locks t q h
+locks_keep p txs (Restart run epoch ∷ rs) locks t q h = locks_keep p txs rs locks t q h
+locks_keep p txs (Add tx key by ∷ rs) locks t q h = locks_keep p txs rs (cond (tx_in tx txs) (take_one (At key) (shut_lock tx I) locks) locks) t q (lock_case I p txs tx key locks t q h)
+locks_keep p txs (Unadd tx u k by ∷ rs) locks t q h = locks_keep p txs rs locks t q h
 
 pub ghosts_keep : (txs : List TxId) (log : List LogRecord) (rs : Records) (q : ℕ) → IsThere q rs → IsThere q (with_ghosts txs log rs)
 ghosts_keep txs [] rs q h = h
@@ -286,21 +333,46 @@ ghosts_keep txs (Commit tx ps ∷ log) rs q h = ghosts_keep txs log rs q h
 ghosts_keep txs (Abort tx ∷ log) rs q h = ghosts_keep txs log rs q h
 ghosts_keep txs (End tx ∷ log) rs q h = ghosts_keep txs log rs q h
 ghosts_keep txs (Restart run epoch ∷ log) rs q h = ghosts_keep txs log rs q h
+ghosts_keep txs (Add tx key by ∷ log) rs q h =
+    ghosts_keep txs log (cond (tx_in tx txs) (ghost_if_absent key rs (found_at key rs)) rs) q (cond_both (tx_in tx txs) (ghost_if_absent key rs (found_at key rs)) rs (IsThere q) (λ e. ghost_keeps key q rs (found_at key rs) h) (λ e. h))
+ghosts_keep txs (Unadd tx u k by ∷ log) rs q h = ghosts_keep txs log rs q h
 
 pub standing_updates : (log : List LogRecord) → AllByRecursion (λ w. has_update log w.tx w.key ≡ true) (standing log)
 standing_updates log = standing_all log 0 log [] (λ t q e. e) tt
 
-pub locks_hold : (txs : List TxId) (log : List LogRecord) (locks : Locks) (t : TxId) (q : ℕ) → tx_in t txs ≡ true → has_update log t q ≡ true → holds true X (At q) t (restored_locks txs log locks) ≡ true
+pub standing_settings : (log : List LogRecord) → AllByRecursion (λ w. is_setting w.change ≡ true → has_setting log w.tx w.key ≡ true) (standing log)
+standing_settings log = settings_all log 0 log [] (λ t q e. e) tt
+
+-- who wrote at a key holds I of it at least, and who set its value X
+pub locks_hold : (txs : List TxId) (log : List LogRecord) (locks : Locks) (t : TxId) (q : ℕ) → tx_in t txs ≡ true → has_update log t q ≡ true → holds true I (At q) t (restored_locks txs log locks) ≡ true
 locks_hold txs [] locks t q i e = absurd (both_ways false refl e)
 locks_hold txs (Update tx key b a ∷ rs) locks t q i e =
-    ⊎_elim (λ h. locks_keep txs rs (cond (tx_in tx txs) (take_one (At key) (shut_lock tx) locks) locks) t q (own_lock txs tx key locks t q i h))
-    (λ h. locks_hold txs rs (cond (tx_in tx txs) (take_one (At key) (shut_lock tx) locks) locks) t q i h) (or_cases (tx_same t tx && (q == key)) (has_update rs t q) e)
+    ⊎_elim (λ h. locks_keep I txs rs (cond (tx_in tx txs) (take_one (At key) (shut_lock tx X) locks) locks) t q (own_lock X I txs tx key locks t q refl i h))
+    (λ h. locks_hold txs rs (cond (tx_in tx txs) (take_one (At key) (shut_lock tx X) locks) locks) t q i h) (or_cases (tx_same t tx && (q == key)) (has_update rs t q) e)
 locks_hold txs (Clr tx u k a ∷ rs) locks t q i e = locks_hold txs rs locks t q i e
 locks_hold txs (Prepare tx home ps ∷ rs) locks t q i e = locks_hold txs rs locks t q i e
 locks_hold txs (Commit tx ps ∷ rs) locks t q i e = locks_hold txs rs locks t q i e
 locks_hold txs (Abort tx ∷ rs) locks t q i e = locks_hold txs rs locks t q i e
 locks_hold txs (End tx ∷ rs) locks t q i e = locks_hold txs rs locks t q i e
 locks_hold txs (Restart run epoch ∷ rs) locks t q i e = locks_hold txs rs locks t q i e
+locks_hold txs (Add tx key by ∷ rs) locks t q i e =
+    ⊎_elim (λ h. locks_keep I txs rs (cond (tx_in tx txs) (take_one (At key) (shut_lock tx I) locks) locks) t q (own_lock I I txs tx key locks t q refl i h))
+    (λ h. locks_hold txs rs (cond (tx_in tx txs) (take_one (At key) (shut_lock tx I) locks) locks) t q i h) (or_cases (tx_same t tx && (q == key)) (has_update rs t q) e)
+locks_hold txs (Unadd tx u k by ∷ rs) locks t q i e = locks_hold txs rs locks t q i e
+
+pub locks_set : (txs : List TxId) (log : List LogRecord) (locks : Locks) (t : TxId) (q : ℕ) → tx_in t txs ≡ true → has_setting log t q ≡ true → holds true X (At q) t (restored_locks txs log locks) ≡ true
+locks_set txs [] locks t q i e = absurd (both_ways false refl e)
+locks_set txs (Update tx key b a ∷ rs) locks t q i e =
+    ⊎_elim (λ h. locks_keep X txs rs (cond (tx_in tx txs) (take_one (At key) (shut_lock tx X) locks) locks) t q (own_lock X X txs tx key locks t q refl i h))
+    (λ h. locks_set txs rs (cond (tx_in tx txs) (take_one (At key) (shut_lock tx X) locks) locks) t q i h) (or_cases (tx_same t tx && (q == key)) (has_setting rs t q) e)
+locks_set txs (Clr tx u k a ∷ rs) locks t q i e = locks_set txs rs locks t q i e
+locks_set txs (Prepare tx home ps ∷ rs) locks t q i e = locks_set txs rs locks t q i e
+locks_set txs (Commit tx ps ∷ rs) locks t q i e = locks_set txs rs locks t q i e
+locks_set txs (Abort tx ∷ rs) locks t q i e = locks_set txs rs locks t q i e
+locks_set txs (End tx ∷ rs) locks t q i e = locks_set txs rs locks t q i e
+locks_set txs (Restart run epoch ∷ rs) locks t q i e = locks_set txs rs locks t q i e
+locks_set txs (Add tx key by ∷ rs) locks t q i e = locks_set txs rs (cond (tx_in tx txs) (take_one (At key) (shut_lock tx I) locks) locks) t q i e
+locks_set txs (Unadd tx u k by ∷ rs) locks t q i e = locks_set txs rs locks t q i e
 
 pub ghosts_there : (txs : List TxId) (log : List LogRecord) (rs : Records) (t : TxId) (q : ℕ) → tx_in t txs ≡ true → has_update log t q ≡ true → record_at q (with_ghosts txs log rs) ≡ None → ⊥
 ghosts_there txs [] rs t q i e = absurd (both_ways false refl e)
@@ -313,3 +385,7 @@ ghosts_there txs (Commit tx ps ∷ log) rs t q i e = ghosts_there txs log rs t q
 ghosts_there txs (Abort tx ∷ log) rs t q i e = ghosts_there txs log rs t q i e
 ghosts_there txs (End tx ∷ log) rs t q i e = ghosts_there txs log rs t q i e
 ghosts_there txs (Restart run epoch ∷ log) rs t q i e = ghosts_there txs log rs t q i e
+ghosts_there txs (Add tx key by ∷ log) rs t q i e =
+    ⊎_elim (λ h. ghosts_keep txs log (cond (tx_in tx txs) (ghost_if_absent key rs (found_at key rs)) rs) q (own_ghost txs tx key rs t q i h))
+    (λ h. ghosts_there txs log (cond (tx_in tx txs) (ghost_if_absent key rs (found_at key rs)) rs) t q i h) (or_cases (tx_same t tx && (q == key)) (has_update log t q) e)
+ghosts_there txs (Unadd tx u k by ∷ log) rs t q i e = ghosts_there txs log rs t q i e

@@ -24,8 +24,8 @@ use Rattle.law_base.proofs.Anchors.{record_at_set}
 use Rattle.std.specs.Map.{keys_of}
 use Rattle.law_base.proofs.Changed.{none_some}
 use Rattle.clv_base.specs.Coordinator.{restored_requests}
-use Rattle.clv_base.specs.declared.ops.Op.TheVariants.{Get, Put, Del, Scan}
-use Rattle.clv_base.specs.declared.ops.Answer.TheVariants.{Value, Pairs}
+use Rattle.clv_base.specs.declared.ops.Op.TheVariants.{Get, Put, Del, Scan, Add}
+use Rattle.clv_base.specs.declared.ops.Answer.TheVariants.{Value, Pairs, Added}
 use Rattle.clv_base.specs.Folding.{key_written}
 use Rattle.law_base.specs.Items.{told as value_told, is_write_at, Item}
 use Rattle.std.specs.Cmp.{both_ways as same_tests}
@@ -46,12 +46,12 @@ use Rattle.law_base.proofs.Successors.{keeps_through}
 use Rattle.std.proofs.lemmas.Cmp.{nat_cmp_total}
 use Rattle.clv_base.specs.declared.modes.Anchor.{Anchor}
 use Rattle.clv_base.specs.declared.modes.Holder.{Holder}
-use Rattle.clv_base.specs.declared.modes.Part.TheVariants.{X}
+use Rattle.clv_base.specs.declared.modes.Part.{Part}
 use Rattle.clv_base.specs.Modes.{on_key}
 use Rattle.clv_base.specs.Journals.{History}
 use Rattle.clv_base.specs.History.{answered_op, ops_in}
 use Rattle.clv_base.specs.OneShard.{add_pairs}
-use Rattle.law_base.proofs.LockRows.{holds, take_keeps, take_gives}
+use Rattle.law_base.proofs.LockRows.{holds, least, take_keeps, take_gives}
 use Rattle.clv_base.specs.declared.modes.Found.{Found}
 use Rattle.clv_base.specs.declared.modes.Found.TheVariants.{Live, Ghost, Absent}
 
@@ -110,6 +110,11 @@ written_at (Put j v) a k e = let s : j ≡ k = cc in eq-eqb k j (sym s)
 written_at (Del j) (Value (Some v)) k e = let s : j ≡ k = cc in eq-eqb k j (sym s)
 written_at (Del j) (Value None) k e = absurd cc
 written_at (Del j) (Pairs ps) k e = absurd cc
+written_at (Del j) (Added found) k e = absurd cc
+written_at (Add j n) (Added true) k e = let s : j ≡ k = cc in eq-eqb k j (sym s)
+written_at (Add j n) (Added false) k e = absurd cc
+written_at (Add j n) (Value v) k e = absurd cc
+written_at (Add j n) (Pairs ps) k e = absurd cc
 written_at (Scan lo hi) a k e = absurd cc
 
 pub tx_in-insert : (x t : TxId) (xs : List TxId) → tx_in t (tx_insert x xs) ≡ (tx_same x t || tx_in t xs)
@@ -202,8 +207,8 @@ set_by o k v r rs = match_ordering o ((k, v) ∷ r ∷ rs) ((r.0, v) ∷ rs) (r 
 abbrev pub MayStand : Table Held → TxId → Birth → Type 0
 MayStand parts tx birth = (tx_get tx parts ≡ None) ⊎ ((h : Held) × (tx_get tx parts ≡ Some h) × (h.birth ≡ birth) × (h.stage ≡ Active))
 
-abbrev pub shut_lock : TxId → Holder
-shut_lock tx = record { tx = tx; birth = old_birth tx; mode = on_key X; closed = true }
+abbrev pub shut_lock : TxId → Part → Holder
+shut_lock tx part = record { tx = tx; birth = old_birth tx; mode = on_key part; closed = true }
 
 abbrev pub Stays : Locks → Records → Type 0
 Stays locks rs = AllByRecursion (λ r. is_locked_or_live locks r ≡ true) rs
@@ -279,16 +284,18 @@ pub preds_add : (x tx : TxId) (qs : List TxId) (pairs : List (TxId × TxId)) →
 preds_add x tx [] pairs other = refl
 preds_add x tx (q ∷ qs) pairs other = preds_add x tx qs (pair_insert (tx, q) pairs) other ∙ preds_insert x tx q pairs other
 
-pub lock_case : (txs : List TxId) (tx : TxId) (key : ℕ) (locks : Locks) (t : TxId) (q : ℕ) → holds true X (At q) t locks ≡ true → holds true X (At q) t (cond (tx_in tx txs) (take_one (At key) (shut_lock tx) locks) locks) ≡ true
-lock_case txs tx key locks t q h = cond_both (tx_in tx txs) (take_one (At key) (shut_lock tx) locks) locks (λ l. holds true X (At q) t l ≡ true) (λ e. take_keeps true X (At q) t (At key) (shut_lock tx) locks h) (λ e. h)
+pub lock_case : (own p : Part) (txs : List TxId) (tx : TxId) (key : ℕ) (locks : Locks) (t : TxId) (q : ℕ) → holds true p (At q) t locks ≡ true → holds true p (At q) t (cond (tx_in tx txs) (take_one (At key) (shut_lock tx own) locks) locks) ≡ true
+lock_case own p txs tx key locks t q h =
+    cond_both (tx_in tx txs) (take_one (At key) (shut_lock tx own) locks) locks (λ l. holds true p (At q) t l ≡ true) (λ e. take_keeps true p (At q) t (At key) (shut_lock tx own) locks h) (λ e. h)
 
-pub own_lock : (txs : List TxId) (tx : TxId) (key : ℕ) (locks : Locks) (t : TxId) (q : ℕ) → tx_in t txs ≡ true → (tx_same t tx && (q == key)) ≡ true → holds true X (At q) t (cond (tx_in tx txs) (take_one (At key) (shut_lock tx) locks) locks) ≡ true
-own_lock txs tx key locks t q i e =
-    let p = and_parts (tx_same t tx) (q == key) e in
-    let same : t ≡ tx = tx_true t tx p.0 in
-    let at : q ≡ key = eqb-true q key p.1 in
-    subst (λ l. holds true X (At q) t l ≡ true) (sym (cond-true (tx_in tx txs) (take_one (At key) (shut_lock tx) locks) locks (subst (λ z. tx_in z txs ≡ true) same i)))
-    (subst (λ z. holds true X (At q) z (take_one (At key) (shut_lock tx) locks) ≡ true) (sym same) (subst (λ k. holds true X (At k) tx (take_one (At key) (shut_lock tx) locks) ≡ true) (sym at) (take_gives true X (At key) (shut_lock tx) locks refl)))
+pub own_lock : (own p : Part) (txs : List TxId) (tx : TxId) (key : ℕ) (locks : Locks) (t : TxId) (q : ℕ) → least p own ≡ true → tx_in t txs ≡ true → (tx_same t tx && (q == key)) ≡ true
+    → holds true p (At q) t (cond (tx_in tx txs) (take_one (At key) (shut_lock tx own) locks) locks) ≡ true
+own_lock own p txs tx key locks t q l i e =
+    let parts = and_parts (tx_same t tx) (q == key) e in
+    let same : t ≡ tx = tx_true t tx parts.0 in
+    let at : q ≡ key = eqb-true q key parts.1 in
+    subst (λ l. holds true p (At q) t l ≡ true) (sym (cond-true (tx_in tx txs) (take_one (At key) (shut_lock tx own) locks) locks (subst (λ z. tx_in z txs ≡ true) same i)))
+    (subst (λ z. holds true p (At q) z (take_one (At key) (shut_lock tx own) locks) ≡ true) (sym same) (subst (λ k. holds true p (At k) tx (take_one (At key) (shut_lock tx own) locks) ≡ true) (sym at) (take_gives true p (At key) (shut_lock tx own) locks l)))
 
 pub ghost_keeps : (k q : ℕ) (rs : Records) (f : Found) → IsThere q rs → IsThere q (ghost_if_absent k rs f)
 ghost_keeps k q rs (Live v) h = h

@@ -2,13 +2,13 @@
 use Rattle.std.proofs.Common.{◌≡◌, ⊎_elim, Bool, true, false, cond, List, Option, Some, None, refl, sym, ap, ◌∙◌, ◌⊎◌, inl, inr, ℕ}
 use Rattle.std.proofs.lemmas.Bool.{cases_Bool, cond-false, false_from_ne_true, both_ways}
 use Rattle.std.proofs.lemmas.Option.{same_Some}
-use Rattle.clv_base.specs.declared.values.Value.{Value as ValueType}
 use Rattle.clv_base.specs.declared.names.TxId.{TxId}
 use Rattle.clv_base.specs.declared.names.Birth.{Birth}
 use Rattle.clv_base.specs.declared.state.Stage.{Stage}
 use Rattle.clv_base.specs.declared.state.Stage.TheVariants.{Active, Closed, Gone}
 use Rattle.clv_base.specs.declared.state.Held.{Held}
 use Rattle.clv_base.specs.Orders.{Table, tx_same, tx_in, tx_get}
+use Rattle.clv_base.specs.declared.changes.Change.{Change}
 use Rattle.clv_base.specs.State.{is_present, Local}
 use Rattle.clv_base.specs.Undo.{gone_part, gone_in}
 use Rattle.clv_base.specs.OneShard.{active_part, new_part, dropped_part, marked_in, closed_part, closed_in, written}
@@ -141,6 +141,6 @@ was_present set d u parts e = at (is_present (stage_in parts u)) refl
     at true f = refl
     at false f = absurd (both_ways _ (absent_go set d u parts f) e)
 
-pub written_parts : (tx : TxId) (w : Option (ℕ × Option ValueType × Option ValueType)) (l : Local) → (written tx w l).parts ≡ l.parts
+pub written_parts : (tx : TxId) (w : Option (ℕ × Change)) (l : Local) → (written tx w l).parts ≡ l.parts
 written_parts tx None l = refl
 written_parts tx (Some w) l = refl

@@ -1,4 +1,4 @@
--- What the CLRs of an abort leave of a log.
+-- What the CLRs and UNADDs of an abort leave of a log.
 use Rattle.std.specs.Prelude.{◌≡◌, Bool, not, List, ◌++◌}
 use Rattle.std.specs.List.{filter}
 use Rattle.clv_base.specs.declared.names.TxId.{TxId}
@@ -11,7 +11,7 @@ use Rattle.clv_base.specs.Undo.{aborts_of, clrs_of}
 abbrev pub stays_of : List TxId → StandingUpdate → Bool
 stays_of set w = not (tx_in w.tx set)
 
--- after the ABORTs and CLRs of a set exactly the others' UPDATEs stand, in the same order
+-- after the ABORTs, CLRs and UNADDs of a set exactly the others' writes stand, in the same order
 abbrev pub UndoLeavesTheOthers : Type 0
 UndoLeavesTheOthers =
     (set : List TxId) (log : List LogRecord) → standing (log ++ aborts_of log set ++ clrs_of set (standing log)) ≡ filter (stays_of set) (standing log)
