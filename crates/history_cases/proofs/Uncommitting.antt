@@ -3,23 +3,24 @@ use Rattle.std.proofs.Common.{◌≡◌, refl, subst, ℕ, true, false, cond, no
 use Rattle.std.proofs.lemmas.Bool.{or_from}
 use Rattle.std.specs.Prelude.{take, zero, suc}
 use Rattle.std.specs.List.{filter, AllByRecursion}
-use Rattle.clv_base.specs.declared.values.Value.{Value as ValueType}
 use Rattle.clv_base.specs.declared.names.TxId.{TxId}
 use Rattle.clv_base.specs.declared.names.Birth.{Birth}
 use Rattle.clv_base.specs.declared.ops.Op.{Op}
 use Rattle.clv_base.specs.declared.ops.Answer.{Answer}
 use Rattle.clv_base.specs.declared.causes.AbortCause.{AbortCause}
 use Rattle.clv_base.specs.declared.logs.LogRecord.{LogRecord}
-use Rattle.clv_base.specs.declared.logs.LogRecord.TheVariants.{Update, Clr, Abort, Restart}
+use Rattle.clv_base.specs.declared.logs.LogRecord.TheVariants.{Update, Abort, Restart, Add}
 use Rattle.clv_base.specs.declared.modes.Decision.{Decision}
 use Rattle.clv_base.specs.declared.modes.Decision.TheVariants.{Grant, Wait, Die}
 use Rattle.clv_base.specs.declared.state.Stage.{Stage}
 use Rattle.clv_base.specs.declared.state.Stage.TheVariants.{Active, Closed, Gone}
 use Rattle.clv_base.specs.Orders.{tx_in}
+use Rattle.clv_base.specs.declared.changes.Change.{Change}
+use Rattle.clv_base.specs.declared.changes.Change.TheVariants.{Sets, Adds}
 use Rattle.clv_base.specs.Logs.{StandingUpdate, is_commit_of, committed_in, wrote_in, standing}
 use Rattle.clv_base.specs.Locks.{decide}
 use Rattle.clv_base.specs.State.{Local, is_present}
-use Rattle.clv_base.specs.Undo.{stage_of, aborts_of, clrs_of, newest_lsn, doomed_here, roll_back}
+use Rattle.clv_base.specs.Undo.{stage_of, aborts_of, clrs_of, newest_lsn, doomed_here, roll_back, compensation}
 use Rattle.clv_base.specs.Needs.{needs_of, writes_of, value_at, key_of}
 use Rattle.clv_base.specs.OneShard.{OpReply, OpWaits, OpCrowded, OpDies, OpAnswers, written, locked, rolled_back_if, without_part, op_granted, op_decided, op_by_stage, op_seen, op_reply, drop_part, seen_fits}
 use Rattle.clv_base.specs.State.{Shard}
@@ -54,11 +55,12 @@ aborts_have (t ∷ ts) = ((λ u. refl), aborts_have ts)
 
 clrs_have : (set : List TxId) (ws : List StandingUpdate) → HaveNoCommit (clrs_of set ws)
 clrs_have set [] = tt
-clrs_have set (w ∷ ws) = at (tx_in w.tx set) (clrs_have set ws)
+clrs_have set (w ∷ ws) = at (tx_in w.tx set) w.change (clrs_have set ws)
   where
-    at : (b : Bool) → HaveNoCommit (clrs_of set ws) → HaveNoCommit (cond b (Clr w.tx (newest_lsn w.tx ws) w.key w.before ∷ clrs_of set ws) (clrs_of set ws))
-    at true a = ((λ u. refl), a)
-    at false a = a
+    at : (b : Bool) (c : Change) → HaveNoCommit (clrs_of set ws) → HaveNoCommit (cond b (compensation w.tx (newest_lsn w.tx ws) w.key c ∷ clrs_of set ws) (clrs_of set ws))
+    at true (Sets before after) a = ((λ u. refl), a)
+    at true (Adds by) a = ((λ u. refl), a)
+    at false c a = a
 
 -- a log that has no COMMITs but another's
 abbrev pub NoMoreCommits : List LogRecord → List LogRecord → Type 0
@@ -90,9 +92,10 @@ data OpAdds (l : Local) : OpReply → Type 0 where
   dies : {c : AbortCause} {m : Local} → NoMoreCommits l.log m.log → OpAdds l (OpDies c m)
   answers : {a : Answer} {m : Local} → NoMoreCommits l.log m.log → OpAdds l (OpAnswers a m)
 
-writes : (tx : TxId) (w : Option (ℕ × Option ValueType × Option ValueType)) (l : Local) → NoMoreCommits l.log (written tx w l).log
+writes : (tx : TxId) (w : Option (ℕ × Change)) (l : Local) → NoMoreCommits l.log (written tx w l).log
 writes tx None l = λ t h. h
-writes tx (Some w) l = with_more l.log (Update tx w.0 w.1 w.2 ∷ []) ((λ t. refl), tt)
+writes tx (Some (key, Sets before after)) l = with_more l.log (Update tx key before after ∷ []) ((λ t. refl), tt)
+writes tx (Some (key, Adds by)) l = with_more l.log (Add tx key by ∷ []) ((λ t. refl), tt)
 
 granted : (l : Local) (tx : TxId) (birth : Birth) (op : Op) (b : Bool) → OpAdds l (op_granted l tx birth op b)
 granted l tx birth op true = no_room

@@ -7,23 +7,26 @@ use Rattle.std.specs.List.{AllByRecursion, filter, list_all}
 use Rattle.std.proofs.lemmas.Bool.{cond_both, and_parts, and_from}
 use Rattle.clv_base.specs.Values.{fits_value}
 use Rattle.clv_base.specs.declared.values.Value.{Value as ValueType}
+use Rattle.clv_base.specs.declared.values.Value.TheVariants.{Num, Bytes}
 use Rattle.clv_base.specs.declared.names.TxId.{TxId}
 use Rattle.clv_base.specs.declared.names.Birth.{Birth}
 use Rattle.clv_base.specs.declared.ops.Op.{Op}
 use Rattle.clv_base.specs.declared.ops.Op.TheVariants.{Get, Put, Del, Scan}
+use Rattle.clv_base.specs.declared.ops.Op.TheVariants as operations
 use Rattle.clv_base.specs.declared.logs.LogRecord.{LogRecord}
-use Rattle.clv_base.specs.declared.logs.LogRecord.TheVariants.{Update}
+use Rattle.clv_base.specs.declared.changes.Change.{Change}
+use Rattle.clv_base.specs.declared.changes.Change.TheVariants.{Sets, Adds}
 use Rattle.clv_base.specs.Orders.{tx_in}
 use Rattle.clv_base.specs.FileRules.{has_spelling, tx_has_spelling, is_64_bits, is_value}
-use Rattle.clv_base.specs.Logs.{wrote_in, standing, in_doubt, is_winner}
+use Rattle.clv_base.specs.Logs.{changed, wrote_in, standing, in_doubt, is_winner}
 use Rattle.clv_base.specs.Locks.{violated, take_all}
 use Rattle.clv_base.specs.Needs.{found_at, key_of, needs_of, inserts, writes_of, value_at, is_locked_or_live}
 use Rattle.clv_base.specs.State.{Local, is_present}
 use Rattle.clv_base.specs.Facts.{undecided_of}
 use Rattle.clv_base.specs.Undo.{stage_of, doomed_here, aborts_of, clrs_of, undo}
-use Rattle.clv_base.specs.OneShard.{locked, written, closing, without_part, rolled_back_if, drop_part}
+use Rattle.clv_base.specs.OneShard.{update_of, locked, written, closing, without_part, rolled_back_if, drop_part}
 use Rattle.protocol_laws.specs.Spelled.{IsSpelled, fits_op, OperationsKeep, ClosingsKeep, AbortsKeep, DropsKeep, EndsKeep, RecordsKeep, PurgesKeep, RestartsAreSpelled}
-use Rattle.protocol_laws.proofs.ChangesKeepSpelling.UndoIsSpelled.{fit_standing, clrs_spelled, Named, aborts_spelled}
+use Rattle.protocol_laws.proofs.ChangesKeepSpelling.UndoIsSpelled.{change_fits, changed_fits, fit_standing, clrs_spelled, Named, aborts_spelled}
 use Rattle.protocol_laws.proofs.ChangesKeepSpelling.RowsAreSpelled.{takes_named, inserts_named, close_named, release_named, violated_are_named, restored_named, add_seconds, set_value, value_fits, undone_values}
 use Rattle.protocol_laws.proofs.ChangesKeepSpelling.ListsAreSpelled.{wrote_named, undecided_spelled, restored_seconds, restored_values}
 use Rattle.law_base.proofs.Lists.{all_kept as all_filter}
@@ -31,17 +34,20 @@ use Rattle.law_base.proofs.Logs.{spelled_append as all_append}
 
 -- ---- an operation
 
-IsFitWrite : Option (ℕ × Option ValueType × Option ValueType) → Type 0
+IsFitWrite : Option (ℕ × Change) → Type 0
 IsFitWrite None = Unit {0}
-IsFitWrite (Some w) = (is_64_bits w.0 ≡ true) × (is_value w.1 ≡ true) × (is_value w.2 ≡ true)
+IsFitWrite (Some w) = (is_64_bits w.0 ≡ true) × (change_fits w.1 ≡ true)
 
 write_fits : (op : Op) (before : Option ValueType) → fits_op op ≡ true → is_value before ≡ true → IsFitWrite (writes_of op before)
 unfolding IsFitWrite
 write_fits (Get k) before h b = tt
-write_fits (Put k v) before h b = let two = and_parts (is_64_bits k) (fits_value v) h in (two.0, b, two.1)
+write_fits (Put k v) before h b = let two = and_parts (is_64_bits k) (fits_value v) h in (two.0, and_from _ _ b two.1)
 write_fits (Del k) None h b = tt
-write_fits (Del k) (Some w) h b = (h, b, refl)
+write_fits (Del k) (Some w) h b = (h, and_from _ _ b refl)
 write_fits (Scan lo hi) before h b = tt
+write_fits (operations.Add k by) None h b = tt
+write_fits (operations.Add k by) (Some (Num v)) h b = and_parts (is_64_bits k) (is_64_bits by) h
+write_fits (operations.Add k by) (Some (Bytes bytes)) h b = tt
 
 locked_spelled : (tx : TxId) (birth : Birth) (op : Op) (l : Local) → tx_has_spelling tx ≡ true → IsSpelled l → IsSpelled (locked tx birth op l)
 locked_spelled tx birth op l n s = record {
@@ -52,14 +58,18 @@ locked_spelled tx birth op l n s = record {
   values = s.values;
 }
 
-written_spelled : (tx : TxId) (w : Option (ℕ × Option ValueType × Option ValueType)) (l : Local) → tx_has_spelling tx ≡ true → IsFitWrite w → IsSpelled l → IsSpelled (written tx w l)
+update_spelled : (tx : TxId) (key : ℕ) (change : Change) → tx_has_spelling tx ≡ true → is_64_bits key ≡ true → change_fits change ≡ true → has_spelling (update_of tx key change) ≡ true
+update_spelled tx key (Sets before after) n k f = let two = and_parts (is_value before) (is_value after) f in and_from _ _ (and_from _ _ (and_from _ _ n k) two.0) two.1
+update_spelled tx key (Adds by) n k f = and_from _ _ (and_from _ _ n k) f
+
+written_spelled : (tx : TxId) (w : Option (ℕ × Change)) (l : Local) → tx_has_spelling tx ≡ true → IsFitWrite w → IsSpelled l → IsSpelled (written tx w l)
 unfolding IsFitWrite
 written_spelled tx None l n f s = s
 written_spelled tx (Some w) l n f s = record {
-  log = all_append l.log (Update tx w.0 w.1 w.2 ∷ []) s.log (and_from _ _ (and_from _ _ (and_from _ _ (and_from _ _ n f.0) f.1) f.2) refl);
+  log = all_append l.log (update_of tx w.0 w.1 ∷ []) s.log (and_from _ _ (update_spelled tx w.0 w.1 n f.0 f.1) refl);
   holders = s.holders;
   predecessors = s.predecessors;
-  values = set_value w.0 w.2 l.records f.2 s.values;
+  values = set_value w.0 (changed w.1 (value_at w.0 l.records)) l.records (changed_fits w.1 (value_at w.0 l.records) f.1 (value_fits w.0 l.records s.values)) s.values;
 }
 
 pub operations_keep : OperationsKeep

@@ -6,7 +6,6 @@ use Rattle.std.specs.Map.{keys_of}
 use Rattle.std.specs.declared.cmp.Ordering.{Ordering}
 use Rattle.std.specs.declared.cmp.Ordering.TheVariants.{Less, Equal, Greater}
 use Rattle.std.specs.Ordering.{match_ordering, is_eq}
-use Rattle.clv_base.specs.declared.values.Value.{Value as ValueType}
 use Rattle.clv_base.specs.declared.names.TxId.{TxId}
 use Rattle.clv_base.specs.declared.names.Birth.{Birth}
 use Rattle.clv_base.specs.declared.ops.Op.{Op}
@@ -19,6 +18,7 @@ use Rattle.clv_base.specs.declared.events.Event.TheVariants.{Op as OpEvent, Requ
 use Rattle.clv_base.specs.declared.events.Outcome.TheVariants.{Nothing, Down}
 use Rattle.clv_base.specs.declared.state.Ruling.TheVariants.{Commit as CommitVerdict, Acknowledge, Abort as AbortVerdict, End as EndVerdict}
 use Rattle.clv_base.specs.Orders.{Table, pair_cmp, pair_insert, tx_cmp, tx_same, tx_in, tx_get, tx_put}
+use Rattle.clv_base.specs.declared.changes.Change.{Change}
 use Rattle.clv_base.specs.Logs.{committed_in, in_doubt, fitting}
 use Rattle.clv_base.specs.declared.modes.Decision.{Decision}
 use Rattle.clv_base.specs.declared.modes.Decision.TheVariants.{Grant, Wait, Die}
@@ -107,7 +107,7 @@ entered tx birth ps parts pairs None e a =
     add_all (λ p. HasPart more p.0) tx ps pairs (λ v. put_has tx (active_part birth) parts) (all_mono (λ p. HasPart parts p.0) (λ p. HasPart more p.0) (λ p h. put_keeps tx (active_part birth) p.0 parts h) pairs a)
 entered tx birth ps parts pairs (Some h) e a = add_all (λ p. HasPart parts p.0) tx ps pairs (λ v. get_has tx h parts e) a
 
-written_keeps : (tx : TxId) (w : Option (ℕ × Option ValueType × Option ValueType)) (l : Local) → DependentsHaveParts l → DependentsHaveParts (written tx w l)
+written_keeps : (tx : TxId) (w : Option (ℕ × Change)) (l : Local) → DependentsHaveParts l → DependentsHaveParts (written tx w l)
 written_keeps tx None l d = d
 written_keeps tx (Some w) l d = d
 

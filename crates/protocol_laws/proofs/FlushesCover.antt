@@ -6,7 +6,7 @@ use Rattle.clv_base.specs.declared.names.TxId.{TxId}
 use Rattle.clv_base.specs.declared.causes.Vote.{Vote}
 use Rattle.clv_base.specs.declared.causes.Vote.TheVariants.{Yes, Read}
 use Rattle.clv_base.specs.declared.logs.LogRecord.{LogRecord}
-use Rattle.clv_base.specs.declared.logs.LogRecord.TheVariants.{Update, Clr, Prepare, Commit, Abort, End, Restart}
+use Rattle.clv_base.specs.declared.logs.LogRecord.TheVariants.{Update, Clr, Prepare, Commit, Abort, End, Restart, Add, Unadd}
 use Rattle.clv_base.specs.declared.parts.PartState.{PartState}
 use Rattle.clv_base.specs.declared.parts.PartState.TheVariants.{Unknown, Active, Closed, Gone}
 use Rattle.clv_base.specs.declared.state.Voter.{Voter}
@@ -71,6 +71,8 @@ commit_in pairs (Clr tx u k a ∷ rs) p e = commit_in pairs rs p e
 commit_in pairs (Abort tx ∷ rs) p e = commit_in pairs rs p e
 commit_in pairs (End tx ∷ rs) p e = commit_in pairs rs p e
 commit_in pairs (Restart run epoch ∷ rs) p e = commit_in pairs rs p e
+commit_in pairs (Add tx k by ∷ rs) p e = commit_in pairs rs p e
+commit_in pairs (Unadd tx u k by ∷ rs) p e = commit_in pairs rs p e
 
 prepare_in : (pairs : List (TxId × TxId)) (rs : List LogRecord) (p : TxId) → prepared_in rs p ≡ true → tx_in p (landed_txs pairs rs) ≡ true
 prepare_in pairs [] p e = absurd (both_ways false refl e)
@@ -81,6 +83,8 @@ prepare_in pairs (Clr tx u k a ∷ rs) p e = prepare_in pairs rs p e
 prepare_in pairs (Abort tx ∷ rs) p e = prepare_in pairs rs p e
 prepare_in pairs (End tx ∷ rs) p e = prepare_in pairs rs p e
 prepare_in pairs (Restart run epoch ∷ rs) p e = prepare_in pairs rs p e
+prepare_in pairs (Add tx k by ∷ rs) p e = prepare_in pairs rs p e
+prepare_in pairs (Unadd tx u k by ∷ rs) p e = prepare_in pairs rs p e
 
 follower_in : (pairs : List (TxId × TxId)) (rs : List LogRecord) (x p : TxId) → committed_in rs p ≡ true → is_pair pairs x p ≡ true → tx_in x (landed_txs pairs rs) ≡ true
 follower_in pairs [] x p e h = absurd (both_ways false refl e)
@@ -96,6 +100,8 @@ follower_in pairs (Clr tx u k a ∷ rs) x p e h = follower_in pairs rs x p e h
 follower_in pairs (Abort tx ∷ rs) x p e h = follower_in pairs rs x p e h
 follower_in pairs (End tx ∷ rs) x p e h = follower_in pairs rs x p e h
 follower_in pairs (Restart run epoch ∷ rs) x p e h = follower_in pairs rs x p e h
+follower_in pairs (Add tx k by ∷ rs) x p e h = follower_in pairs rs x p e h
+follower_in pairs (Unadd tx u k by ∷ rs) x p e h = follower_in pairs rs x p e h
 
 -- ---- tests that stay
 

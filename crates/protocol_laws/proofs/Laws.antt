@@ -15,7 +15,7 @@ pub use Rattle.protocol_laws.proofs.LeftByOpen.{left_by_open}
 pub use Rattle.law_base.proofs.Logs.{place_more, spelled_append as all_append}
 pub use Rattle.law_base.proofs.Names.{in_append}
 pub use Rattle.clv_base.proofs.Settling.{gone_le}
-pub use Rattle.protocol_laws.proofs.ChangesKeepSpelling.UndoIsSpelled.{aborts_spelled, AreFit, both, clrs_spelled, fit_standing, IsFit, Named, named_insert, writers_named}
+pub use Rattle.protocol_laws.proofs.ChangesKeepSpelling.UndoIsSpelled.{aborts_spelled, AreFit, both, clrs_spelled, fit_standing, IsFit, Named, named_insert, plus_fits, writers_named}
 pub use Rattle.protocol_laws.proofs.ChangesKeepSpelling.{operations_keep, closings_keep, aborts_keep, drops_keep, ends_keep, records_keep, purges_keep, restarts_are_spelled}
 pub use Rattle.law_base.proofs.Lists.{all_kept as all_filter, all_mono}
 pub use Rattle.protocol_laws.proofs.DoomedSetIsClosed.{doomed_is_closure}

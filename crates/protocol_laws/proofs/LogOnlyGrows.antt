@@ -16,6 +16,7 @@ use Rattle.clv_base.specs.declared.events.Event.TheVariants.{Op as OpEvent, Requ
 use Rattle.clv_base.specs.declared.events.Outcome.{Outcome}
 use Rattle.clv_base.specs.declared.events.Outcome.TheVariants.{Down, NotYet, Stale, Taken, Aborted, Acknowledged}
 use Rattle.clv_base.specs.Orders.{tx_get}
+use Rattle.clv_base.specs.declared.changes.Change.{Change}
 use Rattle.clv_base.specs.Logs.{committed_in}
 use Rattle.clv_base.specs.Locks.{decide}
 use Rattle.clv_base.specs.declared.modes.Decision.{Decision}
@@ -45,7 +46,6 @@ use Rattle.protocol_laws.specs.Resting.{IsAtRest, EventsEndAtRest}
 use Rattle.protocol_laws.proofs.LogOnlyGrows.DueGrowsLogs.{same, more, more_twice, chain, grows_settled}
 use Rattle.protocol_laws.proofs.LogOnlyGrows.GhostsGoUnnoticed.{rests}
 use Rattle.std.proofs.lemmas.Bool.{both_ways}
-use Rattle.clv_base.specs.declared.values.Value.{Value as ValueType}
 
 -- where there is a next state, its log is the one before with more behind it, and if it is up it is at rest
 data ReplyGrows (s : Shard) : Reply → Type 0 where
@@ -77,7 +77,7 @@ rolled_if l tx false = same l.log
 without : (l : Local) (tx : TxId) → IsPrefixOf l.log (without_part tx l).log
 without l tx = rolled_if l tx (is_present (stage_of l tx))
 
-pub writes : (l : Local) (tx : TxId) (w : Option (ℕ × Option ValueType × Option ValueType)) → IsPrefixOf l.log (written tx w l).log
+pub writes : (l : Local) (tx : TxId) (w : Option (ℕ × Change)) → IsPrefixOf l.log (written tx w l).log
 writes l tx None = same l.log
 writes l tx (Some w) = more l.log _
 

@@ -8,7 +8,7 @@ use Rattle.std.specs.List.{AllByRecursion}
 use Rattle.std.proofs.lemmas.Bool.{both_ways, not-true, false_from_ne_true}
 use Rattle.clv_base.specs.declared.names.TxId.{TxId}
 use Rattle.clv_base.specs.declared.logs.LogRecord.{LogRecord}
-use Rattle.clv_base.specs.declared.logs.LogRecord.TheVariants.{Update, Clr, Prepare, Commit, Abort}
+use Rattle.clv_base.specs.declared.logs.LogRecord.TheVariants.{Update, Clr, Prepare, Commit, Abort, Add, Unadd}
 use Rattle.clv_base.specs.Orders.{nat_in}
 use Rattle.clv_base.specs.Logs.{standing, committed_in, aborted_in, is_commit_of, is_abort_of}
 use Rattle.clv_base.specs.LogRules.{may_follow, disorder_from, disorder}
@@ -45,12 +45,15 @@ sealed_push before (x ∷ xs) r t o = (t.0, sealed_push (before ++ x ∷ []) xs 
 
 unprepared_step : (shard : ℕ) (log : List LogRecord) (r : LogRecord) → may_follow shard log r ≡ true → Unprepared log r
 unprepared_step shard log (Update tx key before after) m = not-true _ (last _ _ (front _ _ (front _ _ (front _ _ (front _ _ (front _ _ (front _ _ m)))))))
+unprepared_step shard log (Add tx key by) m = not-true _ (last _ _ (front _ _ (front _ _ (front _ _ (front _ _ (front _ _ m))))))
 unprepared_step shard log (Prepare tx home ps) m = not-true _ (last _ _ (front _ _ (front _ _ (front _ _ (front _ _ m)))))
 unprepared_step shard log _ m = tt
 
 open_step : (shard : ℕ) (log : List LogRecord) (r : LogRecord) → Order shard log → may_follow shard log r ≡ true → Open_at log (moves r)
 open_step shard log (Update tx key before after) h m = not-true _ (last _ _ (front _ _ (front _ _ (front _ _ (front _ _ (front _ _ m))))))
+open_step shard log (Add tx key by) h m = not-true _ (last _ _ (front _ _ (front _ _ (front _ _ (front _ _ m)))))
 open_step shard log (Clr tx next key after) h m = false_from_ne_true _ (λ c. both_ways _ (h.apart tx c) (last _ _ (front _ _ m)))
+open_step shard log (Unadd tx next key by) h m = false_from_ne_true _ (λ c. both_ways _ (h.apart tx c) (last _ _ (front _ _ m)))
 open_step shard log _ h m = tt
 
 no_abort : (shard : ℕ) (log : List LogRecord) (r : LogRecord) (t : TxId) → may_follow shard log r ≡ true → committed_in log t ≡ true → is_abort_of t r ≡ false
@@ -64,6 +67,7 @@ commit_new shard log _ t m e = absurd (both_ways false refl e)
 
 clr_new : (shard : ℕ) (log : List LogRecord) (r : LogRecord) (t : TxId) → may_follow shard log r ≡ true → is_clr_of t r ≡ true → aborted_in log t ≡ true
 clr_new shard log (Clr tx next key after) t m e = subst (λ z. aborted_in log z ≡ true) (sym (tx_true t tx e)) (last _ _ (front _ _ m))
+clr_new shard log (Unadd tx next key by) t m e = subst (λ z. aborted_in log z ≡ true) (sym (tx_true t tx e)) (last _ _ (front _ _ m))
 clr_new shard log _ t m e = absurd (both_ways false refl e)
 
 parts_step : (shard : ℕ) (log : List LogRecord) (r : LogRecord) → may_follow shard log r ≡ true → OtherParts shard r

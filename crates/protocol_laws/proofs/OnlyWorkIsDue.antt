@@ -8,7 +8,9 @@ use Rattle.clv_base.specs.declared.causes.AbortCause.{AbortCause}
 use Rattle.clv_base.specs.declared.causes.Vote.{Vote}
 use Rattle.clv_base.specs.declared.causes.Vote.TheVariants.{Yes, Read, No}
 use Rattle.clv_base.specs.declared.logs.LogRecord.{LogRecord}
-use Rattle.clv_base.specs.declared.logs.LogRecord.TheVariants.{Clr, Commit, Abort, End}
+use Rattle.clv_base.specs.declared.logs.LogRecord.TheVariants.{Commit, Abort, End}
+use Rattle.clv_base.specs.declared.changes.Change.{Change}
+use Rattle.clv_base.specs.declared.changes.Change.TheVariants.{Sets, Adds}
 use Rattle.clv_base.specs.declared.messages.Message.{Message}
 use Rattle.clv_base.specs.declared.messages.Message.TheVariants.{Decide}
 use Rattle.clv_base.specs.declared.parts.PartFacts.{PartFacts}
@@ -23,7 +25,7 @@ use Rattle.clv_base.specs.declared.state.Ruling.TheVariants.{Commit as CommitVer
 use Rattle.clv_base.specs.Orders.{tx_in, tx_get, nat_in}
 use Rattle.clv_base.specs.Logs.{StandingUpdate, standing, wrote_in}
 use Rattle.clv_base.specs.State.{Shard}
-use Rattle.clv_base.specs.Undo.{stage_of, doomed_here, aborts_of, clrs_of, newest_lsn}
+use Rattle.clv_base.specs.Undo.{stage_of, doomed_here, aborts_of, clrs_of, newest_lsn, compensation}
 use Rattle.clv_base.specs.Facts.{facts_of, state_by, is_closed_state, has_durable_commit, has_durable_predecessors}
 use Rattle.clv_base.specs.Participant.{vote_owed}
 use Rattle.clv_base.specs.Coordinator.{others, open_shards, is_agreed, agreed_ruling, yes_shards, undecided_ruling, refused_ruling, refusal, ruling_in}
@@ -187,11 +189,12 @@ none_aborts (t ∷ ts) = none_aborts ts
 
 none_clrs : (set : List TxId) (ws : List StandingUpdate) → decisions (clrs_of set ws) ≡ 0
 none_clrs set [] = refl
-none_clrs set (w ∷ ws) = at (tx_in w.tx set) (none_clrs set ws)
+none_clrs set (w ∷ ws) = at (tx_in w.tx set) w.change (none_clrs set ws)
   where
-    at : (b : Bool) → decisions (clrs_of set ws) ≡ 0 → decisions (cond b (Clr w.tx (newest_lsn w.tx ws) w.key w.before ∷ clrs_of set ws) (clrs_of set ws)) ≡ 0
-    at true h = h
-    at false h = h
+    at : (b : Bool) (c : Change) → decisions (clrs_of set ws) ≡ 0 → decisions (cond b (compensation w.tx (newest_lsn w.tx ws) w.key c ∷ clrs_of set ws) (clrs_of set ws)) ≡ 0
+    at true (Sets before after) h = h
+    at true (Adds by) h = h
+    at false c h = h
 
 writes_vote : (s : Shard) (tx : TxId) (v : Voter) (x : Vote) → Writes s (finish_reader tx x (with_vote s tx v x))
 writes_vote s tx v Yes = omega arith

@@ -1,5 +1,5 @@
 -- Ghosts may go early: what is due doesn't look at records, and an undo meets none that is a ghost without a lock.
-use Rattle.std.proofs.Common.{◌≡◌, refl, sym, ap, subst, ◌∙◌, ℕ, zero, suc, ⊎_elim, Bool, true, false, cond, not, ◌&&◌, ◌==◌, List, [], ◌∷◌, ◌++◌, Option, Some, None, unwrap_or, eqb-true}
+use Rattle.std.proofs.Common.{◌≡◌, refl, sym, ap, subst, ◌∙◌, ℕ, zero, suc, ⊎_elim, Bool, true, false, cond, not, ◌&&◌, List, [], ◌∷◌, ◌++◌, Option, Some, None}
 use Rattle.std.proofs.lemmas.Bool.{both_ways, or_cases, and_parts, cond_both, cond-true, cond-false, false_from_ne_true}
 use Rattle.std.specs.List.{AllByRecursion, filter}
 use Rattle.clv_base.specs.declared.values.Value.{Value as ValueType}
@@ -20,7 +20,7 @@ use Rattle.clv_base.specs.Logs.{StandingUpdate, standing, standing_from}
 use Rattle.clv_base.specs.Locks.{Locks, release}
 use Rattle.clv_base.specs.Needs.{Records, is_locked_or_live, without_ghosts}
 use Rattle.clv_base.specs.State.{Shard, Local, with_local, is_present}
-use Rattle.clv_base.specs.Undo.{stage_of, value_before, records_without, release_parts, doomed_by, doomed_here, roll_back}
+use Rattle.clv_base.specs.Undo.{stage_of, undone_at, record_without, records_without, release_parts, doomed_by, doomed_here, roll_back}
 use Rattle.clv_base.specs.Facts.{facts_of, has_durable_commit}
 use Rattle.clv_base.specs.Participant.{vote_by}
 use Rattle.clv_base.specs.Coordinator.{ruling_by}
@@ -29,7 +29,7 @@ use Rattle.clv_base.specs.Due.{or_else, with_commit_done, commit_due, give_vote,
 use Rattle.clv_base.proofs.SameNames.{or_left, or_right, tx_true}
 use Rattle.law_base.proofs.Sets.{in_filter}
 use Rattle.law_base.specs.Undone.{stays_of}
-use Rattle.law_base.proofs.Undoing.{standing_append, standing_undone}
+use Rattle.law_base.proofs.Undoing.{standing_append, standing_undone, unwritten}
 use Rattle.law_base.proofs.Stages.{stage_other, own_go}
 use Rattle.law_base.proofs.Lists.{all_mono, all_kept}
 use Rattle.clv_base.proofs.Settling.{do_due_at}
@@ -91,40 +91,24 @@ alike_released set locks rs qs h =
     ∙ ap (without_ghosts (release set locks)) h
     ∙ filter_twice (is_locked_or_live (release set locks)) (is_locked_or_live locks) (stays_more set locks) qs
 
--- a key of which a value before was found is one that the set wrote
+-- a key that the set wrote is held
 abbrev AreHeld : List TxId → Locks → List StandingUpdate → Type 0
 AreHeld set locks ws = AllByRecursion (λ (w : StandingUpdate). tx_in w.tx set ≡ true → is_held_at w.key locks ≡ true) ws
 
-before_held : (set : List TxId) (k : ℕ) (locks : Locks) (ws : List StandingUpdate) → AreHeld set locks ws → (v : Option ValueType) → value_before set k ws ≡ Some v → is_held_at k locks ≡ true
-before_held set k locks [] a v e = absurd cc
-before_held set k locks (w ∷ ws) a v e = at (value_before set k ws) e (before_held set k locks ws a.1)
-  where
-    here : (b : Bool) → (tx_in w.tx set && (k == w.key)) ≡ b → cond b (Some w.before) None ≡ Some v → is_held_at k locks ≡ true
-    here true t e = let p = and_parts (tx_in w.tx set) (k == w.key) t in subst (λ j. is_held_at j locks ≡ true) (sym (eqb-true k w.key p.1)) (a.0 p.0)
-    here false t e = absurd cc
-
-    at : (o : Option (Option ValueType)) → elim o [ Some b ↦ Some b | None ↦ cond (tx_in w.tx set && (k == w.key)) (Some w.before) None ] ≡ Some v
-        → ((u : Option ValueType) → o ≡ Some u → is_held_at k locks ≡ true) → is_held_at k locks ≡ true
-    at (Some b) e more = more b refl
-    at None e more = here (tx_in w.tx set && (k == w.key)) refl e
-
-abbrev undone : List TxId → List StandingUpdate → ℕ × Option ValueType → ℕ × Option ValueType
-undone set ws r = (r.0, unwrap_or (value_before set r.0 ws) r.1)
+-- so the set wrote nothing at one that isn't
+none_written : (set : List TxId) (k : ℕ) (locks : Locks) (ws : List StandingUpdate) → AreHeld set locks ws → is_held_at k locks ≡ false → AllByRecursion (λ w. w.key ≡ k → tx_in w.tx set ≡ false) ws
+none_written set k locks ws a free = all_mono _ _ (λ w h same. false_from_ne_true _ (λ i. both_ways _ (ap (λ j. is_held_at j locks) same ∙ free) (h i))) ws a
 
 -- a ghost without a lock is one after the undo
-gone_still : (set : List TxId) (locks : Locks) (ws : List StandingUpdate) → AreHeld set locks ws → (r : ℕ × Option ValueType) → is_locked_or_live locks r ≡ false → is_locked_or_live (release set locks) (undone set ws r) ≡ false
+gone_still : (set : List TxId) (locks : Locks) (ws : List StandingUpdate) → AreHeld set locks ws → (r : ℕ × Option ValueType) → is_locked_or_live locks r ≡ false → is_locked_or_live (release set locks) (record_without set ws r) ≡ false
 gone_still set locks ws a r h = at r.1 h
   where
-    at : (v : Option ValueType) → is_locked_or_live locks (r.0, v) ≡ false → is_locked_or_live (release set locks) (r.0, unwrap_or (value_before set r.0 ws) v) ≡ false
+    at : (v : Option ValueType) → is_locked_or_live locks (r.0, v) ≡ false → is_locked_or_live (release set locks) (r.0, undone_at set r.0 ws v) ≡ false
     at (Some v) h = absurd (both_ways _ h refl)
-    at None h = by (value_before set r.0 ws) refl
-      where
-        free : is_held_at r.0 locks ≡ false
-        free = sym (twice (is_held_at r.0 locks)) ∙ h
-
-        by : (o : Option (Option ValueType)) → value_before set r.0 ws ≡ o → is_locked_or_live (release set locks) (r.0, unwrap_or o None) ≡ false
-        by None e = false_from_ne_true _ (λ s. both_ways _ free (release_held set r.0 locks (sym (twice (is_held_at r.0 (release set locks))) ∙ s)))
-        by (Some v) e = absurd (both_ways _ free (before_held set r.0 locks ws a v e))
+    at None h =
+        let free : is_held_at r.0 locks ≡ false = sym (twice (is_held_at r.0 locks)) ∙ h in
+        ap (λ o. is_locked_or_live (release set locks) (r.0, o)) (unwritten set r.0 ws None (none_written set r.0 locks ws a free))
+        ∙ false_from_ne_true _ (λ s. both_ways _ free (release_held set r.0 locks (sym (twice (is_held_at r.0 (release set locks))) ∙ s)))
 
 undo_purged : (set : List TxId) (locks : Locks) (ws : List StandingUpdate) → AreHeld set locks ws → (rs : Records)
     → without_ghosts (release set locks) (records_without set ws (without_ghosts locks rs)) ≡ without_ghosts (release set locks) (records_without set ws rs)
@@ -135,9 +119,9 @@ undo_purged set locks ws a (r ∷ rs) = at (is_locked_or_live locks r) refl (und
     few = release set locks
 
     at : (b : Bool) → is_locked_or_live locks r ≡ b → without_ghosts (release set locks) (records_without set ws (without_ghosts locks rs)) ≡ without_ghosts (release set locks) (records_without set ws rs)
-        → without_ghosts (release set locks) (records_without set ws (cond b (r ∷ without_ghosts locks rs) (without_ghosts locks rs))) ≡ without_ghosts (release set locks) (undone set ws r ∷ records_without set ws rs)
-    at true e more = ap (λ l. cond (is_locked_or_live (release set locks) (undone set ws r)) (undone set ws r ∷ l) l) more
-    at false e more = more ∙ sym (cond-false (is_locked_or_live (release set locks) (undone set ws r)) (undone set ws r ∷ without_ghosts (release set locks) (records_without set ws rs)) (without_ghosts (release set locks) (records_without set ws rs)) (gone_still set locks ws a r e))
+        → without_ghosts (release set locks) (records_without set ws (cond b (r ∷ without_ghosts locks rs) (without_ghosts locks rs))) ≡ without_ghosts (release set locks) (record_without set ws r ∷ records_without set ws rs)
+    at true e more = ap (λ l. cond (is_locked_or_live (release set locks) (record_without set ws r)) (record_without set ws r ∷ l) l) more
+    at false e more = more ∙ sym (cond-false (is_locked_or_live (release set locks) (record_without set ws r)) (record_without set ws r ∷ without_ghosts (release set locks) (records_without set ws rs)) (without_ghosts (release set locks) (records_without set ws rs)) (gone_still set locks ws a r e))
 
 alike_undone : (set : List TxId) (locks : Locks) (ws : List StandingUpdate) (rs qs : Records) → AreHeld set locks ws → Alike locks rs qs → Alike (release set locks) (records_without set ws rs) (records_without set ws qs)
 alike_undone set locks ws rs qs a h = sym (undo_purged set locks ws a rs) ∙ ap (λ l. without_ghosts (release set locks) (records_without set ws l)) h ∙ undo_purged set locks ws a qs

@@ -8,10 +8,11 @@ use Rattle.std.proofs.lemmas.Bool.{both_ways, and_parts, or_cases, not-true, con
 use Rattle.clv_base.specs.declared.values.Value.{Value as ValueType}
 use Rattle.clv_base.specs.declared.names.TxId.{TxId}
 use Rattle.clv_base.specs.declared.logs.LogRecord.{LogRecord}
-use Rattle.clv_base.specs.declared.logs.LogRecord.TheVariants.{Update, Clr, Prepare, Commit, Abort, End, Restart}
+use Rattle.clv_base.specs.declared.logs.LogRecord.TheVariants.{Update, Clr, Prepare, Commit, Abort, End, Restart, Add, Unadd}
 use Rattle.clv_base.specs.declared.modes.Anchor.{Anchor}
 use Rattle.clv_base.specs.declared.modes.Anchor.TheVariants.{Low, At}
 use Rattle.clv_base.specs.declared.modes.Holder.{Holder}
+use Rattle.clv_base.specs.declared.modes.Part.TheVariants.{I, X}
 use Rattle.clv_base.specs.declared.modes.Found.{Found}
 use Rattle.clv_base.specs.declared.modes.Found.TheVariants.{Live, Ghost, Absent}
 use Rattle.clv_base.specs.declared.state.Stage.TheVariants.{Closed}
@@ -57,6 +58,8 @@ open_from log shard (Commit tx ps ∷ rs) so_far h u i = open_from log shard rs 
 open_from log shard (Abort tx ∷ rs) so_far h u i = open_from log shard rs so_far h u i
 open_from log shard (End tx ∷ rs) so_far h u i = open_from log shard rs so_far h u i
 open_from log shard (Restart run epoch ∷ rs) so_far h u i = open_from log shard rs so_far h u i
+open_from log shard (Add tx k by ∷ rs) so_far h u i = open_from log shard rs so_far h u i
+open_from log shard (Unadd tx v k by ∷ rs) so_far h u i = open_from log shard rs so_far h u i
 
 doubt_open : (shard : ℕ) (log : List LogRecord) (u : TxId) → tx_in u (in_doubt shard log) ≡ true → committed_in log u ≡ false
 doubt_open shard log u i = open_from log shard log [] (λ v e. absurd (both_ways false refl e)) u i
@@ -169,26 +172,31 @@ take_has k h (r ∷ rs) = take_has_case (row_cmp (At k) h.tx r) k h r rs (take_o
 locks_keep : (txs : List TxId) (log : List LogRecord) (locks : Locks) (x : Anchor) → held_at x locks ≡ true → held_at x (restored_locks txs log locks) ≡ true
 locks_keep txs [] locks x e = e
 locks_keep txs (Update tx k b a ∷ log) locks x e =
-    locks_keep txs log (cond (tx_in tx txs) (take_one (At k) (doubt_holder tx) locks) locks) x
-    (cond_both (tx_in tx txs) (take_one (At k) (doubt_holder tx) locks) locks (λ l. held_at x l ≡ true) (λ i. take_keeps (At k) x (doubt_holder tx) locks e) (λ i. e))
+    locks_keep txs log (cond (tx_in tx txs) (take_one (At k) (doubt_holder tx X) locks) locks) x
+    (cond_both (tx_in tx txs) (take_one (At k) (doubt_holder tx X) locks) locks (λ l. held_at x l ≡ true) (λ i. take_keeps (At k) x (doubt_holder tx X) locks e) (λ i. e))
 locks_keep txs (Clr tx v k a ∷ log) locks x e = locks_keep txs log locks x e
 locks_keep txs (Prepare tx home ps ∷ log) locks x e = locks_keep txs log locks x e
 locks_keep txs (Commit tx ps ∷ log) locks x e = locks_keep txs log locks x e
 locks_keep txs (Abort tx ∷ log) locks x e = locks_keep txs log locks x e
 locks_keep txs (End tx ∷ log) locks x e = locks_keep txs log locks x e
 locks_keep txs (Restart run epoch ∷ log) locks x e = locks_keep txs log locks x e
+locks_keep txs (Add tx k by ∷ log) locks x e =
+    locks_keep txs log (cond (tx_in tx txs) (take_one (At k) (doubt_holder tx I) locks) locks) x
+    (cond_both (tx_in tx txs) (take_one (At k) (doubt_holder tx I) locks) locks (λ l. held_at x l ≡ true) (λ i. take_keeps (At k) x (doubt_holder tx I) locks e) (λ i. e))
+locks_keep txs (Unadd tx v k by ∷ log) locks x e = locks_keep txs log locks x e
 
 -- each key that those in doubt wrote is held
 abbrev HeldIn : Locks → List TxId → LogRecord → Type 0
 HeldIn held txs (Update tx k b a) = tx_in tx txs ≡ true → held_at (At k) held ≡ true
+HeldIn held txs (Add tx k by) = tx_in tx txs ≡ true → held_at (At k) held ≡ true
 HeldIn held txs _ = Unit {0}
 
 keys_held : (txs : List TxId) (log : List LogRecord) (locks : Locks) → AllByRecursion (HeldIn (restored_locks txs log locks) txs) log
 keys_held txs [] locks = tt
 keys_held txs (Update tx k b a ∷ log) locks = (
-  λ i. locks_keep txs log (cond (tx_in tx txs) (take_one (At k) (doubt_holder tx) locks) locks) (At k)
-      (cond_both (tx_in tx txs) (take_one (At k) (doubt_holder tx) locks) locks (λ l. held_at (At k) l ≡ true) (λ j. take_has k (doubt_holder tx) locks) (λ j. absurd (both_ways _ j i))),
-  keys_held txs log (cond (tx_in tx txs) (take_one (At k) (doubt_holder tx) locks) locks),
+  λ i. locks_keep txs log (cond (tx_in tx txs) (take_one (At k) (doubt_holder tx X) locks) locks) (At k)
+      (cond_both (tx_in tx txs) (take_one (At k) (doubt_holder tx X) locks) locks (λ l. held_at (At k) l ≡ true) (λ j. take_has k (doubt_holder tx X) locks) (λ j. absurd (both_ways _ j i))),
+  keys_held txs log (cond (tx_in tx txs) (take_one (At k) (doubt_holder tx X) locks) locks),
 )
 keys_held txs (Clr tx v k a ∷ log) locks = (tt, keys_held txs log locks)
 keys_held txs (Prepare tx home ps ∷ log) locks = (tt, keys_held txs log locks)
@@ -196,6 +204,12 @@ keys_held txs (Commit tx ps ∷ log) locks = (tt, keys_held txs log locks)
 keys_held txs (Abort tx ∷ log) locks = (tt, keys_held txs log locks)
 keys_held txs (End tx ∷ log) locks = (tt, keys_held txs log locks)
 keys_held txs (Restart run epoch ∷ log) locks = (tt, keys_held txs log locks)
+keys_held txs (Add tx k by ∷ log) locks = (
+  λ i. locks_keep txs log (cond (tx_in tx txs) (take_one (At k) (doubt_holder tx I) locks) locks) (At k)
+      (cond_both (tx_in tx txs) (take_one (At k) (doubt_holder tx I) locks) locks (λ l. held_at (At k) l ≡ true) (λ j. take_has k (doubt_holder tx I) locks) (λ j. absurd (both_ways _ j i))),
+  keys_held txs log (cond (tx_in tx txs) (take_one (At k) (doubt_holder tx I) locks) locks),
+)
+keys_held txs (Unadd tx v k by ∷ log) locks = (tt, keys_held txs log locks)
 
 locked_ghost : (locks : Locks) (k : ℕ) → held_at (At k) locks ≡ true → is_locked_or_live locks (k, None) ≡ true
 locked_ghost locks k e = ap (λ b. not (not b)) e
@@ -226,6 +240,10 @@ ghosts_stay locks txs (Commit tx ps ∷ log) rs a h = ghosts_stay locks txs log 
 ghosts_stay locks txs (Abort tx ∷ log) rs a h = ghosts_stay locks txs log rs a.1 h
 ghosts_stay locks txs (End tx ∷ log) rs a h = ghosts_stay locks txs log rs a.1 h
 ghosts_stay locks txs (Restart run epoch ∷ log) rs a h = ghosts_stay locks txs log rs a.1 h
+ghosts_stay locks txs (Add tx k by ∷ log) rs a h =
+    ghosts_stay locks txs log (cond (tx_in tx txs) (ghost_if_absent k rs (found_at k rs)) rs) a.1
+    (cond_both (tx_in tx txs) (ghost_if_absent k rs (found_at k rs)) rs (Stays locks) (λ i. ghost_stays locks k rs (found_at k rs) (a.0 i) h) (λ i. h))
+ghosts_stay locks txs (Unadd tx u k by ∷ log) rs a h = ghosts_stay locks txs log rs a.1 h
 
 live_stay : (locks : Locks) (m : KeyMap) → Stays locks (records_of m)
 live_stay locks [] = tt

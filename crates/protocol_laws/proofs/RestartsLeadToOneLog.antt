@@ -4,7 +4,7 @@ use Rattle.std.proofs.Common.{◌≡◌, ℕ, zero, suc, ◌+◌, ◌-◌, ◌�
 use Rattle.std.specs.Prelude.{max, nat_le}
 use Rattle.std.proofs.lemmas.Bool.{both_ways, leb-true, le-leb, cond-true, and_parts, and_from, or_cases, or_left, or_right}
 use Rattle.clv_base.specs.declared.logs.LogRecord.{LogRecord}
-use Rattle.clv_base.specs.declared.logs.LogRecord.TheVariants.{Update, Clr, Prepare, Commit, Abort, End, Restart}
+use Rattle.clv_base.specs.declared.logs.LogRecord.TheVariants.{Update, Clr, Prepare, Commit, Abort, End, Restart, Add, Unadd}
 use Rattle.clv_base.specs.Orders.{tx_same}
 use Rattle.clv_base.specs.Values.{same_list, same_optional_value}
 use Rattle.clv_base.specs.LogRules.{same_option, same_record}
@@ -172,6 +172,15 @@ record_true (End tx) (End ux) e = ap End (tx_true tx ux e)
 record_true (Restart run epoch) (Restart r e') e =
     let p = and_parts (run == r) (epoch == e') e in
     let f = eqb-true run r p.0 in let g = eqb-true epoch e' p.1 in cc
+record_true (Add tx k by) (Add ux j more) e =
+    let p = and_parts (tx_same tx ux && (k == j)) (by == more) e in
+    let r = and_parts (tx_same tx ux) (k == j) p.0 in
+    let f = tx_true tx ux r.0 in let g = eqb-true k j r.1 in let h = eqb-true by more p.1 in cc
+record_true (Unadd tx u k by) (Unadd ux v j more) e =
+    let p = and_parts (tx_same tx ux && same_option u v && (k == j)) (by == more) e in
+    let q = and_parts (tx_same tx ux && same_option u v) (k == j) p.0 in
+    let r = and_parts (tx_same tx ux) (same_option u v) q.0 in
+    let f = tx_true tx ux r.0 in let g = option_true u v r.1 in let h = eqb-true k j q.1 in let i = eqb-true by more p.1 in cc
 record_true _ _ e = absurd (both_ways false refl e)
 
 pub record_self : (a : LogRecord) → same_record a a ≡ true
@@ -182,6 +191,8 @@ record_self (Commit tx ps) = and_from _ _ (tx_self tx) (list_self (◌==◌) (λ
 record_self (Abort tx) = tx_self tx
 record_self (End tx) = tx_self tx
 record_self (Restart run epoch) = and_from _ _ (eq-eqb run run refl) (eq-eqb epoch epoch refl)
+record_self (Add tx k by) = and_from _ _ (and_from _ _ (tx_self tx) (eq-eqb k k refl)) (eq-eqb by by refl)
+record_self (Unadd tx u k by) = and_from _ _ (and_from _ _ (and_from _ _ (tx_self tx) (option_self u)) (eq-eqb k k refl)) (eq-eqb by by refl)
 
 -- ---- misfits
 

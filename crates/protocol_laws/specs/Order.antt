@@ -1,17 +1,18 @@
 -- What the order rules make of a log.
-use Rattle.std.specs.Prelude.{◌≡◌, ⊤, ◌≤◌, ℕ, Bool, true, false, List, [], ◌∷◌, ◌++◌, Option, Some, None, take}
+use Rattle.std.specs.Prelude.{◌≡◌, ⊤, ◌≤◌, ℕ, Bool, true, false, ◌||◌, List, [], ◌∷◌, ◌++◌, Option, Some, None, take}
 use Rattle.std.specs.List.{AllByRecursion, list_any}
 use Rattle.clv_base.specs.declared.names.TxId.{TxId}
 use Rattle.clv_base.specs.declared.logs.LogRecord.{LogRecord}
-use Rattle.clv_base.specs.declared.logs.LogRecord.TheVariants.{Update, Clr, Prepare}
+use Rattle.clv_base.specs.declared.logs.LogRecord.TheVariants.{Update, Clr, Prepare, Add, Unadd}
 use Rattle.clv_base.specs.Orders.{tx_same}
-use Rattle.clv_base.specs.Logs.{StandingUpdate, standing, committed_in, prepared_in, own_tx}
+use Rattle.clv_base.specs.Logs.{StandingUpdate, is_setting, standing, committed_in, prepared_in, own_tx}
 use Rattle.clv_base.specs.LogRules.{disorder}
 use Rattle.clv_base.specs.Restarts.{greatest_run}
 
--- whether a CLR of the transaction stands in a log
+-- whether a CLR or UNADD of the transaction stands in a log
 abbrev pub is_clr_of : TxId → LogRecord → Bool
 is_clr_of t (Clr tx undo_next key after) = tx_same t tx
+is_clr_of t (Unadd tx undo_next key by) = tx_same t tx
 is_clr_of t _ = false
 
 abbrev pub undone_in : List LogRecord → TxId → Bool
@@ -21,6 +22,8 @@ undone_in log t = list_any (is_clr_of t) log
 abbrev pub moves : LogRecord → Option TxId
 moves (Update tx key before after) = Some tx
 moves (Clr tx undo_next key after) = Some tx
+moves (Add tx key by) = Some tx
+moves (Unadd tx undo_next key by) = Some tx
 moves _ = None
 
 abbrev pub Open_at : List LogRecord → Option TxId → Type 0
@@ -32,21 +35,22 @@ abbrev pub Tidy : List LogRecord → List LogRecord → Type 0
 Tidy before [] = ⊤
 Tidy before (r ∷ rs) = Open_at before (moves r) × Tidy (before ++ r ∷ []) rs
 
--- whether an UPDATE's or a PREPARE's transaction has no PREPARE yet
+-- whether an UPDATE's, an ADD's or a PREPARE's transaction has no PREPARE yet
 abbrev pub Unprepared : List LogRecord → LogRecord → Type 0
 Unprepared before (Update tx key left right) = prepared_in before tx ≡ false
+Unprepared before (Add tx key by) = prepared_in before tx ≡ false
 Unprepared before (Prepare tx home predecessors) = prepared_in before tx ≡ false
 Unprepared before _ = ⊤
 
--- behind the first records no UPDATE and no PREPARE is of a transaction whose PREPARE stands before it
+-- behind the first records no UPDATE, no ADD and no PREPARE is of a transaction whose PREPARE stands before it
 abbrev pub Sealed : List LogRecord → List LogRecord → Type 0
 Sealed before [] = ⊤
 Sealed before (r ∷ rs) = Unprepared before r × Sealed (before ++ r ∷ []) rs
 
--- in writes, the newest first: under a write of one of these, all of its key are of these
+-- in writes, the newest first: under a write of one of these, all of its key are of these, but that an ADD may stand over ADDs
 abbrev pub LieOnThese : (TxId → Bool) → List StandingUpdate → Type 0
 LieOnThese these [] = ⊤
-LieOnThese these (w ∷ ws) = (these w.tx ≡ true → AllByRecursion (λ v. v.key ≡ w.key → these v.tx ≡ true) ws) × LieOnThese these ws
+LieOnThese these (w ∷ ws) = (these w.tx ≡ true → AllByRecursion (λ v. v.key ≡ w.key → (is_setting v.change || is_setting w.change) ≡ true → these v.tx ≡ true) ws) × LieOnThese these ws
 
 -- the transaction of a record is of no later run
 abbrev pub OfRun : ℕ → Option TxId → Type 0

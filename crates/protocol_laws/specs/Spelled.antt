@@ -5,7 +5,7 @@ use Rattle.clv_base.specs.Values.{fits_value}
 use Rattle.clv_base.specs.declared.names.TxId.{TxId}
 use Rattle.clv_base.specs.declared.names.Birth.{Birth}
 use Rattle.clv_base.specs.declared.ops.Op.{Op}
-use Rattle.clv_base.specs.declared.ops.Op.TheVariants.{Get, Put, Del, Scan}
+use Rattle.clv_base.specs.declared.ops.Op.TheVariants.{Get, Put, Del, Scan, Add}
 use Rattle.clv_base.specs.declared.logs.LogRecord.{LogRecord}
 use Rattle.clv_base.specs.FileRules.{has_spelling, tx_has_spelling, is_64_bits, is_value}
 use Rattle.clv_base.specs.State.{Local}
@@ -28,6 +28,7 @@ fits_op (Get k) = true
 fits_op (Put k v) = is_64_bits k && fits_value v
 fits_op (Del k) = is_64_bits k
 fits_op (Scan lo hi) = true
+fits_op (Add k by) = is_64_bits k && is_64_bits by
 
 abbrev pub OperationsKeep : Type 0
 OperationsKeep = (tx : TxId) (birth : Birth) (op : Op) (l : Local) → tx_has_spelling tx ≡ true → fits_op op ≡ true → IsSpelled l → IsSpelled (performed tx birth op l)

@@ -5,7 +5,7 @@ use Rattle.std.specs.List.Sorted.{IsStrictlySortedBy}
 use Rattle.std.specs.FinMap.{put}
 use Rattle.std.specs.declared.cmp.Ordering.{Ordering}
 use Rattle.std.specs.declared.cmp.Ordering.TheVariants.{Less, Equal, Greater}
-use Rattle.std.specs.Ordering.{nat_cmp, is_lt, match_ordering}
+use Rattle.std.specs.Ordering.{nat_cmp, is_lt, match_ordering, eq_by_cmp}
 use Rattle.std.proofs.lemmas.Bool.{both_ways, cond_both, or_cases, and_parts, and_from}
 use Rattle.std.proofs.lemmas.Bool.Decides.{nat_tests}
 use Rattle.std.proofs.lemmas.List.Kept.{IsStrictlySortedBy-filter}
@@ -13,11 +13,11 @@ use Rattle.clv_base.specs.Values.{fits_value}
 use Rattle.clv_base.specs.declared.values.Value.{Value as ValueType}
 use Rattle.clv_base.specs.declared.names.TxId.{TxId}
 use Rattle.clv_base.specs.declared.logs.LogRecord.{LogRecord}
-use Rattle.clv_base.specs.declared.logs.LogRecord.TheVariants.{Update, Clr, Prepare, Commit, Abort, End, Restart}
+use Rattle.clv_base.specs.declared.logs.LogRecord.TheVariants.{Update, Clr, Prepare, Commit, Abort, End, Restart, Add, Unadd}
 use Rattle.clv_base.specs.declared.modes.Found.{Found}
 use Rattle.clv_base.specs.declared.modes.Found.TheVariants.{Live, Ghost, Absent}
 use Rattle.clv_base.specs.Orders.{tx_cmp, tx_same, tx_in, tx_insert}
-use Rattle.clv_base.specs.Maps.{KeyMap, map_set}
+use Rattle.clv_base.specs.Maps.{KeyMap, map_get, map_set, map_add, plus}
 use Rattle.clv_base.specs.FileRules.{has_spelling, tx_has_spelling, txs_rise, is_64_bits, is_value}
 use Rattle.clv_base.specs.Logs.{wrote_in, committed_in, prepare_of, fold_updates}
 use Rattle.clv_base.specs.Facts.{predecessors_of}
@@ -26,7 +26,7 @@ use Rattle.clv_base.specs.OneShard.{closing_record, closing}
 use Rattle.clv_base.specs.Restarts.{records_of, ghost_if_absent, with_ghosts, pairs_of_listed, restored_pairs}
 use Rattle.clv_base.proofs.SameNames.{tx_true}
 use Rattle.law_base.proofs.Sets.{predecessors_rise}
-use Rattle.protocol_laws.proofs.ChangesKeepSpelling.UndoIsSpelled.{Named, named_insert}
+use Rattle.protocol_laws.proofs.ChangesKeepSpelling.UndoIsSpelled.{Named, named_insert, plus_fits}
 use Rattle.protocol_laws.proofs.ChangesKeepSpelling.RowsAreSpelled.{Seconds, Values, set_value}
 use Rattle.law_base.proofs.Names.{Rise as Rises}
 use Rattle.law_base.proofs.Lists.{all_kept as all_filter}
@@ -45,6 +45,11 @@ wrote_named (Commit tx ps ∷ rs) t h w = wrote_named rs t (and_parts (has_spell
 wrote_named (Abort tx ∷ rs) t h w = wrote_named rs t (and_parts (has_spelling (Abort tx)) (list_all has_spelling rs) h).1 w
 wrote_named (End tx ∷ rs) t h w = wrote_named rs t (and_parts (has_spelling (End tx)) (list_all has_spelling rs) h).1 w
 wrote_named (Restart run epoch ∷ rs) t h w = wrote_named rs t (and_parts (has_spelling (Restart run epoch)) (list_all has_spelling rs) h).1 w
+wrote_named (Add tx k by ∷ rs) t h w =
+    let two = and_parts (has_spelling (Add tx k by)) (list_all has_spelling rs) h in
+    let named : tx_has_spelling tx ≡ true = (and_parts _ _ (and_parts (tx_has_spelling tx && is_64_bits k) (is_64_bits by) two.0).0).0 in
+    ⊎_elim (λ s. subst (λ u. tx_has_spelling u ≡ true) (sym (tx_true t tx s)) named) (λ m. wrote_named rs t two.1 m) (or_cases (tx_same t tx) (wrote_in rs t) w)
+wrote_named (Unadd tx u k by ∷ rs) t h w = wrote_named rs t (and_parts (has_spelling (Unadd tx u k by)) (list_all has_spelling rs) h).1 w
 
 preds_named : (pairs : List (TxId × TxId)) (t : TxId) → Seconds pairs → Named (predecessors_of pairs t)
 preds_named [] t all = tt
@@ -114,6 +119,8 @@ listed_named (Commit tx ps ∷ rs) t h = listed_named rs t (and_parts (has_spell
 listed_named (Abort tx ∷ rs) t h = listed_named rs t (and_parts (has_spelling (Abort tx)) (list_all has_spelling rs) h).1
 listed_named (End tx ∷ rs) t h = listed_named rs t (and_parts (has_spelling (End tx)) (list_all has_spelling rs) h).1
 listed_named (Restart run epoch ∷ rs) t h = listed_named rs t (and_parts (has_spelling (Restart run epoch)) (list_all has_spelling rs) h).1
+listed_named (Add tx k by ∷ rs) t h = listed_named rs t (and_parts (has_spelling (Add tx k by)) (list_all has_spelling rs) h).1
+listed_named (Unadd tx u k by ∷ rs) t h = listed_named rs t (and_parts (has_spelling (Unadd tx u k by)) (list_all has_spelling rs) h).1
 
 ties_named : (t : TxId) (qs : List TxId) → Named qs → Seconds (map (λ q. (t, q)) qs)
 ties_named t [] n = tt
@@ -150,6 +157,10 @@ set_fits : (k : ℕ) (v : Option ValueType) (m : KeyMap) → is_value v ≡ true
 set_fits k None m n all = all_filter (λ e. fits_value e.1 ≡ true) (λ e. not (e.0 == k)) m all
 set_fits k (Some v) m n all = put_fits k v m n all
 
+found_fits : (k : ℕ) (m : KeyMap) → Fits m → is_value (map_get k m) ≡ true
+found_fits k [] all = refl
+found_fits k (e ∷ es) all = cond_both (eq_by_cmp nat_cmp k e.0) (Some e.1) (map_get k es) (λ v. is_value v ≡ true) (λ s. all.0) (λ s. found_fits k es all.1)
+
 fold_fits : (keep : TxId → Bool) (log : List LogRecord) (m : KeyMap) → list_all has_spelling log ≡ true → Fits m → Fits (fold_updates keep log m)
 fold_fits keep [] m h all = all
 fold_fits keep (Update tx k b a ∷ log) m h all =
@@ -162,6 +173,11 @@ fold_fits keep (Commit tx ps ∷ log) m h all = fold_fits keep log m (and_parts 
 fold_fits keep (Abort tx ∷ log) m h all = fold_fits keep log m (and_parts (has_spelling (Abort tx)) (list_all has_spelling log) h).1 all
 fold_fits keep (End tx ∷ log) m h all = fold_fits keep log m (and_parts (has_spelling (End tx)) (list_all has_spelling log) h).1 all
 fold_fits keep (Restart run epoch ∷ log) m h all = fold_fits keep log m (and_parts (has_spelling (Restart run epoch)) (list_all has_spelling log) h).1 all
+fold_fits keep (Add tx k by ∷ log) m h all =
+    let two = and_parts (has_spelling (Add tx k by)) (list_all has_spelling log) h in
+    let value : is_value (plus by (map_get k m)) ≡ true = plus_fits by (map_get k m) (found_fits k m all) in
+    fold_fits keep log (cond (keep tx) (map_add k by m) m) two.1 (cond_both (keep tx) (map_add k by m) m Fits (λ e. set_fits k (plus by (map_get k m)) m value all) (λ e. all))
+fold_fits keep (Unadd tx u k by ∷ log) m h all = fold_fits keep log m (and_parts (has_spelling (Unadd tx u k by)) (list_all has_spelling log) h).1 all
 
 map_values : (m : KeyMap) → Fits m → Values (records_of m)
 map_values [] all = tt
@@ -182,6 +198,9 @@ ghosts_values txs (Commit tx ps ∷ log) rs all = ghosts_values txs log rs all
 ghosts_values txs (Abort tx ∷ log) rs all = ghosts_values txs log rs all
 ghosts_values txs (End tx ∷ log) rs all = ghosts_values txs log rs all
 ghosts_values txs (Restart run epoch ∷ log) rs all = ghosts_values txs log rs all
+ghosts_values txs (Add tx k by ∷ log) rs all =
+    ghosts_values txs log (cond (tx_in tx txs) (ghost_if_absent k rs (found_at k rs)) rs) (cond_both (tx_in tx txs) (ghost_if_absent k rs (found_at k rs)) rs Values (λ e. ghost_value k rs (found_at k rs) all) (λ e. all))
+ghosts_values txs (Unadd tx u k by ∷ log) rs all = ghosts_values txs log rs all
 
 pub restored_values : (txs : List TxId) (keep : TxId → Bool) (log : List LogRecord) → list_all has_spelling log ≡ true → Values (with_ghosts txs log (records_of (fold_updates keep log [])))
 restored_values txs keep log h = ghosts_values txs log (records_of (fold_updates keep log [])) (map_values (fold_updates keep log []) (fold_fits keep log [] h tt))

@@ -8,15 +8,17 @@ use Rattle.clv_base.specs.declared.values.Value.{Value as ValueType}
 use Rattle.clv_base.specs.declared.names.TxId.{TxId}
 use Rattle.clv_base.specs.declared.names.Birth.{Birth}
 use Rattle.clv_base.specs.declared.logs.LogRecord.{LogRecord}
-use Rattle.clv_base.specs.declared.logs.LogRecord.TheVariants.{Update, Clr, Commit, Abort, End}
+use Rattle.clv_base.specs.declared.logs.LogRecord.TheVariants.{Update, Clr, Commit, Abort, End, Add, Unadd}
 use Rattle.clv_base.specs.declared.parts.PartState.{PartState}
 use Rattle.clv_base.specs.declared.state.Held.{Held}
 use Rattle.clv_base.specs.Orders.{Table, tx_same, tx_in, tx_get}
+use Rattle.clv_base.specs.declared.changes.Change.{Change}
+use Rattle.clv_base.specs.declared.changes.Change.TheVariants.{Sets, Adds}
 use Rattle.clv_base.specs.Logs.{StandingUpdate, standing, is_update_of, is_commit_of, is_prepare_of, wrote_in, committed_in, prepared_in, place_from, commit_lsn, prepare_lsn}
 use Rattle.clv_base.specs.Locks.{Locks, close_locks, violated}
 use Rattle.clv_base.specs.Needs.{needs_of, writes_of, value_at, key_of}
 use Rattle.clv_base.specs.State.{Local}
-use Rattle.clv_base.specs.Undo.{stage_of, gone_part, release_parts, aborts_of, clrs_of, newest_lsn, doomed_here, undo}
+use Rattle.clv_base.specs.Undo.{stage_of, gone_part, release_parts, aborts_of, compensation, clrs_of, newest_lsn, doomed_here, undo}
 use Rattle.clv_base.specs.declared.parts.PartFacts.{PartFacts}
 use Rattle.clv_base.specs.Facts.{predecessors_of, undecided_of, greater_place, greatest_commit, due_by, due_lsn_of, state_by, doom_by, is_restored_by, facts_in}
 use Rattle.clv_base.specs.OneShard.{active_part, new_part, closing, closed_part, closed_in, dropped_part, mark_dropped, written, locked}
@@ -152,23 +154,26 @@ aborts_none : (f : LogRecord → Bool) → ((t : TxId) → f (Abort t) ≡ false
 aborts_none f h [] = refl
 aborts_none f h (t ∷ ts) = or_from _ _ (h t) (aborts_none f h ts)
 
-clrs_none : (f : LogRecord → Bool) → ((t : TxId) (u : Option ℕ) (k : ℕ) (a : Option ValueType) → f (Clr t u k a) ≡ false) → (set : List TxId) (ws : List StandingUpdate) → list_any f (clrs_of set ws) ≡ false
-clrs_none f h set [] = refl
-clrs_none f h set (w ∷ ws) = at (tx_in w.tx set) (clrs_none f h set ws)
+clrs_none : (f : LogRecord → Bool) → ((t : TxId) (u : Option ℕ) (k : ℕ) (a : Option ValueType) → f (Clr t u k a) ≡ false) → ((t : TxId) (u : Option ℕ) (k by : ℕ) → f (Unadd t u k by) ≡ false)
+    → (set : List TxId) (ws : List StandingUpdate) → list_any f (clrs_of set ws) ≡ false
+clrs_none f h g set [] = refl
+clrs_none f h g set (w ∷ ws) = at (tx_in w.tx set) w.change (clrs_none f h g set ws)
   where
-    at : (b : Bool) → list_any f (clrs_of set ws) ≡ false → list_any f (cond b (Clr w.tx (newest_lsn w.tx ws) w.key w.before ∷ clrs_of set ws) (clrs_of set ws)) ≡ false
-    at true more = or_from _ _ (h w.tx (newest_lsn w.tx ws) w.key w.before) more
-    at false more = more
+    at : (b : Bool) (c : Change) → list_any f (clrs_of set ws) ≡ false → list_any f (cond b (compensation w.tx (newest_lsn w.tx ws) w.key c ∷ clrs_of set ws) (clrs_of set ws)) ≡ false
+    at true (Sets before after) more = or_from _ _ (h w.tx (newest_lsn w.tx ws) w.key before) more
+    at true (Adds by) more = or_from _ _ (g w.tx (newest_lsn w.tx ws) w.key by) more
+    at false c more = more
 
 pub undone_none : (f : LogRecord → Bool) → ((t : TxId) → f (Abort t) ≡ false) → ((t : TxId) (u : Option ℕ) (k : ℕ) (a : Option ValueType) → f (Clr t u k a) ≡ false)
+    → ((t : TxId) (u : Option ℕ) (k by : ℕ) → f (Unadd t u k by) ≡ false)
     → (log : List LogRecord) (set : List TxId) (ws : List StandingUpdate) → list_any f (aborts_of log set ++ clrs_of set ws) ≡ false
-undone_none f a b log set ws = list_any-append f (aborts_of log set) (clrs_of set ws) ∙ or_from _ _ (aborts_none f a (filter (wrote_in log) set)) (clrs_none f b set ws)
+undone_none f a b c log set ws = list_any-append f (aborts_of log set) (clrs_of set ws) ∙ or_from _ _ (aborts_none f a (filter (wrote_in log) set)) (clrs_none f b c set ws)
 
 undo_silent : (log : List LogRecord) (set : List TxId) (ws : List StandingUpdate) (x : TxId) → Silent (aborts_of log set ++ clrs_of set ws) x
 undo_silent log set ws x = record {
-  writes = undone_none (is_update_of x) (λ t. refl) (λ t u k a. refl) log set ws;
-  prepares = undone_none (is_prepare_of x) (λ t. refl) (λ t u k a. refl) log set ws;
-  commits = undone_none (is_commit_of x) (λ t. refl) (λ t u k a. refl) log set ws;
+  writes = undone_none (is_update_of x) (λ t. refl) (λ t u k a. refl) (λ t u k by. refl) log set ws;
+  prepares = undone_none (is_prepare_of x) (λ t. refl) (λ t u k a. refl) (λ t u k by. refl) log set ws;
+  commits = undone_none (is_commit_of x) (λ t. refl) (λ t u k a. refl) (λ t u k by. refl) log set ws;
 }
 
 append_three : (a b c : List LogRecord) → (a ++ b) ++ c ≡ a ++ (b ++ c)
@@ -241,11 +246,15 @@ new_other : (x tx : TxId) (birth : Birth) (o : Option Held) (parts : Table Held)
 new_other x tx birth None parts other = get_put tx x (active_part birth) parts ∙ cond-false (tx_same x tx) (Some (active_part birth)) (tx_get x parts) other
 new_other x tx birth (Some h) parts other = refl
 
-written_changes : (l : Local) (tx x : TxId) (w : Option (ℕ × Option ValueType × Option ValueType)) (durable : ℕ) → tx_same x tx ≡ false → facts_in (written tx w l) durable x ≡ facts_in l durable x
+written_changes : (l : Local) (tx x : TxId) (w : Option (ℕ × Change)) (durable : ℕ) → tx_same x tx ≡ false → facts_in (written tx w l) durable x ≡ facts_in l durable x
 written_changes l tx x None durable other = refl
-written_changes l tx x (Some w) durable other =
+written_changes l tx x (Some (key, Sets before after)) durable other =
     facts_same l _ x durable
-    (same_more l (Update tx w.0 w.1 w.2 ∷ []) x l.locks l.parts l.pairs (written tx (Some w) l).records refl refl refl (record { writes = or_from _ _ other refl; prepares = refl; commits = refl }) (λ p i. refl))
+    (same_more l (Update tx key before after ∷ []) x l.locks l.parts l.pairs (written tx (Some (key, Sets before after)) l).records refl refl refl (record { writes = or_from _ _ other refl; prepares = refl; commits = refl })
+    (λ p i. refl))
+written_changes l tx x (Some (key, Adds by)) durable other =
+    facts_same l _ x durable
+    (same_more l (Add tx key by ∷ []) x l.locks l.parts l.pairs (written tx (Some (key, Adds by)) l).records refl refl refl (record { writes = or_from _ _ other refl; prepares = refl; commits = refl }) (λ p i. refl))
 
 pub operations_change : OperationsChange
 operations_change l tx birth op x out durable =

@@ -4,7 +4,7 @@ use Rattle.std.proofs.lemmas.Bool.{both_ways, false_from_ne_true}
 use Rattle.std.specs.declared.cmp.Ordering.{Ordering}
 use Rattle.std.specs.declared.cmp.Ordering.TheVariants.{Less, Equal, Greater}
 use Rattle.std.specs.Ordering.{match_ordering, is_eq}
-use Rattle.clv_base.specs.declared.values.Value.{Value as ValueType}
+use Rattle.clv_base.specs.declared.changes.Change.{Change}
 use Rattle.clv_base.specs.declared.names.TxId.{TxId}
 use Rattle.clv_base.specs.declared.names.Birth.{Birth}
 use Rattle.clv_base.specs.declared.ops.Op.{Op}
@@ -178,7 +178,7 @@ closed_stay tx l active = both l.parts (closed_in tx l.parts) (λ u x e. ap (is_
     other u x e = false_from_ne_true _ (λ i. both_ways _ (over_absent l u x e) (ap is_present (sym (ap (stage_of l) (tx_true tx x i)) ∙ active)))
 
 -- a granted operation of a part that is known: all parts stay; of one that isn't: all others
-written_parts : (tx : TxId) (birth : Birth) (op : Op) (l : Local) (w : Option (ℕ × Option ValueType × Option ValueType)) → (written tx w (locked tx birth op l)).parts ≡ new_part tx birth (tx_get tx l.parts) l.parts
+written_parts : (tx : TxId) (birth : Birth) (op : Op) (l : Local) (w : Option (ℕ × Change)) → (written tx w (locked tx birth op l)).parts ≡ new_part tx birth (tx_get tx l.parts) l.parts
 written_parts tx birth op l None = refl
 written_parts tx birth op l (Some w) = refl
 

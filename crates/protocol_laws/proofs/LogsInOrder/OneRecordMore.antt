@@ -6,7 +6,7 @@ use Rattle.std.proofs.lemmas.List.Folds.{list_any-append}
 use Rattle.std.proofs.lemmas.Option.{none-some}
 use Rattle.clv_base.specs.declared.names.TxId.{TxId}
 use Rattle.clv_base.specs.declared.logs.LogRecord.{LogRecord}
-use Rattle.clv_base.specs.declared.logs.LogRecord.TheVariants.{Update, Clr, Prepare, Commit, Abort, End, Restart}
+use Rattle.clv_base.specs.declared.logs.LogRecord.TheVariants.{Update, Clr, Prepare, Commit, Abort, End, Restart, Add, Unadd}
 use Rattle.clv_base.specs.Orders.{tx_same}
 use Rattle.clv_base.specs.Logs.{own_tx, is_update_of, is_commit_of, is_prepare_of, is_abort_of, committed_in, prepared_in, prepare_of, commit_parts}
 use Rattle.clv_base.proofs.SameNames.{or_left, or_right, tx_true}
@@ -39,6 +39,7 @@ push_same test log r e = or_nothing (list_any test log) (test r) e ∙ sym (list
 -- whose record it is
 pub own_update : (t : TxId) (r : LogRecord) → is_update_of t r ≡ true → own_tx r ≡ Some t
 own_update t (Update tx key before after) e = ap (λ z. Some z) (sym (tx_true t tx e))
+own_update t (Add tx key by) e = ap (λ z. Some z) (sym (tx_true t tx e))
 own_update t _ e = absurd (both_ways false refl e)
 
 pub own_commit : (t : TxId) (r : LogRecord) → is_commit_of t r ≡ true → own_tx r ≡ Some t
@@ -67,6 +68,8 @@ prepared_there (Commit tx parts ∷ rs) t p e = prepared_there rs t p e
 prepared_there (Abort tx ∷ rs) t p e = prepared_there rs t p e
 prepared_there (End tx ∷ rs) t p e = prepared_there rs t p e
 prepared_there (Restart run epoch ∷ rs) t p e = prepared_there rs t p e
+prepared_there (Add tx key by ∷ rs) t p e = prepared_there rs t p e
+prepared_there (Unadd tx next key by ∷ rs) t p e = prepared_there rs t p e
 
 pub committed_there : (rs : List LogRecord) (t : TxId) (p : List ℕ) → commit_parts rs t ≡ Some p → committed_in rs t ≡ true
 committed_there [] t p e = absurd (none-some p e)
@@ -77,3 +80,5 @@ committed_there (Prepare tx home ps ∷ rs) t p e = committed_there rs t p e
 committed_there (Abort tx ∷ rs) t p e = committed_there rs t p e
 committed_there (End tx ∷ rs) t p e = committed_there rs t p e
 committed_there (Restart run epoch ∷ rs) t p e = committed_there rs t p e
+committed_there (Add tx key by ∷ rs) t p e = committed_there rs t p e
+committed_there (Unadd tx next key by ∷ rs) t p e = committed_there rs t p e

@@ -4,7 +4,7 @@ use Rattle.std.specs.List.{AllByRecursion, list_any}
 use Rattle.std.proofs.lemmas.Bool.{both_ways, or_cases}
 use Rattle.clv_base.specs.declared.names.TxId.{TxId}
 use Rattle.clv_base.specs.declared.logs.LogRecord.{LogRecord}
-use Rattle.clv_base.specs.declared.logs.LogRecord.TheVariants.{Update, Clr, Prepare, Commit, Abort, End, Restart}
+use Rattle.clv_base.specs.declared.logs.LogRecord.TheVariants.{Update, Clr, Prepare, Commit, Abort, End, Restart, Add, Unadd}
 use Rattle.clv_base.specs.Logs.{own_tx, is_update_of, is_commit_of, is_prepare_of, is_abort_of, prepare_of, commit_parts}
 use Rattle.clv_base.specs.LogRules.{last_restart, since_restart, in_last_run, commit_by_prepare, some_parts, may_follow}
 use Rattle.clv_base.specs.Restarts.{greatest_run}
@@ -33,6 +33,8 @@ greatest_grows (Prepare tx home ps ∷ rs) r = greatest_grows rs r
 greatest_grows (Commit tx parts ∷ rs) r = greatest_grows rs r
 greatest_grows (Abort tx ∷ rs) r = greatest_grows rs r
 greatest_grows (End tx ∷ rs) r = greatest_grows rs r
+greatest_grows (Add tx key by ∷ rs) r = greatest_grows rs r
+greatest_grows (Unadd tx next key by ∷ rs) r = greatest_grows rs r
 
 -- the last RESTART's run is no later
 data LastFits (n : ℕ) : Option (ℕ × ℕ) → Type 0 where
@@ -52,6 +54,8 @@ last_fits (Prepare tx home ps ∷ rs) = last_fits rs
 last_fits (Commit tx parts ∷ rs) = last_fits rs
 last_fits (Abort tx ∷ rs) = last_fits rs
 last_fits (End tx ∷ rs) = last_fits rs
+last_fits (Add tx key by ∷ rs) = last_fits rs
+last_fits (Unadd tx next key by ∷ rs) = last_fits rs
 
 in_last_case : (n : ℕ) (tx : TxId) (o : Option (ℕ × ℕ)) → LastFits n o → elim o [ Some p ↦ tx.run == p.0 | None ↦ false ] ≡ true → tx.run ≤ n
 in_last_case n tx None l e = absurd (both_ways false refl e)
@@ -75,6 +79,8 @@ since_fit n sf (Prepare u home ps ∷ rs) a b = since_fit n (sf ++ Prepare u hom
 since_fit n sf (Commit u parts ∷ rs) a b = since_fit n (sf ++ Commit u parts ∷ []) rs (push_all n sf (Commit u parts) a b.0) b.1
 since_fit n sf (Abort u ∷ rs) a b = since_fit n (sf ++ Abort u ∷ []) rs (push_all n sf (Abort u) a b.0) b.1
 since_fit n sf (End u ∷ rs) a b = since_fit n (sf ++ End u ∷ []) rs (push_all n sf (End u) a b.0) b.1
+since_fit n sf (Add u key by ∷ rs) a b = since_fit n (sf ++ Add u key by ∷ []) rs (push_all n sf (Add u key by) a b.0) b.1
+since_fit n sf (Unadd u next key by ∷ rs) a b = since_fit n (sf ++ Unadd u next key by ∷ []) rs (push_all n sf (Unadd u next key by) a b.0) b.1
 
 commit_case : (shard n : ℕ) (log : List LogRecord) (tx : TxId) (parts : List ℕ) (o : Option (ℕ × List TxId)) → prepare_of log tx ≡ o → AllByRecursion (RunFits n) log → (in_last_run log tx ≡ true → tx.run ≤ n)
     → commit_by_prepare shard log tx parts o ≡ true → tx.run ≤ n
@@ -95,6 +101,8 @@ follow_fits shard log (Clr tx next key after) a m = record_fits (greatest_run lo
 follow_fits shard log (Abort tx) a m = record_fits (greatest_run log) tx (is_update_of tx) (own_update tx) log a (last _ _ (front _ _ (front _ _ m)))
 follow_fits shard log (End tx) a m = end_case (greatest_run log) log tx (commit_parts log tx) refl a (last _ _ m)
 follow_fits shard log (Restart run epoch) a m = tt
+follow_fits shard log (Add tx key by) a m = in_last_fits log tx (front _ _ (front _ _ (front _ _ (front _ _ (front _ _ (front _ _ m))))))
+follow_fits shard log (Unadd tx next key by) a m = record_fits (greatest_run log) tx (is_abort_of tx) (own_abort tx) log a (last _ _ (front _ _ m))
 
 pub runs_step : (shard : ℕ) (log : List LogRecord) (r : LogRecord) → AllByRecursion (RunFits (greatest_run log)) log → may_follow shard log r ≡ true → AllByRecursion (RunFits (greatest_run (log ++ r ∷ []))) (log ++ r ∷ [])
 runs_step shard log r a m =

@@ -1,19 +1,21 @@
--- The standing UPDATEs of a log in order.
-use Rattle.std.proofs.Common.{◌≡◌, ⊎_elim, refl, sym, ap, subst, ◌∙◌, ℕ, suc, ◌<◌, Bool, true, false, cond, not, ◌&&◌, List, [], ◌∷◌, ◌++◌, length, Option, Some, None, ◌==◌, nat_lt, arith, eqb-true, eq-eqb}
-use Rattle.std.specs.List.{AllByRecursion, filter, list_any}
-use Rattle.std.proofs.lemmas.Bool.{cases_Bool, both_ways, cond_both, cond-true, cond-false, not-true, false_from_ne_true, and_from, lt-ltb}
+-- The standing writes of a log in order.
+use Rattle.std.proofs.Common.{◌≡◌, ⊎_elim, refl, sym, ap, subst, ◌∙◌, ℕ, suc, ◌<◌, Bool, true, false, cond, not, ◌&&◌, ◌||◌, List, [], ◌∷◌, ◌++◌, length, Option, Some, None, ◌==◌, arith, eqb-true, eq-eqb}
+use Rattle.std.specs.List.{AllByRecursion, filter, list_all, list_any}
+use Rattle.std.proofs.lemmas.Bool.{cases_Bool, both_ways, cond_both, cond-false, not-true, false_from_ne_true, and_from, lt-ltb}
 use Rattle.std.proofs.lemmas.Option.{same_Some}
 use Rattle.clv_base.specs.declared.values.Value.{Value as ValueType}
 use Rattle.clv_base.specs.declared.names.TxId.{TxId}
 use Rattle.clv_base.specs.declared.logs.LogRecord.{LogRecord}
-use Rattle.clv_base.specs.declared.logs.LogRecord.TheVariants.{Update, Clr, Prepare, Commit, Abort, End, Restart}
+use Rattle.clv_base.specs.declared.logs.LogRecord.TheVariants.{Update, Clr, Prepare, Commit, Abort, End, Restart, Add, Unadd}
 use Rattle.clv_base.specs.Orders.{tx_same}
-use Rattle.clv_base.specs.Logs.{StandingUpdate, standing, standing_after, without_newest, newest_at, newest_of, committed_in, is_commit_of, value_in}
-use Rattle.clv_base.specs.LogRules.{has_above, compensates, may_follow}
+use Rattle.clv_base.specs.declared.changes.Change.{Change}
+use Rattle.clv_base.specs.declared.changes.Change.TheVariants.{Sets, Adds}
+use Rattle.clv_base.specs.Logs.{StandingUpdate, changed, is_setting, standing, standing_after, without_newest, newest_at, newest_of, committed_in, is_commit_of, value_in}
+use Rattle.clv_base.specs.LogRules.{has_above, lies_below, clears, unadds, compensates, may_write, may_follow}
 use Rattle.clv_base.proofs.SameNames.{or_left, or_right, tx_true, tx_self}
 use Rattle.law_base.proofs.Lists.{all_mono, all_both, filter_passes}
-use Rattle.law_base.proofs.Running.{top_value, after_of, value_top}
-use Rattle.law_base.proofs.Undoing.{Chain}
+use Rattle.law_base.proofs.Running.{top_value}
+use Rattle.law_base.proofs.Undoing.{IsOver, Chain}
 use Rattle.law_base.proofs.Options.{optional_value_true}
 use Rattle.protocol_laws.specs.Order.{LieOnThese}
 use Rattle.protocol_laws.proofs.LogsInOrder.OneRecordMore.{push_cases, push_right, push_same}
@@ -51,16 +53,9 @@ top_without : (t : TxId) (k : ℕ) (u : StandingUpdate) (ws : List StandingUpdat
 top_without t k u [] e d = none_some u e
 top_without t k u (w ∷ ws) e d = at (tx_same t w.tx) e (λ f. top_without t k u ws f d)
   where
-    same_later : top_value k (without_newest t ws) ≡ top_value k ws → top_value k (w ∷ without_newest t ws) ≡ top_value k (w ∷ ws)
-    same_later ih = by (k == w.key)
-      where
-        by : (b : Bool) → after_of (cond b (Some w) (newest_at k (without_newest t ws))) ≡ after_of (cond b (Some w) (newest_at k ws))
-        by true = refl
-        by false = ih
-
     at : (b : Bool) → cond b (Some w) (newest_of t ws) ≡ Some u → (newest_of t ws ≡ Some u → top_value k (without_newest t ws) ≡ top_value k ws) → top_value k (cond b ws (w ∷ without_newest t ws)) ≡ top_value k (w ∷ ws)
-    at true f ih = ap after_of (sym (cond-false (k == w.key) (Some w) (newest_at k ws) (subst (λ z. (k == z.key) ≡ false) (sym (same_Some w u f)) d)))
-    at false f ih = same_later (ih f)
+    at true f ih = sym (cond-false (k == w.key) (changed w.change (top_value k ws)) (top_value k ws) (subst (λ z. (k == z.key) ≡ false) (sym (same_Some w u f)) d))
+    at false f ih = ap (λ v. cond (k == w.key) (changed w.change v) v) (ih f)
 
 low_of : (t : TxId) (u : StandingUpdate) (n : ℕ) (ws : List StandingUpdate) → newest_of t ws ≡ Some u → AllByRecursion (λ v. v.lsn < n) ws → u.lsn < n
 low_of t u n [] e a = none_some u e
@@ -70,49 +65,83 @@ low_of t u n (w ∷ ws) e a = at (tx_same t w.tx) e (λ f. low_of t u n ws f a.1
     at true f ih = subst (λ z. z.lsn < n) (same_Some w u f) a.0
     at false f ih = ih f
 
--- the newest of a transaction that is the newest of its key too
-abbrev NewestHere : StandingUpdate → List StandingUpdate → Type 0
-NewestHere u ws = (v : StandingUpdate) × (newest_at u.key ws ≡ Some v) × (v.lsn ≡ u.lsn)
+-- no UPDATE of the key of a write stands above it, and where it is an UPDATE no write at all
+abbrev OnTop : StandingUpdate → List StandingUpdate → Type 0
+OnTop u ws = AllByRecursion (λ v. u.key ≡ v.key → u.lsn < v.lsn → (is_setting u.change ≡ false) × (is_setting v.change ≡ false)) ws
 
-chain_without : (t : TxId) (u : StandingUpdate) (ws : List StandingUpdate) → newest_of t ws ≡ Some u → NewestHere u ws → Falling ws → Chain ws → Chain (without_newest t ws)
+over_add : (c : Change) (v : Option ValueType) → is_setting c ≡ false → IsOver c v
+over_add (Sets before after) v e = absurd (both_ways true e refl)
+over_add (Adds by) v e = tt
+
+chain_without : (t : TxId) (u : StandingUpdate) (ws : List StandingUpdate) → newest_of t ws ≡ Some u → OnTop u ws → Falling ws → Chain ws → Chain (without_newest t ws)
 chain_without t u [] e n f c = tt
-chain_without t u (w ∷ ws) e n f c = at (tx_same t w.tx) e (λ g k. chain_without t u ws g k f.1 c.1)
+chain_without t u (w ∷ ws) e n f c = at (tx_same t w.tx) e (λ g. chain_without t u ws g n.1 f.1 c.1)
   where
-    other : newest_of t ws ≡ Some u → (u.key == w.key) ≡ false
-    other g = false_from_ne_true _ (λ k.
-        let same : w ≡ n.0 = same_Some w n.0 (sym (cond-true (u.key == w.key) (Some w) (newest_at u.key ws) k) ∙ n.1) in
-        let l = low_of t u w.lsn ws g f.0 in
-        let q : w.lsn ≡ u.lsn = ap (λ z. z.lsn) same ∙ n.2 in
-        omega (arith, l, q))
-
     flipped : (u.key == w.key) ≡ false → (w.key == u.key) ≡ false
     flipped d = false_from_ne_true _ (λ k. both_ways _ d (eq-eqb u.key w.key (sym (eqb-true w.key u.key k))))
 
-    later : newest_of t ws ≡ Some u → (u.key == w.key) ≡ false → (newest_of t ws ≡ Some u → NewestHere u ws → Chain (without_newest t ws)) → Chain (w ∷ without_newest t ws)
-    later g d ih = (c.0 ∙ sym (top_without t w.key u ws g (flipped d)), ih g (n.0, sym (cond-false (u.key == w.key) (Some w) (newest_at u.key ws) d) ∙ n.1, n.2))
+    later : newest_of t ws ≡ Some u → IsOver w.change (top_value w.key (without_newest t ws))
+    later g =
+        ⊎_elim
+        (λ k. over_add w.change _ (n.0 (eqb-true u.key w.key k) (low_of t u w.lsn ws g f.0)).1)
+        (λ d. subst (IsOver w.change) (sym (top_without t w.key u ws g (flipped d))) c.0)
+        (cases_Bool (u.key == w.key))
 
-    at : (b : Bool) → cond b (Some w) (newest_of t ws) ≡ Some u → (newest_of t ws ≡ Some u → NewestHere u ws → Chain (without_newest t ws)) → Chain (cond b ws (w ∷ without_newest t ws))
+    at : (b : Bool) → cond b (Some w) (newest_of t ws) ≡ Some u → (newest_of t ws ≡ Some u → Chain (without_newest t ws)) → Chain (cond b ws (w ∷ without_newest t ws))
     at true g ih = c.1
-    at false g ih = later g (other g) ih
+    at false g ih = (later g, ih g)
 
--- what a CLR compensates
-newest_by : (u : StandingUpdate) (key : ℕ) (o : Option StandingUpdate) → elim o [ Some v ↦ v.lsn == u.lsn | None ↦ false ] ≡ true → (v : StandingUpdate) × (o ≡ Some v) × (v.lsn ≡ u.lsn)
-newest_by u key None e = absurd (both_ways false refl e)
-newest_by u key (Some v) e = (v, refl, eqb-true v.lsn u.lsn e)
+-- what a CLR compensates: the newest write of its key
+newest_by : (u : StandingUpdate) (o : Option StandingUpdate) → elim o [ Some v ↦ v.lsn == u.lsn | None ↦ false ] ≡ true → (v : StandingUpdate) × (o ≡ Some v) × (v.lsn ≡ u.lsn)
+newest_by u None e = absurd (both_ways false refl e)
+newest_by u (Some v) e = (v, refl, eqb-true v.lsn u.lsn e)
 
-compensated : (log : List LogRecord) (tx : TxId) (next : Option ℕ) (key : ℕ) (after : Option ValueType) (o : Option StandingUpdate) → newest_of tx (standing log) ≡ o → compensates log tx next key after o ≡ true → Falling (standing log) → Chain (standing log)
+-- the newest of a key is above all others of it
+on_top_all : (u v : StandingUpdate) (ws : List StandingUpdate) → newest_at u.key ws ≡ Some v → v.lsn ≡ u.lsn → Falling ws → OnTop u ws
+on_top_all u v [] e l f = tt
+on_top_all u v (w ∷ ws) e l f = at (u.key == w.key) refl e (λ g. on_top_all u v ws g l f.1)
+  where
+    lower : (x : StandingUpdate) → x.lsn < w.lsn → w.lsn ≡ u.lsn → u.key ≡ x.key → u.lsn < x.lsn → (is_setting u.change ≡ false) × (is_setting x.change ≡ false)
+    lower x a b k m = absurd (omega (arith, a, b, m))
+
+    at : (b : Bool) → (u.key == w.key) ≡ b → cond b (Some w) (newest_at u.key ws) ≡ Some v → (newest_at u.key ws ≡ Some v → OnTop u ws) → OnTop u (w ∷ ws)
+    at true k g ih =
+        let same : w.lsn ≡ u.lsn = ap (λ z. z.lsn) (same_Some w v g) ∙ l in
+        ((λ j m. absurd (omega (arith, same, m))), all_mono _ _ (λ x a j m. lower x a same j m) ws f.0)
+    at false k g ih = ((λ j m. absurd (both_ways _ k (eq-eqb u.key w.key j))), ih g)
+
+cleared_top : (w : StandingUpdate) (after : Option ValueType) (ws : List StandingUpdate) (c : Change) → clears w after ws c ≡ true → Falling ws → OnTop w ws
+cleared_top w after ws (Sets before set) e f = let v = newest_by w (newest_at w.key ws) (last _ _ e) in on_top_all w v.0 ws v.1 v.2 f
+cleared_top w after ws (Adds by) e f = absurd (both_ways false refl e)
+
+-- what an UNADD compensates: an ADD over which no UPDATE of its key stands
+under_none : (w : StandingUpdate) (ws : List StandingUpdate) → is_setting w.change ≡ false → list_all (λ v. not (is_setting v.change && lies_below w v)) ws ≡ true → OnTop w ws
+under_none w [] a e = tt
+under_none w (v ∷ vs) a e = (
+  (λ k l. (
+    a,
+    false_from_ne_true _ (λ s.
+        both_ways _ (not-true _ (front _ _ e)) (and_from _ _ s (and_from _ _ (and_from _ _ (eq-eqb v.key w.key (sym k)) (lt-ltb w.lsn v.lsn l)) (or_right (is_setting w.change) _ s)))),
+  )),
+  under_none w vs a (last _ _ e),
+)
+
+unadded_top : (w : StandingUpdate) (by : ℕ) (ws : List StandingUpdate) (c : Change) → c ≡ w.change → unadds w by ws c ≡ true → OnTop w ws
+unadded_top w by ws (Sets before set) is e = absurd (both_ways false refl e)
+unadded_top w by ws (Adds added) is e = under_none w ws (ap is_setting (sym is)) (last _ _ e)
+
+-- the write that is compensated
+compensated : (log : List LogRecord) (tx : TxId) (next : Option ℕ) (key : ℕ) (test : StandingUpdate → Bool) (o : Option StandingUpdate) → newest_of tx (standing log) ≡ o
+    → compensates test tx next key (standing log) o ≡ true → ((u : StandingUpdate) → test u ≡ true → OnTop u (standing log)) → Falling (standing log) → Chain (standing log)
     → Chain (without_newest tx (standing log))
-compensated log tx next key after None e c f k = absurd (both_ways false refl c)
-compensated log tx next key after (Some u) e c f k =
-    let same : u.key ≡ key = eqb-true u.key key (front _ _ (front _ _ (front _ _ c))) in
-    let v = newest_by u key (newest_at key (standing log)) (last _ _ (front _ _ c)) in
-    chain_without tx u (standing log) e (v.0, subst (λ z. newest_at z (standing log) ≡ Some v.0) (sym same) v.1, v.2) f k
+compensated log tx next key test None e c top f k = absurd (both_ways false refl c)
+compensated log tx next key test (Some u) e c top f k = chain_without tx u (standing log) e (top u (last _ _ (front _ _ c))) f k
 
 -- ---- these, and more of them
 
 pub lie_alike : (f h : TxId → Bool) (ws : List StandingUpdate) → ((t : TxId) → f t ≡ h t) → LieOnThese f ws → LieOnThese h ws
 lie_alike f h [] e l = tt
-lie_alike f h (w ∷ ws) e l = ((λ c. all_mono _ _ (λ v k q. sym (e v.tx) ∙ k q) ws (l.0 (e w.tx ∙ c))), lie_alike f h ws e l.1)
+lie_alike f h (w ∷ ws) e l = ((λ c. all_mono _ _ (λ v k q s. sym (e v.tx) ∙ k q s) ws (l.0 (e w.tx ∙ c))), lie_alike f h ws e l.1)
 
 -- one more of these: what lies below its writes is of these already
 module _ (tx : TxId) (f h : TxId → Bool) (all : List StandingUpdate) (more : (t : TxId) → f t ≡ true → h t ≡ true) (only : (t : TxId) → h t ≡ true → f t ≡ false → t ≡ tx) (own : h tx ≡ true) where
@@ -120,23 +149,23 @@ module _ (tx : TxId) (f h : TxId → Bool) (all : List StandingUpdate) (more : (
   Below v = (not (tx_same tx v.tx) && has_above tx v all) ≡ true → f v.tx ≡ true
 
   -- a write of its own above it
-  under : (w v : StandingUpdate) → w.tx ≡ tx → list_any (λ u. tx_same tx u.tx && (u.key == v.key) && nat_lt v.lsn u.lsn) all ≡ true → Below v → h v.tx ≡ true
+  under : (w v : StandingUpdate) → w.tx ≡ tx → list_any (λ u. tx_same tx u.tx && lies_below v u) all ≡ true → Below v → h v.tx ≡ true
   under w v e a b = ⊎_elim (λ s. subst (λ z. h z ≡ true) (tx_true tx v.tx s) own) (λ s. more v.tx (b (and_from _ _ (ap not s) a))) (cases_Bool (tx_same tx v.tx))
 
   pub lie_more : (ws : List StandingUpdate) → ((test : StandingUpdate → Bool) → list_any test ws ≡ true → list_any test all ≡ true) → AllByRecursion Below ws → Falling ws → LieOnThese f ws → LieOnThese h ws
   lie_more [] part b fall l = tt
   lie_more (w ∷ ws) part b fall l = (head, lie_more ws (λ test e. part test (or_right (test w) _ e)) b.1 fall.1 l.1)
     where
-      passes : (v : StandingUpdate) → w.tx ≡ tx → v.lsn < w.lsn → v.key ≡ w.key → (tx_same tx w.tx && (w.key == v.key) && nat_lt v.lsn w.lsn) ≡ true
-      passes v e low k = and_from _ _ (and_from _ _ (subst (λ z. tx_same tx z ≡ true) (sym e) (tx_self tx)) (eq-eqb w.key v.key (sym k))) (lt-ltb v.lsn w.lsn low)
+      passes : (v : StandingUpdate) → w.tx ≡ tx → v.lsn < w.lsn → v.key ≡ w.key → (is_setting v.change || is_setting w.change) ≡ true → (tx_same tx w.tx && lies_below v w) ≡ true
+      passes v e low k s = and_from _ _ (subst (λ z. tx_same tx z ≡ true) (sym e) (tx_self tx)) (and_from _ _ (and_from _ _ (eq-eqb w.key v.key (sym k)) (lt-ltb v.lsn w.lsn low)) s)
 
-      one : (v : StandingUpdate) → w.tx ≡ tx → Below v × (v.lsn < w.lsn) → v.key ≡ w.key → h v.tx ≡ true
-      one v e p k = under w v e (part (λ u. tx_same tx u.tx && (u.key == v.key) && nat_lt v.lsn u.lsn) (or_left _ _ (passes v e p.1 k))) p.0
+      one : (v : StandingUpdate) → w.tx ≡ tx → Below v × (v.lsn < w.lsn) → v.key ≡ w.key → (is_setting v.change || is_setting w.change) ≡ true → h v.tx ≡ true
+      one v e p k s = under w v e (part (λ u. tx_same tx u.tx && lies_below v u) (or_left _ _ (passes v e p.1 k s))) p.0
 
-      head : h w.tx ≡ true → AllByRecursion (λ v. v.key ≡ w.key → h v.tx ≡ true) ws
+      head : h w.tx ≡ true → AllByRecursion (λ v. v.key ≡ w.key → (is_setting v.change || is_setting w.change) ≡ true → h v.tx ≡ true) ws
       head c =
-          ⊎_elim (λ old. all_mono _ _ (λ v k q. more v.tx (k q)) ws (l.0 old))
-          (λ new. let e = only w.tx c new in all_mono _ _ (λ v p k. one v e p k) ws (all_both _ _ ws b.1 fall.0))
+          ⊎_elim (λ old. all_mono _ _ (λ v k q s. more v.tx (k q s)) ws (l.0 old))
+          (λ new. let e = only w.tx c new in all_mono _ _ (λ v p k s. one v e p k s) ws (all_both _ _ ws b.1 fall.0))
           (cases_Bool (f w.tx))
 
 -- ---- a record more
@@ -153,20 +182,24 @@ quiet log r ws none k =
 commit_only : (log : List LogRecord) (tx : TxId) (parts : List ℕ) (t : TxId) → committed_in (log ++ Commit tx parts ∷ []) t ≡ true → committed_in log t ≡ false → t ≡ tx
 commit_only log tx parts t c n = ⊎_elim (λ a. absurd (both_ways _ n a)) (λ a. tx_true t tx a) (push_cases (is_commit_of t) log (Commit tx parts) c)
 
+-- who may write is not committed
+open_of : (log : List LogRecord) (tx : TxId) → may_write log tx ≡ true → not (committed_in log tx) ≡ true
+open_of log tx m = last _ _ (front _ _ (front _ _ m))
+
 pub writes_step : (shard : ℕ) (log : List LogRecord) (r : LogRecord) → may_follow shard log r ≡ true → Writes (committed_in log) (length log) (standing log) → Writes (committed_in (log ++ r ∷ [])) (suc (length log)) (standing_after (length log) r (standing log))
 writes_step shard log (Update tx key before after) m k =
     let r = Update tx key before after in
     let q = quiet log r (standing log) (λ t. refl) k in
     record {
-      chain = (optional_value_true before (value_in log key) (last _ _ (front _ _ (front _ _ m))) ∙ value_top (newest_at key (standing log)), k.chain);
+      chain = (optional_value_true before (value_in log key) (last _ _ (front _ _ (front _ _ m))), k.chain);
       falls = (k.low, k.falls);
       low = (omega arith, q.low);
-      lie = ((λ c. absurd (both_ways _ (sym (push_same (is_commit_of tx) log r refl) ∙ not-true _ (last _ _ (front _ _ (front _ _ (front _ _ (front _ _ (front _ _ m))))))) c)), q.lie);
+      lie = ((λ c. absurd (both_ways _ (sym (push_same (is_commit_of tx) log r refl) ∙ not-true _ (open_of log tx (front _ _ (front _ _ (front _ _ m))))) c)), q.lie);
     }
 writes_step shard log (Clr tx next key after) m k =
     let q = quiet log (Clr tx next key after) (standing log) (λ t. refl) k in
     record {
-      chain = compensated log tx next key after (newest_of tx (standing log)) refl (last _ _ m) k.falls k.chain;
+      chain = compensated log tx next key (λ w. clears w after (standing log) w.change) (newest_of tx (standing log)) refl (last _ _ m) (λ u t. cleared_top u after (standing log) u.change t k.falls) k.falls k.chain;
       falls = falls_without tx (standing log) k.falls;
       low = all_without _ tx (standing log) q.low;
       lie = lie_without _ tx (standing log) q.lie;
@@ -184,28 +217,52 @@ writes_step shard log (Prepare tx home ps) m k = quiet log (Prepare tx home ps) 
 writes_step shard log (Abort tx) m k = quiet log (Abort tx) (standing log) (λ t. refl) k
 writes_step shard log (End tx) m k = quiet log (End tx) (standing log) (λ t. refl) k
 writes_step shard log (Restart run epoch) m k = quiet log (Restart run epoch) (standing log) (λ t. refl) k
+writes_step shard log (Add tx key by) m k =
+    let r = Add tx key by in
+    let q = quiet log r (standing log) (λ t. refl) k in
+    record {
+      chain = (tt, k.chain);
+      falls = (k.low, k.falls);
+      low = (omega arith, q.low);
+      lie = ((λ c. absurd (both_ways _ (sym (push_same (is_commit_of tx) log r refl) ∙ not-true _ (open_of log tx (front _ _ (front _ _ m)))) c)), q.lie);
+    }
+writes_step shard log (Unadd tx next key by) m k =
+    let q = quiet log (Unadd tx next key by) (standing log) (λ t. refl) k in
+    record {
+      chain = compensated log tx next key (λ w. unadds w by (standing log) w.change) (newest_of tx (standing log)) refl (last _ _ m) (λ u t. unadded_top u by (standing log) u.change refl t) k.falls k.chain;
+      falls = falls_without tx (standing log) k.falls;
+      low = all_without _ tx (standing log) q.low;
+      lie = lie_without _ tx (standing log) q.lie;
+    }
 
 -- ---- those of these alone
 
+-- a change of a key's value that keeps it, or an ADD: the fold of those of these, where others below it don't count
 top_kept : (these : TxId → Bool) (k : ℕ) (ws : List StandingUpdate) → AllByRecursion (λ v. v.key ≡ k → these v.tx ≡ true) ws → top_value k (filter (λ w. these w.tx) ws) ≡ top_value k ws
 top_kept these k [] a = refl
 top_kept these k (w ∷ ws) a = at (k == w.key) refl (top_kept these k ws a.1)
   where
-    here : (c : Bool) → c ≡ true → (k == w.key) ≡ true → top_value k (cond c (w ∷ filter (λ w. these w.tx) ws) (filter (λ w. these w.tx) ws)) ≡ top_value k (w ∷ ws)
-    here true e q = ap after_of (cond-true (k == w.key) (Some w) (newest_at k (filter (λ w. these w.tx) ws)) q ∙ sym (cond-true (k == w.key) (Some w) (newest_at k ws) q))
-    here false e q = absurd (both_ways false refl e)
+    kept : (c : Bool) → c ≡ true → top_value k (filter (λ w. these w.tx) ws) ≡ top_value k ws → top_value k (cond c (w ∷ filter (λ w. these w.tx) ws) (filter (λ w. these w.tx) ws)) ≡ top_value k (w ∷ ws)
+    kept true e ih = ap (λ v. cond (k == w.key) (changed w.change v) v) ih
+    kept false e ih = absurd (both_ways false refl e)
 
     other : (c : Bool) → (k == w.key) ≡ false → top_value k (filter (λ w. these w.tx) ws) ≡ top_value k ws → top_value k (cond c (w ∷ filter (λ w. these w.tx) ws) (filter (λ w. these w.tx) ws)) ≡ top_value k (w ∷ ws)
-    other true q ih = ap after_of (cond-false (k == w.key) (Some w) (newest_at k (filter (λ w. these w.tx) ws)) q) ∙ ih ∙ sym (ap after_of (cond-false (k == w.key) (Some w) (newest_at k ws) q))
-    other false q ih = ih ∙ sym (ap after_of (cond-false (k == w.key) (Some w) (newest_at k ws) q))
+    other true q ih = ap (λ v. cond (k == w.key) (changed w.change v) v) ih
+    other false q ih = ih ∙ sym (cond-false (k == w.key) (changed w.change (top_value k ws)) (top_value k ws) q)
 
     at : (b : Bool) → (k == w.key) ≡ b → top_value k (filter (λ w. these w.tx) ws) ≡ top_value k ws → top_value k (filter (λ w. these w.tx) (w ∷ ws)) ≡ top_value k (w ∷ ws)
-    at true q ih = here (these w.tx) (a.0 (sym (eqb-true k w.key q))) q
+    at true q ih = kept (these w.tx) (a.0 (sym (eqb-true k w.key q))) ih
     at false q ih = other (these w.tx) q ih
+
+-- under an UPDATE all of its key are of these, so what it names is the fold of these
+over_kept : (these : TxId → Bool) (k : ℕ) (c : Change) (ws : List StandingUpdate) → AllByRecursion (λ v. v.key ≡ k → (is_setting v.change || is_setting c) ≡ true → these v.tx ≡ true) ws → IsOver c (top_value k ws)
+    → IsOver c (top_value k (filter (λ w. these w.tx) ws))
+over_kept these k (Sets before after) ws a e = e ∙ sym (top_kept these k ws (all_mono _ _ (λ v h q. h q (or_right (is_setting v.change) true refl)) ws a))
+over_kept these k (Adds by) ws a e = tt
 
 -- a chain that lies so is one without the others
 pub chain_kept : (these : TxId → Bool) (ws : List StandingUpdate) → LieOnThese these ws → Chain ws → Chain (filter (λ w. these w.tx) ws)
 chain_kept these [] l c = tt
 chain_kept these (w ∷ ws) l c =
     cond_both (these w.tx) (w ∷ filter (λ w. these w.tx) ws) (filter (λ w. these w.tx) ws) Chain
-    (λ e. (c.0 ∙ sym (top_kept these w.key ws (l.0 e)), chain_kept these ws l.1 c.1)) (λ e. chain_kept these ws l.1 c.1)
+    (λ e. (over_kept these w.key w.change ws (l.0 e) c.0, chain_kept these ws l.1 c.1)) (λ e. chain_kept these ws l.1 c.1)

@@ -6,18 +6,19 @@ use Rattle.std.proofs.lemmas.Bool.{both_ways, not-true, or_parts, cond-true, con
 use Rattle.std.proofs.Math.Bool.{or-false}
 use Rattle.clv_base.specs.declared.names.TxId.{TxId}
 use Rattle.clv_base.specs.declared.logs.LogRecord.{LogRecord}
-use Rattle.clv_base.specs.declared.logs.LogRecord.TheVariants.{Update, Clr, Prepare, Commit, Abort, End, Restart}
+use Rattle.clv_base.specs.declared.logs.LogRecord.TheVariants.{Update, Clr, Prepare, Commit, Abort, End, Restart, Add, Unadd}
+use Rattle.clv_base.specs.declared.changes.Change.{Change}
+use Rattle.clv_base.specs.declared.changes.Change.TheVariants.{Sets, Adds}
 use Rattle.clv_base.specs.Orders.{tx_same, tx_in}
 use Rattle.clv_base.specs.Logs.{StandingUpdate, aborted_in, committed_in, standing, writers, without_newest, in_doubt, is_winner}
 use Rattle.clv_base.specs.State.{Shard}
-use Rattle.clv_base.specs.Undo.{clrs_of, newest_lsn}
+use Rattle.clv_base.specs.Undo.{compensation, clrs_of, newest_lsn}
 use Rattle.clv_base.specs.Restarts.{losers, undo_records, greatest_epoch, next_epoch}
 use Rattle.clv_base.proofs.SameNames.{or_left, tx_true, tx_self}
 use Rattle.law_base.proofs.Sets.{Rise, writers_rise, without_first, filter_alike, filter_both, in_filter, filter_in, in_passes, none_pass, none_passed, writers_without, each_writer, filter_rises}
-use Rattle.law_base.proofs.Doubts.{Unlike, is_it, nobody, abort_unlike, clr_unlike, restart_unlike, aborted_more, winners_more, standing_more}
+use Rattle.law_base.proofs.Doubts.{Unlike, is_it, nobody, abort_unlike, clr_unlike, unadd_unlike, restart_unlike, aborted_more, winners_more, standing_more}
 use Rattle.law_base.proofs.Names.{other_name as other_writer}
 use Rattle.std.specs.List.Sorted.{IsStrictlySortedBy}
-use Rattle.clv_base.specs.declared.values.Value.{Value as ValueType}
 
 -- the losers that have no ABORT
 abbrev pub unaborted : ℕ → List LogRecord → List TxId
@@ -74,20 +75,23 @@ after_abort shard log t ts e =
     ∙ ap (λ l. map (λ x. Abort x) ts ++ clrs_of l (standing (log ++ Abort t ∷ []))) same
     ∙ ap (λ l. map (λ x. Abort x) ts ++ clrs_of (losers shard log) l) stand
 
--- ---- a CLR
+-- ---- a CLR or UNADD
 
--- the first CLR of a set's writes, and those of what stands after it
+-- the first of a set's writes, and those of what stands after it
 abbrev pub FirstClr : List TxId → List StandingUpdate → LogRecord → List LogRecord → Type 0
 FirstClr set ws c cs =
-    (t : TxId) × (u : Option ℕ) × (k : ℕ) × (a : Option ValueType) × (c ≡ Clr t u k a) × (tx_in t set ≡ true) × (clrs_of set (without_newest t ws) ≡ cs)
+    (t : TxId) × (u : Option ℕ) × (k : ℕ) × (a : Change) × (c ≡ compensation t u k a) × (tx_in t set ≡ true) × (clrs_of set (without_newest t ws) ≡ cs)
 
 abbrev clrs_if : Bool → List TxId → StandingUpdate → List StandingUpdate → List LogRecord
-clrs_if b set w ws = cond b (Clr w.tx (newest_lsn w.tx ws) w.key w.before ∷ clrs_of set ws) (clrs_of set ws)
+clrs_if b set w ws = cond b (compensation w.tx (newest_lsn w.tx ws) w.key w.change ∷ clrs_of set ws) (clrs_of set ws)
 
 first_here : (set : List TxId) (w : StandingUpdate) (ws : List StandingUpdate) (c : LogRecord) (cs : List LogRecord) → tx_in w.tx set ≡ true
-    → ◌≡◌ {A = List LogRecord} (Clr w.tx (newest_lsn w.tx ws) w.key w.before ∷ clrs_of set ws) (c ∷ cs) → FirstClr set (w ∷ ws) c cs
-first_here set w ws c cs i e = (w.tx, newest_lsn w.tx ws, w.key, w.before, cc, i, ap (clrs_of set) (cond-true (tx_same w.tx w.tx) ws (w ∷ without_newest w.tx ws) (tx_self w.tx)) ∙ tails)
+    → ◌≡◌ {A = List LogRecord} (compensation w.tx (newest_lsn w.tx ws) w.key w.change ∷ clrs_of set ws) (c ∷ cs) → FirstClr set (w ∷ ws) c cs
+first_here set w ws c cs i e = (w.tx, newest_lsn w.tx ws, w.key, w.change, heads, i, ap (clrs_of set) (cond-true (tx_same w.tx w.tx) ws (w ∷ without_newest w.tx ws) (tx_self w.tx)) ∙ tails)
   where
+    heads : c ≡ compensation w.tx (newest_lsn w.tx ws) w.key w.change
+    heads = cc
+
     tails : clrs_of set ws ≡ cs
     tails = cc
 
@@ -115,7 +119,7 @@ first_clr set (w ∷ ws) c cs e = at (tx_in w.tx set) refl e (first_clr set ws c
 clrs_alike : (xs ys : List TxId) (ws : List StandingUpdate) → AllByRecursion (λ w. tx_in w.tx xs ≡ tx_in w.tx ys) ws → clrs_of xs ws ≡ clrs_of ys ws
 clrs_alike xs ys [] h = refl
 clrs_alike xs ys (w ∷ ws) h =
-    ap (λ l. cond (tx_in w.tx xs) (Clr w.tx (newest_lsn w.tx ws) w.key w.before ∷ l) l) (clrs_alike xs ys ws h.1)
+    ap (λ l. cond (tx_in w.tx xs) (compensation w.tx (newest_lsn w.tx ws) w.key w.change ∷ l) l) (clrs_alike xs ys ws h.1)
     ∙ ap (λ b. clrs_if b ys w ws) h.0
 
 -- each write has its writer among them
@@ -136,21 +140,26 @@ still_none shard log t u none i =
     let p = in_filter (loses shard log) u (writers (without_newest t (standing log))) i in
     none_passed (λ x. not (aborted_in log x)) u (losers shard log) none (filter_in (loses shard log) u (writers (standing log)) (writers_without t u (standing log) p.0) p.1)
 
-pub after_clr : (shard : ℕ) (log : List LogRecord) (t : TxId) (u : Option ℕ) (k : ℕ) (a : Option ValueType) → unaborted shard log ≡ []
-    → undo_records shard (log ++ Clr t u k a ∷ []) ≡ clrs_of (losers shard log) (without_newest t (standing log))
-after_clr shard log t u k a none =
-    let stand : standing (log ++ Clr t u k a ∷ []) ≡ without_newest t (standing log) = standing_more log (Clr t u k a) in
-    let fewer_lose : losers shard (log ++ Clr t u k a ∷ []) ≡ filter (loses shard log) (writers (without_newest t (standing log))) =
-    losers_more nobody log (Clr t u k a) shard (without_newest t (standing log)) (clr_unlike t u k a) (λ x i. refl) stand in
-    let none_left : unaborted shard (log ++ Clr t u k a ∷ []) ≡ [] =
-    ap (λ l. filter (λ x. not (aborted_in (log ++ Clr t u k a ∷ []) x)) l) fewer_lose
-    ∙ filter_alike (λ x. not (aborted_in (log ++ Clr t u k a ∷ []) x)) (λ x. not (aborted_in log x)) (filter (loses shard log) (writers (without_newest t (standing log))))
-    (λ x. ap not (aborted_more nobody log (Clr t u k a) x (clr_unlike t u k a) ∙ or-false (aborted_in log x)))
+-- a record that takes the newest write of the transaction away, and nothing more
+after_one : (shard : ℕ) (log : List LogRecord) (t : TxId) (r : LogRecord) → Unlike nobody r → standing (log ++ r ∷ []) ≡ without_newest t (standing log) → unaborted shard log ≡ []
+    → undo_records shard (log ++ r ∷ []) ≡ clrs_of (losers shard log) (without_newest t (standing log))
+after_one shard log t r unlike stand none =
+    let fewer_lose : losers shard (log ++ r ∷ []) ≡ filter (loses shard log) (writers (without_newest t (standing log))) =
+    losers_more nobody log r shard (without_newest t (standing log)) unlike (λ x i. refl) stand in
+    let none_left : unaborted shard (log ++ r ∷ []) ≡ [] =
+    ap (λ l. filter (λ x. not (aborted_in (log ++ r ∷ []) x)) l) fewer_lose
+    ∙ filter_alike (λ x. not (aborted_in (log ++ r ∷ []) x)) (λ x. not (aborted_in log x)) (filter (loses shard log) (writers (without_newest t (standing log))))
+    (λ x. ap not (aborted_more nobody log r x unlike ∙ or-false (aborted_in log x)))
     ∙ none_pass (λ x. not (aborted_in log x)) (filter (loses shard log) (writers (without_newest t (standing log)))) (λ x i. still_none shard log t x none i) in
-    ap (λ l. map (λ x. Abort x) l ++ clrs_of (losers shard (log ++ Clr t u k a ∷ [])) (standing (log ++ Clr t u k a ∷ []))) none_left
-    ∙ ap (λ l. clrs_of l (standing (log ++ Clr t u k a ∷ []))) fewer_lose
+    ap (λ l. map (λ x. Abort x) l ++ clrs_of (losers shard (log ++ r ∷ [])) (standing (log ++ r ∷ []))) none_left
+    ∙ ap (λ l. clrs_of l (standing (log ++ r ∷ []))) fewer_lose
     ∙ ap (λ l. clrs_of (filter (loses shard log) (writers (without_newest t (standing log)))) l) stand
     ∙ clrs_alike (filter (loses shard log) (writers (without_newest t (standing log)))) (losers shard log) (without_newest t (standing log)) (same_losers shard log t)
+
+pub after_clr : (shard : ℕ) (log : List LogRecord) (t : TxId) (u : Option ℕ) (k : ℕ) (a : Change) → unaborted shard log ≡ []
+    → undo_records shard (log ++ compensation t u k a ∷ []) ≡ clrs_of (losers shard log) (without_newest t (standing log))
+after_clr shard log t u k (Sets before after) none = after_one shard log t (Clr t u k before) (clr_unlike t u k before) (standing_more log (Clr t u k before)) none
+after_clr shard log t u k (Adds by) none = after_one shard log t (Unadd t u k by) (unadd_unlike t u k by) (standing_more log (Unadd t u k by)) none
 
 -- ---- a RESTART
 
@@ -177,6 +186,8 @@ greatest_more run own (Commit tx ps ∷ rs) r = greatest_more run own rs r
 greatest_more run own (Abort tx ∷ rs) r = greatest_more run own rs r
 greatest_more run own (End tx ∷ rs) r = greatest_more run own rs r
 greatest_more run own (Restart q e ∷ rs) r = greatest_more run (cond (q == run) (max own e) own) rs r
+greatest_more run own (Add tx k by ∷ rs) r = greatest_more run own rs r
+greatest_more run own (Unadd tx v k by ∷ rs) r = greatest_more run own rs r
 
 -- ---- one step
 
@@ -187,10 +198,14 @@ Stepped s log u us = (undo_records s.shard (log ++ u ∷ []) ≡ us) × (next_ep
 step_abort : (s : Shard) (log : List LogRecord) (t : TxId) (ts : List TxId) → unaborted s.shard log ≡ t ∷ ts → Stepped s log (Abort t) (map (λ x. Abort x) ts ++ clrs_of (losers s.shard log) (standing log))
 step_abort s log t ts e = (after_abort s.shard log t ts e, ap suc (greatest_more s.run s.local.epoch log (Abort t)))
 
+same_epoch : (s : Shard) (log : List LogRecord) (t : TxId) (u : Option ℕ) (k : ℕ) (a : Change) → next_epoch s (log ++ compensation t u k a ∷ []) ≡ next_epoch s log
+same_epoch s log t u k (Sets before after) = ap suc (greatest_more s.run s.local.epoch log (Clr t u k before))
+same_epoch s log t u k (Adds by) = ap suc (greatest_more s.run s.local.epoch log (Unadd t u k by))
+
 step_clr : (s : Shard) (log : List LogRecord) (u : LogRecord) (us : List LogRecord) → unaborted s.shard log ≡ [] → FirstClr (losers s.shard log) (standing log) u us → Stepped s log u us
 step_clr s log u us none (t, v, k, a, e, i, r) = (
   ap (λ c. undo_records s.shard (log ++ c ∷ [])) e ∙ after_clr s.shard log t v k a none ∙ r,
-  ap (λ c. next_epoch s (log ++ c ∷ [])) e ∙ ap suc (greatest_more s.run s.local.epoch log (Clr t v k a)),
+  ap (λ c. next_epoch s (log ++ c ∷ [])) e ∙ same_epoch s log t v k a,
 )
 
 pub stepped : (s : Shard) (log : List LogRecord) (u : LogRecord) (us : List LogRecord) → undo_records s.shard log ≡ u ∷ us → Stepped s log u us
