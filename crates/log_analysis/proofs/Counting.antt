@@ -3,7 +3,7 @@ use Rattle.std.proofs.Common.{◌≡◌, ℕ, suc, ◌+◌, ◌-◌, ◌≤◌, 
 use Rattle.std.proofs.lemmas.List.{length-take}
 use Rattle.clv_base.specs.declared.names.TxId.{TxId}
 use Rattle.clv_base.specs.declared.logs.LogRecord.{LogRecord}
-use Rattle.clv_base.specs.declared.logs.LogRecord.TheVariants.{Update, Clr, Prepare, Commit, Abort, End, Restart}
+use Rattle.clv_base.specs.declared.logs.LogRecord.TheVariants.{Update, Clr, Prepare, Commit, Abort, End, Restart, Add, Unadd}
 use Rattle.clv_base.specs.Orders.{tx_same, tx_in, tx_insert}
 use Rattle.clv_base.specs.Logs.{StandingUpdate, is_update_of, wrote_in, without_newest, standing_after, standing_from, standing, writers}
 use Rattle.clv_base.proofs.SameNames.{tx_true}
@@ -48,6 +48,12 @@ number_after n (Commit tx parts) t ws = refl
 number_after n (Abort tx) t ws = refl
 number_after n (End tx) t ws = refl
 number_after n (Restart run epoch) t ws = refl
+number_after n (Add tx key by) t ws =
+    at_own (λ u. number_of u ws) (λ m. m + 1) tx t (cond (tx_same t tx) (number_of t ws + 1) (number_of t ws))
+    (λ e. ap (λ b. cond b (number_of t ws + 1) (number_of t ws)) (tx_symmetric t tx ∙ e)) (λ e. ap (λ b. cond b (number_of t ws + 1) (number_of t ws)) (tx_symmetric t tx ∙ e))
+number_after n (Unadd tx undo_next key by) t ws =
+    at_own (λ u. number_of u ws) (λ m. m - 1) tx t (number_of t (without_newest tx ws))
+    (λ e. ap (λ u. number_of t (without_newest u ws)) (tx_true tx t e) ∙ number_own t ws) (λ e. number_other tx t ws e)
 
 count_same : (f g : TxId → ℕ) → ((t : TxId) → f t ≡ g t) → (r : LogRecord) (t : TxId) → count_after r f t ≡ count_after r g t
 count_same f g same (Update tx key before after) t = ap (λ n. cond (tx_same tx t) (n + 1) (f t)) (same tx) ∙ ap (λ n. cond (tx_same tx t) (g tx + 1) n) (same t)
@@ -57,6 +63,8 @@ count_same f g same (Commit tx parts) t = same t
 count_same f g same (Abort tx) t = same t
 count_same f g same (End tx) t = same t
 count_same f g same (Restart run epoch) t = same t
+count_same f g same (Add tx key by) t = ap (λ n. cond (tx_same tx t) (n + 1) (f t)) (same tx) ∙ ap (λ n. cond (tx_same tx t) (g tx + 1) n) (same t)
+count_same f g same (Unadd tx undo_next key by) t = ap (λ n. cond (tx_same tx t) (n - 1) (f t)) (same tx) ∙ ap (λ n. cond (tx_same tx t) (g tx - 1) n) (same t)
 
 -- a table that counts the first records goes on with the next one
 pub counts_more : (old new : TxId → ℕ) (records : List LogRecord) (n : ℕ) (r : LogRecord) → take (n + 1) records ≡ take n records ++ r ∷ [] → ((t : TxId) → old t ≡ number_of t (standing (take n records)))
@@ -77,6 +85,10 @@ count_small (Commit tx parts) f t = omega arith
 count_small (Abort tx) f t = omega arith
 count_small (End tx) f t = omega arith
 count_small (Restart run epoch) f t = omega arith
+count_small (Add tx key by) f t =
+    both (λ b. tx_same tx t ≡ b → cond b (f tx + 1) (f t) ≤ f t + 1) (tx_same tx t) (λ _ e. let same : f tx ≡ f t = ap f (tx_true tx t e) in omega arith) (λ _ _. omega arith) refl
+count_small (Unadd tx undo_next key by) f t =
+    both (λ b. tx_same tx t ≡ b → cond b (f tx - 1) (f t) ≤ f t + 1) (tx_same tx t) (λ _ e. let same : f tx ≡ f t = ap f (tx_true tx t e) in omega arith) (λ _ _. omega arith) refl
 
 number_from_small : (n : ℕ) (rs : List LogRecord) (ws : List StandingUpdate) (t : TxId) → number_of t (standing_from n rs ws) ≤ number_of t ws + length rs
 number_from_small n [] ws t = omega arith
@@ -103,6 +115,9 @@ count_kept (Commit tx parts) f t other = omega arith
 count_kept (Abort tx) f t other = omega arith
 count_kept (End tx) f t other = omega arith
 count_kept (Restart run epoch) f t other = omega arith
+count_kept (Add tx key by) f t other = let same : tx_same tx t ≡ false = tx_symmetric tx t ∙ other in rw same (let e : f t ≤ f t = omega arith in e)
+count_kept (Unadd tx undo_next key by) f t other =
+    both (λ b. tx_same tx t ≡ b → cond b (f tx - 1) (f t) ≤ f t) (tx_same tx t) (λ _ e. let same : f tx ≡ f t = ap f (tx_true tx t e) in omega arith) (λ _ _. omega arith) refl
 
 or_none : (a b : Bool) → a || b ≡ false → (a ≡ false) × (b ≡ false)
 or_none true b e = absurd cc
@@ -137,13 +152,15 @@ module _ (count : TxId → ℕ) where
   with_rises (Abort tx) txs s = s
   with_rises (End tx) txs s = s
   with_rises (Restart run epoch) txs s = s
+  with_rises (Add tx key by) txs s = both (λ b. Rises (cond b (tx_insert tx txs) txs)) (nat_lt 0 (count tx)) (λ _. insert_rises tx txs s) (λ _. s)
+  with_rises (Unadd tx undo_next key by) txs s = s
 
   by_rises : (rs : List LogRecord) (txs : List TxId) → Rises txs → Rises (writers_by count rs txs)
   by_rises [] txs s = s
   by_rises (r ∷ rs) txs s = by_rises rs (with_writer count r txs) (with_rises r txs s)
 
-  in_with : (r : LogRecord) (txs : List TxId) (t : TxId) → tx_in t (with_writer count r txs) ≡ tx_in t txs || (is_update_of t r && nat_lt 0 (count t))
-  in_with (Update tx key before after) txs t =
+  in_one : (tx : TxId) (txs : List TxId) (t : TxId) → tx_in t (cond (nat_lt 0 (count tx)) (tx_insert tx txs) txs) ≡ tx_in t txs || (tx_same t tx && nat_lt 0 (count t))
+  in_one tx txs t =
       both (λ b. tx_in t (cond b (tx_insert tx txs) txs) ≡ tx_in t txs || (tx_same t tx && nat_lt 0 (count t))) (nat_lt 0 (count tx)) has lacks
     where
       has : nat_lt 0 (count tx) ≡ true → tx_in t (tx_insert tx txs) ≡ tx_in t txs || (tx_same t tx && nat_lt 0 (count t))
@@ -155,6 +172,11 @@ module _ (count : TxId → ℕ) where
       lacks none =
           both (λ b. tx_same t tx ≡ b → tx_in t txs ≡ tx_in t txs || (b && nat_lt 0 (count t))) (tx_same t tx)
           (λ _ e. sym (ap (λ b. tx_in t txs || b) (ap (λ u. nat_lt 0 (count u)) (tx_true t tx e) ∙ none) ∙ or_false (tx_in t txs))) (λ _ _. sym (or_false (tx_in t txs))) refl
+
+  in_with : (r : LogRecord) (txs : List TxId) (t : TxId) → tx_in t (with_writer count r txs) ≡ tx_in t txs || (is_update_of t r && nat_lt 0 (count t))
+  in_with (Update tx key before after) txs t = in_one tx txs t
+  in_with (Add tx key by) txs t = in_one tx txs t
+  in_with (Unadd tx undo_next key by) txs t = sym (or_false (tx_in t txs))
   in_with (Clr tx undo_next key after) txs t = sym (or_false (tx_in t txs))
   in_with (Prepare tx home predecessors) txs t = sym (or_false (tx_in t txs))
   in_with (Commit tx parts) txs t = sym (or_false (tx_in t txs))

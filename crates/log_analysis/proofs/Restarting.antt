@@ -5,10 +5,12 @@ use Rattle.std.proofs.lemmas.Bool.{cases_Bool, both_ways, or_cases}
 use Rattle.std.proofs.lemmas.List.Folds.{list_any-append, list_all-append}
 use Rattle.clv_base.specs.declared.names.TxId.{TxId}
 use Rattle.clv_base.specs.declared.logs.LogRecord.{LogRecord}
-use Rattle.clv_base.specs.declared.logs.LogRecord.TheVariants.{Update, Clr, Prepare, Commit, Abort, End, Restart}
+use Rattle.clv_base.specs.declared.logs.LogRecord.TheVariants.{Update, Clr, Prepare, Commit, Abort, End, Restart, Add, Unadd}
 use Rattle.clv_base.specs.Orders.{Table, tx_same, tx_in, tx_insert, tx_put}
+use Rattle.clv_base.specs.declared.changes.Change.{Change}
+use Rattle.clv_base.specs.declared.changes.Change.TheVariants.{Sets, Adds}
 use Rattle.clv_base.specs.Logs.{StandingUpdate, is_commit_of, is_abort_of, is_end_of, committed_in, aborted_in, ended_in, prepare_of, doubt_by, in_doubt_from, in_doubt, is_winner, writers, standing}
-use Rattle.clv_base.specs.Undo.{clrs_of, newest_lsn}
+use Rattle.clv_base.specs.Undo.{clrs_of, compensation, newest_lsn}
 use Rattle.clv_base.specs.Restarts.{losers, restart_records, log_after_restart, home_by, homes_of, pairs_of_listed, restored_pairs, unended_with, unended_in}
 use Rattle.clv_base.proofs.SameNames.{tx_true, insert_keeps, insert_has}
 use Rattle.log_analysis.proofs.Laws.Bools.{and_first, and_second, and_both, all_same}
@@ -26,6 +28,8 @@ is_restarts (Commit tx parts) = false
 is_restarts (Abort tx) = true
 is_restarts (End tx) = false
 is_restarts (Restart run epoch) = true
+is_restarts (Add tx key by) = false
+is_restarts (Unadd tx undo_next key by) = true
 
 abbrev AreRestarts : List LogRecord → Type 0
 AreRestarts rest = list_all is_restarts rest ≡ true
@@ -43,6 +47,8 @@ no_commit t (Prepare tx home predecessors) kind = refl
 no_commit t (Abort tx) kind = refl
 no_commit t (End tx) kind = refl
 no_commit t (Restart run epoch) kind = refl
+no_commit t (Add tx key by) kind = refl
+no_commit t (Unadd tx undo_next key by) kind = refl
 
 no_end : (t : TxId) (r : LogRecord) → is_restarts r ≡ true → is_end_of t r ≡ false
 no_end t (End tx) kind = absurd cc
@@ -52,6 +58,8 @@ no_end t (Prepare tx home predecessors) kind = refl
 no_end t (Commit tx parts) kind = refl
 no_end t (Abort tx) kind = refl
 no_end t (Restart run epoch) kind = refl
+no_end t (Add tx key by) kind = refl
+no_end t (Unadd tx undo_next key by) kind = refl
 
 -- ---- behind a log
 
@@ -68,6 +76,7 @@ prepare_none (Prepare tx home predecessors ∷ rs) t kinds = absurd cc
 prepare_none (Update tx key before after ∷ rs) t kinds = absurd cc
 prepare_none (Commit tx parts ∷ rs) t kinds = absurd cc
 prepare_none (End tx ∷ rs) t kinds = absurd cc
+prepare_none (Add tx key by ∷ rs) t kinds = absurd cc
 prepare_none (_ ∷ rs) t kinds = prepare_none rs t kinds
 
 prepare_same : (log rest : List LogRecord) (t : TxId) → AreRestarts rest → prepare_of (log ++ rest) t ≡ prepare_of log t
@@ -83,6 +92,7 @@ unended_none log (Prepare tx home predecessors ∷ rs) kinds = absurd cc
 unended_none log (Update tx key before after ∷ rs) kinds = absurd cc
 unended_none log (Commit tx parts ∷ rs) kinds = absurd cc
 unended_none log (End tx ∷ rs) kinds = absurd cc
+unended_none log (Add tx key by ∷ rs) kinds = absurd cc
 unended_none log (_ ∷ rs) kinds = unended_none log rs kinds
 
 unended_before : (log rs rest : List LogRecord) → AreRestarts rest → unended_in log (rs ++ rest) ≡ unended_in log rs
@@ -144,6 +154,8 @@ module _ (shard : ℕ) (log rest : List LogRecord) (kinds : AreRestarts rest) wh
   doubted_same (Abort tx ∷ rs) so_far spared = doubted_same rs so_far spared
   doubted_same (End tx ∷ rs) so_far spared = doubted_same rs so_far spared
   doubted_same (Restart run epoch ∷ rs) so_far spared = doubted_same rs so_far spared
+  doubted_same (Add tx key by ∷ rs) so_far spared = doubted_same rs so_far spared
+  doubted_same (Unadd tx undo_next key by ∷ rs) so_far spared = doubted_same rs so_far spared
 
 -- a restart's own records doubt nobody
 doubted_none : (log : List LogRecord) (shard : ℕ) (rest : List LogRecord) (so_far : List TxId) → AreRestarts rest → in_doubt_from log shard rest so_far ≡ so_far
@@ -152,6 +164,7 @@ doubted_none log shard (Prepare tx home predecessors ∷ rs) so_far kinds = absu
 doubted_none log shard (Update tx key before after ∷ rs) so_far kinds = absurd cc
 doubted_none log shard (Commit tx parts ∷ rs) so_far kinds = absurd cc
 doubted_none log shard (End tx ∷ rs) so_far kinds = absurd cc
+doubted_none log shard (Add tx key by ∷ rs) so_far kinds = absurd cc
 doubted_none log shard (_ ∷ rs) so_far kinds = doubted_none log shard rs so_far kinds
 
 doubted_before : (log : List LogRecord) (shard : ℕ) (rs rest : List LogRecord) (so_far : List TxId) → AreRestarts rest → in_doubt_from log shard (rs ++ rest) so_far ≡ in_doubt_from log shard rs so_far
@@ -165,9 +178,19 @@ aborts_kinds : (ts : List TxId) → AreRestarts (map (λ t. Abort t) ts)
 aborts_kinds [] = refl
 aborts_kinds (t ∷ ts) = aborts_kinds ts
 
+kind_of : (tx : TxId) (next : Option ℕ) (key : ℕ) (change : Change) → is_restarts (compensation tx next key change) ≡ true
+kind_of tx next key (Sets before after) = refl
+kind_of tx next key (Adds by) = refl
+
+no_abort_of : (t tx : TxId) (next : Option ℕ) (key : ℕ) (change : Change) → is_abort_of t (compensation tx next key change) ≡ false
+no_abort_of t tx next key (Sets before after) = refl
+no_abort_of t tx next key (Adds by) = refl
+
 clrs_kinds : (set : List TxId) (ws : List StandingUpdate) → AreRestarts (clrs_of set ws)
 clrs_kinds set [] = refl
-clrs_kinds set (w ∷ ws) = both (λ b. AreRestarts (cond b (Clr w.tx (newest_lsn w.tx ws) w.key w.before ∷ clrs_of set ws) (clrs_of set ws))) (tx_in w.tx set) (λ _. clrs_kinds set ws) (λ _. clrs_kinds set ws)
+clrs_kinds set (w ∷ ws) =
+    both (λ b. AreRestarts (cond b (compensation w.tx (newest_lsn w.tx ws) w.key w.change ∷ clrs_of set ws) (clrs_of set ws))) (tx_in w.tx set)
+    (λ _. ap (λ k. k && list_all is_restarts (clrs_of set ws)) (kind_of w.tx (newest_lsn w.tx ws) w.key w.change) ∙ clrs_kinds set ws) (λ _. clrs_kinds set ws)
 
 joined_kinds : (xs ys : List LogRecord) → AreRestarts xs → AreRestarts ys → AreRestarts (xs ++ ys)
 joined_kinds xs ys a b = list_all-append is_restarts xs ys ∙ and_both (list_all is_restarts xs) (list_all is_restarts ys) a b
@@ -178,7 +201,9 @@ aborts_abort t (u ∷ us) = ap (λ b. tx_same t u || b) (aborts_abort t us)
 
 clrs_abort : (t : TxId) (set : List TxId) (ws : List StandingUpdate) → aborted_in (clrs_of set ws) t ≡ false
 clrs_abort t set [] = refl
-clrs_abort t set (w ∷ ws) = both (λ b. aborted_in (cond b (Clr w.tx (newest_lsn w.tx ws) w.key w.before ∷ clrs_of set ws) (clrs_of set ws)) t ≡ false) (tx_in w.tx set) (λ _. clrs_abort t set ws) (λ _. clrs_abort t set ws)
+clrs_abort t set (w ∷ ws) =
+    both (λ b. aborted_in (cond b (compensation w.tx (newest_lsn w.tx ws) w.key w.change ∷ clrs_of set ws) (clrs_of set ws)) t ≡ false) (tx_in w.tx set)
+    (λ _. ap (λ a. a || aborted_in (clrs_of set ws) t) (no_abort_of t w.tx (newest_lsn w.tx ws) w.key w.change) ∙ clrs_abort t set ws) (λ _. clrs_abort t set ws)
 
 in_filtered : (test : TxId → Bool) (t : TxId) (xs : List TxId) → tx_in t (filter test xs) ≡ true → (test t ≡ true) × (tx_in t xs ≡ true)
 in_filtered test t [] e = absurd cc

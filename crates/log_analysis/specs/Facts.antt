@@ -3,7 +3,7 @@ use Rattle.std.specs.Prelude.{◌≡◌, ℕ, suc, Bool, true, false, cond, List
 use Rattle.std.specs.List.{list_any}
 use Rattle.clv_base.specs.declared.names.TxId.{TxId}
 use Rattle.clv_base.specs.declared.logs.LogRecord.{LogRecord}
-use Rattle.clv_base.specs.declared.logs.LogRecord.TheVariants.{Update, Clr, Prepare, Commit, Abort, End, Restart}
+use Rattle.clv_base.specs.declared.logs.LogRecord.TheVariants.{Update, Clr, Prepare, Commit, Abort, End, Restart, Add, Unadd}
 use Rattle.clv_base.specs.Logs.{is_update_of, is_record_of, place_from, prepare_lsn, commit_lsn, aborted_in, ended_in}
 use Rattle.clv_base.specs.Orders.{Table, tx_get}
 pub use Rattle.log_analysis.specs.declared.facts.TxFacts.{TxFacts}
@@ -13,7 +13,7 @@ abbrev pub last_place_from : ℕ → (LogRecord → Bool) → List LogRecord →
 last_place_from n test [] so_far = so_far
 last_place_from n test (r ∷ rs) so_far = last_place_from (suc n) test rs (cond (test r) (Some n) so_far)
 
--- the LSNs of the transaction's first and last UPDATE
+-- the LSNs of the transaction's first and last UPDATE or ADD
 abbrev pub first_update_lsn : List LogRecord → TxId → Option ℕ
 first_update_lsn log tx = place_from 0 (is_update_of tx) log
 
@@ -69,3 +69,5 @@ facts_with n (Commit tx parts) f = record f { commit = first_place n f.commit; i
 facts_with n (Abort tx) f = record f { is_aborted = true; is_named = true }
 facts_with n (End tx) f = record f { is_ended = true; is_named = true }
 facts_with n (Restart run epoch) f = record f { is_named = true }
+facts_with n (Add tx key by) f = record f { first_update = first_place n f.first_update; last_update = Some n; is_named = true }
+facts_with n (Unadd tx undo_next key by) f = record f { is_named = true }

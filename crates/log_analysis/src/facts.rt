@@ -7,7 +7,7 @@ ghost use Rattle.log_analysis.specs.Facts.{first_place, nothing_known, facts_wit
 use clv_base::logs::LogRecord;
 use clv_base::names::TxId;
 
-/// What a log says of one transaction: the LSNs of its first and last UPDATE, of its first PREPARE and its first COMMIT;
+/// What a log says of one transaction: the LSNs of its first and last UPDATE or ADD, of its first PREPARE and its first COMMIT;
 /// whether it has an ABORT, an END, and any record of its own.
 #[derive(Clone, Copy)]
 pub struct TxFacts {
@@ -37,7 +37,9 @@ pub(crate) fn owner(r: &LogRecord) -> Option<TxId>
         | LogRecord::Prepare { tx, .. }
         | LogRecord::Commit { tx, .. }
         | LogRecord::Abort { tx }
-        | LogRecord::End { tx } => Some(*tx),
+        | LogRecord::End { tx }
+        | LogRecord::Add { tx, .. }
+        | LogRecord::Unadd { tx, .. } => Some(*tx),
         LogRecord::Restart { .. } => None,
     }
 }
@@ -65,7 +67,7 @@ impl TxFacts {
         let mut facts = self;
         facts.is_named = true;
         match r {
-            LogRecord::Update { .. } => {
+            LogRecord::Update { .. } | LogRecord::Add { .. } => {
                 facts.first_update = first_of(lsn, self.first_update);
                 facts.last_update = Some(lsn);
             }
@@ -73,7 +75,7 @@ impl TxFacts {
             LogRecord::Commit { .. } => facts.commit = first_of(lsn, self.commit),
             LogRecord::Abort { .. } => facts.is_aborted = true,
             LogRecord::End { .. } => facts.is_ended = true,
-            LogRecord::Clr { .. } | LogRecord::Restart { .. } => {}
+            LogRecord::Clr { .. } | LogRecord::Unadd { .. } | LogRecord::Restart { .. } => {}
         }
         facts
     }

@@ -1,4 +1,4 @@
-// Whose UPDATEs stand.
+// Whose UPDATEs and ADDs stand.
 
 ghost use Rattle.std.specs.Prelude.{◌≡◌, [], IfOk, OnOk};
 ghost use Rattle.clv_base.specs.Logs.{standing, writers as writers_in};
@@ -10,7 +10,7 @@ use clv_base::names::TxId;
 use std::alloc::Global;
 use tx_table::TxTable;
 
-// How many UPDATEs of each transaction stand: a CLR compensates one of its transaction.
+// How many UPDATEs and ADDs of each transaction stand: a CLR or UNADD compensates one of its transaction.
 #[derive(Drop)]
 pub struct Counts {
     pub rows: TxTable<usize>,
@@ -46,11 +46,11 @@ impl Counts {
         ensures { OnOk result ((t : Tx) → count_in self.new t ≡ count_after r.now (count_in self.old) t) }
     {
         match r {
-            LogRecord::Update { tx, .. } => {
+            LogRecord::Update { tx, .. } | LogRecord::Add { tx, .. } => {
                 let count = self.of(*tx);
                 self.set(*tx, count + 1)
             }
-            LogRecord::Clr { tx, .. } => {
+            LogRecord::Clr { tx, .. } | LogRecord::Unadd { tx, .. } => {
                 let count = self.of(*tx);
                 self.set(*tx, count.saturating_sub(1))
             }
@@ -71,11 +71,11 @@ impl Counts {
     }
 }
 
-// The writer joins the set if it has an UPDATE that stands.
+// The writer joins the set if it has an UPDATE or ADD that stands.
 fn put_writer(set: &mut TxSet, counts: &Counts, r: &LogRecord) -> Result<(), Memory>
     ensures { OnOk result (set.new ≡ with_writer (count_in counts.now) r.now set.old) }
 {
-    if let LogRecord::Update { tx, .. } = r {
+    if let LogRecord::Update { tx, .. } | LogRecord::Add { tx, .. } = r {
         if counts.of(*tx) > 0 {
             set.insert(*tx)?;
         }
@@ -93,7 +93,7 @@ fn writers_of(alloc: Global, counts: &Counts, records: &[LogRecord]) -> Result<T
     Ok(set)
 }
 
-// The transactions with an UPDATE that stands.
+// The transactions with an UPDATE or ADD that stands.
 #[tactic(auto, using(crate::proofs::Counting::writers_are))]
 pub fn writers(alloc: Global, records: &[LogRecord]) -> Result<TxSet, Memory>
     ensures { IfOk result (λ set. set ≡ writers_in (standing records.now)) }

@@ -4,7 +4,7 @@ use Rattle.std.proofs.lemmas.Bool.{cond-true, both_ways}
 use Rattle.std.specs.List.{list_any, filter}
 use Rattle.clv_base.specs.declared.names.TxId.{TxId}
 use Rattle.clv_base.specs.declared.logs.LogRecord.{LogRecord}
-use Rattle.clv_base.specs.declared.logs.LogRecord.TheVariants.{Update, Clr, Prepare, Commit, Abort, End, Restart}
+use Rattle.clv_base.specs.declared.logs.LogRecord.TheVariants.{Update, Clr, Prepare, Commit, Abort, End, Restart, Add, Unadd}
 use Rattle.clv_base.specs.Orders.{tx_same}
 use Rattle.clv_base.specs.Logs.{StandingUpdate, is_update_of, wrote_in, without_newest, standing_after, standing_from, standing, newest_of}
 use Rattle.clv_base.specs.Undo.{newest_lsn}
@@ -56,6 +56,8 @@ lsns-after t n (Commit tx parts) ws = refl
 lsns-after t n (Abort tx) ws = refl
 lsns-after t n (End tx) ws = refl
 lsns-after t n (Restart run epoch) ws = refl
+lsns-after t n (Add tx key by) ws = refl
+lsns-after t n (Unadd tx undo_next key by) ws = lsns-without t tx ws
 
 lsns-standing : (t : TxId) (n : ℕ) (log : List LogRecord) (ws : List StandingUpdate) → lsns t (standing_from n log ws) ≡ places_from t n (map link_of log) (lsns t ws)
 lsns-standing t n [] ws = refl
@@ -82,6 +84,8 @@ write_of t (Commit tx parts) = refl
 write_of t (Abort tx) = refl
 write_of t (End tx) = refl
 write_of t (Restart run epoch) = refl
+write_of t (Add tx key by) = refl
+write_of t (Unadd tx undo_next key by) = refl
 
 -- whether it wrote
 pub wrote_told : (t : TxId) (log : List LogRecord) → list_any (is_write_of t) (map link_of log) ≡ wrote_in log t

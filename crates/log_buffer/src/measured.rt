@@ -61,13 +61,15 @@ impl Measured for LogRecord {
             LogRecord::Abort { .. } => 17,
             LogRecord::End { .. } => 17,
             LogRecord::Restart { .. } => 13,
+            LogRecord::Add { .. } => 33,
+            LogRecord::Unadd { .. } => 41,
         }
     }
 
     fn link(&self) -> Link {
         match self {
-            LogRecord::Update { tx, .. } => Link::Writes(*tx),
-            LogRecord::Clr { tx, .. } => Link::Undoes(*tx),
+            LogRecord::Update { tx, .. } | LogRecord::Add { tx, .. } => Link::Writes(*tx),
+            LogRecord::Clr { tx, .. } | LogRecord::Unadd { tx, .. } => Link::Undoes(*tx),
             _ => Link::Neither,
         }
     }

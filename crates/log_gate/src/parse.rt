@@ -57,6 +57,8 @@ fn passes(header: &Header, found: &LogRecord) -> bool
     match found {
         LogRecord::Update { key, .. } => has_key(header, *key),
         LogRecord::Clr { key, .. } => has_key(header, *key),
+        LogRecord::Add { key, .. } => has_key(header, *key),
+        LogRecord::Unadd { key, .. } => has_key(header, *key),
         LogRecord::Prepare { home, .. } => *home < header.splits.shards(),
         LogRecord::Commit { parts, .. } => are_below(parts.as_slice(), header.splits.shards()),
         _ => true,

@@ -3,9 +3,9 @@ use Rattle.std.proofs.Common.{◌≡◌, ℕ, zero, suc, ◌^◌, ◌<◌, true,
 use Rattle.std.specs.List.{list_all}
 use Rattle.std.proofs.lemmas.Bool.{ltb-true, leb-true}
 use Rattle.clv_base.specs.declared.logs.LogRecord.{LogRecord}
-use Rattle.clv_base.specs.declared.logs.LogRecord.TheVariants.{Update, Clr, Prepare, Commit, Abort, End, Restart}
+use Rattle.clv_base.specs.declared.logs.LogRecord.TheVariants.{Update, Clr, Prepare, Commit, Abort, End, Restart, Add, Unadd}
 use Rattle.clv_base.specs.FileRules.{tx_has_spelling, has_spelling, is_value, is_undo_next, is_64_bits, is_32_bits, txs_rise, numbers_rise}
-use Rattle.log_records.specs.Reading.{◌>>=◌, number_at, transaction_at, optional_at, undo_next_at, several_at, update_at, clr_at, prepare_at, commit_at, abort_at, end_at, restart_at, fields_at, record_at, if_in_bounds}
+use Rattle.log_records.specs.Reading.{◌>>=◌, number_at, transaction_at, optional_at, undo_next_at, several_at, update_at, clr_at, prepare_at, commit_at, abort_at, end_at, restart_at, add_at, unadd_at, fields_at, record_at, if_in_bounds}
 use Rattle.log_records.specs.Spelling.{number, transaction, optional, undo_next, several, kind, fields, spelling}
 use Rattle.log_records.proofs.Laws.Fields.{IsBytes-rest, bind_some, guard_some, some_is, both_true, Takes, Takes-then, number_takes, number_again, transaction_takes, transaction_again, optional_takes, optional_again, undo_next_takes, undo_next_again, several_takes, several_again}
 use Rattle.law_base.proofs.Lists.{IsBytes}
@@ -100,6 +100,37 @@ restart_takes bytes x fits e =
     let made : LogRecord × List ℕ = (Restart a.0.0 b.0.0, b.0.1) in
     subst (λ (y : LogRecord × List ℕ). TakesFields 7 bytes y) {x = made} (some_is made x b.2) (refl, e0)
 
+add_takes : (bytes : List ℕ) (x : LogRecord × List ℕ) → IsBytes bytes → add_at bytes ≡ Some x → TakesFields 8 bytes x
+unfolding add_at fields
+add_takes bytes x fits e =
+    let a = bind_some (transaction_at bytes) (λ tx'. number_at 8 tx'.1 >>= λ key'. number_at 8 key'.1 >>= λ by'. Some (Add tx'.0 key'.0 by'.0, by'.1)) x e in
+    let b = bind_some (number_at 8 a.0.1) (λ key'. number_at 8 key'.1 >>= λ by'. Some (Add a.0.0 key'.0 by'.0, by'.1)) x a.2 in
+    let c = bind_some (number_at 8 b.0.1) (λ by'. Some (Add a.0.0 b.0.0 by'.0, by'.1)) x b.2 in
+    let t0 = transaction_takes bytes a.0.0 a.0.1 fits a.1 in
+    let t1 = number_takes 8 a.0.1 b.0.0 b.0.1 t0.rest_fits b.1 in
+    let t2 = number_takes 8 b.0.1 c.0.0 c.0.1 t1.rest_fits c.1 in
+    let e1 = Takes-then a.0.1 (number 8 b.0.0) b.0.1 (number 8 c.0.0) c.0.1 t1 t2 in
+    let e0 = Takes-then bytes (transaction a.0.0) a.0.1 (number 8 b.0.0 ++ (number 8 c.0.0)) c.0.1 t0 e1 in
+    let made : LogRecord × List ℕ = (Add a.0.0 b.0.0 c.0.0, c.0.1) in
+    subst (λ (y : LogRecord × List ℕ). TakesFields 8 bytes y) {x = made} (some_is made x c.2) (refl, e0)
+
+unadd_takes : (bytes : List ℕ) (x : LogRecord × List ℕ) → IsBytes bytes → unadd_at bytes ≡ Some x → TakesFields 9 bytes x
+unfolding unadd_at fields
+unadd_takes bytes x fits e =
+    let a = bind_some (transaction_at bytes) (λ tx'. undo_next_at tx'.1 >>= λ next'. number_at 8 next'.1 >>= λ key'. number_at 8 key'.1 >>= λ by'. Some (Unadd tx'.0 next'.0 key'.0 by'.0, by'.1)) x e in
+    let b = bind_some (undo_next_at a.0.1) (λ next'. number_at 8 next'.1 >>= λ key'. number_at 8 key'.1 >>= λ by'. Some (Unadd a.0.0 next'.0 key'.0 by'.0, by'.1)) x a.2 in
+    let c = bind_some (number_at 8 b.0.1) (λ key'. number_at 8 key'.1 >>= λ by'. Some (Unadd a.0.0 b.0.0 key'.0 by'.0, by'.1)) x b.2 in
+    let d = bind_some (number_at 8 c.0.1) (λ by'. Some (Unadd a.0.0 b.0.0 c.0.0 by'.0, by'.1)) x c.2 in
+    let t0 = transaction_takes bytes a.0.0 a.0.1 fits a.1 in
+    let t1 = undo_next_takes a.0.1 b.0.0 b.0.1 t0.rest_fits b.1 in
+    let t2 = number_takes 8 b.0.1 c.0.0 c.0.1 t1.rest_fits c.1 in
+    let t3 = number_takes 8 c.0.1 d.0.0 d.0.1 t2.rest_fits d.1 in
+    let e2 = Takes-then b.0.1 (number 8 c.0.0) c.0.1 (number 8 d.0.0) d.0.1 t2 t3 in
+    let e1 = Takes-then a.0.1 (undo_next b.0.0) b.0.1 (number 8 c.0.0 ++ (number 8 d.0.0)) d.0.1 t1 e2 in
+    let e0 = Takes-then bytes (transaction a.0.0) a.0.1 (undo_next b.0.0 ++ (number 8 c.0.0 ++ (number 8 d.0.0))) d.0.1 t0 e1 in
+    let made : LogRecord × List ℕ = (Unadd a.0.0 b.0.0 c.0.0 d.0.0, d.0.1) in
+    subst (λ (y : LogRecord × List ℕ). TakesFields 9 bytes y) {x = made} (some_is made x d.2) (refl, e0)
+
 fields_take : (k : ℕ) (bytes : List ℕ) (x : LogRecord × List ℕ) → IsBytes bytes → fields_at k bytes ≡ Some x → TakesFields k bytes x
 unfolding fields_at
 fields_take zero bytes x fits e = absurd cc
@@ -110,7 +141,9 @@ fields_take (suc (suc (suc (suc zero)))) bytes x fits e = commit_takes bytes x f
 fields_take (suc (suc (suc (suc (suc zero))))) bytes x fits e = abort_takes bytes x fits e
 fields_take (suc (suc (suc (suc (suc (suc zero)))))) bytes x fits e = end_takes bytes x fits e
 fields_take (suc (suc (suc (suc (suc (suc (suc zero))))))) bytes x fits e = restart_takes bytes x fits e
-fields_take (suc (suc (suc (suc (suc (suc (suc (suc k)))))))) bytes x fits e = absurd cc
+fields_take (suc (suc (suc (suc (suc (suc (suc (suc zero)))))))) bytes x fits e = add_takes bytes x fits e
+fields_take (suc (suc (suc (suc (suc (suc (suc (suc (suc zero))))))))) bytes x fits e = unadd_takes bytes x fits e
+fields_take (suc (suc (suc (suc (suc (suc (suc (suc (suc (suc k)))))))))) bytes x fits e = absurd cc
 
 shard_again : (s : ℕ) (rest : List ℕ) → ltb s 16 ≡ true → number_at 4 (number 4 s ++ rest) ≡ Some (s, rest)
 shard_again s rest h =
@@ -120,7 +153,7 @@ shard_again s rest h =
 
 -- the bytes behind a kind's byte spell the fields of a record in bounds: they are read so
 fields_again : (r : LogRecord) (rest : List ℕ) → has_spelling r ≡ true → fields_at (kind r) (fields r ++ rest) ≡ Some (r, rest)
-unfolding fields_at update_at clr_at prepare_at commit_at abort_at end_at restart_at fields
+unfolding fields_at update_at clr_at prepare_at commit_at abort_at end_at restart_at add_at unadd_at fields
 fields_again (Update tx key before after) rest fits =
     let p = both_true (tx_has_spelling tx && is_64_bits key && is_value before) (is_value after) fits in
     let q = both_true (tx_has_spelling tx && is_64_bits key) (is_value before) p.0 in
@@ -159,6 +192,21 @@ fields_again (Restart run epoch) rest fits =
     let epoch_lt : epoch < 256 ^ 8 = ltb-true epoch (2 ^ 64) p.1 in
     let regrouped : (number 4 run ++ number 8 epoch) ++ rest ≡ number 4 run ++ (number 8 epoch ++ rest) = simp append_assoc in
     ap restart_at regrouped ∙ rw (number_again 4 run (number 8 epoch ++ rest) run_lt, number_again 8 epoch rest epoch_lt) refl
+fields_again (Add tx key by) rest fits =
+    let p = both_true (tx_has_spelling tx && is_64_bits key) (is_64_bits by) fits in
+    let t = both_true (tx_has_spelling tx) (is_64_bits key) p.0 in
+    let lt : key < 256 ^ 8 = ltb-true key (2 ^ 64) t.1 in
+    let lt' : by < 256 ^ 8 = ltb-true by (2 ^ 64) p.1 in
+    let regrouped : (transaction tx ++ (number 8 key ++ number 8 by)) ++ rest ≡ transaction tx ++ (number 8 key ++ (number 8 by ++ rest)) = simp append_assoc in
+    ap add_at regrouped ∙ rw (transaction_again tx (number 8 key ++ (number 8 by ++ rest)) t.0, number_again 8 key (number 8 by ++ rest) lt, number_again 8 by rest lt') refl
+fields_again (Unadd tx next key by) rest fits =
+    let p = both_true (tx_has_spelling tx && is_undo_next next && is_64_bits key) (is_64_bits by) fits in
+    let q = both_true (tx_has_spelling tx && is_undo_next next) (is_64_bits key) p.0 in
+    let t = both_true (tx_has_spelling tx) (is_undo_next next) q.0 in
+    let lt : key < 256 ^ 8 = ltb-true key (2 ^ 64) q.1 in
+    let lt' : by < 256 ^ 8 = ltb-true by (2 ^ 64) p.1 in
+    let regrouped : (transaction tx ++ (undo_next next ++ (number 8 key ++ number 8 by))) ++ rest ≡ transaction tx ++ (undo_next next ++ (number 8 key ++ (number 8 by ++ rest))) = simp append_assoc in
+    ap unadd_at regrouped ∙ rw (transaction_again tx (undo_next next ++ (number 8 key ++ (number 8 by ++ rest))) t.0, undo_next_again next (number 8 key ++ (number 8 by ++ rest)) t.1, number_again 8 key (number 8 by ++ rest) lt, number_again 8 by rest lt') refl
 
 -- what is read at the front is spelled there, and is in bounds
 pub record_takes : (bytes : List ℕ) (x : LogRecord × List ℕ) → IsBytes bytes → record_at bytes ≡ Some x → (has_spelling x.0 ≡ true) × Takes bytes (spelling x.0) x.1

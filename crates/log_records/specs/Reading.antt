@@ -3,7 +3,7 @@ use Rattle.std.specs.Prelude.{◌≡◌, ℕ, zero, suc, ◌-◌, ◌^◌, List,
 use Rattle.byteorder.specs.Endian.{little_number}
 use Rattle.clv_base.specs.declared.names.TxId.{TxId}
 use Rattle.clv_base.specs.declared.logs.LogRecord.{LogRecord}
-use Rattle.clv_base.specs.declared.logs.LogRecord.TheVariants.{Update, Clr, Prepare, Commit, Abort, End, Restart}
+use Rattle.clv_base.specs.declared.logs.LogRecord.TheVariants.{Update, Clr, Prepare, Commit, Abort, End, Restart, Add, Unadd}
 use Rattle.clv_base.specs.declared.values.Value.{Value}
 use Rattle.clv_base.specs.declared.values.Value.TheVariants.{Num, Bytes}
 use Rattle.clv_base.specs.FileRules.{has_spelling}
@@ -119,6 +119,21 @@ restart_at bytes = do
   epoch ← number_at 8 run.1
   Some (Restart run.0 epoch.0, epoch.1)
 
+unfoldable pub add_at : List ℕ → Option (LogRecord × List ℕ)
+add_at bytes = do
+  tx ← transaction_at bytes
+  key ← number_at 8 tx.1
+  by ← number_at 8 key.1
+  Some (Add tx.0 key.0 by.0, by.1)
+
+unfoldable pub unadd_at : List ℕ → Option (LogRecord × List ℕ)
+unadd_at bytes = do
+  tx ← transaction_at bytes
+  next ← undo_next_at tx.1
+  key ← number_at 8 next.1
+  by ← number_at 8 key.1
+  Some (Unadd tx.0 next.0 key.0 by.0, by.1)
+
 -- the fields of the kind of this byte
 unfoldable pub fields_at : ℕ → List ℕ → Option (LogRecord × List ℕ)
 fields_at zero bytes = None
@@ -129,7 +144,9 @@ fields_at (suc (suc (suc (suc zero)))) bytes = commit_at bytes
 fields_at (suc (suc (suc (suc (suc zero))))) bytes = abort_at bytes
 fields_at (suc (suc (suc (suc (suc (suc zero)))))) bytes = end_at bytes
 fields_at (suc (suc (suc (suc (suc (suc (suc zero))))))) bytes = restart_at bytes
-fields_at (suc (suc (suc (suc (suc (suc (suc (suc k)))))))) bytes = None
+fields_at (suc (suc (suc (suc (suc (suc (suc (suc zero)))))))) bytes = add_at bytes
+fields_at (suc (suc (suc (suc (suc (suc (suc (suc (suc zero))))))))) bytes = unadd_at bytes
+fields_at (suc (suc (suc (suc (suc (suc (suc (suc (suc (suc k)))))))))) bytes = None
 
 -- a record in bounds
 abbrev pub if_in_bounds : LogRecord × List ℕ → Option (LogRecord × List ℕ)

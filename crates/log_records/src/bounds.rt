@@ -97,6 +97,18 @@ fn clr_fits(tx: TxId, undo_next: Option<u64>, key: u64, after: &Option<Value>) -
     tx_is_named(tx) && lsn_fits(undo_next) && value_fits(after)
 }
 
+fn add_fits(tx: TxId, key: u64, by: u64) -> bool
+    ensures { result ≡ in_bounds (LogRecord.Add tx key by) }
+{
+    tx_is_named(tx)
+}
+
+fn unadd_fits(tx: TxId, undo_next: Option<u64>, key: u64, by: u64) -> bool
+    ensures { result ≡ in_bounds (LogRecord.Unadd tx undo_next key by) }
+{
+    tx_is_named(tx) && lsn_fits(undo_next)
+}
+
 fn restart_fits(run: u32, epoch: u64) -> bool
     ensures { result ≡ in_bounds (LogRecord.Restart run epoch) }
 {
@@ -131,6 +143,13 @@ pub fn has_spelling(r: &LogRecord) -> bool
         LogRecord::Abort { tx } => tx_is_named(*tx),
         LogRecord::End { tx } => tx_is_named(*tx),
         LogRecord::Restart { run, epoch } => restart_fits(*run, *epoch),
+        LogRecord::Add { tx, key, by } => add_fits(*tx, *key, *by),
+        LogRecord::Unadd {
+            tx,
+            undo_next,
+            key,
+            by,
+        } => unadd_fits(*tx, *undo_next, *key, *by),
     }
 }
 
@@ -158,5 +177,7 @@ pub fn record_size(r: &LogRecord) -> usize
         LogRecord::Abort { .. } => 17,
         LogRecord::End { .. } => 17,
         LogRecord::Restart { .. } => 13,
+        LogRecord::Add { .. } => 33,
+        LogRecord::Unadd { .. } => 41,
     }
 }

@@ -4,7 +4,7 @@ ghost use Rattle.std.specs.Prelude.{◌≡◌, ℕ, List, drop, IfOk, MatchResul
 ghost use Rattle.clv_base.specs.declared.logs.LogRecord.{LogRecord as Record};
 ghost use Rattle.clv_base.specs.Logs.{record_size};
 ghost use Rattle.log_records.specs.Spelling.{BeginsWith};
-ghost use Rattle.log_records.specs.Reading.{Gives, abort_at, clr_at, commit_at, end_at, fields_at, prepare_at, record_at, restart_at, update_at};
+ghost use Rattle.log_records.specs.Reading.{Gives, abort_at, add_at, clr_at, commit_at, end_at, fields_at, prepare_at, record_at, restart_at, unadd_at, update_at};
 
 use crate::bounds::has_spelling;
 use crate::error::DecodeError;
@@ -96,6 +96,33 @@ fn restart_of(bytes: &[u8]) -> Result<(LogRecord, &[u8]), DecodeError>
     Ok((LogRecord::Restart { run, epoch }, rest))
 }
 
+#[tactic(auto, unfolding(crate::specs::Reading::add_at))]
+fn add_of(bytes: &[u8]) -> Result<(LogRecord, &[u8]), DecodeError>
+    ensures { Gives (λ x. (x.0, x.1.now)) result (add_at bytes.now) }
+{
+    let (tx, rest) = tx_at(bytes)?;
+    let (key, rest) = u64_at(rest)?;
+    let (by, rest) = u64_at(rest)?;
+    Ok((LogRecord::Add { tx, key, by }, rest))
+}
+
+#[tactic(auto, unfolding(crate::specs::Reading::unadd_at))]
+fn unadd_of(bytes: &[u8]) -> Result<(LogRecord, &[u8]), DecodeError>
+    ensures { Gives (λ x. (x.0, x.1.now)) result (unadd_at bytes.now) }
+{
+    let (tx, rest) = tx_at(bytes)?;
+    let (undo_next, rest) = lsn_at(rest)?;
+    let (key, rest) = u64_at(rest)?;
+    let (by, rest) = u64_at(rest)?;
+    let record = LogRecord::Unadd {
+        tx,
+        undo_next,
+        key,
+        by,
+    };
+    Ok((record, rest))
+}
+
 fn fields_of(alloc: Global, kind: u8, bytes: &[u8]) -> Result<(LogRecord, &[u8]), DecodeError>
     ensures { Gives (λ x. (x.0, x.1.now)) result (fields_at kind bytes.now) }
 {
@@ -107,6 +134,8 @@ fn fields_of(alloc: Global, kind: u8, bytes: &[u8]) -> Result<(LogRecord, &[u8])
         5 => abort_of(bytes),
         6 => end_of(bytes),
         7 => restart_of(bytes),
+        8 => add_of(bytes),
+        9 => unadd_of(bytes),
         _ => Err(DecodeError::Bad),
     }
 }

@@ -96,6 +96,31 @@ fn put_restart(out: &mut Vec<u8>, run: u32, epoch: u64)
     put_u64(out, epoch);
 }
 
+#[tactic(auto, unfolding(crate::specs::Spelling::fields))]
+fn put_add(out: &mut Vec<u8>, tx: TxId, key: u64, by: u64)
+    requires { vec_len out.old + 33 ≤ vec_capacity out.old }
+    ensures items { out.new.items ≡ out.old.items ++ spelling (LogRecord.Add tx key by) }
+    ensures room { vec_capacity out.old ≤ vec_capacity out.new }
+{
+    put_byte(out, 8);
+    put_tx(out, tx);
+    put_u64(out, key);
+    put_u64(out, by);
+}
+
+#[tactic(auto, unfolding(crate::specs::Spelling::fields))]
+fn put_unadd(out: &mut Vec<u8>, tx: TxId, undo_next: Option<u64>, key: u64, by: u64)
+    requires { vec_len out.old + 41 ≤ vec_capacity out.old }
+    ensures items { out.new.items ≡ out.old.items ++ spelling (LogRecord.Unadd tx undo_next key by) }
+    ensures room { vec_capacity out.old ≤ vec_capacity out.new }
+{
+    put_byte(out, 9);
+    put_tx(out, tx);
+    put_lsn(out, undo_next);
+    put_u64(out, key);
+    put_u64(out, by);
+}
+
 fn put_record(out: &mut Vec<u8>, r: &LogRecord)
     requires in_bounds { IsTrue (has_spelling r.now) }
     requires space { vec_len out.old + size_of_record r.now ≤ vec_capacity out.old }
@@ -124,6 +149,13 @@ fn put_record(out: &mut Vec<u8>, r: &LogRecord)
         LogRecord::Abort { tx } => put_abort(out, *tx),
         LogRecord::End { tx } => put_end(out, *tx),
         LogRecord::Restart { run, epoch } => put_restart(out, *run, *epoch),
+        LogRecord::Add { tx, key, by } => put_add(out, *tx, *key, *by),
+        LogRecord::Unadd {
+            tx,
+            undo_next,
+            key,
+            by,
+        } => put_unadd(out, *tx, *undo_next, *key, *by),
     }
 }
 

@@ -3,7 +3,7 @@ use Rattle.std.proofs.Common.{◌≡◌, ℕ, suc, ◌+◌, Bool, true, false, c
 use Rattle.std.specs.List.{list_any}
 use Rattle.clv_base.specs.declared.names.TxId.{TxId}
 use Rattle.clv_base.specs.declared.logs.LogRecord.{LogRecord}
-use Rattle.clv_base.specs.declared.logs.LogRecord.TheVariants.{Update, Clr, Prepare, Commit, Abort, End, Restart}
+use Rattle.clv_base.specs.declared.logs.LogRecord.TheVariants.{Update, Clr, Prepare, Commit, Abort, End, Restart, Add, Unadd}
 use Rattle.clv_base.specs.Orders.{Table, tx_same}
 use Rattle.clv_base.specs.Logs.{is_update_of, is_prepare_of, is_commit_of, is_abort_of, is_end_of, is_record_of, place_from}
 use Rattle.log_analysis.specs.Facts.{TxFacts, first_place, last_place_from, facts_of, facts_with, known, Knows}
@@ -85,6 +85,8 @@ by_kind n (Commit tx parts) t f = elim (tx_same t tx) as (λ b. ◌≡◌ {A = T
 by_kind n (Abort tx) t f = elim (tx_same t tx) as (λ b. ◌≡◌ {A = TxFacts} (record f { is_aborted = cond b true f.is_aborted; is_named = cond b true f.is_named }) (cond b (facts_with n (Abort tx) f) f)) [ true ↦ refl | false ↦ refl ]
 by_kind n (End tx) t f = elim (tx_same t tx) as (λ b. ◌≡◌ {A = TxFacts} (record f { is_ended = cond b true f.is_ended; is_named = cond b true f.is_named }) (cond b (facts_with n (End tx) f) f)) [ true ↦ refl | false ↦ refl ]
 by_kind n (Restart run epoch) t f = refl
+by_kind n (Add tx key by) t f = elim (tx_same t tx) as (λ b. ◌≡◌ {A = TxFacts} (record f { first_update = cond b (first_place n f.first_update) f.first_update; last_update = cond b (Some n) f.last_update; is_named = cond b true f.is_named }) (cond b (facts_with n (Add tx key by) f) f)) [ true ↦ refl | false ↦ refl ]
+by_kind n (Unadd tx undo_next key by) t f = elim (tx_same t tx) as (λ b. ◌≡◌ {A = TxFacts} (record f { is_named = cond b true f.is_named }) (cond b (facts_with n (Unadd tx undo_next key by) f) f)) [ true ↦ refl | false ↦ refl ]
 
 pub facts_push : (log : List LogRecord) (r : LogRecord) (t : TxId) → facts_of (log ++ r ∷ []) t ≡ cond (is_record_of t r) (facts_with (length log) r (facts_of log t)) (facts_of log t)
 facts_push log r t = pushed log r t ∙ by_kind (length log) r t (facts_of log t)

@@ -8,7 +8,7 @@ use Rattle.clv_base.specs.declared.names.TxId.{TxId}
 use Rattle.clv_base.specs.declared.values.Value.{Value}
 use Rattle.clv_base.specs.declared.values.Value.TheVariants.{Num, Bytes}
 use Rattle.clv_base.specs.declared.logs.LogRecord.{LogRecord}
-use Rattle.clv_base.specs.declared.logs.LogRecord.TheVariants.{Update, Clr, Prepare, Commit, Abort, End, Restart}
+use Rattle.clv_base.specs.declared.logs.LogRecord.TheVariants.{Update, Clr, Prepare, Commit, Abort, End, Restart, Add, Unadd}
 use Rattle.clv_base.specs.Logs.{optional_size, record_size}
 use Rattle.log_records.specs.declared.error.DecodeError.{DecodeError}
 use Rattle.log_records.specs.declared.error.DecodeError.TheVariants as errors
@@ -59,6 +59,10 @@ length-spelling (Commit tx parts) =
     omega (arith, length-append (transaction tx) (several (number 4) parts), length-transaction tx, length-several (number 4) 4 (length-number 4) parts)
 length-spelling (Abort tx) = omega (arith, length-transaction tx)
 length-spelling (End tx) = omega (arith, length-transaction tx)
+length-spelling (Add tx key by) =
+    omega (arith, length-append (transaction tx) (number 8 key ++ number 8 by), length-append (number 8 key) (number 8 by), length-transaction tx, length-number 8 key, length-number 8 by)
+length-spelling (Unadd tx next key by) =
+    omega (arith, length-append (transaction tx) (undo_next next ++ (number 8 key ++ number 8 by)), length-append (undo_next next) (number 8 key ++ number 8 by), length-append (number 8 key) (number 8 by), length-transaction tx, length-number 8 key, length-undo_next next, length-number 8 by)
 length-spelling (Restart run epoch) = omega (arith, length-append (number 4 run) (number 8 epoch), length-number 4 run, length-number 8 epoch)
 
 -- what begins with a spelling is read so

@@ -31,5 +31,13 @@ pub returns-in-7 : goal.returns-in-7
 unfolding fields_at
 returns-in-7 c = rw c.in-7.is c.restart_of.ensures
 
+pub returns-in-8 : goal.returns-in-8
+unfolding fields_at
+returns-in-8 c = rw c.in-8.is c.add_of.ensures
+
+pub returns-in-9 : goal.returns-in-9
+unfolding fields_at
+returns-in-9 c = rw c.in-9.is c.unadd_of.ensures
+
 pub returns-in_default : goal.returns-in_default
-returns-in_default c = let h = c.in_default in unknown_kind c.args.kind c.args.bytes.now (search rules) (search rules) (search rules) (search rules) (search rules) (search rules) (search rules)
+returns-in_default c = let h = c.in_default in unknown_kind c.args.kind c.args.bytes.now (search rules) (search rules) (search rules) (search rules) (search rules) (search rules) (search rules) (search rules) (search rules)
