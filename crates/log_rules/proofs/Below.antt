@@ -1,166 +1,170 @@
 -- The writes of others below a transaction's.
-use Rattle.std.proofs.Common.{◌≡◌, ℕ, suc, ◌≤◌, Bool, true, false, cond, not, ◌&&◌, ◌||◌, ◌==◌, nat_lt, List, [], ◌∷◌, Option, Some, None, refl, sym, ap, subst, ◌∙◌, eqb-true, arith}
-use Rattle.std.specs.List.{list_all}
-use Rattle.std.proofs.lemmas.Bool.{lt-ltb, le-ltb}
+use Rattle.std.proofs.Common.{◌≡◌, ℕ, ◌<◌, Bool, true, false, cond, not, ◌&&◌, ◌||◌, ◌==◌, nat_lt, List, [], ◌∷◌, refl, sym, ap, ◌∙◌, eqb-true, eq-eqb, arith}
+use Rattle.std.specs.List.{AllByRecursion, list_any, list_all}
+use Rattle.std.proofs.lemmas.Bool.{both_ways, lt-ltb, le-ltb}
 use Rattle.clv_base.specs.declared.names.TxId.{TxId}
-use Rattle.clv_base.specs.Orders.{tx_same}
-use Rattle.clv_base.specs.Logs.{StandingUpdate, newest_at}
-use Rattle.clv_base.specs.LogRules.{has_above, writes_below}
+use Rattle.clv_base.specs.Orders.{tx_same, tx_in}
+use Rattle.clv_base.specs.Logs.{StandingUpdate, is_setting, without_newest}
+use Rattle.clv_base.specs.LogRules.{has_above, writes_below, lies_below}
 use Rattle.clv_base.proofs.SameNames.{tx_true}
-use Rattle.log_analysis.proofs.Laws.Bools.{and_first, and_second, all_same, all_weaker, all_filter, all_both, all_true}
-use Rattle.law_base.proofs.Names.{Falls}
-use Rattle.law_base.proofs.Bools.{by_bool as both, and_no, or_yes, was_true as own_true}
+use Rattle.log_analysis.proofs.Laws.Bools.{and_first, and_second, and_both, all_same, all_weaker, all_filter, all_both, all_true}
+use Rattle.log_rules.specs.Rules.{is_own_or_one_of}
+use Rattle.law_base.proofs.Names.{Falls, falls_weaker}
+use Rattle.law_base.proofs.Bools.{by_bool as both}
+use Rattle.law_base.proofs.Sets.{same_flip as tx_symmetric}
+use Rattle.law_base.specs.Items.{AllLater}
 
--- of these writes, those of others at the key pass
-abbrev pub others_pass : (TxId → Bool) → ℕ → TxId → List StandingUpdate → Bool
-others_pass p k tx ws = list_all (λ w. not (k == w.key) || (tx_same tx w.tx || p w.tx)) ws
+-- ---- tests of each two
 
--- so it is below each write of the transaction
-abbrev pub each_passes : (TxId → Bool) → TxId → List StandingUpdate → Bool
-each_passes p tx [] = true
-each_passes p tx (w ∷ ws) = (not (tx_same tx w.tx) || others_pass p w.key tx ws) && each_passes p tx ws
+pub all_swap : {X : Type 0} (f : X → X → Bool) (xs ys : List X) → list_all (λ v. list_all (λ u. f u v) ys) xs ≡ list_all (λ u. list_all (f u) xs) ys
+all_swap f [] ys = sym (all_true (λ u. true) (λ u. refl) ys)
+all_swap f (v ∷ vs) ys = ap (λ b. list_all (λ u. f u v) ys && b) (all_swap f vs ys) ∙ sym (all_both (λ u. f u v) (λ u. list_all (f u) vs) ys)
+
+pub none_any : {X : Type 0} (a : Bool) (q : X → Bool) (p : Bool) (xs : List X) → not (a && list_any q xs) || p ≡ list_all (λ x. not (a && q x) || p) xs
+none_any a q p [] = none a
+  where
+    none : (a : Bool) → not (a && false) || p ≡ true
+    none true = refl
+    none false = refl
+none_any a q p (x ∷ xs) = parts a (q x) (list_any q xs) p ∙ ap (λ b. (not (a && q x) || p) && b) (none_any a q p xs)
+  where
+    parts : (a b c p : Bool) → not (a && (b || c)) || p ≡ (not (a && b) || p) && (not (a && c) || p)
+    parts a b c p = grind arith
+
+all_alike : {X : Type 0} (f g : X → Bool) (xs : List X) → AllByRecursion (λ x. f x ≡ g x) xs → list_all f xs ≡ list_all g xs
+all_alike f g [] all = refl
+all_alike f g (x ∷ xs) all = ap (λ b. b && list_all f xs) all.0 ∙ ap (λ b. g x && b) (all_alike f g xs all.1)
+
+-- two tests that come to the same of each two
+abbrev pub Alike : {X : Type 0} → (X → X → Bool) → (X → X → Bool) → List X → Type 0
+Alike f g [] = Unit {0}
+Alike f g (u ∷ us) = (f u u ≡ g u u) × AllByRecursion (λ v. f u v ≡ g u v) us × AllByRecursion (λ v. f v u ≡ g v u) us × Alike f g us
+
+pub pairs_alike : {X : Type 0} (f g : X → X → Bool) (xs : List X) → Alike f g xs → list_all (λ w. list_all (f w) xs) xs ≡ list_all (λ w. list_all (g w) xs) xs
+pairs_alike f g [] alike = refl
+pairs_alike f g (u ∷ us) alike =
+    ap (λ b. (f u u && list_all (f u) us) && b) (all_both (λ w. f w u) (λ w. list_all (f w) us) us)
+    ∙ ap (λ b. (b && list_all (f u) us) && (list_all (λ w. f w u) us && list_all (λ w. list_all (f w) us) us)) alike.0
+    ∙ ap (λ b. (g u u && b) && (list_all (λ w. f w u) us && list_all (λ w. list_all (f w) us) us)) (all_alike (f u) (g u) us alike.1)
+    ∙ ap (λ b. (g u u && list_all (g u) us) && (b && list_all (λ w. list_all (f w) us) us)) (all_alike (λ w. f w u) (λ w. g w u) us alike.2)
+    ∙ ap (λ b. (g u u && list_all (g u) us) && (list_all (λ w. g w u) us && b)) (pairs_alike f g us alike.3)
+    ∙ sym (ap (λ b. (g u u && list_all (g u) us) && b) (all_both (λ w. g w u) (λ w. list_all (g w) us) us))
 
 -- ---- as the rules say it
 
--- no write is above one that comes after all of them
-none_above : (tx : TxId) (u : StandingUpdate) (n : ℕ) (ws : List StandingUpdate) → n ≤ suc u.lsn → Falls n ws → has_above tx u ws ≡ false
-none_above tx u n [] le falls = refl
-none_above tx u n (w ∷ ws) le falls =
-    ap (λ b. (tx_same tx w.tx && (w.key == u.key) && b) || has_above tx u ws) (le-ltb u.lsn w.lsn (omega arith)) ∙ ap (λ b. b || has_above tx u ws) (and_no (tx_same tx w.tx && (w.key == u.key)))
-    ∙ none_above tx u w.lsn ws (omega arith) falls.1
-
-not_or : (t b c p : Bool) → not (not t && (b || c)) || p ≡ (not (not t && b) || p) && (not (not t && c) || p)
-not_or true b c p = refl
-not_or false true true true = refl
-not_or false true true false = refl
-not_or false true false true = refl
-not_or false true false false = refl
-not_or false false c p = refl
-
-own_not : (t k p : Bool) → not (not t && (true && k && true)) || p ≡ not k || (t || p)
-own_not true true p = refl
-own_not true false p = refl
-own_not false true p = refl
-own_not false false p = refl
-
 module _ (p : TxId → Bool) (tx : TxId) where
-  abbrev is_over : StandingUpdate → StandingUpdate → Bool
-  is_over u w = tx_same tx u.tx && (u.key == w.key) && nat_lt w.lsn u.lsn
+  -- where v is another's and lies below w, which is the transaction's, p is to hold of its writer
+  abbrev pub passes_below : StandingUpdate → StandingUpdate → Bool
+  passes_below w v = not (not (tx_same tx v.tx) && (tx_same tx w.tx && lies_below v w)) || p v.tx
 
-  abbrev if_over : StandingUpdate → StandingUpdate → Bool
-  if_over u w = not (not (tx_same tx w.tx) && is_over u w) || p w.tx
+  abbrev pub all_pass : List StandingUpdate → Bool
+  all_pass ws = list_all (λ w. list_all (passes_below w) ws) ws
 
-  abbrev if_above : List StandingUpdate → StandingUpdate → Bool
-  if_above all w = not (not (tx_same tx w.tx) && has_above tx w all) || p w.tx
+  pub below_is : (ws : List StandingUpdate) → list_all (λ w. p w.tx) (writes_below tx ws) ≡ all_pass ws
+  below_is ws =
+      all_filter (λ w. p w.tx) (λ w. not (tx_same tx w.tx) && has_above tx w ws) ws
+      ∙ all_same (λ v. not (not (tx_same tx v.tx) && has_above tx v ws) || p v.tx) (λ v. list_all (λ w. passes_below w v) ws)
+      (λ v. none_any (not (tx_same tx v.tx)) (λ w. tx_same tx w.tx && lies_below v w) (p v.tx) ws) ws
+      ∙ all_swap passes_below ws ws
 
-  over_own : (u : StandingUpdate) (n : ℕ) (ws : List StandingUpdate) → n ≤ u.lsn → Falls n ws → tx_same tx u.tx ≡ true → list_all (if_over u) ws ≡ others_pass p u.key tx ws
-  over_own u n [] le falls own = refl
-  over_own u n (w ∷ ws) le falls own =
-      let lower : nat_lt w.lsn u.lsn ≡ true = lt-ltb w.lsn u.lsn (omega arith) in
-      ap (λ b. b && list_all (if_over u) ws)
-      (ap (λ a. not (not (tx_same tx w.tx) && (a && (u.key == w.key) && nat_lt w.lsn u.lsn)) || p w.tx) own
-      ∙ ap (λ a. not (not (tx_same tx w.tx) && (true && (u.key == w.key) && a)) || p w.tx) lower ∙ own_not (tx_same tx w.tx) (u.key == w.key) (p w.tx))
-      ∙ ap (λ b. (not (u.key == w.key) || (tx_same tx w.tx || p w.tx)) && b) (over_own u w.lsn ws (omega arith) falls.1 own)
+-- what holds of more writers
+pub pass_more : (p q : TxId → Bool) (tx : TxId) → ((t : TxId) → p t ≡ true → q t ≡ true) → (ws : List StandingUpdate) → all_pass p tx ws ≡ true → all_pass q tx ws ≡ true
+pass_more p q tx more ws all =
+    all_weaker (λ w. list_all (passes_below p tx w) ws) (λ w. list_all (passes_below q tx w) ws)
+    (λ w. all_weaker (passes_below p tx w) (passes_below q tx w) (λ v. still (not (not (tx_same tx v.tx) && (tx_same tx w.tx && lies_below v w))) (p v.tx) (q v.tx) (more v.tx)) ws) ws all
+  where
+    still : (a b c : Bool) → (b ≡ true → c ≡ true) → a || b ≡ true → a || c ≡ true
+    still true b c f e = refl
+    still false b c f e = f e
 
-  not_over : (t p : Bool) → not (not t && false) || p ≡ true
-  not_over true p = refl
-  not_over false p = refl
+-- of fewer writes
+all_fewer : (f : StandingUpdate → Bool) (tx : TxId) (ws : List StandingUpdate) → list_all f ws ≡ true → list_all f (without_newest tx ws) ≡ true
+all_fewer f tx [] all = refl
+all_fewer f tx (v ∷ vs) all =
+    both (λ b. list_all f (cond b vs (v ∷ without_newest tx vs)) ≡ true) (tx_same tx v.tx) (λ _. and_second (f v) (list_all f vs) all)
+    (λ _. and_both (f v) (list_all f (without_newest tx vs)) (and_first (f v) (list_all f vs) all) (all_fewer f tx vs (and_second (f v) (list_all f vs) all)))
 
-  over_other : (u : StandingUpdate) (ws : List StandingUpdate) → tx_same tx u.tx ≡ false → list_all (if_over u) ws ≡ true
-  over_other u ws other = all_true (if_over u) (λ w. ap (λ a. not (not (tx_same tx w.tx) && (a && (u.key == w.key) && nat_lt w.lsn u.lsn)) || p w.tx) other ∙ not_over (tx_same tx w.tx) (p w.tx)) ws
+pub pass_fewer : (p : TxId → Bool) (t tx : TxId) (ws : List StandingUpdate) → all_pass p t ws ≡ true → all_pass p t (without_newest tx ws) ≡ true
+pass_fewer p t tx ws all =
+    all_fewer (λ w. list_all (passes_below p t w) (without_newest tx ws)) tx ws
+    (all_weaker (λ w. list_all (passes_below p t w) ws) (λ w. list_all (passes_below p t w) (without_newest tx ws)) (λ w e. all_fewer (passes_below p t w) tx ws e) ws all)
 
-  over_is : (u : StandingUpdate) (ws : List StandingUpdate) → Falls u.lsn ws → list_all (if_over u) ws ≡ not (tx_same tx u.tx) || others_pass p u.key tx ws
-  over_is u ws falls =
-      both (λ b. (tx_same tx u.tx ≡ b) → list_all (if_over u) ws ≡ not b || others_pass p u.key tx ws) (tx_same tx u.tx)
-      (λ e own. over_own u u.lsn ws (omega arith) falls own) (λ e other. over_other u ws other) refl
+-- of one more, which is another's
+pub pass_pushed : (p : TxId → Bool) (t : TxId) (u : StandingUpdate) (ws : List StandingUpdate) → tx_same t u.tx ≡ false → Falls u.lsn ws → all_pass p t ws ≡ true → all_pass p t (u ∷ ws) ≡ true
+pass_pushed p t u ws other falls all =
+    and_both (list_all (passes_below p t u) (u ∷ ws)) (list_all (λ w. list_all (passes_below p t w) (u ∷ ws)) ws)
+    (all_true (passes_below p t u) (λ v. foreign (not (tx_same t v.tx)) (tx_same t u.tx) (lies_below v u) (p v.tx) other) (u ∷ ws))
+    (above ws falls all)
+  where
+    foreign : (a b c q : Bool) → b ≡ false → not (a && (b && c)) || q ≡ true
+    foreign true false c q e = refl
+    foreign false b c q e = refl
+    foreign true true c q e = absurd cc
 
-  above_none : (u : StandingUpdate) (us : List StandingUpdate) → Falls u.lsn us → if_above (u ∷ us) u ≡ true
-  above_none u us falls =
-      ap (λ a. not (not (tx_same tx u.tx) && a) || p u.tx) (none_above tx u (suc u.lsn) (u ∷ us) (omega arith) (omega arith, falls)) ∙ not_over (tx_same tx u.tx) (p u.tx)
+    over : (a b k l s q : Bool) → l ≡ false → not (a && (b && (k && l && s))) || q ≡ true
+    over a b k l s q e = grind (arith, e)
 
-  above_is : (n : ℕ) (ws : List StandingUpdate) → Falls n ws → list_all (if_above ws) ws ≡ each_passes p tx ws
-  above_is n [] falls = refl
-  above_is n (u ∷ us) falls =
-      ap (λ b. b && list_all (if_above (u ∷ us)) us) (above_none u us falls.1)
-      ∙ all_same (if_above (u ∷ us)) (λ w. if_over u w && if_above us w) (λ w. not_or (tx_same tx w.tx) (is_over u w) (has_above tx w us) (p w.tx)) us
-      ∙ all_both (if_over u) (if_above us) us ∙ ap (λ b. b && list_all (if_above us) us) (over_is u us falls.1)
-      ∙ ap (λ b. (not (tx_same tx u.tx) || others_pass p u.key tx us) && b) (above_is u.lsn us falls.1)
+    above : (vs : List StandingUpdate) → Falls u.lsn vs → list_all (λ w. list_all (passes_below p t w) ws) vs ≡ true → list_all (λ w. list_all (passes_below p t w) (u ∷ ws)) vs ≡ true
+    above [] fall each = refl
+    above (v ∷ vs) fall each =
+        and_both (list_all (passes_below p t v) (u ∷ ws)) (list_all (λ w. list_all (passes_below p t w) (u ∷ ws)) vs)
+        (and_both (passes_below p t v u) (list_all (passes_below p t v) ws)
+        (over (not (tx_same t u.tx)) (tx_same t v.tx) (v.key == u.key) (nat_lt u.lsn v.lsn) (is_setting u.change || is_setting v.change) (p u.tx) (le-ltb u.lsn v.lsn (omega (arith, fall.0))))
+        (and_first (list_all (passes_below p t v) ws) (list_all (λ w. list_all (passes_below p t w) ws) vs) each))
+        (above vs (falls_weaker v.lsn u.lsn vs (omega (arith, fall.0)) fall.1) (and_second (list_all (passes_below p t v) ws) (list_all (λ w. list_all (passes_below p t w) ws) vs) each))
 
-  pub below_is : (n : ℕ) (ws : List StandingUpdate) → Falls n ws → list_all (λ w. p w.tx) (writes_below tx ws) ≡ each_passes p tx ws
-  below_is n ws falls = all_filter (λ w. p w.tx) (λ w. not (tx_same tx w.tx) && has_above tx w ws) ws ∙ above_is n ws falls
+-- ---- by what is asked at the keys of the transaction's writes
 
--- ---- only below the writes that lie right above others'
+-- what lies at the key of w is of one who is committed, is the transaction's, is listed, or adds where w adds
+abbrev pub meets : (TxId → Bool) → TxId → List TxId → StandingUpdate → StandingUpdate → Bool
+meets c tx listed w v = not (w.key == v.key) || (c v.tx || (is_own_or_one_of tx listed v.tx || (not (is_setting w.change) && not (is_setting v.change))))
 
-abbrev pub is_others : TxId → Option StandingUpdate → Bool
-is_others tx None = false
-is_others tx (Some w) = not (tx_same tx w.tx)
+abbrev pub meets_own : (TxId → Bool) → TxId → List TxId → StandingUpdate → StandingUpdate → Bool
+meets_own c tx listed w v = not (tx_same tx w.tx) || meets c tx listed w v
 
-abbrev pub each_passes_once : (TxId → Bool) → TxId → List StandingUpdate → Bool
-each_passes_once p tx [] = true
-each_passes_once p tx (w ∷ ws) = (not (tx_same tx w.tx) || (not (is_others tx (newest_at w.key ws)) || others_pass p w.key tx ws)) && each_passes_once p tx ws
+-- a write over another's UPDATE, or an UPDATE over another's write: the other one is closed
+abbrev pub Covers : (TxId → Bool) → StandingUpdate → StandingUpdate → Type 0
+Covers closed v w = (v.key == w.key) ≡ true → (is_setting v.change || is_setting w.change) ≡ true → tx_same v.tx w.tx ≡ false → closed w.tx ≡ true
 
-module _ (p : TxId → Bool) (tx : TxId) where
-  -- below an own write all pass where they do below that one
-  passes_own : (k : ℕ) (ws : List StandingUpdate) → is_others tx (newest_at k ws) ≡ false → each_passes p tx ws ≡ true → others_pass p k tx ws ≡ true
-  passes_own k [] own each = refl
-  passes_own k (w ∷ ws) own each =
-      both (λ b. (k == w.key) ≡ b → is_others tx (cond b (Some w) (newest_at k ws)) ≡ false → (not b || (tx_same tx w.tx || p w.tx)) && others_pass p k tx ws ≡ true) (k == w.key)
-      (λ _ e o.
-      let mine : tx_same tx w.tx ≡ true = own_true (tx_same tx w.tx) o in
-      let under : others_pass p w.key tx ws ≡ true =
-      sym (ap (λ a. not a || others_pass p w.key tx ws) mine) ∙ and_first (not (tx_same tx w.tx) || others_pass p w.key tx ws) (each_passes p tx ws) each in
-      ap (λ a. (a || p w.tx) && others_pass p k tx ws) mine ∙ subst (λ j. others_pass p j tx ws ≡ true) (sym (eqb-true k w.key e)) under)
-      (λ _ e o. passes_own k ws o (and_second (not (tx_same tx w.tx) || others_pass p w.key tx ws) (each_passes p tx ws) each)) refl own
+module _ (closed c : TxId → Bool) (tx : TxId) (listed : List TxId) (is_open : closed tx ≡ false) where
+  abbrev passes : TxId → Bool
+  passes t = c t || tx_in t listed
 
-  once_step : (t n o e : Bool) → (t ≡ true → n ≡ false → e ≡ true → o ≡ true) → (not t || (not n || o)) && e ≡ (not t || o) && e
-  once_step true true o e own = refl
-  once_step true false o true own = sym (ap (λ a. a && true) (own refl refl refl))
-  once_step true false true false own = refl
-  once_step true false false false own = refl
-  once_step false n o e own = refl
+  alone : (u : StandingUpdate) → passes_below passes tx u u ≡ meets_own c tx listed u u
+  alone u = one (tx_same tx u.tx) (tx_same u.tx tx) (lies_below u u) (u.key == u.key) (c u.tx) (tx_in u.tx listed) (not (is_setting u.change) && not (is_setting u.change)) (tx_symmetric tx u.tx)
+    where
+      one : (o o' b k m l a : Bool) → o ≡ o' → not (not o && (o && b)) || (m || l) ≡ not o || (not k || (m || ((o' || l) || a)))
+      one o o' b k m l a e = grind (arith, e)
 
-  pub once_is : (ws : List StandingUpdate) → each_passes_once p tx ws ≡ each_passes p tx ws
-  once_is [] = refl
-  once_is (w ∷ ws) =
-      ap (λ b. (not (tx_same tx w.tx) || (not (is_others tx (newest_at w.key ws)) || others_pass p w.key tx ws)) && b) (once_is ws)
-      ∙ once_step (tx_same tx w.tx) (is_others tx (newest_at w.key ws)) (others_pass p w.key tx ws) (each_passes p tx ws) (λ own under each. passes_own w.key ws under each)
+  under : (u v : StandingUpdate) → v.lsn < u.lsn → passes_below passes tx u v ≡ meets_own c tx listed u v
+  under u v lt =
+      one (tx_same tx u.tx) (tx_same tx v.tx) (tx_same v.tx tx) (u.key == v.key) (nat_lt v.lsn u.lsn) (is_setting v.change) (is_setting u.change) (c v.tx) (tx_in v.tx listed) (tx_symmetric tx v.tx) (lt-ltb v.lsn u.lsn lt)
+    where
+      one : (ou ov ov' k l sv su m i : Bool) → ov ≡ ov' → l ≡ true → not (not ov && (ou && (k && l && (sv || su)))) || (m || i) ≡ not ou || (not k || (m || ((ov' || i) || (not su && not sv))))
+      one ou ov ov' k l sv su m i e f = grind (arith, e, f)
 
--- ---- up to a committed one
+  over : (u v : StandingUpdate) → v.lsn < u.lsn → Covers closed u v → passes_below passes tx v u ≡ meets_own c tx listed v u
+  over u v lt covers =
+      one (tx_same tx v.tx) (tx_same tx u.tx) (tx_same u.tx tx) (v.key == u.key) (nat_lt u.lsn v.lsn) (is_setting u.change) (is_setting v.change) (c u.tx) (tx_in u.tx listed) (tx_symmetric tx u.tx) (le-ltb u.lsn v.lsn (omega (arith, lt)))
+      (λ own foreign key sets.
+      let apart : tx_same u.tx v.tx ≡ false = ap (tx_same u.tx) (sym (tx_true tx v.tx own)) ∙ tx_symmetric u.tx tx ∙ foreign in
+      both_ways _ is_open (ap closed (tx_true tx v.tx own) ∙ covers (eq-eqb u.key v.key (sym (eqb-true v.key u.key key))) sets apart))
+    where
+      one : (ov ou ou' k l su sv m i : Bool) → ou ≡ ou' → l ≡ false → (ov ≡ true → ou ≡ false → k ≡ true → (su || sv) ≡ true → ⊥)
+          → not (not ou && (ov && (k && l && (su || sv)))) || (m || i) ≡ not ov || (not k || (m || ((ou' || i) || (not sv && not su))))
+      one ov ou ou' k l su sv m i e f h = grind (arith, e, f, h)
 
--- below a committed write all at the key are committed
-abbrev pub Sinks : (TxId → Bool) → List StandingUpdate → Type 0
-Sinks c [] = Unit {0}
-Sinks c (w ∷ ws) = (c w.tx ≡ true → list_all (λ v. not (w.key == v.key) || c v.tx) ws ≡ true) × Sinks c ws
+  alike : (n : ℕ) (ws : List StandingUpdate) → Falls n ws → AllLater (Covers closed) ws → Alike (passes_below passes tx) (meets_own c tx listed) ws
+  alike n [] falls covers = tt
+  alike n (u ∷ us) falls covers = (alone u, below us falls.1, above us falls.1 covers.0, alike u.lsn us falls.1 covers.1)
+    where
+      below : (vs : List StandingUpdate) → Falls u.lsn vs → AllByRecursion (λ v. passes_below passes tx u v ≡ meets_own c tx listed u v) vs
+      below [] fall = tt
+      below (v ∷ vs) fall = (under u v fall.0, below vs (falls_weaker v.lsn u.lsn vs (omega (arith, fall.0)) fall.1))
 
--- down from a write of u at the key: up to a committed one, each that isn't the one before's is listed
-abbrev pub walk : (TxId → Bool) → (TxId → Bool) → ℕ → TxId → List StandingUpdate → Bool
-walk c l k u [] = true
-walk c l k u (w ∷ ws) = cond ((k == w.key) && not (tx_same u w.tx)) (c w.tx || (l w.tx && walk c l k w.tx ws)) (walk c l k u ws)
+      above : (vs : List StandingUpdate) → Falls u.lsn vs → AllByRecursion (Covers closed u) vs → AllByRecursion (λ v. passes_below passes tx v u ≡ meets_own c tx listed v u) vs
+      above [] fall all = tt
+      above (v ∷ vs) fall all = (over u v fall.0 all.0, above vs (falls_weaker v.lsn u.lsn vs (omega (arith, fall.0)) fall.1) all.1)
 
-module _ (c l : TxId → Bool) where
-  abbrev passes_both : ℕ → StandingUpdate → Bool
-  passes_both k w = not (k == w.key) || (l w.tx || c w.tx)
-
-  more_right : (a b d : Bool) → a || d ≡ true → a || (b || d) ≡ true
-  more_right true b d e = refl
-  more_right false true d e = refl
-  more_right false false d e = e
-
-  pub walk_is : (k : ℕ) (u : TxId) (ws : List StandingUpdate) → Sinks c ws → l u ≡ true → walk c l k u ws ≡ list_all (passes_both k) ws
-  walk_is k u [] sinks own = refl
-  walk_is k u (w ∷ ws) sinks own =
-      both (λ b. (k == w.key) ≡ b → cond (b && not (tx_same u w.tx)) (c w.tx || (l w.tx && walk c l k w.tx ws)) (walk c l k u ws) ≡ (not b || (l w.tx || c w.tx)) && list_all (passes_both k) ws) (k == w.key)
-      (λ _ at.
-      both (λ b. tx_same u w.tx ≡ b → cond (not b) (c w.tx || (l w.tx && walk c l k w.tx ws)) (walk c l k u ws) ≡ (l w.tx || c w.tx) && list_all (passes_both k) ws) (tx_same u w.tx)
-      (λ _ same. walk_is k u ws sinks.1 own ∙ sym (ap (λ a. (a || c w.tx) && list_all (passes_both k) ws) (sym (ap l (tx_true u w.tx same)) ∙ own)))
-      (λ _ other.
-      both (λ b. c w.tx ≡ b → b || (l w.tx && walk c l k w.tx ws) ≡ (l w.tx || b) && list_all (passes_both k) ws) (c w.tx)
-      (λ _ committed.
-      let lower : list_all (λ v. not (k == v.key) || c v.tx) ws ≡ true = subst (λ j. list_all (λ v. not (j == v.key) || c v.tx) ws ≡ true) (sym (eqb-true k w.key at)) (sinks.0 committed) in
-      sym (ap (λ b. b && list_all (passes_both k) ws) (or_yes (l w.tx)) ∙ all_weaker (λ v. not (k == v.key) || c v.tx) (passes_both k) (λ v e. more_right (not (k == v.key)) (l v.tx) (c v.tx) e) ws lower))
-      (λ _ not_committed.
-      both (λ b. l w.tx ≡ b → b && walk c l k w.tx ws ≡ (b || false) && list_all (passes_both k) ws) (l w.tx)
-      (λ _ listed. walk_is k w.tx ws sinks.1 listed) (λ _ not_listed. refl) refl)
-      refl)
-      refl)
-      (λ _ past. walk_is k u ws sinks.1 own) refl
+  pub pass_is : (n : ℕ) (ws : List StandingUpdate) → Falls n ws → AllLater (Covers closed) ws → all_pass passes tx ws ≡ list_all (λ w. list_all (meets_own c tx listed w) ws) ws
+  pass_is n ws falls covers = pairs_alike (passes_below passes tx) (meets_own c tx listed) ws (alike n ws falls covers)

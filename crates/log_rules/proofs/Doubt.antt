@@ -4,7 +4,7 @@ use Rattle.std.specs.List.{list_any, list_all}
 use Rattle.std.proofs.lemmas.Bool.{both_ways, or_cases, or_parts, or_right, false_from_ne_true, not_from_false}
 use Rattle.clv_base.specs.declared.names.TxId.{TxId}
 use Rattle.clv_base.specs.declared.logs.LogRecord.{LogRecord}
-use Rattle.clv_base.specs.declared.logs.LogRecord.TheVariants.{Update, Clr, Prepare, Commit, Abort, End, Restart}
+use Rattle.clv_base.specs.declared.logs.LogRecord.TheVariants.{Update, Clr, Prepare, Commit, Abort, End, Restart, Add, Unadd}
 use Rattle.clv_base.specs.Orders.{tx_same, tx_in, tx_insert}
 use Rattle.clv_base.specs.Logs.{StandingUpdate, is_prepare_of, committed_in, prepared_in, aborted_in, prepare_of, standing, newest_of, doubt_by, in_doubt_from, in_doubt, is_winner}
 use Rattle.clv_base.specs.LogRules.{listed_in}
@@ -43,7 +43,7 @@ each_writer q (w ∷ ws) all t e =
     both (λ b. tx_same t w.tx ≡ b → is_some (cond b (Some w) (newest_of t ws)) ≡ true → q t ≡ true) (tx_same t w.tx)
     (λ _ own _. ap q (tx_true t w.tx own) ∙ and_first (q w.tx) (list_all (λ v. q v.tx) ws) all) (λ _ other h. each_writer q ws (and_second (q w.tx) (list_all (λ v. q v.tx) ws) all) t h) refl e
 
-of_all : (p : TxId → Bool) (xs : List TxId) → list_all p xs ≡ true → (x : TxId) → tx_in x xs ≡ true → p x ≡ true
+pub of_all : (p : TxId → Bool) (xs : List TxId) → list_all p xs ≡ true → (x : TxId) → tx_in x xs ≡ true → p x ≡ true
 of_all p [] all x e = absurd (both_ways _ refl e)
 of_all p (y ∷ ys) all x e =
     ⊎_elim (λ s. ap p (sym (tx_true y x s)) ∙ and_first (p y) (list_all p ys) all) (λ h. of_all p ys (and_second (p y) (list_all p ys) all) x h) (or_cases (tx_same y x) (tx_in x ys) e)
@@ -148,6 +148,12 @@ module _ (shard : ℕ) (log : List LogRecord) (s : Sound log) where
       subst (λ l. AllDoubted l (in_doubt_from log shard rs so_far)) (append_assoc seen (r ∷ []) rs) (all_doubted (seen ++ r ∷ []) rs so_far ready earlier (doubted_other seen r so_far (λ t. refl) all))
   all_doubted seen (Restart run epoch ∷ rs) so_far ready earlier all =
       let r : LogRecord = Restart run epoch in
+      subst (λ l. AllDoubted l (in_doubt_from log shard rs so_far)) (append_assoc seen (r ∷ []) rs) (all_doubted (seen ++ r ∷ []) rs so_far ready earlier (doubted_other seen r so_far (λ t. refl) all))
+  all_doubted seen (Add tx key by ∷ rs) so_far ready earlier all =
+      let r : LogRecord = Add tx key by in
+      subst (λ l. AllDoubted l (in_doubt_from log shard rs so_far)) (append_assoc seen (r ∷ []) rs) (all_doubted (seen ++ r ∷ []) rs so_far ready earlier (doubted_other seen r so_far (λ t. refl) all))
+  all_doubted seen (Unadd tx undo_next key by ∷ rs) so_far ready earlier all =
+      let r : LogRecord = Unadd tx undo_next key by in
       subst (λ l. AllDoubted l (in_doubt_from log shard rs so_far)) (append_assoc seen (r ∷ []) rs) (all_doubted (seen ++ r ∷ []) rs so_far ready earlier (doubted_other seen r so_far (λ t. refl) all))
 
   -- ---- nobody bars a RESTART exactly where all writers are winners

@@ -1,35 +1,42 @@
 -- An index with one record more is that of the records with it.
-use Rattle.std.proofs.Common.{◌≡◌, ℕ, ◌<◌, Bool, true, false, cond, not, ◌&&◌, ◌||◌, ◌==◌, nat_lt, List, [], ◌∷◌, ◌++◌, length, Option, Some, None, is_some, ◌⊎◌, inl, inr, ⊎_elim, refl, sym, ap, subst, ◌∙◌, eqb-true, eq-eqb, arith}
+use Rattle.std.proofs.Common.{◌≡◌, ℕ, ◌+◌, ◌<◌, Bool, true, false, cond, not, ◌&&◌, ◌||◌, ◌==◌, nat_lt, List, [], ◌∷◌, ◌++◌, length, Option, Some, None, is_some, ◌⊎◌, inl, inr, ⊎_elim, refl, sym, ap, subst, ◌∙◌, eqb-true, eq-eqb, arith}
 use Rattle.std.specs.Prelude.{slice_get}
-use Rattle.std.specs.List.{list_any, list_all}
-use Rattle.std.proofs.lemmas.Bool.{lt-ltb, ltb-true, or_cases, ne_eqb}
-use Rattle.clv_base.specs.declared.values.Value.{Value as ValueType}
+use Rattle.std.specs.List.{AllByRecursion, list_any, list_all}
+use Rattle.std.proofs.lemmas.Bool.{both_ways, lt-ltb, ltb-true, or_cases, ne_eqb}
 use Rattle.clv_base.specs.declared.names.TxId.{TxId}
+use Rattle.clv_base.specs.declared.changes.Change.{Change}
+use Rattle.clv_base.specs.declared.changes.Change.TheVariants.{Sets, Adds as Adding}
 use Rattle.clv_base.specs.declared.logs.LogRecord.{LogRecord}
-use Rattle.clv_base.specs.declared.logs.LogRecord.TheVariants.{Update, Clr, Prepare, Commit, Abort, End, Restart}
+use Rattle.clv_base.specs.declared.logs.LogRecord.TheVariants.{Update, Clr, Prepare, Commit, Abort, End, Restart, Add, Unadd}
 use Rattle.clv_base.specs.Orders.{tx_same, tx_in}
-use Rattle.clv_base.specs.Logs.{StandingUpdate, is_commit_of, is_abort_of, committed_in, prepared_in, aborted_in, standing, newest_at, newest_of, without_newest}
-use Rattle.clv_base.specs.LogRules.{last_restart, above_restarts, before_restart, since_restart, listed_in, may_follow, compensates}
+use Rattle.clv_base.specs.OneShard.{update_of}
+use Rattle.clv_base.specs.Logs.{StandingUpdate, changed, unchanged, is_setting, is_commit_of, is_prepare_of, is_abort_of, committed_in, prepared_in, aborted_in, standing, newest_of, without_newest}
+use Rattle.clv_base.specs.LogRules.{last_restart, above_restarts, before_restart, since_restart, listed_in, may_follow}
 use Rattle.clv_base.proofs.SameNames.{tx_true, tx_self, tx_flip}
 use Rattle.log_analysis.specs.Facts.{Knows}
 use Rattle.log_analysis.proofs.Laws.Bools.{and_first, and_second}
 use Rattle.log_analysis.proofs.Laws.Pushes.{and_true, any_push, last_restart_other, above_push}
 use Rattle.log_rules.specs.declared.index.Index.{Index}
-use Rattle.log_rules.specs.Writes.{Write, write_at, top_at, newest_by, Pushes, Pops}
+use Rattle.log_rules.specs.Writes.{Write, Top, top_of, is_there, write_at, top_at, adds_at, value_at, newest_by, top_after, adds_after, top_before, adds_before, shares_at, Pushes, Pops, PopsWrite, Settles, settled_from}
+use Rattle.log_rules.specs.Shares.{with_share, without_share}
 use Rattle.log_rules.specs.Listers.{Descends, listers_in}
 use Rattle.log_rules.specs.Rules.{is_above, has_commit}
-use Rattle.log_rules.specs.Adding.{KeepsRestart, AddsRestart, AddsUpdate, AddsClr, AddsPrepare, AddsCommit, AddsAbort, AddsEnd, Adds, Places, bars_after_abort}
+use Rattle.log_rules.specs.Adding.{KeepsRestart, AddsRestart, AddsWrite, AddsUndo, AddsPrepare, AddsCommit, AddsAbort, AddsEnd, Adds, Places, bars_after_abort}
 use Rattle.log_rules.proofs.Doubt.{is_held, bars}
-use Rattle.log_rules.proofs.Fitting.{is_committed, by_newest}
+use Rattle.log_rules.proofs.Fitting.{is_committed}
 use Rattle.log_rules.proofs.Growing.{splits_restart, splits_other}
 use Rattle.log_rules.proofs.Held.{eq_flip, listed_other, held_other, bars_other, unprepared_unheld, held_now, held_after, aborted_unheld}
 use Rattle.log_rules.proofs.IndexOf.{IsIndexOf}
-use Rattle.log_rules.proofs.RuleParts.{update_rule, prepare_rule, abort_rule, clr_rule}
-use Rattle.log_rules.proofs.SoundLogs.{Sound, any_other, prepare_new, wrote_since}
-use Rattle.log_rules.proofs.Links.{Linked, lsn_of, link_of, link_newest, linked_is, linked_stay, linked_without, at_newest, same_lsn, IsTop, at_other, of_other, below_of, earlier_of, below_is_left, earlier_is_left}
+use Rattle.log_rules.proofs.RuleParts.{WriteRule, Undoes, update_rule, add_rule, prepare_rule, abort_rule, clr_rule, unadd_rule, clr_undoes, unadd_undoes}
+use Rattle.log_rules.proofs.SoundLogs.{Sound, any_other, prepare_new, wrote_since, of_other}
+use Rattle.log_rules.proofs.Standing.{top_set, adds_over, top_value, shares_of, lsn_of, left_is, something_there, shares_here, shares_elsewhere, shares_settled}
+use Rattle.log_rules.proofs.Links.{Linked, link_of, linked_at, linked_is, linked_stay, linked_left, tops_left, adds_left, values_left, newest_left}
+use Rattle.log_rules.proofs.Walks.{settled_shares}
 use Rattle.law_base.proofs.Sets.{same_flip as tx_symmetric}
 use Rattle.law_base.proofs.Bools.{by_bool as both, not_true, or_false, and_no, or_yes}
 use Rattle.law_base.proofs.Logs.{last_restart_push, standing_push, no_prepare}
+use Rattle.law_base.proofs.Names.{Falls, falls_length}
+use Rattle.law_base.proofs.Undoing.{IsOver, Chain}
 
 -- ---- the RESTARTs so far
 
@@ -65,9 +72,12 @@ record IsOther (r : LogRecord) : Type 0 where
 
 -- what an index has beside the facts and what it has of RESTARTs
 record HasRest (shard : ℕ) (z : Index) (log : List LogRecord) : Type 0 where
-  tops : (k : ℕ) → top_at z.writes k ≡ lsn_of (newest_at k (standing log))
+  tops : (k : ℕ) → top_at z.writes k ≡ top_set k (standing log)
+  adds : (k : ℕ) → adds_at z.writes k ≡ adds_over k (standing log)
+  values : (k : ℕ) → value_at z.writes k ≡ top_value k (standing log)
   newest : (t : TxId) → newest_by z.writes t ≡ lsn_of (newest_of t (standing log))
   linked : Linked z.writes (standing log)
+  shares : (k : ℕ) → shares_at z.writes k ≡ shares_of (committed_in log) k (standing log)
   descends : Descends z.listers
   listers : (q t : TxId) → tx_in t (listers_in z.listers q) ≡ tx_in q (listed_in log t)
   barring : (t : TxId) → tx_in t z.barring ≡ bars shard log t
@@ -80,6 +90,19 @@ module _ (shard : ℕ) (x y : Index) (log : List LogRecord) (s : Sound log) (i :
 
   above_other : (r : LogRecord) → ((run epoch : ℕ) → above_restarts run epoch (r ∷ []) ≡ true) → (run epoch : ℕ) → above_restarts run epoch (log ++ r ∷ []) ≡ is_above run epoch x.last
   above_other r other run epoch = above_push run epoch log r ∙ ap (λ b. above_restarts run epoch log && b) (other run epoch) ∙ and_true (above_restarts run epoch log) ∙ i.above run epoch
+
+  -- ---- the shares
+
+  -- where nobody is committed
+  shares_same : (r : LogRecord) → ((t : TxId) → is_commit_of t r ≡ false) → (k : ℕ) (ws : List StandingUpdate) → shares_of (committed_in (log ++ r ∷ [])) k ws ≡ shares_of (committed_in log) k ws
+  shares_same r other k [] = refl
+  shares_same r other k (w ∷ ws) =
+      ap (λ b. cond ((k == w.key) && not b) (with_share w.tx (is_setting w.change) (shares_of (committed_in (log ++ r ∷ [])) k ws)) (shares_of (committed_in (log ++ r ∷ [])) k ws)) (any_other (is_commit_of w.tx) log r (other w.tx))
+      ∙ ap (λ l. cond ((k == w.key) && not (committed_in log w.tx)) (with_share w.tx (is_setting w.change) l) l) (shares_same r other k ws)
+
+  -- and nothing written
+  shares_kept : (r : LogRecord) → ((t : TxId) → is_commit_of t r ≡ false) → (z : Index) → z.writes ≡ x.writes → standing (log ++ r ∷ []) ≡ standing log → (k : ℕ) → shares_at z.writes k ≡ shares_of (committed_in (log ++ r ∷ [])) k (standing (log ++ r ∷ []))
+  shares_kept r other z same ws k = ap (λ m. shares_at m k) same ∙ i.shares k ∙ sym (shares_same r other k (standing log)) ∙ ap (shares_of (committed_in (log ++ r ∷ [])) k) (sym ws)
 
   -- ---- RESTART
 
@@ -94,9 +117,12 @@ module _ (shard : ℕ) (x y : Index) (log : List LogRecord) (s : Sound log) (i :
         above = λ q e. above_restart run epoch above q e ∙ ap (is_above q e) (sym a.last);
         restart_at = rw a.restart_at (splits_restart x.restart_at log run epoch i.restart_at);
         facts = knows;
-        tops = λ k. ap (λ w. top_at w k) a.writes ∙ i.tops k ∙ ap (λ l. lsn_of (newest_at k l)) (sym ws);
+        tops = λ k. ap (λ w. top_at w k) a.writes ∙ i.tops k ∙ ap (top_set k) (sym ws);
+        adds = λ k. ap (λ w. adds_at w k) a.writes ∙ i.adds k ∙ ap (adds_over k) (sym ws);
+        values = λ k. ap (λ w. value_at w k) a.writes ∙ i.values k ∙ ap (top_value k) (sym ws);
         newest = λ t. ap (λ w. newest_by w t) a.writes ∙ i.newest t ∙ ap (λ l. lsn_of (newest_of t l)) (sym ws);
         linked = rw (ws, a.writes) i.linked;
+        shares = λ k. shares_kept r (λ u. refl) z a.writes ws k;
         descends = rw a.listers i.descends;
         listers = λ q t. ap (λ m. tx_in t (listers_in m q)) a.listers ∙ i.listers q t ∙ ap (tx_in q) (sym (listed_other log r t refl));
         barring = λ t. ap (tx_in t) a.barring ∙ i.barring t ∙ sym (bars_other shard log r (λ u. refl) t refl refl (ap (newest_of t) ws));
@@ -112,20 +138,43 @@ module _ (shard : ℕ) (x y : Index) (log : List LogRecord) (s : Sound log) (i :
     restart_at = rw keeps.restart_at (splits_other x.restart_at log r o.before o.since i.restart_at);
     facts = knows;
     tops = h.tops;
+    adds = h.adds;
+    values = h.values;
     newest = h.newest;
     linked = h.linked;
+    shares = h.shares;
     descends = h.descends;
     listers = h.listers;
     barring = h.barring;
   }
 
   -- where the writes stay
-  same_writes : (r : LogRecord) (z : Index) → standing (log ++ r ∷ []) ≡ standing log → z.writes ≡ x.writes → Descends z.listers → ((q t : TxId) → tx_in t (listers_in z.listers q) ≡ tx_in q (listed_in (log ++ r ∷ []) t))
+  same_writes : (r : LogRecord) (z : Index) → standing (log ++ r ∷ []) ≡ standing log → z.writes ≡ x.writes → ((k : ℕ) → shares_at z.writes k ≡ shares_of (committed_in (log ++ r ∷ [])) k (standing (log ++ r ∷ []))) → Descends z.listers → ((q t : TxId) → tx_in t (listers_in z.listers q) ≡ tx_in q (listed_in (log ++ r ∷ []) t))
       → ((t : TxId) → tx_in t z.barring ≡ bars shard (log ++ r ∷ []) t) → HasRest shard z (log ++ r ∷ [])
-  same_writes r z ws writes descends listers barring = record {
-    tops = λ k. ap (λ w. top_at w k) writes ∙ i.tops k ∙ ap (λ l. lsn_of (newest_at k l)) (sym ws);
+  same_writes r z ws writes shares descends listers barring = record {
+    tops = λ k. ap (λ w. top_at w k) writes ∙ i.tops k ∙ ap (top_set k) (sym ws);
+    adds = λ k. ap (λ w. adds_at w k) writes ∙ i.adds k ∙ ap (adds_over k) (sym ws);
+    values = λ k. ap (λ w. value_at w k) writes ∙ i.values k ∙ ap (top_value k) (sym ws);
     newest = λ t. ap (λ w. newest_by w t) writes ∙ i.newest t ∙ ap (λ l. lsn_of (newest_of t l)) (sym ws);
     linked = rw (ws, writes) i.linked;
+    shares = shares;
+    descends = descends;
+    listers = listers;
+    barring = barring;
+  }
+
+  -- where but the shares of one go
+  settled_writes : (r : LogRecord) (z : Index) → standing (log ++ r ∷ []) ≡ standing log → (tx : TxId) → Settles x.writes z.writes (length log) tx → ((k : ℕ) → shares_at z.writes k ≡ shares_of (committed_in (log ++ r ∷ [])) k (standing (log ++ r ∷ []))) → Descends z.listers
+      → ((q t : TxId) → tx_in t (listers_in z.listers q) ≡ tx_in q (listed_in (log ++ r ∷ []) t)) → ((t : TxId) → tx_in t z.barring ≡ bars shard (log ++ r ∷ []) t) → HasRest shard z (log ++ r ∷ [])
+  settled_writes r z ws tx writes shares descends listers barring = record {
+    tops = λ k. writes.keeps.tops k ∙ i.tops k ∙ ap (top_set k) (sym ws);
+    adds = λ k. writes.keeps.adds k ∙ i.adds k ∙ ap (adds_over k) (sym ws);
+    values = λ k. writes.keeps.values k ∙ i.values k ∙ ap (top_value k) (sym ws);
+    newest = λ t. ap (λ n. newest_by (record z.writes { newest = n }) t) writes.keeps.newest ∙ i.newest t ∙ ap (λ l. lsn_of (newest_of t l)) (sym ws);
+    linked = rw ws
+        (linked_stay x.writes z.writes (length log)
+        (λ k _. ap (λ r. write_at (record z.writes { records = r }) (Some k)) writes.keeps.records ∙ ap (λ r. write_at (record z.writes { records = x.writes.records; rows = r }) (Some k)) writes.keeps.rows) (standing log) s.falls i.linked);
+    shares = shares;
     descends = descends;
     listers = listers;
     barring = barring;
@@ -145,17 +194,24 @@ module _ (shard : ℕ) (x y : Index) (log : List LogRecord) (s : Sound log) (i :
       let r : LogRecord = End tx in
       let ws : standing (log ++ r ∷ []) ≡ standing log = standing_push log r in
       with_rest r z (plain r refl (λ run epoch. refl) (λ l. refl) (λ l. refl)) a.keeps
-      (same_writes r z ws a.writes (rw a.listers i.descends) (same_listers r z a.listers (λ t. listed_other log r t refl))
+      (same_writes r z ws a.writes (shares_kept r (λ u. refl) z a.writes ws) (rw a.listers i.descends) (same_listers r z a.listers (λ t. listed_other log r t refl))
       (λ t. ap (tx_in t) a.barring ∙ i.barring t ∙ sym (bars_other shard log r (λ u. refl) t refl refl (ap (newest_of t) ws)))) knows
 
   -- ---- COMMIT
 
-  after_commit : (tx : TxId) (parts : List ℕ) (z : Index) → AddsCommit x z tx → Knows y.facts (log ++ Commit tx parts ∷ []) → IsIndexOf shard (record z { facts = y.facts }) (log ++ Commit tx parts ∷ [])
+  shares_less : (r : LogRecord) (tx : TxId) (k : ℕ) → ((t : TxId) → committed_in (log ++ r ∷ []) t ≡ committed_in log t || tx_same tx t)
+      → settled_from x.writes tx (length log) (newest_by x.writes tx) k (shares_at x.writes k) ≡ shares_of (committed_in (log ++ r ∷ [])) k (standing log)
+  shares_less r tx k is =
+      ap (λ n. settled_from x.writes tx (length log) n k (shares_at x.writes k)) (i.newest tx) ∙ ap (settled_from x.writes tx (length log) (lsn_of (newest_of tx (standing log))) k) (i.shares k)
+      ∙ settled_shares (committed_in log) x.writes tx k (length log) (standing log) i.linked (falls_length (length log) (standing log) s.falls)
+      ∙ sym (shares_settled (committed_in log) (committed_in (log ++ r ∷ [])) tx is k (standing log))
+
+  after_commit : (tx : TxId) (parts : List ℕ) (z : Index) → AddsCommit x z (length log) tx → Knows y.facts (log ++ Commit tx parts ∷ []) → IsIndexOf shard (record z { facts = y.facts }) (log ++ Commit tx parts ∷ [])
   after_commit tx parts z a knows =
       let r : LogRecord = Commit tx parts in
       let ws : standing (log ++ r ∷ []) ≡ standing log = standing_push log r in
       with_rest r z (plain r refl (λ run epoch. refl) (λ l. refl) (λ l. refl)) a.keeps
-      (same_writes r z ws a.writes (rw a.listers i.descends) (same_listers r z a.listers (λ t. listed_other log r t refl))
+      (settled_writes r z ws tx a.writes (λ k. a.writes.shares k ∙ shares_less r tx k (λ u. any_push (is_commit_of u) log r ∙ ap (λ b. committed_in log u || b) (tx_symmetric u tx)) ∙ ap (shares_of (committed_in (log ++ r ∷ [])) k) (sym ws)) (rw a.listers i.descends) (same_listers r z a.listers (λ t. listed_other log r t refl))
       (λ t. a.barring t
       ∙ both (λ b. tx_same tx t ≡ b → cond b false (tx_in t x.barring) ≡ bars shard (log ++ r ∷ []) t) (tx_same tx t)
       (λ _ own. sym (not_bar (is_some (newest_of t (standing (log ++ r ∷ [])))) (committed_in (log ++ r ∷ []) t) (is_held shard (log ++ r ∷ []) t) (any_push (is_commit_of t) log r ∙ ap (λ b. committed_in log t || b) (tx_flip tx t own) ∙ or_yes (committed_in log t))))
@@ -214,7 +270,7 @@ module _ (shard : ℕ) (x y : Index) (log : List LogRecord) (s : Sound log) (i :
       let ws : standing (log ++ r ∷ []) ≡ standing log = standing_push log r in
       let lists = a.listers i.descends in
       with_rest r z (plain r refl (λ run epoch. refl) (λ l. refl) (λ l. refl)) a.keeps
-      (same_writes r z ws a.writes lists.descends
+      (same_writes r z ws a.writes (shares_kept r (λ u. refl) z a.writes ws) lists.descends
       (λ q t. lists.who q t ∙ ap (λ b. b || (tx_same tx t && tx_in q listed)) (i.listers q t)
       ∙ both (λ b. tx_same tx t ≡ b → tx_in q (listed_in log t) || (b && tx_in q listed) ≡ tx_in q (listed_in (log ++ r ∷ []) t)) (tx_same tx t)
       (λ _ own. subst (λ u. tx_in q (listed_in log u) || tx_in q listed ≡ tx_in q (listed_in (log ++ r ∷ []) u)) (tx_true tx t own) (lists_now tx home listed may q))
@@ -264,152 +320,194 @@ module _ (shard : ℕ) (x y : Index) (log : List LogRecord) (s : Sound log) (i :
       let r : LogRecord = Abort tx in
       let ws : standing (log ++ r ∷ []) ≡ standing log = standing_push log r in
       with_rest r z (plain r refl (λ run epoch. refl) (λ l. refl) (λ l. refl)) a.keeps
-      (same_writes r z ws a.writes (rw a.listers i.descends) (same_listers r z a.listers (λ t. listed_other log r t refl))
+      (same_writes r z ws a.writes (shares_kept r (λ u. refl) z a.writes ws) (rw a.listers i.descends) (same_listers r z a.listers (λ t. listed_other log r t refl))
       (λ t. a.barring t
       ∙ both (λ b. tx_same tx t ≡ b → cond b true (tx_in t x.barring || (tx_in t (listers_in x.listers tx) && bars_after_abort x t)) ≡ bars shard (log ++ r ∷ []) t) (tx_same tx t)
       (λ _ own. subst (λ u. true ≡ bars shard (log ++ r ∷ []) u) (tx_true tx t own) (sym (bars_self tx may)))
       (λ _ other. bars_lister tx may t (tx_symmetric t tx ∙ other)) refl)) knows
 
-  -- ---- UPDATE
+  -- ---- UPDATE and ADD
 
-  bars_writer : (tx : TxId) (key : ℕ) (before after : Option ValueType) → may_follow shard log (Update tx key before after) ≡ true → bars shard (log ++ Update tx key before after ∷ []) tx ≡ true
-  bars_writer tx key before after may =
-      let r : LogRecord = Update tx key before after in
-      let rule = update_rule shard log tx key before after may in
-      let w : StandingUpdate = record { lsn = length log; tx = tx; key = key; before = before; after = after } in
-      let stands : is_some (newest_of tx (standing (log ++ r ∷ []))) ≡ true = ap (λ ws. is_some (newest_of tx ws)) (standing_push log r) ∙ ap (λ b. is_some (cond b (Some w) (newest_of tx (standing log)))) (tx_self tx) in
-      let uncommitted : committed_in (log ++ r ∷ []) tx ≡ false = any_other (is_commit_of tx) log r refl ∙ rule.uncommitted in
-      let unheld : is_held shard (log ++ r ∷ []) tx ≡ false = held_other shard log r (λ u. refl) tx refl ∙ unprepared_unheld shard log tx rule.unprepared in
-      ap (λ b. b && not (committed_in (log ++ r ∷ []) tx) && not (is_held shard (log ++ r ∷ []) tx)) stands ∙ ap (λ b. true && not b && not (is_held shard (log ++ r ∷ []) tx)) uncommitted
-      ∙ ap (λ b. true && true && not b) unheld
+  module _ (r : LogRecord) (w : StandingUpdate) (at : w.lsn ≡ length log) (ws : standing (log ++ r ∷ []) ≡ w ∷ standing log) (other : IsOther r) (no_abort : (t : TxId) → is_abort_of t r ≡ false) (no_prepare : (t : TxId) → is_prepare_of t r ≡ false)
+      (no_commit : (t : TxId) → is_commit_of t r ≡ false) (may : WriteRule log w.tx) where
+    bars_writer : bars shard (log ++ r ∷ []) w.tx ≡ true
+    bars_writer =
+        let stands : is_some (newest_of w.tx (standing (log ++ r ∷ []))) ≡ true = ap (λ ws. is_some (newest_of w.tx ws)) ws ∙ ap (λ b. is_some (cond b (Some w) (newest_of w.tx (standing log)))) (tx_self w.tx) in
+        let uncommitted : committed_in (log ++ r ∷ []) w.tx ≡ false = any_other (is_commit_of w.tx) log r (no_commit w.tx) ∙ may.uncommitted in
+        let unheld : is_held shard (log ++ r ∷ []) w.tx ≡ false = held_other shard log r no_abort w.tx (no_prepare w.tx) ∙ unprepared_unheld shard log w.tx may.unprepared in
+        ap (λ b. b && not (committed_in (log ++ r ∷ []) w.tx) && not (is_held shard (log ++ r ∷ []) w.tx)) stands ∙ ap (λ b. true && not b && not (is_held shard (log ++ r ∷ []) w.tx)) uncommitted
+        ∙ ap (λ b. true && true && not b) unheld
 
-  after_update : (tx : TxId) (key : ℕ) (before after : Option ValueType) → slice_get x.writes.records.now (length log) ≡ Some (Update tx key before after)
-      → may_follow shard log (Update tx key before after) ≡ true → (z : Index) → AddsUpdate x z (length log) tx key → Knows y.facts (log ++ Update tx key before after ∷ []) → IsIndexOf shard (record z { facts = y.facts }) (log ++ Update tx key before after ∷ [])
-  after_update tx key before after at may z a knows =
-      let r : LogRecord = Update tx key before after in
-      let w : StandingUpdate = record { lsn = length log; tx = tx; key = key; before = before; after = after } in
-      let ws : standing (log ++ r ∷ []) ≡ w ∷ standing log = standing_push log r in
-      let rule = update_rule shard log tx key before after may in
-      let pushed : Pushes x.writes z.writes (link_of w (standing log)) = subst (Pushes x.writes z.writes) (linked_is x.writes (standing log) w i.linked (i.tops key) (i.newest tx)) (a.writes before after at) in
-      let below : (k : ℕ) → k < length log → write_at z.writes (Some k) ≡ write_at x.writes (Some k) =
-      λ k lt. pushed.rows k ∙ ap (λ b. cond b (Some (link_of w (standing log))) (write_at x.writes (Some k))) (ne_eqb (length log) k (λ e. absurd (omega arith))) in
-      let own : write_at z.writes (Some (length log)) ≡ Some (link_of w (standing log)) =
-      pushed.rows (length log) ∙ ap (λ b. cond b (Some (link_of w (standing log))) (write_at x.writes (Some (length log)))) (eq-eqb (length log) (length log) refl) in
-      with_rest r z (plain r refl (λ run epoch. refl) (λ l. refl) (λ l. refl)) a.keeps (record {
-        tops = λ k. pushed.tops k
-            ∙ both (λ b. (key == k) ≡ b → cond b (Some (length log)) (top_at x.writes k) ≡ lsn_of (cond b (Some w) (newest_at k (standing log)))) (key == k) (λ _ _. refl) (λ _ _. i.tops k) refl
-            ∙ ap (λ b. lsn_of (cond b (Some w) (newest_at k (standing log)))) (eq_flip key k) ∙ ap (λ l. lsn_of (newest_at k l)) (sym ws);
-        newest = λ t. pushed.newest t
-            ∙ both (λ b. tx_same tx t ≡ b → cond b (Some (length log)) (newest_by x.writes t) ≡ lsn_of (cond b (Some w) (newest_of t (standing log)))) (tx_same tx t) (λ _ _. refl) (λ _ _. i.newest t) refl
-            ∙ ap (λ b. lsn_of (cond b (Some w) (newest_of t (standing log)))) (tx_symmetric tx t) ∙ ap (λ l. lsn_of (newest_of t l)) (sym ws);
-        linked = rw ws (own, linked_stay x.writes z.writes (length log) below (standing log) s.falls i.linked);
-        descends = rw a.listers i.descends;
-        listers = same_listers r z a.listers (λ t. listed_other log r t refl);
-        barring = λ t. a.barring t
-            ∙ both (λ b. tx_same tx t ≡ b → cond b true (tx_in t x.barring) ≡ bars shard (log ++ r ∷ []) t) (tx_same tx t)
-            (λ _ same. sym (subst (λ u. bars shard (log ++ r ∷ []) u ≡ true) (tx_true tx t same) (bars_writer tx key before after may)))
-            (λ _ other. i.barring t ∙ sym (bars_other shard log r (λ u. refl) t refl refl (ap (newest_of t) ws ∙ ap (λ b. cond b (Some w) (newest_of t (standing log))) (tx_symmetric t tx ∙ other)))) refl;
-      }) knows
+    -- what stands at a key, by what stood there
+    at_own : {X : Type 0} (k : ℕ) (f : ℕ → X) (g : X → X) → cond (w.key == k) (g (f w.key)) (f k) ≡ cond (k == w.key) (g (f k)) (f k)
+    at_own k f g = both (λ b. (w.key == k) ≡ b → cond b (g (f w.key)) (f k) ≡ cond b (g (f k)) (f k)) (w.key == k) (λ _ e. ap (λ j. g (f j)) (eqb-true w.key k e)) (λ _ _. refl) refl ∙ ap (λ b. cond b (g (f k)) (f k)) (eq_flip w.key k)
 
-  -- ---- CLR
+    top_now : (c : Change) (n : ℕ) (o : Option ℕ) → top_after c n o ≡ cond (is_setting c) (Some n) o
+    top_now (Sets before after) n o = refl
+    top_now (Adding by) n o = refl
 
-  -- the rule finds the newest write of both the transaction and its key
-  compensated : (tx : TxId) (undo_next : Option ℕ) (key : ℕ) (after : Option ValueType) (o : Option StandingUpdate) → newest_of tx (standing log) ≡ o → compensates log tx undo_next key after o ≡ true → (w : StandingUpdate) × IsTop tx w (standing log)
-  compensated tx undo_next key after None is e = absurd cc
-  compensated tx undo_next key after (Some w) is e =
-      let a = and_first _ _ e in
-      let k : w.key ≡ key = eqb-true w.key key (and_first _ _ (and_first _ _ a)) in
-      top_found w is (newest_at key (standing log)) (ap (λ j. newest_at j (standing log)) k) (and_second _ _ a)
-    where
-      top_found : (w : StandingUpdate) → newest_of tx (standing log) ≡ Some w → (p : Option StandingUpdate) → newest_at w.key (standing log) ≡ p → elim p [ Some v ↦ v.lsn == w.lsn | None ↦ false ] ≡ true → (u : StandingUpdate) × IsTop tx u (standing log)
-      top_found w is None at e = absurd cc
-      top_found w is (Some v) at e =
-          let one : v ≡ w = same_lsn (length log) (standing log) tx w.key w v s.falls is at (eqb-true v.lsn w.lsn e) in
-          (w, record { newest = is; top = at ∙ ap Some one })
+    adds_now : (c : Change) (n : ℕ) → adds_after c n ≡ cond (is_setting c) 0 (n + 1)
+    adds_now (Sets before after) n = refl
+    adds_now (Adding by) n = refl
 
-  abbrev key_of : Option Write → Option ℕ
-  key_of None = None
-  key_of (Some v) = Some v.key
+    after_write : slice_get x.writes.records.now w.lsn ≡ Some (update_of w.tx w.key w.change) → (z : Index) → AddsWrite x z w.lsn w.tx w.key w.change → Knows y.facts (log ++ r ∷ []) → IsIndexOf shard (record z { facts = y.facts }) (log ++ r ∷ [])
+    after_write there z a knows =
+        let pushed : Pushes x.writes z.writes (link_of w (standing log)) = subst (Pushes x.writes z.writes) (linked_is x.writes (standing log) w (i.tops w.key) (i.adds w.key) (i.newest w.tx)) (a.writes there) in
+        let below : (k : ℕ) → k < w.lsn → write_at z.writes (Some k) ≡ write_at x.writes (Some k) =
+        λ k lt. pushed.rows k ∙ ap (λ b. cond b (Some (link_of w (standing log))) (write_at x.writes (Some k))) (ne_eqb w.lsn k (λ e. absurd (omega (arith, lt, e)))) in
+        let own : write_at z.writes (Some w.lsn) ≡ Some (link_of w (standing log)) =
+        pushed.rows w.lsn ∙ ap (λ b. cond b (Some (link_of w (standing log))) (write_at x.writes (Some w.lsn))) (eq-eqb w.lsn w.lsn refl) in
+        with_rest r z other a.keeps (record {
+          tops = λ k. pushed.tops k ∙ at_own k (top_at x.writes) (top_after w.change w.lsn)
+              ∙ ap (λ o. cond (k == w.key) o (top_at x.writes k)) (top_now w.change w.lsn (top_at x.writes k))
+              ∙ ap (λ o. cond (k == w.key) (cond (is_setting w.change) (Some w.lsn) o) o) (i.tops k) ∙ ap (top_set k) (sym ws);
+          adds = λ k. pushed.adds k ∙ at_own k (adds_at x.writes) (adds_after w.change)
+              ∙ ap (λ n. cond (k == w.key) n (adds_at x.writes k)) (adds_now w.change (adds_at x.writes k))
+              ∙ ap (λ n. cond (k == w.key) (cond (is_setting w.change) 0 (n + 1)) n) (i.adds k) ∙ ap (adds_over k) (sym ws);
+          values = λ k. pushed.values k ∙ at_own k (value_at x.writes) (changed w.change)
+              ∙ ap (λ v. cond (k == w.key) (changed w.change v) v) (i.values k) ∙ ap (top_value k) (sym ws);
+          newest = λ t. pushed.newest t
+              ∙ both (λ b. (tx_same w.tx t) ≡ b → cond b (Some w.lsn) (newest_by x.writes t) ≡ lsn_of (cond b (Some w) (newest_of t (standing log)))) (tx_same w.tx t) (λ _ _. refl) (λ _ _. i.newest t) refl
+              ∙ ap (λ b. lsn_of (cond b (Some w) (newest_of t (standing log)))) (tx_symmetric w.tx t) ∙ ap (λ l. lsn_of (newest_of t l)) (sym ws);
+          linked = rw ws (own, linked_stay x.writes z.writes w.lsn below (standing log) (subst (λ n. Falls n (standing log)) (sym at) s.falls) i.linked);
+          shares = λ k. pushed.shares k ∙ at_own k (shares_at x.writes) (with_share w.tx (is_setting w.change))
+              ∙ ap (λ l. cond (k == w.key) (with_share w.tx (is_setting w.change) l) l) (i.shares k ∙ sym (shares_same r no_commit k (standing log)))
+              ∙ sym (ap (λ b. cond ((k == w.key) && not b) (with_share w.tx (is_setting w.change) (shares_of (committed_in (log ++ r ∷ [])) k (standing log))) (shares_of (committed_in (log ++ r ∷ [])) k (standing log)))
+              (any_other (is_commit_of w.tx) log r (no_commit w.tx) ∙ may.uncommitted)
+              ∙ ap (λ b. cond b (with_share w.tx (is_setting w.change) (shares_of (committed_in (log ++ r ∷ [])) k (standing log))) (shares_of (committed_in (log ++ r ∷ [])) k (standing log))) (and_true (k == w.key)))
+              ∙ ap (shares_of (committed_in (log ++ r ∷ [])) k) (sym ws);
+          descends = rw a.listers i.descends;
+          listers = same_listers r z a.listers (λ t. listed_other log r t (no_prepare t));
+          barring = λ t. a.barring t
+              ∙ both (λ b. (tx_same w.tx t) ≡ b → cond b true (tx_in t x.barring) ≡ bars shard (log ++ r ∷ []) t) (tx_same w.tx t)
+              (λ _ same. sym (subst (λ u. bars shard (log ++ r ∷ []) u ≡ true) (tx_true w.tx t same) bars_writer))
+              (λ _ foreign. i.barring t ∙ sym (bars_other shard log r no_abort t (no_prepare t) (no_commit t) (ap (newest_of t) ws ∙ ap (λ b. cond b (Some w) (newest_of t (standing log))) (tx_symmetric t w.tx ∙ foreign)))) refl;
+        }) knows
 
-  abbrev key_in : Option StandingUpdate → Option ℕ
-  key_in None = None
-  key_in (Some v) = Some v.key
+  -- ---- CLR and UNADD
 
-  -- what is taken off, by the table
-  popped : (tx : TxId) (w : StandingUpdate) → IsTop tx w (standing log) → (z : Index) (o : Option Write) → link_newest tx (standing log) ≡ o → Pops x.writes z.writes tx o
-      → ((k : ℕ) → write_at z.writes (Some k) ≡ write_at x.writes (Some k)) × ((k : ℕ) → top_at z.writes k ≡ lsn_of (newest_at k (without_newest tx (standing log)))) × ((t : TxId) → newest_by z.writes t ≡ lsn_of (newest_of t (without_newest tx (standing log))))
-  popped tx w top z None is a =
-      let none : None ≡ Some w.key = sym (ap key_of is) ∙ by_newest key_of key_in refl (λ u us. refl) tx (standing log) ∙ ap key_in top.newest in
-      absurd cc
-  popped tx w top z (Some v) is a =
-      let keys : Some v.key ≡ Some w.key = sym (ap key_of is) ∙ by_newest key_of key_in refl (λ u us. refl) tx (standing log) ∙ ap key_in top.newest in
-      let key : v.key ≡ w.key = cc in
-      let below : v.below ≡ lsn_of (newest_at w.key (without_newest tx (standing log))) = sym (ap below_of is) ∙ below_is_left tx w (standing log) top in
-      let earlier : v.earlier ≡ lsn_of (newest_of tx (without_newest tx (standing log))) = sym (ap earlier_of is) ∙ earlier_is_left tx (standing log) in (
-        a.rows,
-        λ k. a.tops k
-            ∙ both (λ b. (v.key == k) ≡ b → cond b v.below (top_at x.writes k) ≡ lsn_of (newest_at k (without_newest tx (standing log)))) (v.key == k)
-            (λ _ e. below ∙ ap (λ j. lsn_of (newest_at j (without_newest tx (standing log)))) (sym key ∙ eqb-true v.key k e))
-            (λ _ e. i.tops k ∙ ap lsn_of (sym (at_other tx w k (standing log) top (eq_flip k w.key ∙ ap (λ j. j == k) (sym key) ∙ e)))) refl,
-        λ t. a.newest t
-            ∙ both (λ b. tx_same tx t ≡ b → cond b v.earlier (newest_by x.writes t) ≡ lsn_of (newest_of t (without_newest tx (standing log)))) (tx_same tx t)
-            (λ _ own. earlier ∙ ap (λ u. lsn_of (newest_of u (without_newest tx (standing log)))) (tx_true tx t own))
-            (λ _ other. i.newest t ∙ ap lsn_of (sym (of_other tx t (standing log) other))) refl,
-      )
+  newest_found : (tx : TxId) (over : List StandingUpdate) (w : StandingUpdate) (under : List StandingUpdate) → AllByRecursion (λ v. tx_same tx v.tx ≡ false) over → tx_same tx w.tx ≡ true → newest_of tx (over ++ w ∷ under) ≡ Some w
+  newest_found tx [] w under others own = ap (λ b. cond b (Some w) (newest_of tx under)) own
+  newest_found tx (v ∷ vs) w under others own = ap (λ b. cond b (Some v) (newest_of tx (vs ++ w ∷ under))) others.0 ∙ newest_found tx vs w under others.1 own
 
-  bars_undone : (tx : TxId) (undo_next : Option ℕ) (key : ℕ) (after : Option ValueType) (w : StandingUpdate) → IsTop tx w (standing log) → (z : Index) → newest_by z.writes tx ≡ lsn_of (newest_of tx (without_newest tx (standing log)))
-      → is_some (newest_by z.writes tx) && tx_in tx x.barring ≡ bars shard (log ++ Clr tx undo_next key after ∷ []) tx
-  bars_undone tx undo_next key after w top z left =
-      let r : LogRecord = Clr tx undo_next key after in
-      let us = without_newest tx (standing log) in
-      let stands : is_some (newest_of tx (standing log)) ≡ true = ap is_some top.newest in
-      let now : bars shard (log ++ r ∷ []) tx ≡ is_some (newest_of tx us) && not (committed_in log tx) && not (is_held shard log tx) =
-      ap (λ o. is_some o && not (committed_in (log ++ r ∷ []) tx) && not (is_held shard (log ++ r ∷ []) tx)) (ap (newest_of tx) (standing_push log r))
-      ∙ ap (λ b. is_some (newest_of tx us) && not b && not (is_held shard (log ++ r ∷ []) tx)) (any_other (is_commit_of tx) log r refl)
-      ∙ ap (λ b. is_some (newest_of tx us) && not (committed_in log tx) && not b) (held_other shard log r (λ u. refl) tx refl) in
-      ap (λ o. is_some o && tx_in tx x.barring) left ∙ ap (λ b. b && tx_in tx x.barring) (some_lsn (newest_of tx us)) ∙ ap (λ b. is_some (newest_of tx us) && b) (i.barring tx)
-      ∙ ap (λ b. is_some (newest_of tx us) && (b && not (committed_in log tx) && not (is_held shard log tx))) stands
-      ∙ joined (is_some (newest_of tx us)) (not (committed_in log tx)) (not (is_held shard log tx)) ∙ sym now
-    where
-      some_lsn : (o : Option StandingUpdate) → is_some (lsn_of o) ≡ is_some o
-      some_lsn None = refl
-      some_lsn (Some v) = refl
+  chain_under : (over : List StandingUpdate) (w : StandingUpdate) (under : List StandingUpdate) → Chain (over ++ w ∷ under) → IsOver w.change (top_value w.key under)
+  chain_under [] w under chain = chain.0
+  chain_under (v ∷ vs) w under chain = chain_under vs w under chain.1
 
-      joined : (n c h : Bool) → n && (true && c && h) ≡ n && c && h
-      joined true c h = refl
-      joined false c h = refl
+  module _ (r : LogRecord) (tx : TxId) (ws : standing (log ++ r ∷ []) ≡ without_newest tx (standing log)) (other : IsOther r) (no_abort : (t : TxId) → is_abort_of t r ≡ false) (no_prepare : (t : TxId) → is_prepare_of t r ≡ false)
+      (no_commit : (t : TxId) → is_commit_of t r ≡ false) (aborted : aborted_in log tx ≡ true) (u : Undoes tx (standing log)) where
+    abbrev link : Write
+    link = link_of u.write u.under
 
-  after_clr : (tx : TxId) (undo_next : Option ℕ) (key : ℕ) (after : Option ValueType) → may_follow shard log (Clr tx undo_next key after) ≡ true → (z : Index) → AddsClr x z tx
-      → Knows y.facts (log ++ Clr tx undo_next key after ∷ []) → IsIndexOf shard (record z { facts = y.facts }) (log ++ Clr tx undo_next key after ∷ [])
-  after_clr tx undo_next key after may z a knows =
-      let r : LogRecord = Clr tx undo_next key after in
-      let us : List StandingUpdate = without_newest tx (standing log) in
-      let ws : standing (log ++ r ∷ []) ≡ us = standing_push log r in
-      let rule = clr_rule shard log tx undo_next key after may in
-      let found = compensated tx undo_next key after (newest_of tx (standing log)) refl rule.compensates in
-      let w = found.0 in
-      let top = found.1 in
-      let link : write_at x.writes (newest_by x.writes tx) ≡ link_newest tx (standing log) = ap (write_at x.writes) (i.newest tx) ∙ at_newest x.writes tx (standing log) i.linked in
-      let rest = popped tx w top z (link_newest tx (standing log)) refl (subst (Pops x.writes z.writes tx) link a.writes) in
-      with_rest r z (plain r refl (λ run epoch. refl) (λ l. refl) (λ l. refl)) a.keeps (record {
-        tops = λ k. rest.1 k ∙ ap (λ l. lsn_of (newest_at k l)) (sym ws);
-        newest = λ t. rest.2 t ∙ ap (λ l. lsn_of (newest_of t l)) (sym ws);
-        linked = rw ws (linked_without z.writes tx w (standing log) top (linked_stay x.writes z.writes (length log) (λ k _. rest.0 k) (standing log) s.falls i.linked));
-        descends = rw a.listers i.descends;
-        listers = same_listers r z a.listers (λ t. listed_other log r t refl);
-        barring = λ t. a.barring t
-            ∙ both (λ b. tx_same tx t ≡ b → cond b (is_some (newest_by z.writes tx) && tx_in t x.barring) (tx_in t x.barring) ≡ bars shard (log ++ r ∷ []) t) (tx_same tx t)
-            (λ _ own. subst (λ u. is_some (newest_by z.writes tx) && tx_in u x.barring ≡ bars shard (log ++ r ∷ []) u) (tx_true tx t own) (bars_undone tx undo_next key after w top z (rest.2 tx)))
-            (λ _ other. i.barring t ∙ sym (bars_other shard log r (λ u. refl) t refl refl (ap (newest_of t) ws ∙ of_other tx t (standing log) other))) refl;
-      }) knows
+    now : standing (log ++ r ∷ []) ≡ u.over ++ u.under
+    now = ws ∙ ap (without_newest tx) u.is ∙ left_is tx u.over u.write u.under u.others u.own
+
+    newest_was : newest_of tx (standing log) ≡ Some u.write
+    newest_was = ap (newest_of tx) u.is ∙ newest_found tx u.over u.write u.under u.others u.own
+
+    found : write_at x.writes (newest_by x.writes tx) ≡ Some link
+    found = ap (write_at x.writes) (i.newest tx ∙ ap lsn_of newest_was) ∙ linked_at x.writes u.over u.write u.under (subst (Linked x.writes) u.is i.linked)
+
+    chained : IsOver u.write.change (top_value u.write.key u.under)
+    chained = chain_under u.over u.write u.under (subst Chain u.is s.chain)
+
+    uncommitted : committed_in log u.write.tx ≡ false
+    uncommitted = both (λ b. committed_in log u.write.tx ≡ b → b ≡ false) (committed_in log u.write.tx)
+        (λ _ c. absurd (both_ways _ (s.fates u.write.tx c) (ap (aborted_in log) (sym (tx_true tx u.write.tx u.own)) ∙ aborted))) (λ _ _. refl) refl
+
+    there : is_there x.writes u.write.key ≡ true
+    there = at (top_of x.writes u.write.key) refl
+      where
+        at : (o : Option Top) → top_of x.writes u.write.key ≡ o → is_some o ≡ true
+        at (Some t) e = refl
+        at None e =
+            absurd (something_there u.write u.over u.under u.clear
+            (sym (i.tops u.write.key ∙ ap (top_set u.write.key) u.is) ∙ ap (λ o. elim o [ None ↦ None | Some t ↦ t.update ]) e)
+            (sym (i.adds u.write.key ∙ ap (adds_over u.write.key) u.is) ∙ ap (λ o. elim o [ None ↦ 0 | Some t ↦ t.adds ]) e))
+
+    -- at each key, by what stood there
+    by_keys : {X : Type 0} (f : ℕ → X) (g : ℕ → List StandingUpdate → X) (h : X → X) → ((k : ℕ) → f k ≡ g k (standing log))
+        → ((k : ℕ) → g k (u.over ++ u.under) ≡ cond (u.write.key == k) (h (g u.write.key (u.over ++ u.write ∷ u.under))) (g k (u.over ++ u.write ∷ u.under)))
+        → (k : ℕ) → cond (u.write.key == k) (h (f u.write.key)) (f k) ≡ g k (standing (log ++ r ∷ []))
+    by_keys f g h was left k =
+        ap (λ v. cond (u.write.key == k) (h v) (f k)) (was u.write.key ∙ ap (g u.write.key) u.is) ∙ ap (λ v. cond (u.write.key == k) (h (g u.write.key (u.over ++ u.write ∷ u.under))) v) (was k ∙ ap (g k) u.is)
+        ∙ sym (left k) ∙ ap (g k) (sym now)
+
+    shares_left : (k : ℕ) → shares_of (committed_in log) k (u.over ++ u.under)
+        ≡ cond (u.write.key == k) (without_share tx (is_setting u.write.change) (shares_of (committed_in log) u.write.key (u.over ++ u.write ∷ u.under))) (shares_of (committed_in log) k (u.over ++ u.write ∷ u.under))
+    shares_left k =
+        both (λ b. (u.write.key == k) ≡ b → shares_of (committed_in log) k (u.over ++ u.under)
+        ≡ cond b (without_share tx (is_setting u.write.change) (shares_of (committed_in log) u.write.key (u.over ++ u.write ∷ u.under))) (shares_of (committed_in log) k (u.over ++ u.write ∷ u.under))) (u.write.key == k)
+        (λ _ e. ap (λ j. shares_of (committed_in log) j (u.over ++ u.under)) (sym (eqb-true u.write.key k e)) ∙ shares_here (committed_in log) tx u.write u.over u.under u.others u.own uncommitted)
+        (λ _ e. shares_elsewhere (committed_in log) k u.write u.over u.under (eq_flip k u.write.key ∙ e)) refl
+
+    bars_undone : (z : Index) → newest_by z.writes tx ≡ lsn_of (newest_of tx (standing (log ++ r ∷ []))) → is_some (newest_by z.writes tx) && tx_in tx x.barring ≡ bars shard (log ++ r ∷ []) tx
+    bars_undone z left =
+        let o = newest_of tx (standing (log ++ r ∷ [])) in
+        let is_now : bars shard (log ++ r ∷ []) tx ≡ is_some o && not (committed_in log tx) && not (is_held shard log tx) =
+        ap (λ b. is_some o && not b && not (is_held shard (log ++ r ∷ []) tx)) (any_other (is_commit_of tx) log r (no_commit tx))
+        ∙ ap (λ b. is_some o && not (committed_in log tx) && not b) (held_other shard log r no_abort tx (no_prepare tx)) in
+        ap (λ p. is_some p && tx_in tx x.barring) left ∙ ap (λ b. b && tx_in tx x.barring) (some_lsn o) ∙ ap (λ b. is_some o && b) (i.barring tx)
+        ∙ ap (λ p. is_some o && (is_some p && not (committed_in log tx) && not (is_held shard log tx))) newest_was
+        ∙ joined (is_some o) (not (committed_in log tx)) (not (is_held shard log tx)) ∙ sym is_now
+      where
+        some_lsn : (o : Option StandingUpdate) → is_some (lsn_of o) ≡ is_some o
+        some_lsn None = refl
+        some_lsn (Some v) = refl
+
+        joined : (n c h : Bool) → n && (true && c && h) ≡ n && c && h
+        joined true c h = refl
+        joined false c h = refl
+
+    after_undo : (z : Index) → AddsUndo x z tx → Knows y.facts (log ++ r ∷ []) → IsIndexOf shard (record z { facts = y.facts }) (log ++ r ∷ [])
+    after_undo z a knows =
+        let popped : PopsWrite x.writes z.writes tx link = subst (Pops x.writes z.writes tx) found a.writes there in
+        let newest : (t : TxId) → newest_by z.writes t ≡ lsn_of (newest_of t (standing (log ++ r ∷ []))) =
+        λ t. popped.newest t ∙ ap (cond (tx_same tx t) link.earlier) (i.newest t ∙ ap (λ l. lsn_of (newest_of t l)) u.is)
+        ∙ sym (newest_left tx u.write u.over u.under u.others u.own u.clear chained t) ∙ ap (λ l. lsn_of (newest_of t l)) (sym now) in
+        with_rest r z other a.keeps (record {
+          tops = λ k. popped.tops k
+              ∙ by_keys (top_at x.writes) top_set (top_before link u.write.change) i.tops (tops_left tx u.write u.over u.under u.others u.own u.clear chained) k;
+          adds = λ k. popped.adds k
+              ∙ by_keys (adds_at x.writes) adds_over (adds_before link u.write.change) i.adds (adds_left tx u.write u.over u.under u.others u.own u.clear chained) k;
+          values = λ k. popped.values k
+              ∙ by_keys (value_at x.writes) top_value (unchanged u.write.change) i.values (values_left tx u.write u.over u.under u.others u.own u.clear chained) k;
+          newest = newest;
+          linked = subst (Linked z.writes) (sym now)
+              (linked_left z.writes tx u.write u.over u.under u.others u.own u.clear
+              (subst (Linked z.writes) u.is (linked_stay x.writes z.writes (length log) (λ k _. popped.rows k) (standing log) s.falls i.linked)));
+          shares = λ k. popped.shares k
+              ∙ by_keys (shares_at x.writes) (shares_of (committed_in log)) (without_share tx (is_setting u.write.change)) i.shares shares_left k
+              ∙ sym (shares_same r no_commit k (standing (log ++ r ∷ [])));
+          descends = rw a.listers i.descends;
+          listers = same_listers r z a.listers (λ t. listed_other log r t (no_prepare t));
+          barring = λ t. a.barring t
+              ∙ both (λ b. (tx_same tx t) ≡ b → cond b (is_some (newest_by z.writes tx) && tx_in t x.barring) (tx_in t x.barring) ≡ bars shard (log ++ r ∷ []) t) (tx_same tx t)
+              (λ _ own. subst (λ v. is_some (newest_by z.writes tx) && tx_in v x.barring ≡ bars shard (log ++ r ∷ []) v) (tx_true tx t own) (bars_undone z (newest tx)))
+              (λ _ foreign. i.barring t ∙ sym (bars_other shard log r no_abort t (no_prepare t) (no_commit t) (ap (newest_of t) ws ∙ of_other tx t (standing log) foreign))) refl;
+        }) knows
 
 -- ---- each kind
 
 grows_between : (shard : ℕ) (x y z : Index) (log : List LogRecord) (r : LogRecord) → Sound log → IsIndexOf shard x log → slice_get x.writes.records.now (length log) ≡ Some r → may_follow shard log r ≡ true → ((run epoch : ℕ) → r ≡ Restart run epoch → is_above run epoch x.last ≡ true)
     → Places x z (length log) r → Knows y.facts (log ++ r ∷ []) → IsIndexOf shard (record z { facts = y.facts }) (log ++ r ∷ [])
 grows_between shard x y z log (Restart run epoch) s i at may above a knows = after_restart shard x y log s i run epoch (above run epoch refl) z a knows
-grows_between shard x y z log (Update tx key before after) s i at may above a knows = after_update shard x y log s i tx key before after at may z a knows
-grows_between shard x y z log (Clr tx undo_next key after) s i at may above a knows = after_clr shard x y log s i tx undo_next key after may z a knows
+grows_between shard x y z log (Update tx key before after) s i at may above a knows =
+    let r : LogRecord = Update tx key before after in
+    let w : StandingUpdate = record { lsn = length log; tx = tx; key = key; change = Sets before after } in
+    after_write shard x y log s i r w refl (standing_push log r) (plain shard x y log s i r refl (λ run epoch. refl) (λ l. refl) (λ l. refl)) (λ t. refl) (λ t. refl) (λ t. refl) (update_rule shard log tx key before after may).may at z a knows
+grows_between shard x y z log (Add tx key by) s i at may above a knows =
+    let r : LogRecord = Add tx key by in
+    let w : StandingUpdate = record { lsn = length log; tx = tx; key = key; change = Adding by } in
+    after_write shard x y log s i r w refl (standing_push log r) (plain shard x y log s i r refl (λ run epoch. refl) (λ l. refl) (λ l. refl)) (λ t. refl) (λ t. refl) (λ t. refl) (add_rule shard log tx key by may).may at z a knows
+grows_between shard x y z log (Clr tx undo_next key after) s i at may above a knows =
+    let r : LogRecord = Clr tx undo_next key after in
+    after_undo shard x y log s i r tx (standing_push log r) (plain shard x y log s i r refl (λ run epoch. refl) (λ l. refl) (λ l. refl)) (λ t. refl) (λ t. refl) (λ t. refl) (clr_rule shard log tx undo_next key after may).aborted
+    (clr_undoes shard (length log) log tx undo_next key after s.falls may) z a knows
+grows_between shard x y z log (Unadd tx undo_next key by) s i at may above a knows =
+    let r : LogRecord = Unadd tx undo_next key by in
+    after_undo shard x y log s i r tx (standing_push log r) (plain shard x y log s i r refl (λ run epoch. refl) (λ l. refl) (λ l. refl)) (λ t. refl) (λ t. refl) (λ t. refl) (unadd_rule shard log tx undo_next key by may).aborted
+    (unadd_undoes shard (length log) log tx undo_next key by s.falls may) z a knows
 grows_between shard x y z log (Prepare tx home listed) s i at may above a knows = after_prepare shard x y log s i tx home listed may z a knows
 grows_between shard x y z log (Commit tx parts) s i at may above a knows = after_commit shard x y log s i tx parts z a knows
 grows_between shard x y z log (Abort tx) s i at may above a knows = after_abort shard x y log s i tx may z a knows
@@ -423,15 +521,19 @@ same_facts x z n (Prepare tx home listed) a = a.keeps.facts
 same_facts x z n (Commit tx parts) a = a.keeps.facts
 same_facts x z n (Abort tx) a = a.keeps.facts
 same_facts x z n (End tx) a = a.keeps.facts
+same_facts x z n (Add tx key by) a = a.keeps.facts
+same_facts x z n (Unadd tx undo_next key by) a = a.keeps.facts
 
 same_records : (x z : Index) (n : ℕ) (r : LogRecord) → Places x z n r → z.writes.records ≡ x.writes.records
 same_records x z n (Restart run epoch) a = ap (λ w. w.records) a.writes
 same_records x z n (Update tx key before after) a = a.records
 same_records x z n (Clr tx undo_next key after) a = a.records
 same_records x z n (Prepare tx home listed) a = ap (λ w. w.records) a.writes
-same_records x z n (Commit tx parts) a = ap (λ w. w.records) a.writes
+same_records x z n (Commit tx parts) a = a.writes.keeps.records
 same_records x z n (Abort tx) a = ap (λ w. w.records) a.writes
 same_records x z n (End tx) a = ap (λ w. w.records) a.writes
+same_records x z n (Add tx key by) a = a.records
+same_records x z n (Unadd tx undo_next key by) a = a.records
 
 pub keeps_records : (x y : Index) (n : ℕ) (r : LogRecord) → Adds x y n r → y.writes.records ≡ x.writes.records
 keeps_records x y n r a = ap (λ v. v.writes.records) a.rest ∙ same_records x a.between n r a.places

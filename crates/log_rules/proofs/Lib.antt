@@ -14,4 +14,7 @@ pub mod Walking
 pub mod Walks
 pub mod Committing
 pub mod Homes
+pub mod Pushing
+pub mod ShareLists
+pub mod Standing
 pub mod SoundLogs

@@ -1,24 +1,31 @@
 -- What holds of a log in order.
-use Rattle.std.proofs.Common.{◌≡◌, ℕ, ◌+◌, Bool, true, false, cond, not, ◌&&◌, ◌||◌, ◌==◌, List, [], ◌∷◌, ◌++◌, length, Some, None, is_some, ⊎_elim, refl, sym, ap, subst, ◌∙◌, append_assoc, append-nil, arith}
-use Rattle.std.specs.List.{list_any, list_all}
-use Rattle.std.proofs.lemmas.Bool.{both_ways, or_cases, or_parts, or_right}
+use Rattle.std.proofs.Common.{◌≡◌, ℕ, ◌+◌, Bool, true, false, cond, not, ◌&&◌, ◌||◌, ◌==◌, List, [], ◌∷◌, ◌++◌, length, Option, Some, None, is_some, ⊎_elim, refl, sym, ap, subst, ◌∙◌, append_assoc, append-nil, arith}
+use Rattle.std.specs.List.{AllByRecursion, list_any, list_all}
+use Rattle.std.proofs.lemmas.Bool.{both_ways, cond-false, or_cases, or_parts, or_right}
 use Rattle.std.proofs.lemmas.List.{length_push}
 use Rattle.clv_base.specs.declared.names.TxId.{TxId}
+use Rattle.clv_base.specs.declared.changes.Change.{Change}
+use Rattle.clv_base.specs.declared.changes.Change.TheVariants.{Sets, Adds}
 use Rattle.clv_base.specs.declared.logs.LogRecord.{LogRecord}
-use Rattle.clv_base.specs.declared.logs.LogRecord.TheVariants.{Update, Clr, Prepare, Commit, Abort, End, Restart}
-use Rattle.clv_base.specs.Orders.{tx_same}
-use Rattle.clv_base.specs.Logs.{StandingUpdate, is_update_of, is_commit_of, is_prepare_of, is_abort_of, wrote_in, committed_in, prepared_in, aborted_in, prepare_of, standing, standing_after, newest_of, without_newest}
-use Rattle.clv_base.specs.LogRules.{since_restart, may_follow}
+use Rattle.clv_base.specs.declared.logs.LogRecord.TheVariants.{Update, Clr, Prepare, Commit, Abort, End, Restart, Add, Unadd}
+use Rattle.clv_base.specs.Orders.{tx_same, tx_in}
+use Rattle.clv_base.specs.Logs.{StandingUpdate, is_setting, is_update_of, is_commit_of, is_prepare_of, is_abort_of, wrote_in, committed_in, prepared_in, aborted_in, prepare_of, standing, standing_after, newest_of, without_newest, value_in}
+use Rattle.clv_base.specs.LogRules.{since_restart, listed_in, may_cover, may_follow}
 use Rattle.clv_base.proofs.SameNames.{tx_true, tx_self}
-use Rattle.log_analysis.proofs.Laws.Bools.{and_first, and_second, and_both, all_weaker}
+use Rattle.log_analysis.proofs.Laws.Bools.{and_first, and_second, all_weaker}
 use Rattle.log_analysis.proofs.Laws.Pushes.{any_push}
-use Rattle.log_rules.proofs.Below.{Sinks, each_passes, below_is, others_pass}
-use Rattle.log_rules.proofs.RuleParts.{update_rule, prepare_rule, commit_rule, abort_rule, clr_rule}
-use Rattle.log_rules.proofs.Links.{of_other}
+use Rattle.log_rules.proofs.Below.{Covers, all_pass, below_is, pass_more, pass_fewer, pass_pushed}
+use Rattle.log_rules.proofs.RuleParts.{Undoes, update_rule, add_rule, prepare_rule, commit_rule, abort_rule, clr_rule, unadd_rule, clr_undoes, unadd_undoes}
+use Rattle.log_rules.proofs.Standing.{top_value, IsClear, ahead, value_step, left_is}
+use Rattle.law_base.specs.Items.{AllLater}
 use Rattle.law_base.proofs.Sets.{same_flip as tx_symmetric}
 use Rattle.law_base.proofs.Bools.{by_bool as both, or_false, or_assoc}
+use Rattle.law_base.proofs.Lists.{later_mono}
 use Rattle.law_base.proofs.Names.{Falls, falls_weaker, falls_without}
+use Rattle.law_base.proofs.Numbers.{unequal_flip}
+use Rattle.law_base.proofs.Options.{optional_value_true}
 use Rattle.law_base.proofs.Logs.{standing_push, push_left as any_more, no_prepare}
+use Rattle.law_base.proofs.Undoing.{IsOver, Chain}
 
 -- so it is of each PREPARE
 abbrev pub EachPrepare : (TxId → ℕ → List TxId → Type 0) → List LogRecord → Type 0
@@ -32,11 +39,23 @@ ListsEarlier seen [] = Unit {0}
 ListsEarlier seen (Prepare tx home listed ∷ rs) = (list_all (prepared_in seen) listed ≡ true) × ListsEarlier (seen ++ Prepare tx home listed ∷ []) rs
 ListsEarlier seen (r ∷ rs) = ListsEarlier (seen ++ r ∷ []) rs
 
+-- prepared, committed or aborted
+abbrev pub closed_in : List LogRecord → TxId → Bool
+closed_in log t = prepared_in log t || (committed_in log t || aborted_in log t)
+
+-- committed, or listed by another one
+abbrev pub may_lie : List LogRecord → TxId → TxId → Bool
+may_lie log t u = committed_in log u || tx_in u (listed_in log t)
+
 pub record Sound (log : List LogRecord) : Type 0 where
   -- the LSNs of the writes that stand fall, from the newest on
   pub falls : Falls (length log) (standing log)
-  -- below a committed write all at its key are committed
-  pub sinks : Sinks (committed_in log) (standing log)
+  -- each UPDATE names the value below it
+  pub chain : Chain (standing log)
+  -- who is written over by another is closed
+  pub covers : AllLater (Covers (closed_in log)) (standing log)
+  -- below the writes of a PREPARE without an ABORT all others' are committed or listed
+  pub below : (t : TxId) → prepared_in log t ≡ true → aborted_in log t ≡ false → all_pass (may_lie log t) t (standing log) ≡ true
   pub fates : (t : TxId) → committed_in log t ≡ true → aborted_in log t ≡ false
   -- who wrote and has no ABORT has a write that stands
   pub stands : (t : TxId) → wrote_in log t ≡ true → aborted_in log t ≡ false → is_some (newest_of t (standing log)) ≡ true
@@ -53,36 +72,45 @@ any_other test log r other = any_push test log r ∙ ap (λ b. list_any test log
 any_less : (test : LogRecord → Bool) (log : List LogRecord) (r : LogRecord) → list_any test (log ++ r ∷ []) ≡ false → list_any test log ≡ false
 any_less test log r none = (or_parts (list_any test log) (test r) (sym (any_push test log r) ∙ none)).0
 
-sinks_same : (c d : TxId → Bool) → ((t : TxId) → c t ≡ d t) → (ws : List StandingUpdate) → Sinks c ws → Sinks d ws
-sinks_same c d same [] sinks = tt
-sinks_same c d same (w ∷ ws) sinks = (
-  λ e. all_weaker (λ v. not (w.key == v.key) || c v.tx) (λ v. not (w.key == v.key) || d v.tx) (λ v h. sym (ap (λ b. not (w.key == v.key) || b) (same v.tx)) ∙ h) ws (sinks.0 (same w.tx ∙ e)),
-  sinks_same c d same ws sinks.1,
-)
+closed_more : (log : List LogRecord) (r : LogRecord) (t : TxId) → closed_in log t ≡ true → closed_in (log ++ r ∷ []) t ≡ true
+closed_more log r t e =
+    ⊎_elim (λ p. ap (λ b. b || (committed_in (log ++ r ∷ []) t || aborted_in (log ++ r ∷ []) t)) (any_more (is_prepare_of t) log r p))
+    (λ rest. or_right (prepared_in (log ++ r ∷ []) t) (committed_in (log ++ r ∷ []) t || aborted_in (log ++ r ∷ []) t)
+    (⊎_elim (λ c. ap (λ b. b || aborted_in (log ++ r ∷ []) t) (any_more (is_commit_of t) log r c)) (λ a. or_right (committed_in (log ++ r ∷ []) t) (aborted_in (log ++ r ∷ []) t) (any_more (is_abort_of t) log r a))
+    (or_cases (committed_in log t) (aborted_in log t) rest)))
+    (or_cases (prepared_in log t) (committed_in log t || aborted_in log t) e)
 
-sinks_without : (c : TxId → Bool) (tx : TxId) (ws : List StandingUpdate) → Sinks c ws → Sinks c (without_newest tx ws)
-sinks_without c tx [] sinks = tt
-sinks_without c tx (w ∷ ws) sinks =
-    both (λ b. Sinks c (cond b ws (w ∷ without_newest tx ws))) (tx_same tx w.tx) (λ _. sinks.1)
-    (λ _. (λ e. all_without (λ v. not (w.key == v.key) || c v.tx) ws (sinks.0 e), sinks_without c tx ws sinks.1))
+covers_more : (log : List LogRecord) (r : LogRecord) (ws : List StandingUpdate) → AllLater (Covers (closed_in log)) ws → AllLater (Covers (closed_in (log ++ r ∷ []))) ws
+covers_more log r ws later = later_mono (Covers (closed_in log)) (Covers (closed_in (log ++ r ∷ []))) (λ v w h at sets other. closed_more log r w.tx (h at sets other)) ws later
+
+all_fewer : (P : StandingUpdate → Type 0) (over : List StandingUpdate) (w : StandingUpdate) (under : List StandingUpdate) → AllByRecursion P (over ++ w ∷ under) → AllByRecursion P (over ++ under)
+all_fewer P [] w under all = all.1
+all_fewer P (v ∷ vs) w under all = (all.0, all_fewer P vs w under all.1)
+
+later_fewer : (R : StandingUpdate → StandingUpdate → Type 0) (over : List StandingUpdate) (w : StandingUpdate) (under : List StandingUpdate) → AllLater R (over ++ w ∷ under) → AllLater R (over ++ under)
+later_fewer R [] w under later = later.1
+later_fewer R (v ∷ vs) w under later = (all_fewer (R v) vs w under later.0, later_fewer R vs w under later.1)
+
+chain_fewer : (over : List StandingUpdate) (w : StandingUpdate) (under : List StandingUpdate) → AllByRecursion (IsClear w) over → Chain (over ++ w ∷ under) → Chain (over ++ under)
+chain_fewer [] w under clear chain = chain.1
+chain_fewer (v ∷ vs) w under clear chain = (at v.change refl chain.0, chain_fewer vs w under clear.1 chain.1)
   where
-    all_without : (p : StandingUpdate → Bool) (vs : List StandingUpdate) → list_all p vs ≡ true → list_all p (without_newest tx vs) ≡ true
-    all_without p [] all = refl
-    all_without p (v ∷ vs) all =
-        both (λ b. list_all p (cond b vs (v ∷ without_newest tx vs)) ≡ true) (tx_same tx v.tx) (λ _. and_second (p v) (list_all p vs) all)
-        (λ _. and_both (p v) (list_all p (without_newest tx vs)) (and_first (p v) (list_all p vs) all) (all_without p vs (and_second (p v) (list_all p vs) all)))
+    at : (c : Change) → v.change ≡ c → IsOver c (top_value v.key (vs ++ w ∷ under)) → IsOver c (top_value v.key (vs ++ under))
+    at (Adds n) e is = tt
+    at (Sets before after) e is =
+        is ∙ ahead (top_value v.key) (value_step v.key) vs (w ∷ under) under
+        (cond-false _ _ _ (both (λ b. (w.key == v.key) ≡ b → (v.key == w.key) ≡ false) (w.key == v.key) (λ _ same. absurd (both_ways _ (clear.0 same).0 (ap is_setting e))) (λ _ apart. unequal_flip w.key v.key apart) refl))
 
-wider : (a b d : Bool) → a || b ≡ true → a || (b || d) ≡ true
-wider true b d e = refl
-wider false true d e = refl
-wider false false d e = absurd cc
+pub of_other : (tx t : TxId) (ws : List StandingUpdate) → tx_same tx t ≡ false → newest_of t (without_newest tx ws) ≡ newest_of t ws
+of_other tx t [] other = refl
+of_other tx t (v ∷ vs) other =
+    both (λ b. tx_same tx v.tx ≡ b → newest_of t (cond b vs (v ∷ without_newest tx vs)) ≡ cond (tx_same t v.tx) (Some v) (newest_of t vs)) (tx_same tx v.tx)
+    (λ _ own. sym (ap (λ b. cond b (Some v) (newest_of t vs)) (ap (tx_same t) (sym (tx_true tx v.tx own)) ∙ tx_symmetric t tx ∙ other)))
+    (λ _ past. ap (λ o. cond (tx_same t v.tx) (Some v) o) (of_other tx t vs other)) refl
 
-turned : (a b d : Bool) → a || (b || d) ≡ true → a || (d || b) ≡ true
-turned true b d e = refl
-turned false true true e = refl
-turned false true false e = refl
-turned false false true e = refl
-turned false false false e = absurd cc
+all_by : (f : StandingUpdate → Bool) (P : StandingUpdate → Type 0) → ((x : StandingUpdate) → f x ≡ true → P x) → (xs : List StandingUpdate) → list_all f xs ≡ true → AllByRecursion P xs
+all_by f P h [] all = tt
+all_by f P h (x ∷ xs) all = (h x (and_first (f x) (list_all f xs) all), all_by f P h xs (and_second (f x) (list_all f xs) all))
 
 -- who wrote since the last RESTART wrote
 pub wrote_since : (so_far log : List LogRecord) (t : TxId) → wrote_in (since_restart so_far log) t ≡ true → wrote_in so_far t || wrote_in log t ≡ true
@@ -123,47 +151,138 @@ prepare_new (Prepare tx home listed ∷ rs) r t e =
     ap (λ b. cond b (Some (home, listed)) (prepare_of (rs ++ r ∷ []) t)) parts.0 ∙ prepare_new rs r t parts.1
 prepare_new (_ ∷ rs) r t e = prepare_new rs r t e
 
--- a transaction is committed whose writes lie above committed ones alone
-sinks_more : (c d : TxId → Bool) (tx : TxId) → ((t : TxId) → d t ≡ c t || tx_same tx t) → (ws : List StandingUpdate) → each_passes c tx ws ≡ true → Sinks c ws → Sinks d ws
-sinks_more c d tx is [] each sinks = tt
-sinks_more c d tx is (w ∷ ws) each sinks = (
-  λ e. ⊎_elim
-      (λ old. all_weaker (λ v. not (w.key == v.key) || c v.tx) (λ v. not (w.key == v.key) || d v.tx) (λ v h. ap (λ b. not (w.key == v.key) || b) (is v.tx) ∙ wider (not (w.key == v.key)) (c v.tx) (tx_same tx v.tx) h) ws (sinks.0 old))
-      (λ own. all_weaker (λ v. not (w.key == v.key) || (tx_same tx v.tx || c v.tx)) (λ v. not (w.key == v.key) || d v.tx) (λ v h. ap (λ b. not (w.key == v.key) || b) (is v.tx) ∙ turned (not (w.key == v.key)) (tx_same tx v.tx) (c v.tx) h) ws
-      (sym (ap (λ b. not b || others_pass c w.key tx ws) own) ∙ and_first (not (tx_same tx w.tx) || others_pass c w.key tx ws) (each_passes c tx ws) each))
-      (or_cases (c w.tx) (tx_same tx w.tx) (sym (is w.tx) ∙ e)),
-  sinks_more c d tx is ws (and_second (not (tx_same tx w.tx) || others_pass c w.key tx ws) (each_passes c tx ws) each) sinks.1,
-)
+pub listed_stays : (log : List LogRecord) (r : LogRecord) (t : TxId) → prepared_in log t ≡ true → listed_in (log ++ r ∷ []) t ≡ listed_in log t
+listed_stays [] r t e = absurd cc
+listed_stays (Prepare tx home listed ∷ rs) r t e =
+    both (λ b. b || prepared_in rs t ≡ true → names (cond b (Some (home, listed)) (prepare_of (rs ++ r ∷ []) t)) ≡ names (cond b (Some (home, listed)) (prepare_of rs t))) (tx_same t tx) (λ _ _. refl) (λ _ is. listed_stays rs r t is) e
+  where
+    names : Option (ℕ × List TxId) → List TxId
+    names o = elim o [ Some p ↦ p.1 | None ↦ [] ]
+listed_stays (_ ∷ rs) r t e = listed_stays rs r t e
 
 -- ---- each law, with one record more
 
 module _ (shard : ℕ) (log : List LogRecord) (s : Sound log) where
   falls_after : (r : LogRecord) → Falls (length log + 1) (standing_after (length log) r (standing log))
   falls_after (Update tx key before after) = (omega arith, s.falls)
+  falls_after (Add tx key by) = (omega arith, s.falls)
   falls_after (Clr tx undo_next key after) = falls_weaker (length log) (length log + 1) (without_newest tx (standing log)) (omega arith) (falls_without tx (length log) (standing log) s.falls)
+  falls_after (Unadd tx undo_next key by) = falls_weaker (length log) (length log + 1) (without_newest tx (standing log)) (omega arith) (falls_without tx (length log) (standing log) s.falls)
   falls_after (_) = falls_weaker (length log) (length log + 1) (standing log) (omega arith) s.falls
 
   falls_push : (r : LogRecord) → Falls (length (log ++ r ∷ [])) (standing (log ++ r ∷ []))
   falls_push r = rw (length_push, standing_push) (falls_after r)
 
-  -- where the record is no COMMIT
-  sinks_other : (r : LogRecord) → ((t : TxId) → is_commit_of t r ≡ false) → (ws : List StandingUpdate) → Sinks (committed_in log) ws → Sinks (committed_in (log ++ r ∷ [])) ws
-  sinks_other r other ws sinks = sinks_same (committed_in log) (committed_in (log ++ r ∷ [])) (λ t. sym (any_other (is_commit_of t) log r (other t))) ws sinks
+  -- ---- where a write is undone
 
-  sinks_after : (r : LogRecord) → may_follow shard log r ≡ true → Sinks (committed_in (log ++ r ∷ [])) (standing_after (length log) r (standing log))
-  sinks_after (Update tx key before after) may =
-      let rule = update_rule shard log tx key before after may in
-      let r : LogRecord = Update tx key before after in
-      (λ e. absurd (both_ways _ rule.uncommitted (sym (any_other (is_commit_of tx) log r refl) ∙ e)), sinks_other r (λ t. refl) (standing log) s.sinks)
-  sinks_after (Clr tx undo_next key after) may = sinks_other (Clr tx undo_next key after) (λ t. refl) (without_newest tx (standing log)) (sinks_without (committed_in log) tx (standing log) s.sinks)
-  sinks_after (Commit tx parts) may =
-      let rule = commit_rule shard log tx parts may in
-      sinks_more (committed_in log) (committed_in (log ++ Commit tx parts ∷ [])) tx (λ t. any_push (is_commit_of t) log (Commit tx parts) ∙ ap (λ b. committed_in log t || b) (tx_symmetric t tx)) (standing log)
-      (sym (below_is (committed_in log) tx (length log) (standing log) s.falls) ∙ rule.below) s.sinks
-  sinks_after (Prepare tx home listed) may = sinks_other (Prepare tx home listed) (λ t. refl) (standing log) s.sinks
-  sinks_after (Abort tx) may = sinks_other (Abort tx) (λ t. refl) (standing log) s.sinks
-  sinks_after (End tx) may = sinks_other (End tx) (λ t. refl) (standing log) s.sinks
-  sinks_after (Restart run epoch) may = sinks_other (Restart run epoch) (λ t. refl) (standing log) s.sinks
+  left_of : (tx : TxId) (u : Undoes tx (standing log)) → without_newest tx (standing log) ≡ u.over ++ u.under
+  left_of tx u = ap (without_newest tx) u.is ∙ left_is tx u.over u.write u.under u.others u.own
+
+  chain_undone : (tx : TxId) → Undoes tx (standing log) → Chain (without_newest tx (standing log))
+  chain_undone tx u = subst Chain (sym (left_of tx u)) (chain_fewer u.over u.write u.under u.clear (subst Chain u.is s.chain))
+
+  covers_undone : (r : LogRecord) (tx : TxId) → Undoes tx (standing log) → AllLater (Covers (closed_in (log ++ r ∷ []))) (without_newest tx (standing log))
+  covers_undone r tx u =
+      covers_more log r (without_newest tx (standing log))
+      (subst (AllLater (Covers (closed_in log))) (sym (left_of tx u)) (later_fewer (Covers (closed_in log)) u.over u.write u.under (subst (AllLater (Covers (closed_in log))) u.is s.covers)))
+
+  chain_after : (r : LogRecord) → may_follow shard log r ≡ true → Chain (standing_after (length log) r (standing log))
+  chain_after (Update tx key before after) may = (optional_value_true before (value_in log key) (update_rule shard log tx key before after may).value, s.chain)
+  chain_after (Add tx key by) may = (tt, s.chain)
+  chain_after (Clr tx undo_next key after) may = chain_undone tx (clr_undoes shard (length log) log tx undo_next key after s.falls may)
+  chain_after (Unadd tx undo_next key by) may = chain_undone tx (unadd_undoes shard (length log) log tx undo_next key by s.falls may)
+  chain_after (Prepare tx home listed) may = s.chain
+  chain_after (Commit tx parts) may = s.chain
+  chain_after (Abort tx) may = s.chain
+  chain_after (End tx) may = s.chain
+  chain_after (Restart run epoch) may = s.chain
+
+  -- who may be written over is closed
+  covered : (r : LogRecord) (tx t : TxId) → tx_same tx t ≡ false → tx_same tx t || ((prepared_in log t || committed_in log t) && not (aborted_in log t)) ≡ true → closed_in (log ++ r ∷ []) t ≡ true
+  covered r tx t other e =
+      closed_more log r t (at (prepared_in log t) (committed_in log t) (aborted_in log t) (sym (ap (λ b. b || ((prepared_in log t || committed_in log t) && not (aborted_in log t))) other) ∙ e))
+    where
+      at : (p c a : Bool) → (p || c) && not a ≡ true → p || (c || a) ≡ true
+      at true c a e = refl
+      at false true a e = refl
+      at false false a e = absurd cc
+
+  covers_after : (r : LogRecord) → may_follow shard log r ≡ true → AllLater (Covers (closed_in (log ++ r ∷ []))) (standing_after (length log) r (standing log))
+  covers_after (Update tx key before after) may =
+      let r : LogRecord = Update tx key before after in (
+        all_by (λ v. not (key == v.key) || may_cover log tx v) (Covers (closed_in (log ++ r ∷ [])) (record { lsn = length log; tx = tx; key = key; change = Sets before after }))
+            (λ v e at sets other. covered r tx v.tx other (sym (ap (λ b. not b || may_cover log tx v) at) ∙ e)) (standing log) (update_rule shard log tx key before after may).covers,
+        covers_more log r (standing log) s.covers,
+      )
+  covers_after (Add tx key by) may =
+      let r : LogRecord = Add tx key by in (
+        all_by (λ v. not (key == v.key) || not (is_setting v.change) || may_cover log tx v) (Covers (closed_in (log ++ r ∷ [])) (record { lsn = length log; tx = tx; key = key; change = Adds by }))
+            (λ v e at sets other. covered r tx v.tx other (sym (ap (λ b. not b || not (is_setting v.change) || may_cover log tx v) at ∙ ap (λ b. not b || may_cover log tx v) sets) ∙ e))
+            (standing log) (add_rule shard log tx key by may).covers,
+        covers_more log r (standing log) s.covers,
+      )
+  covers_after (Clr tx undo_next key after) may = covers_undone (Clr tx undo_next key after) tx (clr_undoes shard (length log) log tx undo_next key after s.falls may)
+  covers_after (Unadd tx undo_next key by) may = covers_undone (Unadd tx undo_next key by) tx (unadd_undoes shard (length log) log tx undo_next key by s.falls may)
+  covers_after (Prepare tx home listed) may = covers_more log (Prepare tx home listed) (standing log) s.covers
+  covers_after (Commit tx parts) may = covers_more log (Commit tx parts) (standing log) s.covers
+  covers_after (Abort tx) may = covers_more log (Abort tx) (standing log) s.covers
+  covers_after (End tx) may = covers_more log (End tx) (standing log) s.covers
+  covers_after (Restart run epoch) may = covers_more log (Restart run epoch) (standing log) s.covers
+
+  -- ---- below the writes of a PREPARE
+
+  -- of one that is prepared already
+  below_still : (r : LogRecord) (t : TxId) → prepared_in log t ≡ true → aborted_in (log ++ r ∷ []) t ≡ false → all_pass (may_lie (log ++ r ∷ []) t) t (standing log) ≡ true
+  below_still r t prepared unaborted =
+      pass_more (may_lie log t) (may_lie (log ++ r ∷ []) t) t
+      (λ u e. ⊎_elim (λ c. ap (λ b. b || tx_in u (listed_in (log ++ r ∷ []) t)) (any_more (is_commit_of u) log r c))
+      (λ l. or_right (committed_in (log ++ r ∷ []) u) (tx_in u (listed_in (log ++ r ∷ []) t)) (ap (tx_in u) (listed_stays log r t prepared) ∙ l)) (or_cases (committed_in log u) (tx_in u (listed_in log t)) e))
+      (standing log) (s.below t prepared (any_less (is_abort_of t) log r unaborted))
+
+  -- another one writes
+  below_written : (r : LogRecord) (w : StandingUpdate) (t : TxId) → w.lsn ≡ length log → prepared_in log w.tx ≡ false → prepared_in log t ≡ true → aborted_in (log ++ r ∷ []) t ≡ false
+      → all_pass (may_lie (log ++ r ∷ []) t) t (w ∷ standing log) ≡ true
+  below_written r w t at pending prepared unaborted =
+      pass_pushed (may_lie (log ++ r ∷ []) t) t w (standing log)
+      (both (λ b. tx_same t w.tx ≡ b → b ≡ false) (tx_same t w.tx) (λ _ same. absurd (both_ways _ pending (ap (prepared_in log) (sym (tx_true t w.tx same)) ∙ prepared))) (λ _ _. refl) refl)
+      (subst (λ n. Falls n (standing log)) (sym at) s.falls) (below_still r t prepared unaborted)
+
+  below_other : (r : LogRecord) → may_follow shard log r ≡ true → (t : TxId) → prepared_in log t ≡ true → aborted_in (log ++ r ∷ []) t ≡ false
+      → all_pass (may_lie (log ++ r ∷ []) t) t (standing_after (length log) r (standing log)) ≡ true
+  below_other (Update tx key before after) may t prepared unaborted =
+      below_written (Update tx key before after) (record { lsn = length log; tx = tx; key = key; change = Sets before after }) t refl (update_rule shard log tx key before after may).may.unprepared prepared unaborted
+  below_other (Add tx key by) may t prepared unaborted =
+      below_written (Add tx key by) (record { lsn = length log; tx = tx; key = key; change = Adds by }) t refl (add_rule shard log tx key by may).may.unprepared prepared unaborted
+  below_other (Clr tx undo_next key after) may t prepared unaborted =
+      pass_fewer (may_lie (log ++ Clr tx undo_next key after ∷ []) t) t tx (standing log) (below_still (Clr tx undo_next key after) t prepared unaborted)
+  below_other (Unadd tx undo_next key by) may t prepared unaborted =
+      pass_fewer (may_lie (log ++ Unadd tx undo_next key by ∷ []) t) t tx (standing log) (below_still (Unadd tx undo_next key by) t prepared unaborted)
+  below_other (Prepare tx home listed) may t prepared unaborted = below_still (Prepare tx home listed) t prepared unaborted
+  below_other (Commit tx parts) may t prepared unaborted = below_still (Commit tx parts) t prepared unaborted
+  below_other (Abort tx) may t prepared unaborted = below_still (Abort tx) t prepared unaborted
+  below_other (End tx) may t prepared unaborted = below_still (End tx) t prepared unaborted
+  below_other (Restart run epoch) may t prepared unaborted = below_still (Restart run epoch) t prepared unaborted
+
+  -- of the one that the record prepares
+  below_now : (r : LogRecord) → may_follow shard log r ≡ true → (t : TxId) → is_prepare_of t r ≡ true → all_pass (may_lie (log ++ r ∷ []) t) t (standing_after (length log) r (standing log)) ≡ true
+  below_now (Prepare tx home listed) may t own =
+      let r : LogRecord = Prepare tx home listed in
+      let rule = prepare_rule shard log tx home listed may in
+      let now : listed_in (log ++ r ∷ []) tx ≡ listed = ap names (prepare_new log r tx rule.unprepared ∙ ap (λ b. cond b (Some (home, listed)) None) (tx_self tx)) in
+      subst (λ u. all_pass (may_lie (log ++ r ∷ []) u) u (standing log) ≡ true) (sym (tx_true t tx own))
+      (pass_more (λ u. committed_in log u || tx_in u listed) (may_lie (log ++ r ∷ []) tx) tx
+      (λ u e. ⊎_elim (λ c. ap (λ b. b || tx_in u (listed_in (log ++ r ∷ []) tx)) (any_more (is_commit_of u) log r c))
+      (λ l. or_right (committed_in (log ++ r ∷ []) u) (tx_in u (listed_in (log ++ r ∷ []) tx)) (ap (tx_in u) now ∙ l)) (or_cases (committed_in log u) (tx_in u listed) e))
+      (standing log) (sym (below_is (λ u. committed_in log u || tx_in u listed) tx (standing log)) ∙ rule.below))
+    where
+      names : Option (ℕ × List TxId) → List TxId
+      names o = elim o [ Some p ↦ p.1 | None ↦ [] ]
+  below_now (_) may t own = absurd cc
+
+  below_after : (r : LogRecord) → may_follow shard log r ≡ true → (t : TxId) → prepared_in (log ++ r ∷ []) t ≡ true → aborted_in (log ++ r ∷ []) t ≡ false
+      → all_pass (may_lie (log ++ r ∷ []) t) t (standing_after (length log) r (standing log)) ≡ true
+  below_after r may t prepared unaborted =
+      ⊎_elim (λ old. below_other r may t old unaborted) (λ own. below_now r may t own) (or_cases (prepared_in log t) (is_prepare_of t r) (sym (any_push (is_prepare_of t) log r) ∙ prepared))
 
   -- where the record is neither a COMMIT nor an ABORT
   fates_other : (r : LogRecord) → ((t : TxId) → is_commit_of t r ≡ false) → ((t : TxId) → is_abort_of t r ≡ false) → (t : TxId) → committed_in (log ++ r ∷ []) t ≡ true → aborted_in (log ++ r ∷ []) t ≡ false
@@ -184,24 +303,33 @@ module _ (shard : ℕ) (log : List LogRecord) (s : Sound log) where
   fates_after (Prepare tx home listed) may t e = fates_other (Prepare tx home listed) (λ t. refl) (λ t. refl) t e
   fates_after (End tx) may t e = fates_other (End tx) (λ t. refl) (λ t. refl) t e
   fates_after (Restart run epoch) may t e = fates_other (Restart run epoch) (λ t. refl) (λ t. refl) t e
+  fates_after (Add tx key by) may t e = fates_other (Add tx key by) (λ t. refl) (λ t. refl) t e
+  fates_after (Unadd tx undo_next key by) may t e = fates_other (Unadd tx undo_next key by) (λ t. refl) (λ t. refl) t e
 
   -- where the record is no UPDATE and its writes stand
   stands_other : (r : LogRecord) → ((t : TxId) → is_update_of t r ≡ false) → (t : TxId) → wrote_in (log ++ r ∷ []) t ≡ true → aborted_in (log ++ r ∷ []) t ≡ false → is_some (newest_of t (standing log)) ≡ true
   stands_other r no_update t wrote unaborted = s.stands t (sym (any_other (is_update_of t) log r (no_update t)) ∙ wrote) (any_less (is_abort_of t) log r unaborted)
 
-  stands_after : (r : LogRecord) → may_follow shard log r ≡ true → (t : TxId) → wrote_in (log ++ r ∷ []) t ≡ true → aborted_in (log ++ r ∷ []) t ≡ false
-      → is_some (newest_of t (standing_after (length log) r (standing log))) ≡ true
-  stands_after (Update tx key before after) may t wrote unaborted =
-      let r : LogRecord = Update tx key before after in
-      both (λ b. tx_same t tx ≡ b → is_some (cond b (Some (record { lsn = length log; tx = tx; key = key; before = before; after = after })) (newest_of t (standing log))) ≡ true) (tx_same t tx) (λ _ own. refl)
-      (λ _ other. s.stands t (sym (any_other (is_update_of t) log r other) ∙ wrote) (any_less (is_abort_of t) log r unaborted)) refl
-  stands_after (Clr tx undo_next key after) may t wrote unaborted =
-      let r : LogRecord = Clr tx undo_next key after in
-      let rule = clr_rule shard log tx undo_next key after may in
+  stands_undone : (r : LogRecord) (tx : TxId) → aborted_in log tx ≡ true → ((t : TxId) → is_update_of t r ≡ false) → (t : TxId) → wrote_in (log ++ r ∷ []) t ≡ true → aborted_in (log ++ r ∷ []) t ≡ false
+      → is_some (newest_of t (without_newest tx (standing log))) ≡ true
+  stands_undone r tx aborted no_update t wrote unaborted =
       let was : aborted_in log t ≡ false = any_less (is_abort_of t) log r unaborted in
       both (λ b. tx_same tx t ≡ b → is_some (newest_of t (without_newest tx (standing log))) ≡ true) (tx_same tx t)
-      (λ _ own. absurd (both_ways _ was (sym (ap (aborted_in log) (tx_true tx t own)) ∙ rule.aborted)))
-      (λ _ other. ap is_some (of_other tx t (standing log) other) ∙ stands_other r (λ u. refl) t wrote unaborted) refl
+      (λ _ own. absurd (both_ways _ was (sym (ap (aborted_in log) (tx_true tx t own)) ∙ aborted)))
+      (λ _ other. ap is_some (of_other tx t (standing log) other) ∙ stands_other r no_update t wrote unaborted) refl
+
+  stands_written : (r : LogRecord) (w : StandingUpdate) → ((t : TxId) → is_update_of t r ≡ tx_same t w.tx) → (t : TxId) → wrote_in (log ++ r ∷ []) t ≡ true → aborted_in (log ++ r ∷ []) t ≡ false
+      → is_some (newest_of t (w ∷ standing log)) ≡ true
+  stands_written r w update t wrote unaborted =
+      both (λ b. tx_same t w.tx ≡ b → is_some (cond b (Some w) (newest_of t (standing log))) ≡ true) (tx_same t w.tx) (λ _ own. refl)
+      (λ _ other. s.stands t (sym (any_other (is_update_of t) log r (update t ∙ other)) ∙ wrote) (any_less (is_abort_of t) log r unaborted)) refl
+
+  stands_after : (r : LogRecord) → may_follow shard log r ≡ true → (t : TxId) → wrote_in (log ++ r ∷ []) t ≡ true → aborted_in (log ++ r ∷ []) t ≡ false
+      → is_some (newest_of t (standing_after (length log) r (standing log))) ≡ true
+  stands_after (Update tx key before after) may t wrote unaborted = stands_written (Update tx key before after) (record { lsn = length log; tx = tx; key = key; change = Sets before after }) (λ u. refl) t wrote unaborted
+  stands_after (Add tx key by) may t wrote unaborted = stands_written (Add tx key by) (record { lsn = length log; tx = tx; key = key; change = Adds by }) (λ u. refl) t wrote unaborted
+  stands_after (Clr tx undo_next key after) may t wrote unaborted = stands_undone (Clr tx undo_next key after) tx (clr_rule shard log tx undo_next key after may).aborted (λ u. refl) t wrote unaborted
+  stands_after (Unadd tx undo_next key by) may t wrote unaborted = stands_undone (Unadd tx undo_next key by) tx (unadd_rule shard log tx undo_next key by may).aborted (λ u. refl) t wrote unaborted
   stands_after (Commit tx parts) may t wrote unaborted = stands_other (Commit tx parts) (λ t. refl) t wrote unaborted
   stands_after (Prepare tx home listed) may t wrote unaborted = stands_other (Prepare tx home listed) (λ t. refl) t wrote unaborted
   stands_after (Abort tx) may t wrote unaborted = stands_other (Abort tx) (λ t. refl) t wrote unaborted
@@ -222,6 +350,8 @@ module _ (shard : ℕ) (log : List LogRecord) (s : Sound log) where
   wrote_after (Abort tx) may t e = wrote_other (Abort tx) (λ t. refl) t e
   wrote_after (End tx) may t e = wrote_other (End tx) (λ t. refl) t e
   wrote_after (Restart run epoch) may t e = wrote_other (Restart run epoch) (λ t. refl) t e
+  wrote_after (Add tx key by) may t e = wrote_other (Add tx key by) (λ t. refl) t e
+  wrote_after (Unadd tx undo_next key by) may t e = wrote_other (Unadd tx undo_next key by) (λ t. refl) t e
 
   once_new : (r : LogRecord) → may_follow shard log r ≡ true → EachPrepare (λ t home listed. prepare_of (log ++ r ∷ []) t ≡ Some (home, listed)) (r ∷ [])
   once_new (Prepare tx home listed) may =
@@ -243,7 +373,9 @@ module _ (shard : ℕ) (log : List LogRecord) (s : Sound log) where
   pub sound_push : (r : LogRecord) → may_follow shard log r ≡ true → Sound (log ++ r ∷ [])
   sound_push r may = record {
     falls = falls_push r;
-    sinks = rw standing_push (sinks_after r may);
+    chain = rw standing_push (chain_after r may);
+    covers = rw standing_push (covers_after r may);
+    below = λ t prepared unaborted. ap (all_pass (may_lie (log ++ r ∷ []) t) t) (standing_push log r) ∙ below_after r may t prepared unaborted;
     fates = fates_after r may;
     stands = λ t wrote unaborted. ap (λ ws. is_some (newest_of t ws)) (standing_push log r) ∙ stands_after r may t wrote unaborted;
     wrote = wrote_after r may;

@@ -1,3 +1,4 @@
+pub mod Shares
 pub mod Writes
 pub mod Listers
 pub mod Rules

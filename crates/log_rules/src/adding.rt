@@ -2,14 +2,16 @@
 
 use crate::Memory;
 use crate::index::Index;
+use clv_base::changes::Change;
 use clv_base::logs::LogRecord;
 use clv_base::names::TxId;
+use clv_base::values::copy_of;
 use std::alloc::Global;
 
 impl<'a> Index<'a> {
     ghost use Rattle.std.specs.Prelude.{◌≡◌, OnOk};
     ghost use Rattle.clv_base.specs.declared.names.TxId.{TxId as Tx};
-    ghost use Rattle.log_rules.specs.Adding.{bars_after_abort, Adds, AddsRestart, AddsUpdate, AddsClr, AddsPrepare, AddsCommit, AddsAbort, AddsEnd, Places, BarsOne, BarsAll};
+    ghost use Rattle.log_rules.specs.Adding.{bars_after_abort, Adds, AddsRestart, AddsWrite, AddsUndo, AddsPrepare, AddsCommit, AddsAbort, AddsEnd, Places, BarsOne, BarsAll};
 
     fn add_restart(&mut self, lsn: usize, run: u32, epoch: u64)
         ensures { AddsRestart self.old self.new lsn run epoch }
@@ -18,16 +20,24 @@ impl<'a> Index<'a> {
         self.restart_at = lsn;
     }
 
-    // Its transaction is neither committed nor prepared.
-    fn add_update(&mut self, lsn: usize, tx: TxId, key: u64) -> Result<(), Memory>
-        ensures { OnOk result (AddsUpdate self.old self.new lsn tx key) }
+    // An UPDATE or ADD. Its transaction is neither committed nor prepared.
+    fn add_write(
+        &mut self,
+        alloc: Global,
+        lsn: usize,
+        tx: TxId,
+        key: u64,
+        change: &Change,
+    ) -> Result<(), Memory>
+        ensures { OnOk result (AddsWrite self.old self.new lsn tx key change.now) }
     {
-        self.writes.push(lsn as u64, tx, key)?;
+        self.writes.push(alloc, lsn as u64, tx, key, change)?;
         self.barring.insert(tx)
     }
 
-    fn add_clr(&mut self, tx: TxId) -> Result<(), Memory>
-        ensures { OnOk result (AddsClr self.old self.new tx) }
+    // A CLR or UNADD of the transaction's newest write.
+    fn add_undo(&mut self, tx: TxId) -> Result<(), Memory>
+        ensures { OnOk result (AddsUndo self.old self.new tx) }
     {
         self.writes.pop(tx)?;
         if self.writes.newest_of(tx).is_none() {
@@ -47,9 +57,10 @@ impl<'a> Index<'a> {
         Ok(())
     }
 
-    fn add_commit(&mut self, tx: TxId)
-        ensures { AddsCommit self.old self.new tx }
+    fn add_commit(&mut self, lsn: usize, tx: TxId)
+        ensures { AddsCommit self.old self.new lsn tx }
     {
+        self.writes.settle(lsn, tx);
         self.barring.remove(tx);
     }
 
@@ -68,7 +79,7 @@ impl<'a> Index<'a> {
         Ok(())
     }
 
-    // Of the listers, those with an UPDATE that stands and no COMMIT are no longer held.
+    // Of the listers, those with a write that stands and no COMMIT are no longer held.
     fn bar_all(&mut self, txs: &[TxId]) -> Result<(), Memory>
         ensures { OnOk result (BarsAll self.old self.new txs.now) }
     {
@@ -91,14 +102,25 @@ impl<'a> Index<'a> {
     {
         match r {
             LogRecord::Restart { run, epoch } => self.add_restart(lsn, *run, *epoch),
-            LogRecord::Update { tx, key, .. } => self.add_update(lsn, *tx, *key)?,
-            LogRecord::Clr { tx, .. } => self.add_clr(*tx)?,
+            LogRecord::Update {
+                tx,
+                key,
+                before,
+                after,
+            } => {
+                let change = Change::Sets(copy_of(before), copy_of(after));
+                self.add_write(alloc, lsn, *tx, *key, &change)?
+            }
+            LogRecord::Add { tx, key, by } => {
+                self.add_write(alloc, lsn, *tx, *key, &Change::Adds(*by))?
+            }
+            LogRecord::Clr { tx, .. } | LogRecord::Unadd { tx, .. } => self.add_undo(*tx)?,
             LogRecord::Prepare {
                 tx,
                 home,
                 predecessors,
             } => self.add_prepare(*tx, *home, predecessors.as_slice())?,
-            LogRecord::Commit { tx, .. } => self.add_commit(*tx),
+            LogRecord::Commit { tx, .. } => self.add_commit(lsn, *tx),
             LogRecord::Abort { tx } => self.add_abort(alloc, *tx)?,
             LogRecord::End { .. } => {}
         }

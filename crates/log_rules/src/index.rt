@@ -7,8 +7,8 @@ use clv_base::logs::LogRecord;
 use log_analysis::{LogFacts, TxSet};
 use std::alloc::Global;
 
-// The last RESTART and its LSN; what the log says of each transaction; the UPDATEs that stand; who lists whom; and who bars a
-// RESTART: the transactions with an UPDATE that stands, which are neither committed nor held. Held is one that is prepared for
+// The last RESTART and its LSN; what the log says of each transaction; the writes that stand, and whose they are; who lists whom; and who bars a
+// RESTART: the transactions with a write that stands, which are neither committed nor held. Held is one that is prepared for
 // another home, has no ABORT and lists nobody with an ABORT.
 #[derive(Drop)]
 pub struct Index<'a> {
@@ -25,10 +25,10 @@ impl<'a> Index<'a> {
     ghost use Rattle.std.specs.Prelude.{◌≡◌, ℕ, None, Some, [], IfOk};
     ghost use Rattle.clv_base.specs.declared.names.TxId.{TxId as Tx};
     ghost use Rattle.log_analysis.specs.Facts.{Knows};
-    ghost use Rattle.log_rules.specs.Writes.{write_at, top_at, newest_by};
+    ghost use Rattle.log_rules.specs.Writes.{write_at, top_at, adds_at, value_at, shares_at, newest_by};
     ghost use Rattle.log_rules.specs.Listers.{last_of};
 
-    // Of no record, with room for the UPDATEs of this log.
+    // Of no record, with room for the writes of this log.
     pub fn new(alloc: Global, shard: u32, records: &'a [LogRecord]) -> Result<Self, Memory>
         ensures shard { IfOk result (λ x. x.shard ≡ shard) }
         ensures last { IfOk result (λ x. x.last ≡ None) }
@@ -36,7 +36,7 @@ impl<'a> Index<'a> {
         ensures facts { IfOk result (λ x. Knows x.facts []) }
         ensures records { IfOk result (λ x. x.writes.records.now ≡ records.now) }
         ensures rows { IfOk result (λ x. (k : ℕ) → write_at x.writes (Some k) ≡ None) }
-        ensures tops { IfOk result (λ x. (k : ℕ) → top_at x.writes k ≡ None) }
+        ensures tops { IfOk result (λ x. (k : ℕ) → (top_at x.writes k ≡ None) × (adds_at x.writes k ≡ 0) × (value_at x.writes k ≡ None) × (shares_at x.writes k ≡ [])) }
         ensures newest { IfOk result (λ x. (t : Tx) → newest_by x.writes t ≡ None) }
         ensures all { IfOk result (λ x. x.listers.all.items ≡ []) }
         ensures listers { IfOk result (λ x. (t : Tx) → last_of x.listers t ≡ None) }

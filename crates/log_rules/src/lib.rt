@@ -1,7 +1,8 @@
 //! The rules of logs: which record may follow which in one log, and whether the logs of all shards agree on each commit.
 //!
 //! `in_order` finds the first record of a log that breaks its rule. It reads the log once, with an index of what it read: what the log says of
-//! each transaction, which it gives of a log in order, the UPDATEs that stand, linked by key and by transaction, and who bars a RESTART.
+//! each transaction, which it gives of a log in order, the writes that stand, what they leave at each key, who wrote there of those without a
+//! COMMIT, and who bars a RESTART.
 //! `disorder` tells the place alone. `apart_by` finds the least transaction that has no home in the logs, for every list of logs, by what each
 //! says; `apart` asks each first. It stands on the definitions of `clv_base` and on `log_analysis`.
 
@@ -16,6 +17,7 @@ mod indexed;
 mod listers;
 mod order;
 mod rules;
+mod shares;
 mod writes;
 
 pub use agreement::{apart, apart_by};

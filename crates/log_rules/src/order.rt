@@ -35,8 +35,9 @@ fn read(
 /// before it. `Memory` comes for want of memory alone.
 ///
 /// Each record takes some looks into hash maps and time logarithmic in the number of transactions, and a PREPARE and its
-/// COMMIT that for each transaction that it lists. Beside that a PREPARE takes, for each key that its transaction wrote over
-/// others' writes, one step for each transaction without a COMMIT that wrote the key before. Of what that needs the answer alone is kept.
+/// COMMIT that for each transaction that it lists. Beside that a write and its undoing take one step for each transaction without
+/// a COMMIT that has writes at the key, and a PREPARE or COMMIT takes so many for each write of its transaction. Of what that needs
+/// the answer alone is kept.
 pub fn in_order(alloc: Global, records: &[LogRecord], shard: u32) -> Result<LogFacts, OrderError>
     ensures in_order { OnOk result (first_disorder shard records.now ≡ None) }
     ensures knows { IfOk result (λ facts. Knows facts records.now) }

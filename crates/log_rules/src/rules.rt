@@ -2,14 +2,16 @@
 
 ghost use Rattle.std.specs.Prelude.{◌≡◌};
 ghost use Rattle.clv_base.specs.Orders.{nat_in};
-ghost use Rattle.log_rules.specs.Rules.{is_above as is_above_last, is_last_run as is_of_last_run, is_before as comes_before, is_since as comes_since, value_of as value_left, is_own_or_one_of};
+ghost use Rattle.log_rules.specs.Rules.{is_above as is_above_last, is_last_run as is_of_last_run, is_before as comes_before, is_since as comes_since, is_own_or_one_of, is_below as lies_below, undoes_setting, undoes_adding};
 
 use crate::Memory;
 use crate::index::Index;
-use crate::writes::Write;
+use crate::shares::Share;
+use crate::writes::Step;
+use clv_base::changes::{Change, is_number};
 use clv_base::logs::LogRecord;
 use clv_base::names::TxId;
-use clv_base::values::{Value, are_same, copy_of};
+use clv_base::values::{Value, are_same};
 use log_analysis::TxSet;
 use log_analysis::facts::TxFacts;
 use log_analysis::lists::{home_at, listed_at, parts_at};
@@ -52,12 +54,32 @@ fn is_since(at: usize, lsn: Option<usize>) -> bool
     }
 }
 
-fn value_of(top: &Option<Write>) -> Option<Value>
-    ensures { result ≡ value_left top.now }
+// Whether an LSN that may be none is below this one.
+fn is_below(at: Option<u64>, lsn: u64) -> bool
+    ensures { result ≡ lies_below at lsn }
 {
-    match top {
-        None => None,
-        Some(w) => copy_of(&w.after),
+    match at {
+        None => true,
+        Some(n) => n < lsn,
+    }
+}
+
+// Whether this change is undone by a CLR with that value, and by an UNADD of that number.
+fn is_undone_by_value(change: &Change, after: &Option<Value>) -> bool
+    ensures { result ≡ undoes_setting change.now after.now }
+{
+    match change {
+        Change::Sets(before, _) => are_same(before, after),
+        Change::Adds(_) => false,
+    }
+}
+
+fn is_undone_by_number(change: &Change, by: u64) -> bool
+    ensures { result ≡ undoes_adding change.now by }
+{
+    match change {
+        Change::Sets(_, _) => false,
+        Change::Adds(added) => *added == by,
     }
 }
 
@@ -75,10 +97,10 @@ fn is_own_or_listed(tx: TxId, listed: &TxSet, writer: TxId) -> bool
 }
 
 impl<'a> Index<'a> {
-    ghost use Rattle.std.specs.Prelude.{◌≡◌, IfOk};
+    ghost use Rattle.std.specs.Prelude.{◌≡◌, ◌==◌, ◌||◌, IfOk};
     ghost use Rattle.std.specs.List.{list_all};
     ghost use Rattle.clv_base.specs.Orders.{tx_in};
-    ghost use Rattle.log_rules.specs.Rules.{has_commit, may_be_covered, may_be_listed, has_no_fate, is_clear, is_clear_under, all_clear, home_allows, restart_fits, update_fits, prepare_fits_by, prepare_fits, commit_fits, abort_fits, clr_fits, end_fits, fits};
+    ghost use Rattle.log_rules.specs.Rules.{has_commit, may_be_covered, sets_over, adds_over, may_be_listed, has_no_fate, may_write, is_met, is_clear_under, all_clear, home_allows, restart_fits, update_fits, add_fits, prepare_fits_by, prepare_fits, commit_fits, abort_fits, clr_fits, unadd_fits, end_fits, fits};
 
     fn is_committed(&self, tx: TxId) -> bool
         ensures { result ≡ has_commit self.now tx }
@@ -94,16 +116,51 @@ impl<'a> Index<'a> {
         facts.prepare.is_none() && facts.commit.is_none() && !facts.is_aborted
     }
 
-    fn may_cover(&self, tx: TxId, top: &Option<Write>) -> bool
-        ensures { result ≡ may_be_covered self.now tx top.now }
+    // Whether others may write over what this one wrote: it has a PREPARE or COMMIT and no ABORT.
+    fn may_cover(&self, tx: TxId, writer: TxId) -> bool
+        ensures { result ≡ may_be_covered self.now tx writer }
     {
-        match top {
-            None => true,
-            Some(w) => {
-                let facts = self.facts.get(w.tx);
-                tx == w.tx
-                    || ((facts.prepare.is_some() || facts.commit.is_some()) && !facts.is_aborted)
+        let facts = self.facts.get(writer);
+        tx == writer || ((facts.prepare.is_some() || facts.commit.is_some()) && !facts.is_aborted)
+    }
+
+    // So of all of these. Those with a COMMIT needn't be asked.
+    fn may_cover_all(&self, tx: TxId, shares: &[Share]) -> bool
+        ensures { result ≡ list_all (λ s. may_be_covered self.now tx s.tx) shares.now }
+    {
+        shares.iter().all(|share| self.may_cover(tx, share.tx))
+    }
+
+    // And of all of these who set the key's value.
+    fn may_cover_sets(&self, tx: TxId, shares: &[Share]) -> bool
+        ensures { result ≡ list_all (λ s. (s.sets == 0) || may_be_covered self.now tx s.tx) shares.now }
+    {
+        shares
+            .iter()
+            .all(|share| share.sets == 0 || self.may_cover(tx, share.tx))
+    }
+
+    // Whether the transaction may set the value over what stands at the key.
+    fn sets_over(&self, tx: TxId, key: u64, before: &Option<Value>) -> bool
+        ensures { result ≡ sets_over self.now tx key before.now }
+    {
+        match self.writes.tops.get(&key) {
+            Some(top) => {
+                are_same(before, &top.value.value()) && self.may_cover_all(tx, top.crowd.as_slice())
             }
+            None => before.is_none(),
+        }
+    }
+
+    // And add to it.
+    fn adds_over(&self, tx: TxId, key: u64) -> bool
+        ensures { result ≡ adds_over self.now tx key }
+    {
+        match self.writes.tops.get(&key) {
+            Some(top) => {
+                is_number(&top.value.value()) && self.may_cover_sets(tx, top.crowd.as_slice())
+            }
+            None => false,
         }
     }
 
@@ -126,44 +183,35 @@ impl<'a> Index<'a> {
         listed.iter().all(|p| self.is_committed(*p))
     }
 
-    // Whether the writes of others from this one down at its key are committed or listed. Below a committed one all are committed.
-    fn is_clear(&self, steps: usize, tx: TxId, listed: &TxSet, from: Option<u64>) -> bool
-        ensures { result ≡ is_clear self.now tx listed.now steps from }
+    // Whether one who wrote at the key of a write of the transaction is the transaction, is listed, or is asked nothing, as two ADDs may
+    // stand beside each other.
+    fn is_met(&self, tx: TxId, listed: &TxSet, is_setting: bool, share: &Share) -> bool
+        ensures { result ≡ is_met tx listed.now is_setting share.now }
     {
-        let mut at = from;
-        for _step in 0..steps {
-            let Some(w) = self.writes.at(at) else {
-                return true;
-            };
-            if self.is_committed(w.tx) {
-                return true;
-            }
-            if !is_own_or_listed(tx, listed, w.tx) {
-                return false;
-            }
-            at = w.foreign;
-        }
-        true
+        is_own_or_listed(tx, listed, share.tx) || (!is_setting && share.sets == 0)
     }
 
-    // So below a write of the transaction. Where its own write lies right below, that one is asked in its place.
-    fn is_clear_under(&self, lsn: usize, tx: TxId, listed: &TxSet, w: &Write) -> bool
-        ensures { result ≡ is_clear_under self.now tx listed.now lsn w.now }
+    // So of all who wrote there and have no COMMIT. While the transaction is open, nobody has written over it, so their writes are below.
+    fn is_clear_under(&self, tx: TxId, listed: &TxSet, step: &Step) -> bool
+        ensures { result ≡ is_clear_under self.now tx listed.now step.now }
     {
-        !w.covers || self.is_clear(lsn, tx, listed, w.foreign)
+        self.writes
+            .shares(step.key)
+            .iter()
+            .all(|share| self.is_met(tx, listed, step.is_setting, share))
     }
 
-    // Whether the writes of others below those of the transaction are committed or listed. All its writes stand below this LSN,
-    // and so no walk has more steps.
+    // Whether the writes of others below those of the transaction, which is open, are committed or listed. All its writes stand below
+    // this LSN, and so no walk has more steps.
     fn covers_only(&self, lsn: usize, tx: TxId, listed: &TxSet) -> bool
         ensures { result ≡ all_clear self.now tx listed.now lsn }
     {
         let mut at = self.writes.newest_of(tx);
         for _step in 0..lsn {
-            let Some(w) = self.writes.at(at) else {
+            let Some(w) = self.writes.step(at) else {
                 return true;
             };
-            if !self.is_clear_under(lsn, tx, listed, &w) {
+            if !self.is_clear_under(tx, listed, &w) {
                 return false;
             }
             at = w.earlier;
@@ -177,6 +225,15 @@ impl<'a> Index<'a> {
         is_above(run, epoch, self.last) && self.barring.is_empty()
     }
 
+    // Whether the transaction may write: its run is the last one, it is open, and it wrote nothing before the last RESTART.
+    fn may_write(&self, tx: TxId) -> bool
+        ensures { result ≡ may_write self.now tx }
+    {
+        is_last_run(tx.run, self.last)
+            && self.is_open(tx)
+            && !is_before(self.restart_at, self.facts.get(tx).first_update)
+    }
+
     fn takes_update(
         &self,
         tx: TxId,
@@ -186,13 +243,15 @@ impl<'a> Index<'a> {
     ) -> bool
         ensures { result ≡ update_fits self.now tx key before.now after.now }
     {
-        let top = self.writes.at(self.writes.top(key));
-        is_last_run(tx.run, self.last)
-            && self.is_open(tx)
-            && !is_before(self.restart_at, self.facts.get(tx).first_update)
-            && are_same(before, &value_of(&top))
+        self.may_write(tx)
             && (before.is_some() || after.is_some())
-            && self.may_cover(tx, &top)
+            && self.sets_over(tx, key, before)
+    }
+
+    fn takes_add(&self, tx: TxId, key: u64) -> bool
+        ensures { result ≡ add_fits self.now tx key }
+    {
+        self.may_write(tx) && self.adds_over(tx, key)
     }
 
     fn allows_prepare(&self, lsn: usize, tx: TxId, predecessors: &[TxId], listed: &TxSet) -> bool
@@ -245,7 +304,7 @@ impl<'a> Index<'a> {
             && !facts.is_aborted
             && !is_among(self.shard, parts)
             && self.has_committed(listed_at(records, facts.prepare))
-            && self.covers_only(lsn, tx, &nobody)
+            && (facts.prepare.is_some() || self.covers_only(lsn, tx, &nobody))
             && self.home_lets(records, facts, tx, parts)
             && (facts.first_update.is_some() || !parts.is_empty())
     }
@@ -269,8 +328,23 @@ impl<'a> Index<'a> {
         self.last.is_some()
             && self.facts.get(tx).is_aborted
             && w.key == key
-            && are_same(&w.before, after)
+            && is_undone_by_value(&w.change, after)
             && self.writes.top(key) == Some(w.lsn)
+            && self.writes.adds(key) == 0
+            && undo_next == w.earlier
+    }
+
+    fn takes_unadd(&self, tx: TxId, undo_next: Option<u64>, key: u64, by: u64) -> bool
+        ensures { result ≡ unadd_fits self.now tx undo_next key by }
+    {
+        let Some(w) = self.writes.at(self.writes.newest_of(tx)) else {
+            return false;
+        };
+        self.last.is_some()
+            && self.facts.get(tx).is_aborted
+            && w.key == key
+            && is_undone_by_number(&w.change, by)
+            && is_below(self.writes.top(key), w.lsn)
             && undo_next == w.earlier
     }
 
@@ -314,6 +388,13 @@ impl<'a> Index<'a> {
                 self.takes_commit(alloc, records, lsn, *tx, parts.as_slice())
             }
             LogRecord::Abort { tx } => self.takes_abort(*tx),
+            LogRecord::Add { tx, key, .. } => self.takes_add(*tx, *key),
+            LogRecord::Unadd {
+                tx,
+                undo_next,
+                key,
+                by,
+            } => self.takes_unadd(*tx, *undo_next, *key, *by),
             LogRecord::End { tx } => self.takes_end(records, *tx),
         })
     }
