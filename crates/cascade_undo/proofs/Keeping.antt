@@ -9,9 +9,12 @@ use Rattle.std.proofs.lemmas.Bool.{both_ways}
 use Rattle.clv_base.specs.declared.values.Value.{Value as ValueType}
 use Rattle.clv_base.specs.declared.names.TxId.{TxId}
 use Rattle.clv_base.specs.declared.logs.LogRecord.{LogRecord}
-use Rattle.clv_base.specs.declared.logs.LogRecord.TheVariants.{Update, Abort}
+use Rattle.clv_base.specs.declared.logs.LogRecord.TheVariants.{Abort}
 use Rattle.clv_base.specs.Orders.{tx_in}
-use Rattle.clv_base.specs.Logs.{StandingUpdate, standing, wrote_in}
+use Rattle.clv_base.specs.declared.changes.Change.{Change}
+use Rattle.clv_base.specs.declared.changes.Change.TheVariants.{Sets, Adds}
+use Rattle.clv_base.specs.OneShard.{update_of}
+use Rattle.clv_base.specs.Logs.{StandingUpdate, standing, standing_after, wrote_in}
 use Rattle.clv_base.specs.Undo.{aborts_of}
 use Rattle.clv_base.specs.Needs.{Records, found_at, found_by, is_there, record_set}
 use Rattle.law_base.proofs.Doubts.{standing_more}
@@ -36,12 +39,16 @@ there_set k j v (r ∷ rs) e = at (nat_cmp k r.0) (k == j) (j == r.0) refl e (th
     at Greater b true q h more = ap (λ d. is_there (found_by (cond d (Some r.1) (lookup (◌==◌ j) (record_set k v rs))))) q ∙ there_by r.1
     at Greater b false q h more = ap (λ d. is_there (found_by (cond d (Some r.1) (lookup (◌==◌ j) (record_set k v rs))))) q ∙ more h
 
+one_more : (n : ℕ) (tx : TxId) (key : ℕ) (c : Change) (ws : List StandingUpdate) → standing_after n (update_of tx key c) ws ≡ record { lsn = n; tx = tx; key = key; change = c } ∷ ws
+one_more n tx key (Sets before after) ws = refl
+one_more n tx key (Adds by) ws = refl
+
 -- so each write has its record when one more is made
-pub have_more : (set : List TxId) (log after : List LogRecord) (rs qs : Records) (tx : TxId) (key : ℕ) (v before x : Option ValueType) → HaveRecords set (standing log) rs
-    → after ≡ log ++ Update tx key before x ∷ [] → qs ≡ record_set key v rs → HaveRecords set (standing after) qs
-have_more set log after rs qs tx key v before x have e q =
-    subst (λ l. HaveRecords set l qs) (sym (ap standing e ∙ standing_more log (Update tx key before x)))
-    (subst (λ l. HaveRecords set (record { lsn = 0 + length log; tx = tx; key = key; before = before; after = x } ∷ standing log) l) (sym q)
+pub have_more : (set : List TxId) (log after : List LogRecord) (rs qs : Records) (tx : TxId) (key : ℕ) (v : Option ValueType) (c : Change) → HaveRecords set (standing log) rs
+    → after ≡ log ++ update_of tx key c ∷ [] → qs ≡ record_set key v rs → HaveRecords set (standing after) qs
+have_more set log after rs qs tx key v c have e q =
+    subst (λ l. HaveRecords set l qs) (sym (ap standing e ∙ standing_more log (update_of tx key c) ∙ one_more (0 + length log) tx key c (standing log)))
+    (subst (λ l. HaveRecords set (record { lsn = 0 + length log; tx = tx; key = key; change = c } ∷ standing log) l) (sym q)
     ((λ _. set_is_there key v rs), all_mono _ _ (λ w h i. there_set key w.key v rs (h i)) (standing log) have))
 
 -- ---- room

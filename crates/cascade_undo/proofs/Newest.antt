@@ -9,6 +9,9 @@ use Rattle.std.proofs.lemmas.Bool.Decides.{nat_tests}
 use Rattle.clv_base.specs.declared.names.TxId.{TxId}
 use Rattle.clv_base.specs.declared.logs.LogRecord.{LogRecord}
 use Rattle.clv_base.specs.Orders.{tx_same, tx_in}
+use Rattle.clv_base.specs.declared.changes.Change.{Change}
+use Rattle.clv_base.specs.declared.changes.Change.TheVariants.{Sets, Adds}
+use Rattle.clv_base.specs.OneShard.{update_of}
 use Rattle.clv_base.specs.Logs.{StandingUpdate, standing, newest_of}
 use Rattle.clv_base.specs.Undo.{newest_lsn}
 use Rattle.clv_base.proofs.SameNames.{tx_self}
@@ -85,9 +88,13 @@ holds_of_newest P set [] v e a = absurd cc
 holds_of_newest P set (w ∷ ws) v e a =
     both (λ b. cond b (Some w) (newest_in set ws) ≡ Some v → P v) (tx_in w.tx set) (λ _ is. let same : w ≡ v = cc in subst P same a.0) (λ _ is. holds_of_newest P set ws v is a.1) e
 
+written_of : (lsn : ℕ) (tx : TxId) (key : ℕ) (c : Change) → write_in lsn (Some (update_of tx key c)) ≡ Some (record { lsn = lsn; tx = tx; key = key; change = c })
+written_of lsn tx key (Sets before after) = refl
+written_of lsn tx key (Adds by) = refl
+
 write_there : (set : List TxId) (log : List LogRecord) (v : StandingUpdate) → newest_in set (standing log) ≡ Some v
-    → write_in v.lsn (slice_get log v.lsn) ≡ Some (record { lsn = v.lsn; tx = v.tx; key = v.key; before = v.before })
-write_there set log v is = ap (write_in v.lsn) (holds_of_newest (IsIn log) set (standing log) v is (in_log log))
+    → write_in v.lsn (slice_get log v.lsn) ≡ Some (record { lsn = v.lsn; tx = v.tx; key = v.key; change = v.change })
+write_there set log v is = ap (write_in v.lsn) (holds_of_newest (IsIn log) set (standing log) v is (in_log log)) ∙ written_of v.lsn v.tx v.key v.change
 
 module _ (set : List TxId) (log : List LogRecord) (lsn : ℕ) (o : Option Write) (there : o ≡ write_in lsn (slice_get log lsn)) where
   pub newest_there_is : lsn_of (newest_in set (standing log)) ≡ Some lsn → IfSome o (IsNewestIn set (standing log)) × (IsNone o → newest_in set (standing log) ≡ None)
@@ -97,8 +104,8 @@ module _ (set : List TxId) (log : List LogRecord) (lsn : ℕ) (o : Option Write)
       at None is e = absurd cc
       at (Some v) is e =
           let same : v.lsn ≡ lsn = cc in
-          let whole : o ≡ Some (record { lsn = v.lsn; tx = v.tx; key = v.key; before = v.before }) = there ∙ ap (λ k. write_in k (slice_get log k)) (sym same) ∙ write_there set log v is in
-          (subst (λ x. IfSome x (IsNewestIn set (standing log))) (sym whole) (v.after, is), λ none. absurd cc)
+          let whole : o ≡ Some (record { lsn = v.lsn; tx = v.tx; key = v.key; change = v.change }) = there ∙ ap (λ k. write_in k (slice_get log k)) (sym same) ∙ write_there set log v is in
+          (subst (λ x. IfSome x (IsNewestIn set (standing log))) (sym whole) is, λ none. absurd cc)
 
 -- ---- what a look at one LSN tells, where none is above
 
@@ -136,7 +143,7 @@ module _ (set : List TxId) (log : List LogRecord) (lsn : ℕ) (below : AreBelow 
       at None is under = tt
       at (Some v) is under =
           let own = newest_of_own set (standing log) v is in
-          let other : v.lsn ≡ lsn → ⊥ = λ same. never (record { lsn = v.lsn; tx = v.tx; key = v.key; before = v.before })
+          let other : v.lsn ≡ lsn → ⊥ = λ same. never (record { lsn = v.lsn; tx = v.tx; key = v.key; change = v.change })
           (ap (λ k. write_in k (slice_get log k)) (sym same) ∙ write_there set log v is) own.0 (own.1 ∙ ap (λ k. Some k) same) in
           omega arith
 

@@ -1,13 +1,12 @@
 -- The newest write of a set, among the writes that stand: those above it are others', and it goes.
-use Rattle.std.proofs.Common.{◌≡◌, ℕ, suc, Bool, true, false, cond, ◌&&◌, ◌==◌, List, [], ◌∷◌, ◌++◌, length, Option, Some, None, unwrap_or, refl, sym, ap, subst, ◌∙◌}
+use Rattle.std.proofs.Common.{◌≡◌, ℕ, suc, true, false, cond, ◌&&◌, ◌==◌, List, [], ◌∷◌, ◌++◌, length, Option, Some, None, refl, sym, ap, subst, ◌∙◌}
 use Rattle.std.specs.List.{AllByRecursion}
 use Rattle.std.proofs.lemmas.Bool.{both_ways, cond-true, cond-false}
 use Rattle.clv_base.specs.declared.values.Value.{Value as ValueType}
 use Rattle.clv_base.specs.declared.names.TxId.{TxId}
-use Rattle.clv_base.specs.declared.logs.LogRecord.TheVariants.{Clr}
 use Rattle.clv_base.specs.Orders.{tx_in}
-use Rattle.clv_base.specs.Logs.{StandingUpdate, without_newest, newest_of}
-use Rattle.clv_base.specs.Undo.{value_before, clrs_of, newest_lsn}
+use Rattle.clv_base.specs.Logs.{StandingUpdate, unchanged, without_newest, newest_of}
+use Rattle.clv_base.specs.Undo.{undone_at, compensation, clrs_of, newest_lsn}
 use Rattle.clv_base.proofs.SameNames.{tx_self}
 use Rattle.cascade_undo.specs.Writes.{writes_of}
 use Rattle.cascade_undo.specs.Steps.{newest_in, lsn_of}
@@ -51,16 +50,9 @@ module _ (set : List TxId) where
   writes_above [] ws h = refl
   writes_above (v ∷ vs) ws h = cond-false _ _ _ h.0 ∙ writes_above vs ws h.1
 
-  abbrev before_with : Option (Option ValueType) → Bool → Option ValueType → Option (Option ValueType)
-  before_with o b v = elim o [ Some x ↦ Some x | None ↦ cond b (Some v) None ]
-
-  before_none : (o : Option (Option ValueType)) (v : Option ValueType) → before_with o false v ≡ o
-  before_none None v = refl
-  before_none (Some x) v = refl
-
-  pub before_above : (k : ℕ) (above ws : List StandingUpdate) → NoneOf set above → value_before set k (above ++ ws) ≡ value_before set k ws
-  before_above k [] ws h = refl
-  before_above k (v ∷ vs) ws h = ap (λ b. before_with (value_before set k (vs ++ ws)) (b && (k == v.key)) v.before) h.0 ∙ before_none (value_before set k (vs ++ ws)) v.before ∙ before_above k vs ws h.1
+  pub undone_above : (k : ℕ) (above ws : List StandingUpdate) (v : Option ValueType) → NoneOf set above → undone_at set k (above ++ ws) v ≡ undone_at set k ws v
+  undone_above k [] ws v h = refl
+  undone_above k (u ∷ us) ws v h = ap (λ b. undone_at set k (us ++ ws) (cond (b && (k == u.key)) (unchanged u.change v) v)) h.0 ∙ undone_above k us ws v h.1
 
   pub newest_above : (t : TxId) (above ws : List StandingUpdate) → tx_in t set ≡ true → NoneOf set above → newest_of t (above ++ ws) ≡ newest_of t ws
   newest_above t [] ws i h = refl
@@ -88,27 +80,21 @@ module _ (set : List TxId) where
     pub without_it : without_newest w.tx (above ++ w ∷ rest) ≡ above ++ rest
     without_it = without_above w.tx above (w ∷ rest) i h ∙ ap (λ l. above ++ l) (cond-true _ _ _ (tx_self w.tx))
 
-    pub clrs_with_it : clrs_of set (above ++ w ∷ rest) ≡ Clr w.tx (newest_lsn w.tx (above ++ rest)) w.key w.before ∷ clrs_of set (above ++ rest)
+    pub clrs_with_it : clrs_of set (above ++ w ∷ rest) ≡ compensation w.tx (newest_lsn w.tx (above ++ rest)) w.key w.change ∷ clrs_of set (above ++ rest)
     clrs_with_it =
         clrs_above above (w ∷ rest) h ∙ cond-true _ _ _ i
-        ∙ ap (λ o. Clr w.tx (lsn_of o) w.key w.before ∷ clrs_of set rest) (sym (newest_above w.tx above rest i h))
-        ∙ ap (λ l. Clr w.tx (newest_lsn w.tx (above ++ rest)) w.key w.before ∷ l) (sym (clrs_above above rest h))
+        ∙ ap (λ o. compensation w.tx (lsn_of o) w.key w.change ∷ clrs_of set rest) (sym (newest_above w.tx above rest i h))
+        ∙ ap (λ l. compensation w.tx (newest_lsn w.tx (above ++ rest)) w.key w.change ∷ l) (sym (clrs_above above rest h))
 
     pub writes_with_it : length (writes_of set (above ++ w ∷ rest)) ≡ suc (length (writes_of set (above ++ rest)))
     writes_with_it = ap length (writes_above above (w ∷ rest) h ∙ cond-true _ _ _ i) ∙ ap (λ l. suc (length l)) (sym (writes_above above rest h))
 
-    -- the value before at a key, from what was set back at its own key
-    pub before_with_it : (k : ℕ) (v : Option ValueType) → unwrap_or (value_before set k (above ++ rest)) (cond (k == w.key) w.before v) ≡ unwrap_or (value_before set k (above ++ w ∷ rest)) v
-    before_with_it k v =
-        ap (λ o. unwrap_or o (cond (k == w.key) w.before v)) (before_above k above rest h)
-        ∙ at (value_before set k rest) (k == w.key)
-        ∙ ap (λ b. unwrap_or (before_with (value_before set k rest) (b && (k == w.key)) w.before) v) (sym i)
-        ∙ ap (λ o. unwrap_or o v) (sym (before_above k above (w ∷ rest) h))
-      where
-        at : (o : Option (Option ValueType)) (b : Bool) → unwrap_or o (cond b w.before v) ≡ unwrap_or (before_with o (true && b) w.before) v
-        at (Some x) b = refl
-        at None true = refl
-        at None false = refl
+    -- it is taken back first
+    pub undone_with_it : (k : ℕ) (v : Option ValueType) → undone_at set k (above ++ rest) (cond (k == w.key) (unchanged w.change v) v) ≡ undone_at set k (above ++ w ∷ rest) v
+    undone_with_it k v =
+        undone_above k above rest (cond (k == w.key) (unchanged w.change v) v) h
+        ∙ ap (λ b. undone_at set k rest (cond (b && (k == w.key)) (unchanged w.change v) v)) (sym i)
+        ∙ sym (undone_above k above (w ∷ rest) v h)
 
     pub others_stay : (P : StandingUpdate → Type 0) → AllByRecursion (λ v. tx_in v.tx set ≡ true → P v) (above ++ w ∷ rest) → AllByRecursion (λ v. tx_in v.tx set ≡ true → P v) (above ++ rest)
     others_stay P a = with_above P above rest h (all_above (λ v. tx_in v.tx set ≡ true → P v) above (w ∷ rest) a).1

@@ -1,10 +1,10 @@
 -- An undo of a set of transactions, step by step from the newest write down.
 use Rattle.std.specs.Prelude.{◌≡◌, ℕ, ◌+◌, ◌<◌, ◌≤◌, cond, List, [], ◌∷◌, ◌++◌, length, Option, Some, None, IfSome}
-use Rattle.clv_base.specs.declared.values.Value.{Value as ValueType}
 use Rattle.clv_base.specs.declared.names.TxId.{TxId}
 use Rattle.clv_base.specs.declared.logs.LogRecord.{LogRecord}
-use Rattle.clv_base.specs.declared.logs.LogRecord.TheVariants.{Update}
+use Rattle.clv_base.specs.declared.logs.LogRecord.TheVariants.{Update, Add}
 use Rattle.clv_base.specs.Orders.{tx_in}
+use Rattle.clv_base.specs.declared.changes.Change.TheVariants.{Sets, Adds}
 use Rattle.clv_base.specs.Logs.{StandingUpdate, standing}
 use Rattle.clv_base.specs.Undo.{clrs_of}
 use Rattle.log_buffer.specs.Buffers.{Buffer}
@@ -25,15 +25,15 @@ AreBelow set n ws = IfSome (newest_in set ws) (λ w. w.lsn < n)
 
 -- what the record at an LSN writes
 abbrev pub write_in : ℕ → Option LogRecord → Option Write
-write_in lsn (Some (Update tx key before after)) = Some (record { lsn = lsn; tx = tx; key = key; before = before })
+write_in lsn (Some (Update tx key before after)) = Some (record { lsn = lsn; tx = tx; key = key; change = Sets before after })
+write_in lsn (Some (Add tx key by)) = Some (record { lsn = lsn; tx = tx; key = key; change = Adds by })
 write_in lsn _ = None
 
 -- the write is the newest one of the set
 abbrev pub IsNewestIn : List TxId → List StandingUpdate → Write → Type 0
-IsNewestIn set ws w =
-    (after : Option ValueType) × (newest_in set ws ≡ Some (record { lsn = w.lsn; tx = w.tx; key = w.key; before = w.before; after = after }))
+IsNewestIn set ws w = newest_in set ws ≡ Some (record { lsn = w.lsn; tx = w.tx; key = w.key; change = w.change })
 
--- the CLRs appended here are those that were still to be appended there
+-- the CLRs and UNADDs appended here are those that were still to be appended there
 pub record Advances (set : List TxId) (b c : Buffer LogRecord) : Type 0 where
   pub log : c.records ++ clrs_of set (standing c.records) ≡ b.records ++ clrs_of set (standing b.records)
   pub fronts : (c.durable ≡ b.durable) × (c.taken ≡ b.taken)

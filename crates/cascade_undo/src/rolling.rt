@@ -11,12 +11,12 @@ use clv_base::logs::LogRecord;
 use log_buffer::LogBuffer;
 use ordered_store::Store;
 
-/// Takes away the effects of the marked transactions, and gives how many of their UPDATEs it undid. The log gets an ABORT for each that
-/// has an UPDATE, in rising order, and then a CLR for each of their UPDATEs that stand, from the greatest LSN down. Each of their keys gets
-/// the value before the first of these UPDATEs; where there was none, a ghost stays. Nobody is released or unmarked. The room for these
-/// records must have been reserved. Takes no memory. To find the next of these UPDATEs takes a look at each record down to it or at each
-/// mark, whichever are fewer, and to find that none is left one at each mark, but for a factor of two. A look takes time in the logarithm
-/// of the number of marks.
+/// Takes away the effects of the marked transactions, and gives how many of their writes it undid. The log gets an ABORT for each that
+/// wrote, in rising order, and then a CLR for each of their UPDATEs and an UNADD for each of their ADDs that stand, from the greatest LSN
+/// down. In the same order an UPDATE's key gets the value before it again, and a ghost where there was none, and an ADD's number is taken
+/// away. Nobody is released or unmarked. The room for these records must have been reserved. Takes no memory. To find the next of these
+/// writes takes a look at each record down to it or at each mark, whichever are fewer, and to find that none is left one at each mark, but
+/// for a factor of two. A look takes time in the logarithm of the number of marks.
 pub fn roll_back<S: Store>(store: &mut S, buffer: &mut LogBuffer<LogRecord>, deps: &Deps) -> usize
     requires there { HaveRecords deps.now.marked (standing buffer.old.records) (S.records store.old) }
     requires room { length (aborts_of buffer.old.records deps.now.marked) + length (writes_of deps.now.marked (standing buffer.old.records)) ≤ buffer.old.room }

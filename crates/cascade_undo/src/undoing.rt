@@ -1,16 +1,18 @@
 //! Undoing the writes of a set of transactions, from the newest one down.
 ghost use Rattle.std.specs.Prelude.{◌≡◌, ◌≤◌, ◌<◌, ◌+◌, ◌++◌, [], ◌∷◌, length, IsTrue};
 ghost use Rattle.std.specs.List.Sorted.{IsStrictlySortedBy};
-ghost use Rattle.clv_base.specs.declared.logs.LogRecord.TheVariants.{Clr};
 ghost use Rattle.clv_base.specs.Orders.{tx_cmp};
-ghost use Rattle.clv_base.specs.Logs.{standing, without_newest};
-ghost use Rattle.clv_base.specs.Undo.{records_without, clrs_of, newest_lsn};
-ghost use Rattle.clv_base.specs.Needs.{found_at, is_there, record_set};
+ghost use Rattle.clv_base.specs.Logs.{standing, unchanged, without_newest};
+ghost use Rattle.clv_base.specs.Maps.{minus as with_taken};
+ghost use Rattle.clv_base.specs.Undo.{records_without, clrs_of, compensation, newest_lsn};
+ghost use Rattle.clv_base.specs.Needs.{found_at, is_there, live_of, record_set, value_at};
 ghost use Rattle.cascade_undo.specs.Writes.{writes_of, HaveRecords};
 
 use crate::compensating::append_clr;
 use crate::write::{Write, newest_write};
+use clv_base::changes::{Change, minus};
 use clv_base::logs::LogRecord;
+use clv_base::modes::Found;
 use clv_base::names::TxId;
 use clv_base::values::{Value, copy_of};
 use log_buffer::LogBuffer;
@@ -30,24 +32,57 @@ fn restore<S: Store>(store: &mut S, key: u64, before: Option<Value>)
     }
 }
 
+/// What stands there, where it is live.
+fn live(found: Found) -> Option<Value>
+    ensures { result ≡ live_of found }
+{
+    match found {
+        Found::Live(value) => Some(value),
+        Found::Ghost | Found::Absent => None,
+    }
+}
+
+/// Takes away what was added to the record at a key.
+fn take_from<S: Store>(store: &mut S, key: u64, by: u64)
+    requires { IsTrue (is_there (found_at key (S.records store.old))) }
+    ensures records { S.records store.new ≡ record_set key (with_taken by (value_at key (S.records store.old))) (S.records store.old) }
+    ensures room { S.room store.old ≤ S.room store.new }
+{
+    let value = live(store.get(key));
+    restore(store, key, minus(&value, by));
+}
+
+/// Takes back what was done to the record at a key.
+fn take_back<S: Store>(store: &mut S, key: u64, change: &Change)
+    requires { IsTrue (is_there (found_at key (S.records store.old))) }
+    ensures records { S.records store.new ≡ record_set key (unchanged change.now (value_at key (S.records store.old))) (S.records store.old) }
+    ensures room { S.room store.old ≤ S.room store.new }
+{
+    match change {
+        Change::Sets(before, _) => restore(store, key, copy_of(before)),
+        Change::Adds(by) => take_from(store, key, *by),
+    }
+}
+
 /// Takes back a transaction's newest write that stands.
 fn undo_write<S: Store>(store: &mut S, buffer: &mut LogBuffer<LogRecord>, write: Write)
     requires there { IsTrue (is_there (found_at write.key (S.records store.old))) }
     requires room { 0 < buffer.old.room }
-    ensures records { S.records store.new ≡ record_set write.key write.before (S.records store.old) }
-    ensures log { buffer.new.records ≡ buffer.old.records ++ Clr write.tx (newest_lsn write.tx (without_newest write.tx (standing buffer.old.records))) write.key write.before ∷ [] }
+    ensures records { S.records store.new ≡ record_set write.key (unchanged write.change (value_at write.key (S.records store.old))) (S.records store.old) }
+    ensures log { buffer.new.records ≡ buffer.old.records ++ compensation write.tx (newest_lsn write.tx (without_newest write.tx (standing buffer.old.records))) write.key write.change ∷ [] }
     ensures fronts { (buffer.new.durable ≡ buffer.old.durable) × (buffer.new.taken ≡ buffer.old.taken) }
     ensures room { buffer.old.room ≤ buffer.new.room + 1 }
     ensures store_room { S.room store.old ≤ S.room store.new }
 {
-    restore(store, write.key, copy_of(&write.before));
+    take_back(store, write.key, &write.change);
     append_clr(buffer, write);
 }
 
-/// Takes back all writes of the transactions, which rise, that stand in the log: a CLR for each, from the greatest LSN down, which names
-/// its transaction's write before it; the key goes back to the value before, and to a ghost where there was none. Gives how many these
-/// are. Takes no memory. The next of these writes is found by a look at each record down to it or at each of the transactions, whichever
-/// are fewer, but for a factor of two: so the undo of one transaction takes time in its own writes, however many others wrote between.
+/// Takes back all writes of the transactions, which rise, that stand in the log: a CLR or UNADD for each, from the greatest LSN down, which
+/// names its transaction's write before it. In the same order an UPDATE's key gets the value before it again, and a ghost where there was
+/// none, and an ADD's number is taken away. Gives how many these are. Takes no memory. The next of these writes is found by a look at each
+/// record down to it or at each of the transactions, whichever are fewer, but for a factor of two: so the undo of one transaction takes time
+/// in its own writes, however many others wrote between.
 pub fn undo_writes<S: Store>(
     store: &mut S,
     buffer: &mut LogBuffer<LogRecord>,

@@ -6,18 +6,19 @@ ghost use Rattle.clv_base.specs.Logs.{standing};
 ghost use Rattle.cascade_undo.specs.Steps.{newest_in, AreBelow, IsNewestIn, write_in};
 
 use crate::marks::{contains, greatest_lsn};
+use clv_base::changes::Change;
 use clv_base::logs::LogRecord;
 use clv_base::names::TxId;
-use clv_base::values::{Value, copy_of};
+use clv_base::values::copy_of;
 use log_buffer::LogBuffer;
 
-/// An UPDATE at its LSN: the transaction, the key, and its value before.
+/// An UPDATE or ADD at its LSN: the transaction, the key, and what is done to its value.
 #[derive(Drop)]
 pub(crate) struct Write {
     pub(crate) lsn: u64,
     pub(crate) tx: TxId,
     pub(crate) key: u64,
-    pub(crate) before: Option<Value>,
+    pub(crate) change: Change,
 }
 
 /// What the record at an LSN writes.
@@ -29,12 +30,18 @@ fn write_of(lsn: u64, found: &LogRecord) -> Option<Write>
             tx,
             key,
             before,
-            ..
+            after,
         } => Some(Write {
             lsn,
             tx: *tx,
             key: *key,
-            before: copy_of(before),
+            change: Change::Sets(copy_of(before), copy_of(after)),
+        }),
+        LogRecord::Add { tx, key, by } => Some(Write {
+            lsn,
+            tx: *tx,
+            key: *key,
+            change: Change::Adds(*by),
         }),
         _ => None,
     }

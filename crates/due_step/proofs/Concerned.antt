@@ -3,7 +3,7 @@ use Rattle.std.proofs.Common.{◌≡◌, refl, sym, ◌∙◌, ⊎_elim, Bool, t
 use Rattle.std.proofs.lemmas.Bool.{both_ways, or_cases}
 use Rattle.clv_base.specs.declared.names.TxId.{TxId}
 use Rattle.clv_base.specs.declared.logs.LogRecord.{LogRecord}
-use Rattle.clv_base.specs.declared.logs.LogRecord.TheVariants.{Update, Clr, Prepare, Commit, Abort, End, Restart}
+use Rattle.clv_base.specs.declared.logs.LogRecord.TheVariants.{Update, Clr, Prepare, Commit, Abort, End, Restart, Add, Unadd}
 use Rattle.clv_base.specs.Orders.{tx_same, tx_in}
 use Rattle.clv_base.proofs.SameNames.{or_left, or_right, tx_flip}
 use Rattle.protocol_laws.specs.UndoLaws.{is_pair}
@@ -42,6 +42,8 @@ concerned pairs (Clr tx u k a ∷ rs) x e = concerned pairs rs x e
 concerned pairs (Abort tx ∷ rs) x e = concerned pairs rs x e
 concerned pairs (End tx ∷ rs) x e = concerned pairs rs x e
 concerned pairs (Restart run epoch ∷ rs) x e = concerned pairs rs x e
+concerned pairs (Add tx k by ∷ rs) x e = concerned pairs rs x e
+concerned pairs (Unadd tx u k by ∷ rs) x e = concerned pairs rs x e
 
 pub landed_covers : LandedCovers
 landed_covers s n txs more h cover put t due =

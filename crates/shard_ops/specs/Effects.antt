@@ -5,7 +5,6 @@ use Rattle.clv_base.specs.declared.names.TxId.{TxId}
 use Rattle.clv_base.specs.declared.names.Birth.{Birth}
 use Rattle.clv_base.specs.declared.ops.Op.{Op}
 use Rattle.clv_base.specs.declared.logs.LogRecord.{LogRecord}
-use Rattle.clv_base.specs.declared.logs.LogRecord.TheVariants.{Update}
 use Rattle.clv_base.specs.declared.modes.Part.TheVariants.{X}
 use Rattle.clv_base.specs.declared.modes.Anchor.{Anchor}
 use Rattle.clv_base.specs.declared.modes.Anchor.TheVariants.{At}
@@ -15,7 +14,7 @@ use Rattle.clv_base.specs.Modes.{on_key}
 use Rattle.clv_base.specs.Locks.{Locks, take_all, split_gap, violated}
 use Rattle.clv_base.specs.Needs.{Records, need, needs_of, record_set, found_at, is_there}
 use Rattle.clv_base.specs.State.{Local}
-use Rattle.clv_base.specs.OneShard.{new_part, add_pairs, performed}
+use Rattle.clv_base.specs.OneShard.{update_of, new_part, add_pairs, performed}
 use Rattle.lock_table.specs.Rows.{gaps_held, anchors_of}
 use Rattle.shard_ops.specs.declared.plan.Insert.{Insert}
 use Rattle.shard_ops.specs.declared.plan.Write.{Write}
@@ -42,7 +41,7 @@ records_after (Some w) rs = record_set w.key w.after rs
 
 abbrev pub log_after : TxId → Option Write → List LogRecord → List LogRecord
 log_after tx None log = log
-log_after tx (Some w) log = log ++ Update tx w.key w.before w.after ∷ []
+log_after tx (Some w) log = log ++ update_of tx w.key w.change ∷ []
 
 -- how many records it writes into the log
 abbrev pub record_count : Option Write → ℕ

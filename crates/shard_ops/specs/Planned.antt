@@ -5,6 +5,8 @@ use Rattle.clv_base.specs.declared.ops.Op.{Op}
 use Rattle.clv_base.specs.declared.modes.Part.{Part}
 use Rattle.clv_base.specs.declared.modes.Anchor.TheVariants.{At}
 use Rattle.clv_base.specs.declared.modes.Need.{Need}
+use Rattle.clv_base.specs.declared.changes.Change.{Change}
+use Rattle.clv_base.specs.Logs.{changed}
 use Rattle.clv_base.specs.Modes.{on_key, on_gap}
 use Rattle.clv_base.specs.declared.modes.Found.{Found}
 use Rattle.clv_base.specs.declared.modes.Found.TheVariants.{Live, Ghost, Absent}
@@ -38,13 +40,13 @@ insert_by rs (Some k) = Some (record { key = k; lower = lower_anchor k rs })
 abbrev pub insert_of : Op → Records → Option Insert
 insert_of op rs = insert_by rs (inserts op (found_at (key_of op) rs))
 
--- the key that is written, with its value before and after
-abbrev pub write_by : Option (ℕ × Option ValueType × Option ValueType) → Option Write
-write_by None = None
-write_by (Some w) = Some (record { key = w.0; before = w.1; after = w.2 })
+-- the key that is written: what is done to its value, and what it is then, by what it is before
+abbrev pub write_by : Option ValueType → Option (ℕ × Change) → Option Write
+write_by before None = None
+write_by before (Some w) = Some (record { key = w.0; change = w.1; after = changed w.1 before })
 
 abbrev pub write_of : Op → Records → Option Write
-write_of op rs = write_by (writes_of op (value_at (key_of op) rs))
+write_of op rs = write_by (value_at (key_of op) rs) (writes_of op (value_at (key_of op) rs))
 
 -- the locks, in order
 abbrev pub needed : Needs → List Need

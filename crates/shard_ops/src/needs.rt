@@ -7,6 +7,7 @@ ghost use Rattle.shard_ops.specs.Planned.{lock_at as lock_by};
 
 use clv_base::modes::{Anchor, Found, Mode, Need, Part};
 use clv_base::ops::Op;
+use clv_base::values::Value;
 use ordered_store::Store;
 
 /// A mode on a record alone.
@@ -67,6 +68,18 @@ pub(crate) fn put_need<S: Store>(store: &S, key: u64, found: &Found) -> Need
     ensures { (value : ValueType) → result ∷ [] ≡ needs_by (Op.Put key value) (S.records store.now) found.now }
 {
     lock_at(store, key, found, Part::X, Part::X)
+}
+
+/// What adding to a key needs: it adds to a number alone, and reads what else stands there.
+pub(crate) fn add_need<S: Store>(store: &S, key: u64, by: u64, found: &Found) -> Need
+    ensures { result ∷ [] ≡ needs_by (Op.Add key by) (S.records store.now) found.now }
+{
+    let there = match found {
+        Found::Live(Value::Num(_)) => Part::I,
+        Found::Live(Value::Bytes(_)) => Part::S,
+        Found::Ghost | Found::Absent => Part::S,
+    };
+    lock_at(store, key, found, there, Part::S)
 }
 
 /// What deleting a key needs: it writes a live record alone.

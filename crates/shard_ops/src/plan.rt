@@ -4,8 +4,9 @@ ghost use Rattle.clv_base.specs.declared.values.Value.{Value as ValueType};
 ghost use Rattle.clv_base.specs.Needs.{needs_of, answer_of, live_of, inserts, writes_of};
 ghost use Rattle.shard_ops.specs.Planned.{needed, insert_of, write_of, insert_by, write_by, IsPlanOf};
 
-use crate::needs::{del_need, get_need, put_need};
+use crate::needs::{add_need, del_need, get_need, put_need};
 use crate::scan::{pairs_of, scan_needs};
+use clv_base::changes::{Change, is_number, plus};
 use clv_base::lists::Pairs;
 use clv_base::modes::{Anchor, Found, Need};
 use clv_base::ops::{Answer, Op};
@@ -22,11 +23,11 @@ pub struct Insert {
     pub lower: Anchor,
 }
 
-/// A key that is written, with its value before and after.
+/// A key that is written: what is done to its value, and what it is then.
 #[derive(PartialEq, Eq, Drop)]
 pub struct Write {
     pub key: u64,
-    pub before: Option<Value>,
+    pub change: Change,
     pub after: Option<Value>,
 }
 
@@ -44,7 +45,7 @@ impl Write {
     {
         Write {
             key: self.key,
-            before: copy_of(&self.before),
+            change: self.change.copy(),
             after: copy_of(&self.after),
         }
     }
@@ -118,7 +119,7 @@ fn plan_put<S: Store>(store: &S, key: u64, value: &Value) -> Plan
         insert,
         write: Some(Write {
             key,
-            before,
+            change: Change::Sets(before, Some(value.copy())),
             after: Some(value.copy()),
         }),
     }
@@ -126,12 +127,12 @@ fn plan_put<S: Store>(store: &S, key: u64, value: &Value) -> Plan
 
 /// What a Del writes, where there is a value.
 fn del_write(key: u64, before: Option<Value>) -> Option<Write>
-    ensures { result ≡ write_by (writes_of (Op.Del key) before) }
+    ensures { result ≡ write_by before (writes_of (Op.Del key) before) }
 {
     match before {
         Some(value) => Some(Write {
             key,
-            before: Some(value),
+            change: Change::Sets(Some(value), None),
             after: None,
         }),
         None => None,
@@ -149,6 +150,35 @@ fn plan_del<S: Store>(store: &S, key: u64) -> Plan
         answer: Answer::Value(copy_of(&before)),
         insert: None,
         write: del_write(key, before),
+    }
+}
+
+/// What an Add writes, where there is a number.
+fn add_write(key: u64, by: u64, before: &Option<Value>) -> Option<Write>
+    ensures { result ≡ write_by before.now (writes_of (Op.Add key by) before.now) }
+{
+    if is_number(before) {
+        Some(Write {
+            key,
+            change: Change::Adds(by),
+            after: plus(before, by),
+        })
+    } else {
+        None
+    }
+}
+
+fn plan_add<S: Store>(store: &S, key: u64, by: u64) -> Plan
+    ensures { IsPlanOf (Op.Add key by) (S.records store.now) result }
+{
+    let found = store.get(key);
+    let need = add_need(store, key, by, &found);
+    let before = live(found);
+    Plan {
+        needs: Needs::One(need),
+        answer: Answer::Added(is_number(&before)),
+        insert: None,
+        write: add_write(key, by, &before),
     }
 }
 
@@ -174,6 +204,7 @@ fn plan_by<S: Store>(alloc: Global, store: &S, op: &Op) -> Result<Plan, AllocErr
         Op::Put(key, value) => Ok(plan_put(store, *key, value)),
         Op::Del(key) => Ok(plan_del(store, *key)),
         Op::Scan(low, high) => plan_scan(alloc, store, *low, *high),
+        Op::Add(key, by) => Ok(plan_add(store, *key, *by)),
     }
 }
 

@@ -24,8 +24,8 @@ fn set<S: Store>(store: &mut S, key: u64, after: Option<Value>)
     }
 }
 
-/// Writes what an operation writes into the store, and its UPDATE into the log, for which there is room. The store has room for one record
-/// fewer where the key is a new one, and the log where there is an UPDATE. Takes no memory.
+/// Writes what an operation writes into the store, and its UPDATE or ADD into the log, for which there is room. The store has room for one record
+/// fewer where the key is a new one, and the log where there is a record. Takes no memory.
 pub fn write_down<S: Store>(
     store: &mut S,
     buffer: &mut LogBuffer<LogRecord>,
@@ -42,11 +42,6 @@ pub fn write_down<S: Store>(
 {
     if let Some(write) = write {
         set(store, write.key, copy_of(&write.after));
-        buffer.append_reserved(LogRecord::Update {
-            tx,
-            key: write.key,
-            before: copy_of(&write.before),
-            after: copy_of(&write.after),
-        });
+        buffer.append_reserved(write.change.copy().into_record(tx, write.key));
     }
 }

@@ -7,7 +7,7 @@ use Rattle.std.specs.declared.cmp.Ordering.TheVariants.{Less, Equal, Greater}
 use Rattle.std.specs.Ordering.{match_ordering}
 use Rattle.clv_base.specs.declared.names.TxId.{TxId}
 use Rattle.clv_base.specs.declared.logs.LogRecord.{LogRecord}
-use Rattle.clv_base.specs.declared.logs.LogRecord.TheVariants.{Update, Clr, Prepare, Commit, Abort, End, Restart}
+use Rattle.clv_base.specs.declared.logs.LogRecord.TheVariants.{Update, Clr, Prepare, Commit, Abort, End, Restart, Add, Unadd}
 use Rattle.clv_base.specs.Orders.{Table, tx_cmp, tx_put, tx_insert}
 use Rattle.clv_base.specs.Logs.{ended_in}
 use Rattle.clv_base.specs.Restarts.{unended_with, unended_in}
@@ -45,3 +45,5 @@ unended_rise log (Prepare tx home ps ∷ rs) = unended_rise log rs
 unended_rise log (Abort tx ∷ rs) = unended_rise log rs
 unended_rise log (End tx ∷ rs) = unended_rise log rs
 unended_rise log (Restart run epoch ∷ rs) = unended_rise log rs
+unended_rise log (Add tx b by ∷ rs) = unended_rise log rs
+unended_rise log (Unadd tx b c by ∷ rs) = unended_rise log rs

@@ -1,18 +1,17 @@
 -- How many undecided predecessors a transaction has.
-use Rattle.std.proofs.Common.{◌≡◌, ◌≤◌, ⊎_elim, Bool, true, false, cond, not, ◌||◌, List, [], ◌∷◌, ◌++◌, length, Option, Some, None, refl, sym, ap, subst, ◌∙◌, arith}
-use Rattle.std.proofs.lemmas.Bool.{both_ways, cases_Bool, or_cases, or_left, or_right, false_from_ne_true, and_parts}
+use Rattle.std.proofs.Common.{◌≡◌, ◌≤◌, ⊎_elim, Bool, true, false, not, ◌||◌, List, [], ◌∷◌, ◌++◌, length, Option, Some, None, refl, sym, ap, subst, ◌∙◌, arith}
+use Rattle.std.proofs.lemmas.Bool.{cases_Bool, or_cases, or_left, or_right, and_parts}
 use Rattle.std.proofs.lemmas.List.Folds.{list_any-append}
 use Rattle.std.specs.List.{filter}
 use Rattle.clv_base.specs.declared.names.TxId.{TxId}
 use Rattle.clv_base.specs.declared.logs.LogRecord.{LogRecord}
-use Rattle.clv_base.specs.declared.logs.LogRecord.TheVariants.{Update}
 use Rattle.shard_ops.specs.declared.plan.Write.{Write}
 use Rattle.shard_ops.specs.Effects.{log_after}
-use Rattle.clv_base.specs.Orders.{tx_same, tx_in, tx_insert, tx_union, pair_insert}
+use Rattle.clv_base.specs.Orders.{tx_same, tx_in, tx_union, pair_insert}
 use Rattle.clv_base.specs.Logs.{committed_in, is_commit_of}
 use Rattle.clv_base.specs.Facts.{predecessors_of}
 use Rattle.clv_base.specs.Undo.{pairs_without}
-use Rattle.clv_base.specs.OneShard.{add_pairs}
+use Rattle.clv_base.specs.OneShard.{add_pairs, update_of}
 use Rattle.clv_base.proofs.SameNames.{tx_true, tx_self}
 use Rattle.protocol_laws.specs.UndoLaws.{is_pair}
 use Rattle.law_base.proofs.Tables.{pair_in, in_pair, add_keeps, add_has, insert_from}
@@ -82,4 +81,4 @@ few_undone log aborts clrs pairs few = few_grows (log ++ aborts) clrs pairs (few
 
 pub few_written : (tx : TxId) (write : Option Write) (log : List LogRecord) (pairs : List (TxId × TxId)) → FewUndecided log pairs → FewUndecided (log_after tx write log) pairs
 few_written tx None log pairs few = few
-few_written tx (Some w) log pairs few = few_grows log (Update tx w.key w.before w.after ∷ []) pairs few
+few_written tx (Some w) log pairs few = few_grows log (update_of tx w.key w.change ∷ []) pairs few

@@ -11,9 +11,8 @@ use Rattle.clv_base.specs.declared.values.Value.{Value as ValueType}
 use Rattle.clv_base.specs.declared.names.TxId.{TxId}
 use Rattle.clv_base.specs.declared.names.Birth.{Birth}
 use Rattle.clv_base.specs.declared.ops.Op.{Op}
-use Rattle.clv_base.specs.declared.ops.Op.TheVariants.{Get, Put, Del, Scan}
+use Rattle.clv_base.specs.declared.ops.Op.TheVariants.{Get, Put, Del, Scan, Add}
 use Rattle.clv_base.specs.declared.logs.LogRecord.{LogRecord}
-use Rattle.clv_base.specs.declared.logs.LogRecord.TheVariants.{Update}
 use Rattle.clv_base.specs.declared.modes.Anchor.TheVariants.{At}
 use Rattle.clv_base.specs.declared.modes.Part.TheVariants.{N}
 use Rattle.clv_base.specs.declared.modes.Need.{Need}
@@ -23,12 +22,15 @@ use Rattle.clv_base.specs.declared.state.Stage.{Stage}
 use Rattle.clv_base.specs.declared.state.Stage.TheVariants.{Active, Closed, Gone}
 use Rattle.clv_base.specs.declared.state.Held.{Held}
 use Rattle.clv_base.specs.Orders.{tx_same, tx_get, pair_cmp, pair_insert, anchor_same}
-use Rattle.clv_base.specs.Logs.{StandingUpdate, standing, wrote_in, is_update_of}
+use Rattle.clv_base.specs.declared.changes.Change.{Change}
+use Rattle.clv_base.specs.declared.changes.Change.TheVariants.{Sets, Adds}
+use Rattle.clv_base.specs.declared.values.Value.TheVariants.{Num, Bytes}
+use Rattle.clv_base.specs.Logs.{StandingUpdate, standing, standing_after, wrote_in, is_update_of}
 use Rattle.clv_base.specs.Locks.{Locks, take_all, split_gap}
 use Rattle.clv_base.specs.Needs.{Records, found_at, found_by, is_there, live_of, record_set, needs_of, needs_by, inserts, writes_of}
 use Rattle.clv_base.specs.State.{Local, is_present}
 use Rattle.clv_base.specs.Undo.{stage_of}
-use Rattle.clv_base.specs.OneShard.{new_part, active_part, add_pairs}
+use Rattle.clv_base.specs.OneShard.{update_of, new_part, active_part, add_pairs}
 use Rattle.clv_base.proofs.SameNames.{or_left, or_right, tx_true, tx_self, tx_flip}
 use Rattle.law_base.proofs.Cells.{record_at}
 use Rattle.law_base.proofs.Tables.{get_put, stage_in, stage_by as stage_at}
@@ -42,6 +44,7 @@ use Rattle.shard_ops.specs.declared.plan.Write.{Write}
 use Rattle.shard_ops.specs.Planned.{insert_by, write_by, insert_of, write_of}
 use Rattle.shard_ops.specs.Effects.{performed_by, locks_after, records_after, log_after, new_key, record_count, CanSet, CanWrite}
 use Rattle.txn_core.specs.Sound.{is_here, has_lock, IsHeld, owed_by, owed_more, IsSound, may_work, has_need, IsCovered}
+use Rattle.txn_core.proofs.Writers.{own_update}
 use Rattle.txn_core.proofs.Owing.{owed-one, owed-own, owed_of_others, count_owed_fewer}
 use Rattle.txn_core.proofs.Undoing.{lock_is_held}
 use Rattle.law_base.proofs.Lists.{all_both, all_mono as all_weaker}
@@ -54,14 +57,21 @@ covers (Get k) rs = tt
 covers (Scan lo hi) rs = tt
 covers (Put k v) rs = at (found_at k rs)
   where
-    at : (f : Found) → IsCovered (needs_by (Put k v) rs f) (insert_by rs (inserts (Put k v) f)) (write_by (writes_of (Put k v) (live_of (found_at k rs))))
+    at : (f : Found) → IsCovered (needs_by (Put k v) rs f) (insert_by rs (inserts (Put k v) f)) (write_by (live_of (found_at k rs)) (writes_of (Put k v) (live_of (found_at k rs))))
     at (Live w) = inl (or_left _ _ (anchor_self (At k)))
     at Ghost = inl (or_left _ _ (anchor_self (At k)))
     at Absent = inr (_, refl, refl)
 covers (Del k) rs = at (found_at k rs)
   where
-    at : (f : Found) → IsCovered (needs_by (Del k) rs f) (insert_by rs (inserts (Del k) f)) (write_by (writes_of (Del k) (live_of f)))
+    at : (f : Found) → IsCovered (needs_by (Del k) rs f) (insert_by rs (inserts (Del k) f)) (write_by (live_of f) (writes_of (Del k) (live_of f)))
     at (Live w) = inl (or_left _ _ (anchor_self (At k)))
+    at Ghost = tt
+    at Absent = tt
+covers (Add k n) rs = at (found_at k rs)
+  where
+    at : (f : Found) → IsCovered (needs_by (Add k n) rs f) (insert_by rs (inserts (Add k n) f)) (write_by (live_of f) (writes_of (Add k n) (live_of f)))
+    at (Live (Num v)) = inl (or_left _ _ (anchor_self (At k)))
+    at (Live (Bytes b)) = tt
     at Ghost = tt
     at Absent = tt
 
@@ -88,7 +98,7 @@ any_at f (x ∷ xs) zero r e h = let same : x ≡ r = cc in or_left _ _ (ap f sa
 any_at f (x ∷ xs) (suc n) r e h = or_right (f x) _ (any_at f xs n r e h)
 
 wrote_by : (log : List LogRecord) (w : StandingUpdate) → IsIn log w → wrote_in log w.tx ≡ true
-wrote_by log w i = any_at (is_update_of w.tx) log w.lsn (Update w.tx w.key w.before w.after) i (tx_self w.tx)
+wrote_by log w i = any_at (is_update_of w.tx) log w.lsn (update_of w.tx w.key w.change) i (own_update w.tx w.tx w.key w.change ∙ tx_self w.tx)
 
 -- ---- records and locks stay
 
@@ -190,19 +200,23 @@ module _ (tx : TxId) (birth : Birth) (needs : List Need) (insert : Option Insert
       flipped : (t : TxId) → tx_same tx t ≡ false → tx_same t tx ≡ false
       flipped t e = false_from_ne_true _ (λ s. both_ways _ e (tx_flip t tx s))
 
+stands_then : (n : ℕ) (tx : TxId) (key : ℕ) (c : Change) (ws : List StandingUpdate) → standing_after n (update_of tx key c) ws ≡ record { lsn = n; tx = tx; key = key; change = c } ∷ ws
+stands_then n tx key (Sets b a) ws = refl
+stands_then n tx key (Adds by) ws = refl
+
 written_all : (P : StandingUpdate → Type 0) (tx : TxId) (write : Option Write) (log : List LogRecord) → AllByRecursion P (standing log)
-    → ((w : Write) → write ≡ Some w → (n : ℕ) → P (record { lsn = n; tx = tx; key = w.key; before = w.before; after = w.after })) → AllByRecursion P (standing (log_after tx write log))
+    → ((w : Write) → write ≡ Some w → (n : ℕ) → P (record { lsn = n; tx = tx; key = w.key; change = w.change })) → AllByRecursion P (standing (log_after tx write log))
 written_all P tx None log a new = a
 written_all P tx (Some w) log a new =
-    subst (AllByRecursion P) (sym (standing_append 0 log (Update tx w.key w.before w.after ∷ []) [])) (new w refl (0 + length log), a)
+    subst (AllByRecursion P) (sym (standing_append 0 log (update_of tx w.key w.change ∷ []) [] ∙ stands_then (0 + length log) tx w.key w.change (standing log))) (new w refl (0 + length log), a)
 
 owed_written : (test : TxId → Bool) (tx : TxId) (write : Option Write) (log : List LogRecord) → owed_by test (log_after tx write log) ≤ owed_by test log + owed_more (wrote_in log tx) write
 owed_written test tx None log = omega arith
-owed_written test tx (Some w) log = owed-one test log tx w.key w.before w.after
+owed_written test tx (Some w) log = owed-one test log tx w.key w.change
 
 owed_own : (test : TxId → Bool) (tx : TxId) (write : Option Write) (log : List LogRecord) → test tx ≡ true → owed_by test log + owed_more (wrote_in log tx) write ≤ owed_by test (log_after tx write log)
 owed_own test tx None log own = omega arith
-owed_own test tx (Some w) log own = owed-own test log tx w.key w.before w.after own
+owed_own test tx (Some w) log own = owed-own test log tx w.key w.change own
 
 -- what is reserved beyond the undo of the parts that are here stays so
 pub spare_performed : (tx : TxId) (birth : Birth) (needs : List Need) (insert : Option Insert) (write : Option Write) (preds : List TxId) (l : Local) (spare left : ℕ)

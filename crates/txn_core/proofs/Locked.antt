@@ -1,6 +1,6 @@
 -- Each ghost bears a lock, whatever was done, and a purge leaves what a part did.
-use Rattle.std.proofs.Common.{◌≡◌, ℕ, Bool, true, false, cond, not, ◌&&◌, ◌==◌, List, [], ◌∷◌, unwrap_or, Option, Some, None, refl, sym, ap, subst, ◌∙◌, ⊎_elim, eqb-true}
-use Rattle.std.proofs.lemmas.Bool.{both_ways, not-false, and_from, and_parts, or_cases}
+use Rattle.std.proofs.Common.{◌≡◌, ℕ, Bool, true, false, not, List, [], ◌∷◌, Option, Some, None, refl, sym, ap, subst, ◌∙◌, ⊎_elim}
+use Rattle.std.proofs.lemmas.Bool.{both_ways, not-false, and_from, or_cases, false_from_ne_true}
 use Rattle.std.specs.List.{AllByRecursion}
 use Rattle.std.specs.declared.cmp.Ordering.{Ordering}
 use Rattle.std.specs.declared.cmp.Ordering.TheVariants.{Less, Equal, Greater}
@@ -16,11 +16,12 @@ use Rattle.clv_base.specs.Logs.{StandingUpdate, standing}
 use Rattle.clv_base.specs.Locks.{Locks}
 use Rattle.clv_base.specs.Needs.{Records, found_by, is_there, record_set, is_locked_or_live}
 use Rattle.clv_base.specs.State.{Local}
-use Rattle.clv_base.specs.Undo.{value_before, records_without}
+use Rattle.clv_base.specs.Undo.{undone_at, records_without}
 use Rattle.clv_base.specs.OneShard.{purge}
 use Rattle.clv_base.proofs.SameNames.{or_left, or_right, tx_self, nat_cmp_true}
 use Rattle.law_base.proofs.Anchors.{record_kept}
 use Rattle.law_base.proofs.LockRows.{holds, held_not_free}
+use Rattle.law_base.proofs.Undoing.{unwritten}
 use Rattle.cascade_undo.proofs.Laws.{all_mono}
 use Rattle.shard_ops.specs.Ghosts.{GhostsAreLocked}
 use Rattle.shard_ops.proofs.Laws.{all_pass, all_stay}
@@ -89,29 +90,21 @@ module _ (tx : TxId) (birth : Birth) (needs : List Need) (insert : Option Insert
 
 -- ---- what is undone
 
--- a key of which a value before was found is one that the set wrote
-before_held : (set : List TxId) (k : ℕ) (locks : Locks) (ws : List StandingUpdate) → AllByRecursion (λ (w : StandingUpdate). tx_in w.tx set ≡ true → is_held_at w.key locks ≡ true) ws
-    → (v : Option ValueType) → value_before set k ws ≡ Some v → is_held_at k locks ≡ true
-before_held set k locks [] a v e = absurd cc
-before_held set k locks (w ∷ ws) a v e = at (value_before set k ws) e (before_held set k locks ws a.1)
-  where
-    here : (b : Bool) → (tx_in w.tx set && (k == w.key)) ≡ b → cond b (Some w.before) None ≡ Some v → is_held_at k locks ≡ true
-    here true t e = let p = and_parts (tx_in w.tx set) (k == w.key) t in subst (λ j. is_held_at j locks ≡ true) (sym (eqb-true k w.key p.1)) (a.0 p.0)
-    here false t e = absurd cc
-
-    at : (o : Option (Option ValueType)) → elim o [ Some b ↦ Some b | None ↦ cond (tx_in w.tx set && (k == w.key)) (Some w.before) None ] ≡ Some v
-        → ((u : Option ValueType) → o ≡ Some u → is_held_at k locks ≡ true) → is_held_at k locks ≡ true
-    at (Some b) e more = more b refl
-    at None e more = here (tx_in w.tx set && (k == w.key)) refl e
+-- where no lock is, the set wrote nothing
+none_written : (set : List TxId) (k : ℕ) (locks : Locks) (ws : List StandingUpdate) → AllByRecursion (λ (w : StandingUpdate). tx_in w.tx set ≡ true → is_held_at w.key locks ≡ true) ws
+    → is_held_at k locks ≡ false → AllByRecursion (λ (w : StandingUpdate). w.key ≡ k → tx_in w.tx set ≡ false) ws
+none_written set k locks ws a free =
+    all_weaker (λ (w : StandingUpdate). tx_in w.tx set ≡ true → is_held_at w.key locks ≡ true) (λ (w : StandingUpdate). w.key ≡ k → tx_in w.tx set ≡ false)
+    (λ w h same. false_from_ne_true _ (λ i. both_ways _ (ap (λ j. is_held_at j locks) same ∙ free) (h i))) ws a
 
 undone_all : (set : List TxId) (ws : List StandingUpdate) (locks : Locks) (rs : Records) → AllByRecursion (λ (w : StandingUpdate). tx_in w.tx set ≡ true → is_held_at w.key locks ≡ true) ws
     → AllStay locks rs → AllStay locks (records_without set ws rs)
 undone_all set ws locks [] held a = tt
-undone_all set ws locks (r ∷ rs) held a = (at (value_before set r.0 ws) (before_held set r.0 locks ws held), undone_all set ws locks rs held a.1)
+undone_all set ws locks (r ∷ rs) held a = (at (is_held_at r.0 locks) refl, undone_all set ws locks rs held a.1)
   where
-    at : (o : Option (Option ValueType)) → ((v : Option ValueType) → o ≡ Some v → is_held_at r.0 locks ≡ true) → is_locked_or_live locks (r.0, unwrap_or o r.1) ≡ true
-    at None h = a.0
-    at (Some v) h = held_stays locks r.0 (h v refl) v
+    at : (b : Bool) → is_held_at r.0 locks ≡ b → is_locked_or_live locks (r.0, undone_at set r.0 ws r.1) ≡ true
+    at true h = held_stays locks r.0 h (undone_at set r.0 ws r.1)
+    at false h = ap (λ v. is_locked_or_live locks (r.0, v)) (unwritten set r.0 ws r.1 (none_written set r.0 locks ws held h)) ∙ a.0
 
 -- an undo of parts that are here leaves ghosts alone that their locks are on
 pub undone_ghosts_are_locked : (set : List TxId) (l : Local) (spare : ℕ) → IsSound l spare → ((t : TxId) → tx_in t set ≡ true → is_here l t ≡ true)

@@ -6,7 +6,7 @@ use Rattle.clv_base.specs.declared.names.TxId.{TxId}
 use Rattle.clv_base.specs.declared.logs.LogRecord.{LogRecord}
 use Rattle.clv_base.specs.declared.state.Held.{Held}
 use Rattle.clv_base.specs.declared.state.Stage.TheVariants.{Active}
-use Rattle.clv_base.specs.Orders.{Table, tx_cmp, tx_same, tx_in}
+use Rattle.clv_base.specs.Orders.{Table, tx_same, tx_in}
 use Rattle.clv_base.specs.Logs.{standing}
 use Rattle.clv_base.specs.State.{Local, is_present}
 use Rattle.clv_base.specs.Undo.{stage_of, take_away, release_parts}

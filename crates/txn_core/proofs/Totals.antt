@@ -7,7 +7,7 @@ use Rattle.std.specs.List.Sorted.{IsStrictlySortedBy}
 use Rattle.std.specs.Map.{keys_of}
 use Rattle.clv_base.specs.declared.names.TxId.{TxId}
 use Rattle.clv_base.specs.declared.logs.LogRecord.{LogRecord}
-use Rattle.clv_base.specs.declared.logs.LogRecord.TheVariants.{Update, Clr, Prepare, Commit, Abort, End, Restart}
+use Rattle.clv_base.specs.declared.logs.LogRecord.TheVariants.{Update, Clr, Prepare, Commit, Abort, End, Restart, Add, Unadd}
 use Rattle.clv_base.specs.declared.state.Held.{Held}
 use Rattle.clv_base.specs.Logs.{wrote_in, is_update_of}
 use Rattle.clv_base.specs.Orders.{tx_cmp, tx_same, tx_in, tx_get}
@@ -22,7 +22,7 @@ use Rattle.txn_core.proofs.Owing.{count_owed_fewer}
 use Rattle.law_base.proofs.Numbers.{one_if}
 use Rattle.law_base.proofs.Names.{above_not_in}
 
--- UPDATEs of one
+-- UPDATEs and ADDs of one
 abbrev pub updates_of : List LogRecord → TxId → ℕ
 updates_of log t = length (filter (is_update_of t) log)
 
@@ -46,7 +46,7 @@ total_front log [] (suc i) = omega arith
 total_front log (t ∷ ts) zero = omega arith
 total_front log (t ∷ ts) (suc i) = let more = total_front log ts i in omega (arith, more)
 
--- one that isn't among the others counts for itself, by its UPDATEs
+-- one that isn't among the others counts for itself, by its UPDATEs and ADDs
 one_apart : (t : TxId) (ts : List TxId) (log : List LogRecord) → tx_in t ts ≡ false → updates_by (in_set (t ∷ ts)) log ≡ updates_of log t + updates_by (in_set ts) log
 one_apart t ts [] out = refl
 one_apart t ts (Update tx key before after ∷ rs) out =
@@ -65,6 +65,17 @@ one_apart t ts (Commit tx parts ∷ rs) out = one_apart t ts rs out
 one_apart t ts (Abort tx ∷ rs) out = one_apart t ts rs out
 one_apart t ts (End tx ∷ rs) out = one_apart t ts rs out
 one_apart t ts (Restart run epoch ∷ rs) out = one_apart t ts rs out
+one_apart t ts (Add tx key by ∷ rs) out =
+    let a = count-first (is_update_by (in_set (t ∷ ts))) (Add tx key by) rs in let b = count-first (is_update_of t) (Add tx key by) rs in
+    let c = count-first (is_update_by (in_set ts)) (Add tx key by) rs in let more = one_apart t ts rs out in
+    let one = at (tx_same t tx) (tx_in tx ts) (λ e. ap (λ x. tx_in x ts) (sym (tx_true t tx e)) ∙ out) in omega (arith, a, b, c, more, one)
+  where
+    at : (a b : Bool) → (a ≡ true → b ≡ false) → one_if (a || b) ≡ one_if a + one_if b
+    at true true h = absurd (both_ways true (h refl) refl)
+    at true false h = omega arith
+    at false true h = omega arith
+    at false false h = omega arith
+one_apart t ts (Unadd tx undo_next key by ∷ rs) out = one_apart t ts rs out
 
 -- and as a writer
 one_writes : (t : TxId) (ts : List TxId) (log : List LogRecord) → tx_in t ts ≡ false → writers_by (in_set (t ∷ ts)) log ≡ one_if (wrote_in log t) + writers_by (in_set ts) log
@@ -88,6 +99,20 @@ one_writes t ts (Commit tx parts ∷ rs) out = one_writes t ts rs out
 one_writes t ts (Abort tx ∷ rs) out = one_writes t ts rs out
 one_writes t ts (End tx ∷ rs) out = one_writes t ts rs out
 one_writes t ts (Restart run epoch ∷ rs) out = one_writes t ts rs out
+one_writes t ts (Add tx key by ∷ rs) out =
+    let a = count-unless (in_set (t ∷ ts)) (wrote_in rs tx) tx (writers rs) in let b = count-unless (in_set ts) (wrote_in rs tx) tx (writers rs) in let more = one_writes t ts rs out in
+    let one = at (wrote_in rs tx) (wrote_in rs t) (tx_same t tx) (tx_in tx ts) (λ e. ap (wrote_in rs) (sym (tx_true t tx e))) (λ e. ap (λ x. tx_in x ts) (sym (tx_true t tx e)) ∙ out) in
+    omega (arith, a, b, more, one)
+  where
+    at : (w v s i : Bool) → (s ≡ true → w ≡ v) → (s ≡ true → i ≡ false) → one_if (not w && (s || i)) + one_if v ≡ one_if (s || v) + one_if (not w && i)
+    at true true true i g h = omega arith
+    at true false true i g h = absurd (both_ways true (g refl) refl)
+    at false true true i g h = absurd (both_ways false refl (g refl))
+    at false false true true g h = absurd (both_ways true (h refl) refl)
+    at false false true false g h = omega arith
+    at true v false i g h = omega arith
+    at false v false i g h = omega arith
+one_writes t ts (Unadd tx undo_next key by ∷ rs) out = one_writes t ts rs out
 
 none_pass : {A : Type 0} (f : A → Bool) → ((x : A) → f x ≡ false) → (xs : List A) → length (filter f xs) ≡ 0
 none_pass f h [] = refl
@@ -101,6 +126,8 @@ no_update (Commit tx parts) = refl
 no_update (Abort tx) = refl
 no_update (End tx) = refl
 no_update (Restart run epoch) = refl
+no_update (Add tx key by) = refl
+no_update (Unadd tx undo_next key by) = refl
 
 -- each of some that rise counts once
 pub total_told : (log : List LogRecord) (ts : List TxId) → IsStrictlySortedBy tx_cmp ts → total_of log ts ≡ owed_by (in_set ts) log

@@ -6,7 +6,7 @@ use Rattle.clv_base.specs.Undo.{doomed_by, doomed_here, aborts_of}
 use Rattle.cascade_undo.specs.Writes.{writes_of, HaveRecords}
 use Rattle.txn_core.specs.State.{TxState}
 
--- each of the doomed has its part here, each of their writes that stand its record, and the log has room for their ABORTs and CLRs
+-- each of the doomed has its part here, each of their writes that stand its record, and the log has room for their ABORTs, CLRs and UNADDs
 pub record IsUndoable (s : TxState) (tx : TxId) : Type 0 where
   pub parts : doomed_here s.local tx ≡ doomed_by s.local tx
   pub records : HaveRecords (doomed_by s.local tx) (standing (s.local).log) (s.local).records

@@ -15,7 +15,7 @@ use Rattle.clv_base.specs.Logs.{StandingUpdate, standing}
 use Rattle.clv_base.specs.Locks.{Locks, release}
 use Rattle.clv_base.specs.Needs.{found_at, found_by, is_there}
 use Rattle.clv_base.specs.State.{Local, is_present}
-use Rattle.clv_base.specs.Undo.{aborts_of, doomed_by, doomed_here, with_successors, successors_through, value_before, records_without, take_away}
+use Rattle.clv_base.specs.Undo.{aborts_of, doomed_by, doomed_here, with_successors, successors_through, undone_at, records_without, take_away}
 use Rattle.clv_base.specs.declared.state.Held.{Held}
 use Rattle.clv_base.specs.declared.logs.LogRecord.{LogRecord}
 use Rattle.clv_base.specs.Orders.{Table}
@@ -180,15 +180,16 @@ lock_is_held t k (r ∷ rs) = ap (λ b. b || has_lock t k rs) (sym (and_true (an
 pub release_keeps : (set : List TxId) (t : TxId) (k : ℕ) (locks : Locks) → tx_in t set ≡ false → has_lock t k locks ≡ true → has_lock t k (release set locks) ≡ true
 release_keeps set t k locks out h = lock_is_held t k (release set locks) ∙ release_holds set true N (At k) t locks out (sym (lock_is_held t k locks) ∙ h)
 
-reset_keeps : (b o : Option (Option ValueType)) → is_there (found_by o) ≡ true → is_there (found_by (reset b o)) ≡ true
-reset_keeps b None e = e
-reset_keeps None (Some None) e = refl
-reset_keeps None (Some (Some v)) e = refl
-reset_keeps (Some None) (Some v) e = refl
-reset_keeps (Some (Some u)) (Some v) e = refl
+some_there : (v : Option ValueType) → is_there (found_by (Some v)) ≡ true
+some_there None = refl
+some_there (Some v) = refl
+
+reset_keeps : (txs : List TxId) (ws : List StandingUpdate) (k : ℕ) (o : Option (Option ValueType)) → is_there (found_by o) ≡ true → is_there (found_by (reset txs ws k o)) ≡ true
+reset_keeps txs ws k None e = e
+reset_keeps txs ws k (Some v) e = some_there (undone_at txs k ws v)
 
 undo_keeps : (set : List TxId) (ws : List StandingUpdate) (k : ℕ) (l : Local) → is_there (found_at k l.records) ≡ true → is_there (found_at k (records_without set ws l.records)) ≡ true
-undo_keeps set ws k l h = ap (λ o. is_there (found_by o)) (record_undone set ws l.records k) ∙ reset_keeps (value_before set k ws) (record_at k l.records) h
+undo_keeps set ws k l h = ap (λ o. is_there (found_by o)) (record_undone set ws l.records k) ∙ reset_keeps set ws k (record_at k l.records) h
 
 pub all_filter : {A : Type 0} (P Q : A → Type 0) (f : A → Bool) (xs : List A) → ((x : A) → P x → f x ≡ true → Q x) → AllByRecursion P xs → AllByRecursion Q (filter f xs)
 all_filter P Q f [] h a = tt

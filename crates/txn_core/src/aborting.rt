@@ -46,9 +46,9 @@ fn mark_doomed(deps: &mut Deps, parts: &PartTable, tx: TxId)
 }
 
 impl<S: Store + Drop, L: Locks + Drop> ShardTx<S, L> {
-    /// The transaction, where its part is here, and all that depend on it are rolled back: the log gets their ABORTs and CLRs, their keys the values
-    /// before, their locks are given up, with the ghosts that bear no lock then, and their parts are gone. The room for their undo is given back,
-    /// as far as it wasn't used. Takes no memory.
+    /// The transaction, where its part is here, and all that depend on it are rolled back: the log gets their ABORTs, CLRs and UNADDs, what they
+    /// wrote is taken back, their locks are given up, with the ghosts that bear no lock then, and their parts are gone. The room for their undo is
+    /// given back, as far as it wasn't used. Takes no memory.
     pub fn abort(&mut self, tx: TxId)
         ensures without { IsSameBut self.old (purge (without tx self.old.local)) self.new }
         ensures room { KeepsSpare self.old self.new }

@@ -51,6 +51,10 @@ pub fn fits(op: &Op)
             let _key = *key;
         }
         Op::Scan(_, _) => {}
+        Op::Add(key, by) => {
+            let _key = *key;
+            let _by = *by;
+        }
     }
 }
 

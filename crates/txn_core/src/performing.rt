@@ -23,7 +23,7 @@ use ordered_store::Store;
 use shard_ops::{Plan, Write, enter_part, reserve_locks, take_locks, write_down};
 use std::alloc::Global;
 
-/// Whether a transaction has no part here, and yet an UPDATE in the log, from before a restart. Its session is told of the restart before it
+/// Whether a transaction has no part here, and yet a write in the log, from before a restart. Its session is told of the restart before it
 /// may come again, so what is made of it doesn't matter.
 fn was_before(stage: Option<Stage>, buffer: &LogBuffer<LogRecord>, tx: TxId) -> bool
     ensures { result ≡ (is_none stage && wrote_in buffer.now.records tx) }
@@ -46,7 +46,7 @@ pub(crate) fn reserve_records(buffer: &mut LogBuffer<LogRecord>, count: usize) -
     }
 }
 
-/// Makes room for an UPDATE and the CLR that it may want, and for an ABORT where it is the first of the transaction. An `Err` changes
+/// Makes room for the record of a write and for the one that may undo it, and for an ABORT where it is the first of the transaction. An `Err` changes
 /// nothing.
 fn reserve_log(
     buffer: &mut LogBuffer<LogRecord>,

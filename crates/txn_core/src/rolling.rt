@@ -16,9 +16,9 @@ use ordered_store::Store;
 use shard_ops::release_all;
 
 impl<S: Store + Drop, L: Locks + Drop> ShardTx<S, L> {
-    /// The transaction and all that depend on it are rolled back: the log gets their ABORTs and CLRs, their keys the values before, their locks
-    /// are given up, with the ghosts that bear no lock then, and their parts are gone. The room for their undo is given back, as far as it wasn't
-    /// used. Takes no memory.
+    /// The transaction and all that depend on it are rolled back: the log gets their ABORTs, CLRs and UNADDs, what they wrote is taken back,
+    /// their locks are given up, with the ghosts that bear no lock then, and their parts are gone. The room for their undo is given back, as far
+    /// as it wasn't used. Takes no memory.
     pub(crate) fn roll_back_part(&mut self, tx: TxId)
         requires { is_here self.old.local tx ≡ true }
         ensures without { IsSameBut self.old (purge (without tx self.old.local)) self.new }

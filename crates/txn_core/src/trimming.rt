@@ -14,8 +14,8 @@ use ordered_store::Store;
 use std::alloc::Global;
 use tx_table::PartTable;
 
-/// How many records the undo of these transactions, each of which is named once, may write: a CLR for each of their UPDATEs, and an ABORT for
-/// each that wrote.
+/// How many records the undo of these transactions, each of which is named once, may write: a CLR or UNADD for each of their writes, and an
+/// ABORT for each that wrote.
 fn owed_to(buffer: &LogBuffer<LogRecord>, txs: &[TxId]) -> usize
     requires rising { IsStrictlySortedBy tx_cmp txs.now }
     requires room { owed_by (λ t. tx_in t txs.now) buffer.now.records ≤ buffer.now.room }
@@ -52,8 +52,8 @@ pub(crate) fn room_without(buffer: &LogBuffer<LogRecord>, parts: &PartTable, tx:
 }
 
 impl<S: Store + Drop, L: Locks + Drop> ShardTx<S, L> {
-    /// Gives back the room that is beyond so many records, beside a CLR for each UPDATE of a part that is here and an ABORT for each that wrote,
-    /// and beyond so many settled transactions. It costs what is here. Where there is no memory to list that, all is as before.
+    /// Gives back the room that is beyond so many records, beside a CLR or UNADD for each write of a part that is here and an ABORT for each
+    /// that wrote, and beyond so many settled transactions. It costs what is here. Where there is no memory to list that, all is as before.
     pub fn trim(&mut self, alloc: Global, count: usize) -> Result<(), Memory>
         ensures ok { OnOk result (self.new ≡ trimmed count self.old) }
         ensures err { OnErr result (self.new ≡ self.old) }

@@ -1,4 +1,4 @@
--- The log has an UPDATE more, so what is settled stays so; what was done is locked, so all can still be taken away; and its undo has room of its own.
+-- The log has a write more, so what is settled stays so; what was done is locked, so all can still be taken away; and its undo has room of its own.
 use Rattle.std.proofs.Common.{◌≡◌, ◌+◌, ◌≤◌, true, length, sym, ap, subst, ◌∙◌, arith, refl}
 use Rattle.clv_base.specs.Orders.{tx_get}
 use Rattle.clv_base.specs.Logs.{commit_lsn, wrote_in}
