@@ -6,13 +6,15 @@ use Rattle.clv_base.specs.declared.names.TxId.{TxId}
 use Rattle.clv_base.specs.declared.causes.Vote.{Vote}
 use Rattle.clv_base.specs.declared.causes.Vote.TheVariants.{Yes, Read, No}
 use Rattle.clv_base.specs.declared.logs.LogRecord.{LogRecord}
-use Rattle.clv_base.specs.declared.logs.LogRecord.TheVariants.{Update, Clr, Prepare, Commit as CommitRecord, Abort, End as EndRecord, Restart}
+use Rattle.clv_base.specs.declared.logs.LogRecord.TheVariants.{Update, Clr, Prepare, Commit as CommitRecord, Abort, End as EndRecord, Restart, Add, Unadd}
+use Rattle.clv_base.specs.declared.changes.Change.{Change}
+use Rattle.clv_base.specs.declared.changes.Change.TheVariants.{Sets, Adds}
 use Rattle.clv_base.specs.declared.state.Voter.{Voter}
 use Rattle.clv_base.specs.declared.state.Ruling.TheVariants.{Commit as CommitVerdict, Acknowledge, Abort as AbortVerdict, End as EndVerdict}
 use Rattle.clv_base.specs.Orders.{tx_same, tx_in, tx_get}
 use Rattle.clv_base.specs.Logs.{StandingUpdate, standing, wrote_in}
 use Rattle.clv_base.specs.State.{Shard, Local, is_present}
-use Rattle.clv_base.specs.Undo.{stage_of, doomed_here, aborts_of, clrs_of, newest_lsn}
+use Rattle.clv_base.specs.Undo.{stage_of, doomed_here, aborts_of, clrs_of, newest_lsn, compensation}
 use Rattle.clv_base.specs.OneShard.{rolled_back_if, without_part}
 use Rattle.clv_base.specs.Due.{finish_reader}
 use Rattle.clv_base.proofs.SameNames.{tx_true}
@@ -47,11 +49,12 @@ aborts_known keys (t ∷ ts) = (tt, aborts_known keys ts)
 
 clrs_known : (keys set : List TxId) (ws : List StandingUpdate) → All keys (clrs_of set ws)
 clrs_known keys set [] = tt
-clrs_known keys set (w ∷ ws) = at (tx_in w.tx set) (clrs_known keys set ws)
+clrs_known keys set (w ∷ ws) = at (tx_in w.tx set) w.change (clrs_known keys set ws)
   where
-    at : (b : Bool) → All keys (clrs_of set ws) → All keys (cond b (Clr w.tx (newest_lsn w.tx ws) w.key w.before ∷ clrs_of set ws) (clrs_of set ws))
-    at true more = (tt, more)
-    at false more = more
+    at : (b : Bool) (c : Change) → All keys (clrs_of set ws) → All keys (cond b (compensation w.tx (newest_lsn w.tx ws) w.key c ∷ clrs_of set ws) (clrs_of set ws))
+    at true (Sets before after) more = (tt, more)
+    at true (Adds by) more = (tt, more)
+    at false c more = more
 
 pub logged_undone : (keys set : List TxId) (n : ℕ) (l : Local) → All keys (drop n l.log) → All keys (drop n (l.log ++ aborts_of l.log set ++ clrs_of set (standing l.log)))
 logged_undone keys set n l a =
@@ -92,6 +95,8 @@ weaker keys more h (Clr tx u k a) e = tt
 weaker keys more h (Abort tx) e = tt
 weaker keys more h (EndRecord tx) e = tt
 weaker keys more h (Restart run epoch) e = tt
+weaker keys more h (Add tx k by) e = tt
+weaker keys more h (Unadd tx u k by) e = tt
 
 -- with more that are known
 pub logged_known : (keys more : List TxId) → ((x : TxId) → tx_in x keys ≡ true → tx_in x more ≡ true) → (rs : List LogRecord) → All keys rs → All more rs
@@ -123,6 +128,8 @@ concern_known keys pairs h (r ∷ rs) a x e = ⊎_elim (λ i. one r a.0 i) (λ i
     one (Abort tx) u i = absurd (both_ways false refl i)
     one (EndRecord tx) u i = absurd (both_ways false refl i)
     one (Restart run epoch) u i = absurd (both_ways false refl i)
+    one (Add tx k by) u i = absurd (both_ways false refl i)
+    one (Unadd tx u k by) v i = absurd (both_ways false refl i)
 
 -- whom the records below a front concern are known
 pub landed_known : (keys : List TxId) (pairs : List (TxId × TxId)) (log : List LogRecord) (d n : ℕ) → ((x p : TxId) → is_pair pairs x p ≡ true → tx_in x keys ≡ true) → All keys (drop d log)

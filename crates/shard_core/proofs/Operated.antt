@@ -5,13 +5,14 @@ use Rattle.std.specs.Map.{keys_of}
 use Rattle.std.specs.declared.cmp.Ordering.{Ordering}
 use Rattle.std.specs.declared.cmp.Ordering.TheVariants.{Less, Equal, Greater}
 use Rattle.std.specs.Ordering.{match_ordering}
-use Rattle.clv_base.specs.declared.values.Value.{Value as ValueType}
 use Rattle.clv_base.specs.declared.names.TxId.{TxId}
 use Rattle.clv_base.specs.declared.names.Birth.{Birth}
 use Rattle.clv_base.specs.declared.ops.Op.{Op}
-use Rattle.clv_base.specs.declared.logs.LogRecord.TheVariants.{Update}
+use Rattle.clv_base.specs.declared.logs.LogRecord.TheVariants.{Update, Add}
 use Rattle.clv_base.specs.declared.state.Held.{Held}
 use Rattle.clv_base.specs.Orders.{Table, tx_cmp, tx_same, tx_in, tx_get, tx_put}
+use Rattle.clv_base.specs.declared.changes.Change.{Change}
+use Rattle.clv_base.specs.declared.changes.Change.TheVariants.{Sets, Adds}
 use Rattle.clv_base.specs.Logs.{prepare_lsn}
 use Rattle.clv_base.specs.Needs.{writes_of, value_at, key_of}
 use Rattle.clv_base.specs.declared.causes.AbortCause.{AbortCause}
@@ -86,13 +87,15 @@ performed_new : (tx : TxId) (birth : Birth) (op : Op) (l : Local) → New tx l.p
 performed_new tx birth op l =
     subst (λ more. New tx l.parts more (is_some (stage_of l tx))) (sym (written_parts tx (writes_of op (value_at (key_of op) l.records)) (locked tx birth op l))) (new_is tx birth l.parts (tx_get tx l.parts) refl)
 
-written_prepares : (tx : TxId) (w : Option (ℕ × Option ValueType × Option ValueType)) (l : Local) (x : TxId) → prepare_lsn (written tx w l).log x ≡ prepare_lsn l.log x
+written_prepares : (tx : TxId) (w : Option (ℕ × Change)) (l : Local) (x : TxId) → prepare_lsn (written tx w l).log x ≡ prepare_lsn l.log x
 written_prepares tx None l x = refl
-written_prepares tx (Some w) l x = single x l.log (Update tx w.0 w.1 w.2) refl
+written_prepares tx (Some (key, Sets before after)) l x = single x l.log (Update tx key before after) refl
+written_prepares tx (Some (key, Adds by)) l x = single x l.log (Add tx key by) refl
 
-written_logged : (keys : List TxId) (n : ℕ) (tx : TxId) (w : Option (ℕ × Option ValueType × Option ValueType)) (l : Local) → All keys (drop n l.log) → All keys (drop n (written tx w l).log)
+written_logged : (keys : List TxId) (n : ℕ) (tx : TxId) (w : Option (ℕ × Change)) (l : Local) → All keys (drop n l.log) → All keys (drop n (written tx w l).log)
 written_logged keys n tx None l a = a
-written_logged keys n tx (Some w) l a = logged_more keys n l.log (Update tx w.0 w.1 w.2 ∷ []) a (tt, tt)
+written_logged keys n tx (Some (key, Sets before after)) l a = logged_more keys n l.log (Update tx key before after ∷ []) a (tt, tt)
+written_logged keys n tx (Some (key, Adds by)) l a = logged_more keys n l.log (Add tx key by ∷ []) a (tt, tt)
 
 -- ---- who is known stays so
 

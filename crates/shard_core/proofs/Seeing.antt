@@ -147,7 +147,7 @@ single x log r e = place_more 0 (is_prepare_of x) log (r ∷ []) (ap (λ b. b ||
 pub undone_prepares : (l : Local) (set : List TxId) (x : TxId) → prepare_lsn (l.log ++ aborts_of l.log set ++ clrs_of set (standing l.log)) x ≡ prepare_lsn l.log x
 undone_prepares l set x =
     ap (λ (log : List LogRecord). prepare_lsn log x) (append_assoc l.log (aborts_of l.log set) (clrs_of set (standing l.log)))
-    ∙ place_more 0 (is_prepare_of x) l.log (aborts_of l.log set ++ clrs_of set (standing l.log)) (undone_none (is_prepare_of x) (λ t. refl) (λ t u k a. refl) l.log set (standing l.log))
+    ∙ place_more 0 (is_prepare_of x) l.log (aborts_of l.log set ++ clrs_of set (standing l.log)) (undone_none (is_prepare_of x) (λ t. refl) (λ t u k a. refl) (λ t u k by. refl) l.log set (standing l.log))
 
 vote_prepares : (s : Shard) (tx : TxId) (vote : Vote) (o : Option Voter) (x : TxId) → prepare_lsn (sent s tx vote o).local.log x ≡ prepare_lsn s.local.log x
 vote_prepares s tx Yes None x = refl

@@ -1,10 +1,11 @@
 -- The records of those that win, one record of the log after another.
-use Rattle.std.proofs.Common.{◌≡◌, ℕ, ◌<◌, Bool, true, cond, not, ◌||◌, ◌==◌, List, [], ◌∷◌, ◌++◌, Option, Some, None, is_some, refl, sym, ap, ◌∙◌, eq-eqb, arith}
+use Rattle.std.proofs.Common.{◌≡◌, ℕ, ◌<◌, Bool, true, false, cond, not, ◌||◌, ◌==◌, List, [], ◌∷◌, ◌++◌, Option, Some, None, is_some, refl, sym, ap, ◌∙◌, eq-eqb, arith}
 use Rattle.std.specs.List.{filter}
 use Rattle.std.specs.Map.{lookup}
 use Rattle.std.specs.declared.cmp.Ordering.{Ordering}
 use Rattle.std.specs.declared.cmp.Ordering.TheVariants.{Less, Equal, Greater}
 use Rattle.std.specs.Ordering.{nat_cmp, match_ordering}
+use Rattle.std.specs.Cmp.{unsigned_tied}
 use Rattle.std.specs.FinMap.{put}
 use Rattle.std.specs.FinMap.Entries.{by_order}
 use Rattle.std.proofs.lemmas.Bool.{ne_eqb}
@@ -12,12 +13,12 @@ use Rattle.std.proofs.lemmas.Bool.Decides.{nat_tests}
 use Rattle.clv_base.specs.declared.values.Value.{Value as ValueType}
 use Rattle.clv_base.specs.declared.names.TxId.{TxId}
 use Rattle.clv_base.specs.declared.logs.LogRecord.{LogRecord}
-use Rattle.clv_base.specs.declared.logs.LogRecord.TheVariants.{Update, Clr, Prepare, Commit, Abort, End, Restart}
+use Rattle.clv_base.specs.declared.logs.LogRecord.TheVariants.{Update, Clr, Prepare, Commit, Abort, End, Restart, Add, Unadd}
 use Rattle.clv_base.specs.declared.modes.Found.TheVariants.{Absent}
 use Rattle.clv_base.specs.Orders.{Table, tx_in}
-use Rattle.clv_base.specs.Maps.{KeyMap, map_set}
+use Rattle.clv_base.specs.Maps.{KeyMap, map_get, map_set, map_add}
 use Rattle.clv_base.specs.Logs.{is_commit_of, committed_in, is_winner, in_doubt, fold_updates}
-use Rattle.clv_base.specs.Needs.{Records, found_at, found_by, record_set}
+use Rattle.clv_base.specs.Needs.{Records, found_at, found_by, live_of, value_at, record_set}
 use Rattle.clv_base.specs.Restarts.{records_of, with_ghosts, ghost_if_absent}
 use Rattle.log_analysis.specs.declared.facts.TxFacts.{TxFacts}
 use Rattle.log_analysis.specs.Facts.{Knows, known}
@@ -96,6 +97,15 @@ records_gone k (e ∷ es) =
     both (λ b. cond b ((e.0, Some e.1) ∷ filter (is_other k) (records_of es)) (filter (is_other k) (records_of es)) ≡ records_of (cond b (e ∷ map_set k None es) (map_set k None es))) (not (e.0 == k))
     (λ _. ap (λ l. (e.0, Some e.1) ∷ l) (records_gone k es)) (λ _. records_gone k es)
 
+-- the value at a key
+pub value_of : (k : ℕ) (m : KeyMap) → value_at k (records_of m) ≡ map_get k m
+value_of k [] = refl
+value_of k (e ∷ es) = at (k == e.0) (value_of k es) ∙ ap (λ b. cond b (Some e.1) (map_get k es)) (sym (unsigned_tied k e.0))
+  where
+    at : (b : Bool) → value_at k (records_of es) ≡ map_get k es → live_of (found_by (cond b (Some (Some e.1)) (lookup (◌==◌ k) (records_of es)))) ≡ cond b (Some e.1) (map_get k es)
+    at true more = refl
+    at false more = more
+
 -- ---- one record more
 
 pub fold_more : (keep : TxId → Bool) (xs : List LogRecord) (r : LogRecord) (m : KeyMap) → fold_updates keep (xs ++ r ∷ []) m ≡ fold_updates keep (r ∷ []) (fold_updates keep xs m)
@@ -107,6 +117,8 @@ fold_more keep (Commit tx parts ∷ xs) r m = fold_more keep xs r m
 fold_more keep (Abort tx ∷ xs) r m = fold_more keep xs r m
 fold_more keep (End tx ∷ xs) r m = fold_more keep xs r m
 fold_more keep (Restart run epoch ∷ xs) r m = fold_more keep xs r m
+fold_more keep (Add tx key by ∷ xs) r m = fold_more keep xs r (cond (keep tx) (map_add key by m) m)
+fold_more keep (Unadd tx undo_next key by ∷ xs) r m = fold_more keep xs r m
 
 pub fold_alike : (f g : TxId → Bool) → ((t : TxId) → f t ≡ g t) → (xs : List LogRecord) (m : KeyMap) → fold_updates f xs m ≡ fold_updates g xs m
 fold_alike f g h [] m = refl
@@ -117,6 +129,8 @@ fold_alike f g h (Commit tx parts ∷ xs) m = fold_alike f g h xs m
 fold_alike f g h (Abort tx ∷ xs) m = fold_alike f g h xs m
 fold_alike f g h (End tx ∷ xs) m = fold_alike f g h xs m
 fold_alike f g h (Restart run epoch ∷ xs) m = fold_alike f g h xs m
+fold_alike f g h (Add tx key by ∷ xs) m = ap (λ b. fold_updates f xs (cond b (map_add key by m) m)) (h tx) ∙ fold_alike f g h xs (cond (g tx) (map_add key by m) m)
+fold_alike f g h (Unadd tx undo_next key by ∷ xs) m = fold_alike f g h xs m
 
 pub ghosts_alike : (ts us : List TxId) → ((t : TxId) → tx_in t ts ≡ tx_in t us) → (xs : List LogRecord) (rs : Records) → with_ghosts ts xs rs ≡ with_ghosts us xs rs
 ghosts_alike ts us h [] rs = refl
@@ -128,6 +142,9 @@ ghosts_alike ts us h (Commit tx parts ∷ xs) rs = ghosts_alike ts us h xs rs
 ghosts_alike ts us h (Abort tx ∷ xs) rs = ghosts_alike ts us h xs rs
 ghosts_alike ts us h (End tx ∷ xs) rs = ghosts_alike ts us h xs rs
 ghosts_alike ts us h (Restart run epoch ∷ xs) rs = ghosts_alike ts us h xs rs
+ghosts_alike ts us h (Add tx key by ∷ xs) rs =
+    ap (λ b. with_ghosts ts xs (cond b (ghost_if_absent key rs (found_at key rs)) rs)) (h tx) ∙ ghosts_alike ts us h xs (cond (tx_in tx us) (ghost_if_absent key rs (found_at key rs)) rs)
+ghosts_alike ts us h (Unadd tx undo_next key by ∷ xs) rs = ghosts_alike ts us h xs rs
 
 pub ghosts_of_nobody : (txs : List TxId) (xs : List LogRecord) (rs : Records) → txs ≡ [] → rs ≡ with_ghosts txs xs rs
 ghosts_of_nobody txs [] rs none = refl
@@ -139,6 +156,9 @@ ghosts_of_nobody txs (Commit tx parts ∷ xs) rs none = ghosts_of_nobody txs xs 
 ghosts_of_nobody txs (Abort tx ∷ xs) rs none = ghosts_of_nobody txs xs rs none
 ghosts_of_nobody txs (End tx ∷ xs) rs none = ghosts_of_nobody txs xs rs none
 ghosts_of_nobody txs (Restart run epoch ∷ xs) rs none = ghosts_of_nobody txs xs rs none
+ghosts_of_nobody txs (Add tx key by ∷ xs) rs none =
+    ghosts_of_nobody txs xs rs none ∙ ap (λ b. with_ghosts txs xs (cond b (ghost_if_absent key rs (found_at key rs)) rs)) (sym (ap (tx_in tx) none))
+ghosts_of_nobody txs (Unadd tx undo_next key by ∷ xs) rs none = ghosts_of_nobody txs xs rs none
 
 -- ---- who wins
 

@@ -1,17 +1,19 @@
 -- The records that a restart writes leave who is in doubt, who wins, and what the winners leave.
-use Rattle.std.proofs.Common.{◌≡◌, ℕ, Bool, true, false, cond, not, List, [], ◌∷◌, ◌++◌, refl, sym, ap, subst, ◌∙◌, append-nil, append_assoc}
+use Rattle.std.proofs.Common.{◌≡◌, ℕ, Bool, true, false, cond, not, List, [], ◌∷◌, ◌++◌, Option, refl, sym, ap, subst, ◌∙◌, append-nil, append_assoc}
 use Rattle.std.proofs.lemmas.Bool.{both_ways, not-true, or_parts, false_from_ne_true}
 use Rattle.clv_base.specs.declared.names.TxId.{TxId}
 use Rattle.clv_base.specs.declared.logs.LogRecord.{LogRecord}
-use Rattle.clv_base.specs.declared.logs.LogRecord.TheVariants.{Update, Clr, Prepare, Commit, Abort, End, Restart}
+use Rattle.clv_base.specs.declared.logs.LogRecord.TheVariants.{Update, Clr, Prepare, Commit, Abort, End, Restart, Add, Unadd}
+use Rattle.clv_base.specs.declared.changes.Change.{Change}
+use Rattle.clv_base.specs.declared.changes.Change.TheVariants.{Sets, Adds}
 use Rattle.clv_base.specs.Orders.{tx_in}
 use Rattle.clv_base.specs.Maps.{KeyMap}
 use Rattle.clv_base.specs.Logs.{StandingUpdate, standing, writers, aborted_in, committed_in, in_doubt, is_winner, fold_updates}
 use Rattle.clv_base.specs.Needs.{Records, found_at}
-use Rattle.clv_base.specs.Undo.{clrs_of, newest_lsn}
+use Rattle.clv_base.specs.Undo.{clrs_of, newest_lsn, compensation}
 use Rattle.clv_base.specs.Restarts.{losers, log_after_restart, records_of, with_ghosts, ghost_if_absent}
 use Rattle.clv_base.proofs.SameNames.{or_left, or_right, tx_true, tx_self}
-use Rattle.law_base.proofs.Doubts.{Unlike, is_it, nobody, abort_unlike, clr_unlike, restart_unlike, doubts_more, winners_more}
+use Rattle.law_base.proofs.Doubts.{Unlike, is_it, nobody, abort_unlike, clr_unlike, unadd_unlike, restart_unlike, doubts_more, winners_more}
 use Rattle.law_base.proofs.Sets.{in_filter}
 use Rattle.cascade_undo.proofs.Laws.{both}
 use Rattle.shard_recovery.specs.Aborting.{aborts, unaborted}
@@ -31,6 +33,8 @@ ghosts_more txs (Commit tx parts ∷ xs) r rs = ghosts_more txs xs r rs
 ghosts_more txs (Abort tx ∷ xs) r rs = ghosts_more txs xs r rs
 ghosts_more txs (End tx ∷ xs) r rs = ghosts_more txs xs r rs
 ghosts_more txs (Restart run epoch ∷ xs) r rs = ghosts_more txs xs r rs
+ghosts_more txs (Add tx key by ∷ xs) r rs = ghosts_more txs xs r (cond (tx_in tx txs) (ghost_if_absent key rs (found_at key rs)) rs)
+ghosts_more txs (Unadd tx undo_next key by ∷ xs) r rs = ghosts_more txs xs r rs
 
 -- one log leaves what another does
 pub record LeavesSame (shard : ℕ) (log after : List LogRecord) : Type 0 where
@@ -74,18 +78,24 @@ leaves_aborts shard log (t ∷ ts) out =
     later : (u : TxId) → tx_in u ts ≡ true → tx_in u (t ∷ ts) ≡ true
     later u i = or_right _ _ i
 
--- ---- CLRs
+-- ---- CLRs and UNADDs
 
 nobody_spared : (txs : List TxId) → Spared nobody txs
 nobody_spared txs = λ u i. refl
 
+leaves_compensation : (shard : ℕ) (log : List LogRecord) (tx : TxId) (next : Option ℕ) (key : ℕ) (c : Change) → LeavesSame shard log (log ++ compensation tx next key c ∷ [])
+leaves_compensation shard log tx next key (Sets before after) =
+    leaves_one shard log (Clr tx next key before) nobody (record { folds = λ keep m. refl; haunts = λ txs rs. refl }) (clr_unlike tx next key before) (nobody_spared (in_doubt shard log))
+leaves_compensation shard log tx next key (Adds by) =
+    leaves_one shard log (Unadd tx next key by) nobody (record { folds = λ keep m. refl; haunts = λ txs rs. refl }) (unadd_unlike tx next key by) (nobody_spared (in_doubt shard log))
+
 leaves_clrs : (shard : ℕ) (set : List TxId) (ws : List StandingUpdate) (log : List LogRecord) → LeavesSame shard log (log ++ clrs_of set ws)
 leaves_clrs shard set [] log = subst (LeavesSame shard log) (sym (append-nil log)) (record { doubts = refl; records = refl })
 leaves_clrs shard set (w ∷ ws) log =
-    both (λ b. LeavesSame shard log (log ++ cond b (Clr w.tx (newest_lsn w.tx ws) w.key w.before ∷ clrs_of set ws) (clrs_of set ws))) (tx_in w.tx set)
+    both (λ b. LeavesSame shard log (log ++ cond b (compensation w.tx (newest_lsn w.tx ws) w.key w.change ∷ clrs_of set ws) (clrs_of set ws))) (tx_in w.tx set)
     (λ _.
-    let r = Clr w.tx (newest_lsn w.tx ws) w.key w.before in
-    let one = leaves_one shard log r nobody (record { folds = λ keep m. refl; haunts = λ txs rs. refl }) (clr_unlike w.tx (newest_lsn w.tx ws) w.key w.before) (nobody_spared (in_doubt shard log)) in
+    let r = compensation w.tx (newest_lsn w.tx ws) w.key w.change in
+    let one = leaves_compensation shard log w.tx (newest_lsn w.tx ws) w.key w.change in
     subst (LeavesSame shard log) (append_assoc log (r ∷ []) (clrs_of set ws)) (leaves_on shard log (log ++ r ∷ []) ((log ++ r ∷ []) ++ clrs_of set ws) one (leaves_clrs shard set ws (log ++ r ∷ []))))
     (λ _. leaves_clrs shard set ws log)
 

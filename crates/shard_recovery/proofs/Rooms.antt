@@ -1,12 +1,13 @@
--- How many CLRs a restart writes: no more than its losers have UPDATEs.
+-- How many CLRs and UNADDs a restart writes: no more than its losers have UPDATEs and ADDs.
 use Rattle.std.proofs.Common.{◌≡◌, ℕ, suc, ◌+◌, ◌<◌, ◌≤◌, Bool, true, false, cond, ◌||◌, List, [], ◌∷◌, length, drop, get_or, refl, ap, ◌∙◌, length-drop, arith}
 use Rattle.std.proofs.lemmas.Bool.{cond_both}
 use Rattle.std.proofs.lemmas.List.{at_drop_more, nil_from_length}
 use Rattle.std.specs.List.{filter}
 use Rattle.clv_base.specs.declared.names.TxId.{TxId}
 use Rattle.clv_base.specs.declared.logs.LogRecord.{LogRecord}
-use Rattle.clv_base.specs.declared.logs.LogRecord.TheVariants.{Update, Clr, Prepare, Commit, Abort, End, Restart}
+use Rattle.clv_base.specs.declared.logs.LogRecord.TheVariants.{Update, Clr, Prepare, Commit, Abort, End, Restart, Add, Unadd}
 use Rattle.clv_base.specs.Orders.{tx_same, tx_in}
+use Rattle.clv_base.specs.declared.changes.Change.TheVariants.{Sets, Adds}
 use Rattle.clv_base.specs.Logs.{StandingUpdate, is_update_of, without_newest, standing_from, standing}
 use Rattle.cascade_undo.specs.Writes.{writes_of}
 use Rattle.law_base.proofs.Numbers.{one_if}
@@ -51,7 +52,7 @@ one_from : (t : TxId) (n : ℕ) (log : List LogRecord) (ws : List StandingUpdate
     → length (writes_of (t ∷ []) (standing_from n log ws)) ≤ length (filter (is_update_of t) log) + length (writes_of (t ∷ []) ws)
 one_from t n [] ws = omega arith
 one_from t n (Update tx key before after ∷ rs) ws =
-    let w : StandingUpdate = record { lsn = n; tx = tx; key = key; before = before; after = after } in
+    let w : StandingUpdate = record { lsn = n; tx = tx; key = key; change = Sets before after } in
     let a = count-first (is_update_of t) (Update tx key before after) rs in let b = count-first (among (t ∷ [])) w ws in
     let more = one_from t (suc n) rs (w ∷ ws) in let one = at (tx_same t tx) in omega (arith, a, b, more, one)
   where
@@ -65,8 +66,18 @@ one_from t n (Commit tx parts ∷ rs) ws = one_from t (suc n) rs ws
 one_from t n (Abort tx ∷ rs) ws = one_from t (suc n) rs ws
 one_from t n (End tx ∷ rs) ws = one_from t (suc n) rs ws
 one_from t n (Restart run epoch ∷ rs) ws = one_from t (suc n) rs ws
+one_from t n (Add tx key by ∷ rs) ws =
+    let w : StandingUpdate = record { lsn = n; tx = tx; key = key; change = Adds by } in
+    let a = count-first (is_update_of t) (Add tx key by) rs in let b = count-first (among (t ∷ [])) w ws in
+    let more = one_from t (suc n) rs (w ∷ ws) in let one = at (tx_same t tx) in omega (arith, a, b, more, one)
+  where
+    at : (a : Bool) → one_if (a || false) ≡ one_if a
+    at true = refl
+    at false = refl
+one_from t n (Unadd tx undo_next key by ∷ rs) ws =
+    let more = one_from t (suc n) rs (without_newest tx ws) in let less = fewer_without (t ∷ []) tx ws in omega (arith, more, less)
 
--- of the next transaction no more writes stand than it has UPDATEs, and the others' are left
+-- of the next transaction no more writes stand than it has UPDATEs and ADDs, and the others' are left
 pub next_at_most : (txs : List TxId) (i n : ℕ) (d : TxId) (log : List LogRecord) → i < length txs
     → n ≡ length (filter (is_update_of (get_or txs i d)) log)
     → length (writes_of (drop i txs) (standing log)) ≤ n + length (writes_of (drop (i + 1) txs) (standing log))

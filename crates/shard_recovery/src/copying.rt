@@ -74,6 +74,22 @@ fn copy_record(alloc: Global, found: &LogRecord) -> Result<LogRecord, AllocError
             run: *run,
             epoch: *epoch,
         },
+        LogRecord::Add { tx, key, by } => LogRecord::Add {
+            tx: *tx,
+            key: *key,
+            by: *by,
+        },
+        LogRecord::Unadd {
+            tx,
+            undo_next,
+            key,
+            by,
+        } => LogRecord::Unadd {
+            tx: *tx,
+            undo_next: *undo_next,
+            key: *key,
+            by: *by,
+        },
     })
 }
 

@@ -15,7 +15,7 @@ use log_analysis::LogFacts;
 use log_buffer::LogBuffer;
 use std::alloc::{AllocError, Global};
 
-/// How many UPDATEs these transactions have together. No more of their writes stand.
+/// How many UPDATEs and ADDs these transactions have together. No more of their writes stand.
 fn updates_of(buffer: &LogBuffer<LogRecord>, txs: &[TxId]) -> usize
     ensures { length (writes_of txs.now (standing buffer.now.records)) ≤ result }
 {
@@ -27,8 +27,8 @@ fn updates_of(buffer: &LogBuffer<LogRecord>, txs: &[TxId]) -> usize
     count
 }
 
-/// The buffer of a log whose records are durable, with room for the records of a restart: an ABORT for each loser, a CLR for each of its
-/// writes that stand, and the RESTART.
+/// The buffer of a log whose records are durable, with room for the records of a restart: an ABORT for each loser, a CLR or UNADD for each of
+/// its writes that stand, and the RESTART.
 fn buffer_of(
     alloc: Global,
     records: Vec<LogRecord>,
@@ -70,7 +70,7 @@ pub(crate) fn add_restart(
 }
 
 /// The buffer of a log after a restart that undoes the losers, which rise: the records found, which are durable, an ABORT for each loser
-/// that has none, the CLRs of their writes that stand, from the greatest LSN down, and the RESTART.
+/// that has none, the CLRs and UNADDs of their writes that stand, from the greatest LSN down, and the RESTART.
 pub(crate) fn rebuild(
     alloc: Global,
     facts: LogFacts,

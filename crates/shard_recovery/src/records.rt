@@ -82,6 +82,28 @@ pub(crate) fn same_record(a: &LogRecord, b: &LogRecord) -> bool
                 epoch: at,
             },
         ) => run == other && epoch == at,
+        (
+            LogRecord::Add { tx, key, by },
+            LogRecord::Add {
+                tx: other,
+                key: at,
+                by: much,
+            },
+        ) => tx == other && key == at && by == much,
+        (
+            LogRecord::Unadd {
+                tx,
+                undo_next,
+                key,
+                by,
+            },
+            LogRecord::Unadd {
+                tx: other,
+                undo_next: next,
+                key: at,
+                by: much,
+            },
+        ) => tx == other && undo_next == next && key == at && by == much,
         _ => false,
     }
 }

@@ -99,8 +99,8 @@ fn error_of(error: FlushError) -> RecoverError
 }
 
 /// Recovers a shard from the log that was found, of which it is known what it says of each transaction: the store, which is empty, gets the
-/// records of the state after a restart, and what the restart adds to the log (an ABORT for each loser that has none, the CLRs of the losers'
-/// writes that stand, and the RESTART) is durable when it returns. Takes time linear in the log, times a logarithm.
+/// records of the state after a restart, and what the restart adds to the log (an ABORT for each loser that has none, the CLRs and UNADDs of
+/// the losers' writes that stand, and the RESTART) is durable when it returns. Takes time linear in the log, times a logarithm.
 ///
 /// `Failed` comes where the disk failed, `Memory` before anything is written. After either the store is in the middle of it: drop it, and begin
 /// again with an empty one.

@@ -37,13 +37,14 @@ fn rewrite(
     rebuild(alloc, facts, records, losers, run, epoch)
 }
 
-/// Restarts a shard from the log that was found, of which it is known what it says of each transaction, and whose losers (rising) and transactions in doubt are these. The store, which is empty, gets
-/// the records of the state after a restart: the values that the UPDATEs of the committed and of those in doubt leave, and ghosts at the keys
-/// that those in doubt wrote and that have no value. The buffer that is given has the log after it: the records found, which are durable,
-/// and then what is still to be pushed: an ABORT for each loser that has none, in rising order, the CLRs of the losers' writes that stand,
-/// from the greatest LSN down, and the RESTART. An `Err` leaves the store in the middle of it. The CLRs follow from the log: no loser's
-/// UPDATE is done in a store. Room is made in the store as records come to need it, and in the buffer for what is still to be pushed: an
-/// ABORT for each loser, a CLR for each of its UPDATEs, and the RESTART.
+/// Restarts a shard from the log that was found, of which it is known what it says of each transaction, and whose losers (rising) and
+/// transactions in doubt are these. The store, which is empty, gets the records of the state after a restart: the values that the UPDATEs and
+/// ADDs of the committed and of those in doubt leave, and ghosts at the keys that those in doubt wrote and that have no value. The buffer that
+/// is given has the log after it: the records found, which are durable, and then what is still to be pushed: an ABORT for each loser that has
+/// none, in rising order, the CLRs and UNADDs of the losers' writes that stand, from the greatest LSN down, and the RESTART. An `Err` leaves the
+/// store in the middle of it. These records follow from the log: no loser's write is done in a store. Room is made in the store as records come
+/// to need it, and in the buffer for what is still to be pushed: an ABORT for each loser, a CLR or UNADD for each of its writes, and the
+/// RESTART.
 pub(crate) fn restart_by<S: Store>(
     alloc: Global,
     store: &mut S,

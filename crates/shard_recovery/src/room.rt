@@ -7,17 +7,17 @@ use clv_base::logs::LogRecord;
 use clv_base::names::TxId;
 use std::alloc::AllocError;
 
-/// Whether the record is an UPDATE of one of these.
+/// Whether the record is an UPDATE or ADD of one of these.
 fn is_update_of(record: &LogRecord, txs: &[TxId]) -> bool
     requires { IsStrictlySortedBy tx_cmp txs.now }
 {
     match record {
-        LogRecord::Update { tx, .. } => txs.binary_search(tx).is_ok(),
+        LogRecord::Update { tx, .. } | LogRecord::Add { tx, .. } => txs.binary_search(tx).is_ok(),
         _ => false,
     }
 }
 
-/// How many records a restart adds at most: an ABORT for each loser, a CLR for each of its UPDATEs, and the RESTART.
+/// How many records a restart adds at most: an ABORT for each loser, a CLR or UNADD for each of its writes, and the RESTART.
 fn most_added(records: &[LogRecord], losers: &[TxId]) -> usize
     requires { IsStrictlySortedBy tx_cmp losers.now }
 {

@@ -3,12 +3,13 @@ ghost use Rattle.std.specs.Prelude.{◌≡◌, ◌≤◌, ◌<◌, ◌+◌, ◌=
 ghost use Rattle.std.specs.List.{filter};
 ghost use Rattle.clv_base.specs.Maps.{KeyMap, map_set};
 ghost use Rattle.clv_base.specs.Logs.{fold_updates, in_doubt};
-ghost use Rattle.clv_base.specs.Needs.{record_set, is_there};
+ghost use Rattle.clv_base.specs.Needs.{record_set, is_there, live_of, value_at};
 ghost use Rattle.clv_base.specs.Restarts.{records_of, with_ghosts};
 ghost use Rattle.log_analysis.specs.Facts.{Knows};
-ghost use Rattle.shard_recovery.specs.Winning.{wins_in, writes_after, records_after};
+ghost use Rattle.shard_recovery.specs.Winning.{wins_in, left_at, writes_after, records_after};
 
-use crate::writes::{Write, by_key};
+use crate::writes::{Left, Write, by_key};
+use clv_base::changes::plus;
 use clv_base::logs::LogRecord;
 use clv_base::modes::Found;
 use clv_base::names::TxId;
@@ -46,6 +47,28 @@ fn set<S: Store>(store: &mut S, key: u64, value: Option<Value>)
     }
 }
 
+/// What stands there, where it is live.
+fn live(found: Found) -> Option<Value>
+    ensures { result ≡ live_of found }
+{
+    match found {
+        Found::Live(value) => Some(value),
+        Found::Ghost | Found::Absent => None,
+    }
+}
+
+/// The value that a write leaves at its key.
+fn value_left<S: Store>(store: &S, write: &Write) -> Option<Value>
+    ensures { result ≡ left_at write.now.left (value_at write.now.key (S.records store.now)) }
+{
+    match &write.left {
+        Left::Nothing => None,
+        Left::Num(number) => Some(Value::Num(*number)),
+        Left::Bytes(text) => Some(Value::Bytes(text.copy())),
+        Left::More(by) => plus(&live(store.get(write.key)), *by),
+    }
+}
+
 /// Puts these writes into an empty store, in order. It makes room write by write, as there may be far fewer keys.
 fn put_all<S: Store>(store: &mut S, writes: &[Write]) -> Result<(), AllocError>
     requires empty { S.records store.old ≡ [] }
@@ -53,12 +76,13 @@ fn put_all<S: Store>(store: &mut S, writes: &[Write]) -> Result<(), AllocError>
 {
     for write in writes {
         store.reserve(1)?;
-        set(store, write.key, write.after.value());
+        let value = value_left(store, write);
+        set(store, write.key, value);
     }
     Ok(())
 }
 
-/// Does the UPDATEs of the winners again in an empty store.
+/// Does the UPDATEs and ADDs of the winners again in an empty store.
 fn fold<S: Store>(
     alloc: Global,
     store: &mut S,
@@ -94,14 +118,14 @@ fn is_absent(found: &Found) -> bool
     }
 }
 
-/// Makes a ghost at the key of an UPDATE of one of these, where there is no record.
+/// Makes a ghost at the key of an UPDATE or ADD of one of these, where there is no record.
 fn haunt_one<S: Store>(store: &mut S, doubtful: &TxSet, found: &LogRecord)
     requires { 0 < S.room store.old }
     ensures records { S.records store.new ≡ with_ghosts doubtful.now (found.now ∷ []) (S.records store.old) }
     ensures room { S.room store.old ≤ S.room store.new + 1 }
 {
     match found {
-        LogRecord::Update { tx, key, .. } => {
+        LogRecord::Update { tx, key, .. } | LogRecord::Add { tx, key, .. } => {
             if doubtful.contains(*tx) && is_absent(&store.get(*key)) {
                 hide(store, *key);
             }
@@ -132,9 +156,9 @@ fn haunt<S: Store>(store: &mut S, doubtful: &TxSet, log: &[LogRecord]) -> Result
     haunt_all(store, doubtful, log)
 }
 
-/// Puts the records of a shard whose log is this, and known, into an empty store, as a restart leaves them: the values that the UPDATEs of the committed
-/// and of those in doubt leave, in the log's order, and ghosts at the keys that those in doubt wrote and that have no value. An `Err` leaves
-/// the store in the middle of it. Besides the store it takes a list of what those write, which goes at the return.
+/// Puts the records of a shard whose log is this, and known, into an empty store, as a restart leaves them: the values that the UPDATEs and ADDs
+/// of the committed and of those in doubt leave, in the log's order, and ghosts at the keys that those in doubt wrote and that have no value. An
+/// `Err` leaves the store in the middle of it. Besides the store it takes a list of what those write, which goes at the return.
 pub(crate) fn fill<S: Store>(
     alloc: Global,
     store: &mut S,

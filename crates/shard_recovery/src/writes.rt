@@ -4,20 +4,40 @@ ghost use Rattle.std.specs.List.Sorted.{IsNonDecreasingBy};
 ghost use Rattle.clv_base.specs.Logs.{fold_updates};
 ghost use Rattle.clv_base.specs.declared.logs.LogRecord.{LogRecord as Record};
 ghost use Rattle.log_analysis.specs.Facts.{Knows};
-ghost use Rattle.shard_recovery.specs.Winning.{wins_in, kept_write, kept_writes, writes_after};
+ghost use Rattle.shard_recovery.specs.Winning.{wins_in, set_by, kept_write, kept_writes, writes_after};
 
-use clv_base::kept::Kept;
 use clv_base::logs::LogRecord;
 use clv_base::names::TxId;
-use clv_base::values::copy_of;
+use clv_base::texts::ByteText;
+use clv_base::values::Value;
 use log_analysis::{LogFacts, TxSet};
 use std::alloc::{AllocError, Global};
 
-/// The value that an UPDATE leaves at its key, if it leaves one.
+/// What a write leaves at its key: no value, this one, or that which is there with a number added.
+#[derive(Drop)]
+pub(crate) enum Left {
+    Nothing,
+    Num(u64),
+    Bytes(ByteText),
+    More(u64),
+}
+
+/// An UPDATE or ADD: its key, and what it leaves there.
 #[derive(Drop)]
 pub(crate) struct Write {
     pub key: u64,
-    pub after: Kept,
+    pub left: Left,
+}
+
+/// What an UPDATE leaves.
+fn left_by(after: &Option<Value>) -> Left
+    ensures { result ≡ set_by after.now }
+{
+    match after {
+        None => Left::Nothing,
+        Some(Value::Num(number)) => Left::Num(*number),
+        Some(Value::Bytes(text)) => Left::Bytes(text.copy()),
+    }
 }
 
 /// Whether the transaction is committed in the log that is known, or one of those in doubt.
@@ -27,7 +47,7 @@ fn wins(facts: &LogFacts, doubtful: &TxSet, tx: TxId) -> bool
     facts.get(tx).commit.is_some() || doubtful.contains(tx)
 }
 
-/// What an UPDATE of a winner wrote.
+/// What an UPDATE or ADD of a winner wrote.
 fn written(facts: &LogFacts, doubtful: &TxSet, found: &LogRecord) -> Option<Write>
     ensures { (log : List Record) → Knows facts.now log → result ≡ kept_write (wins_in log doubtful.now) found.now }
 {
@@ -36,7 +56,16 @@ fn written(facts: &LogFacts, doubtful: &TxSet, found: &LogRecord) -> Option<Writ
             if wins(facts, doubtful, *tx) {
                 return Some(Write {
                     key: *key,
-                    after: Kept::new(copy_of(after)),
+                    left: left_by(after),
+                });
+            }
+            None
+        }
+        LogRecord::Add { tx, key, by } => {
+            if wins(facts, doubtful, *tx) {
+                return Some(Write {
+                    key: *key,
+                    left: Left::More(*by),
                 });
             }
             None

@@ -6,11 +6,13 @@ use Rattle.std.specs.declared.cmp.Ordering.TheVariants.{Less, Equal, Greater}
 use Rattle.std.specs.Ordering.{match_ordering}
 use Rattle.clv_base.specs.declared.names.TxId.{TxId}
 use Rattle.clv_base.specs.declared.logs.LogRecord.{LogRecord}
-use Rattle.clv_base.specs.declared.logs.LogRecord.TheVariants.{Update, Clr, Prepare, Commit, Abort, End, Restart}
+use Rattle.clv_base.specs.declared.logs.LogRecord.TheVariants.{Update, Clr, Prepare, Commit, Abort, End, Restart, Add, Unadd}
 use Rattle.clv_base.specs.declared.modes.Anchor.{Anchor}
 use Rattle.clv_base.specs.declared.modes.Anchor.TheVariants.{At}
 use Rattle.clv_base.specs.declared.modes.Holder.{Holder}
 use Rattle.clv_base.specs.declared.modes.Mode.{Mode}
+use Rattle.clv_base.specs.declared.modes.Part.{Part}
+use Rattle.clv_base.specs.declared.modes.Part.TheVariants.{I, X}
 use Rattle.clv_base.specs.Orders.{tx_same, tx_in}
 use Rattle.clv_base.specs.Locks.{Locks, row_cmp, with_mode, take_one, close_holder, close_locks}
 use Rattle.clv_base.specs.Restarts.{restored_locks}
@@ -57,50 +59,54 @@ each_take : (ts : List TxId) (a : Anchor) (h : Holder) (locks : Locks) → close
 each_take [] a h locks = refl
 each_take (t ∷ ts) a h locks = ap (close_each ts) (close_take t a h locks) ∙ each_take ts a (close_holder t h) (close_locks t locks)
 
-shut_stays : (ts : List TxId) (tx : TxId) → close_holder_each ts (shut_lock tx) ≡ shut_lock tx
-shut_stays [] tx = refl
-shut_stays (t ∷ ts) tx = ap (close_holder_each ts) (cond_both (tx_same t tx) (shut_lock tx) (shut_lock tx) (λ x. x ≡ shut_lock tx) (λ e. refl) (λ e. refl)) ∙ shut_stays ts tx
+shut_stays : (ts : List TxId) (tx : TxId) (part : Part) → close_holder_each ts (shut_lock tx part) ≡ shut_lock tx part
+shut_stays [] tx part = refl
+shut_stays (t ∷ ts) tx part = ap (close_holder_each ts) (cond_both (tx_same t tx) (shut_lock tx part) (shut_lock tx part) (λ x. x ≡ shut_lock tx part) (λ e. refl) (λ e. refl)) ∙ shut_stays ts tx part
 
-each_shuts : (ts : List TxId) (tx : TxId) → tx_in tx ts ≡ true → close_holder_each ts (open_lock tx) ≡ shut_lock tx
-each_shuts [] tx i = absurd cc
-each_shuts (t ∷ ts) tx i = at (tx_same t tx) i (each_shuts ts tx)
+each_shuts : (ts : List TxId) (tx : TxId) (part : Part) → tx_in tx ts ≡ true → close_holder_each ts (open_lock tx part) ≡ shut_lock tx part
+each_shuts [] tx part i = absurd cc
+each_shuts (t ∷ ts) tx part i = at (tx_same t tx) i (each_shuts ts tx part)
   where
-    at : (b : Bool) → (b || tx_in tx ts) ≡ true → (tx_in tx ts ≡ true → close_holder_each ts (open_lock tx) ≡ shut_lock tx) → close_holder_each ts (cond b (shut_lock tx) (open_lock tx)) ≡ shut_lock tx
-    at true e more = shut_stays ts tx
+    at : (b : Bool) → (b || tx_in tx ts) ≡ true → (tx_in tx ts ≡ true → close_holder_each ts (open_lock tx part) ≡ shut_lock tx part) → close_holder_each ts (cond b (shut_lock tx part) (open_lock tx part)) ≡ shut_lock tx part
+    at true e more = shut_stays ts tx part
     at false e more = more e
 
 close_none : (ts : List TxId) → close_each ts [] ≡ []
 close_none [] = refl
 close_none (t ∷ ts) = close_none ts
 
-taken_shut : (ts : List TxId) (tx : TxId) (k : ℕ) (locks : Locks)
-    → close_each ts (cond (tx_in tx ts) (take_one (At k) (open_lock tx) locks) locks) ≡ cond (tx_in tx ts) (take_one (At k) (shut_lock tx) (close_each ts locks)) (close_each ts locks)
-taken_shut ts tx k locks = at (tx_in tx ts) (each_shuts ts tx)
+taken_shut : (ts : List TxId) (tx : TxId) (k : ℕ) (part : Part) (locks : Locks)
+    → close_each ts (cond (tx_in tx ts) (take_one (At k) (open_lock tx part) locks) locks) ≡ cond (tx_in tx ts) (take_one (At k) (shut_lock tx part) (close_each ts locks)) (close_each ts locks)
+taken_shut ts tx k part locks = at (tx_in tx ts) (each_shuts ts tx part)
   where
-    at : (b : Bool) → (b ≡ true → close_holder_each ts (open_lock tx) ≡ shut_lock tx)
-        → close_each ts (cond b (take_one (At k) (open_lock tx) locks) locks) ≡ cond b (take_one (At k) (shut_lock tx) (close_each ts locks)) (close_each ts locks)
-    at true shuts = each_take ts (At k) (open_lock tx) locks ∙ ap (λ h. take_one (At k) h (close_each ts locks)) (shuts refl)
+    at : (b : Bool) → (b ≡ true → close_holder_each ts (open_lock tx part) ≡ shut_lock tx part)
+        → close_each ts (cond b (take_one (At k) (open_lock tx part) locks) locks) ≡ cond b (take_one (At k) (shut_lock tx part) (close_each ts locks)) (close_each ts locks)
+    at true shuts = each_take ts (At k) (open_lock tx part) locks ∙ ap (λ h. take_one (At k) h (close_each ts locks)) (shuts refl)
     at false shuts = refl
 
 shut_open : (ts : List TxId) (log : List LogRecord) (locks : Locks) → close_each ts (open_locks ts log locks) ≡ restored_locks ts log (close_each ts locks)
 shut_open ts [] locks = refl
-shut_open ts (Update tx k b a ∷ log) locks = shut_open ts log (cond (tx_in tx ts) (take_one (At k) (open_lock tx) locks) locks) ∙ ap (restored_locks ts log) (taken_shut ts tx k locks)
+shut_open ts (Update tx k b a ∷ log) locks = shut_open ts log (cond (tx_in tx ts) (take_one (At k) (open_lock tx X) locks) locks) ∙ ap (restored_locks ts log) (taken_shut ts tx k X locks)
 shut_open ts (Clr tx u k a ∷ log) locks = shut_open ts log locks
 shut_open ts (Prepare tx home ps ∷ log) locks = shut_open ts log locks
 shut_open ts (Commit tx ps ∷ log) locks = shut_open ts log locks
 shut_open ts (Abort tx ∷ log) locks = shut_open ts log locks
 shut_open ts (End tx ∷ log) locks = shut_open ts log locks
 shut_open ts (Restart run epoch ∷ log) locks = shut_open ts log locks
+shut_open ts (Add tx k by ∷ log) locks = shut_open ts log (cond (tx_in tx ts) (take_one (At k) (open_lock tx I) locks) locks) ∙ ap (restored_locks ts log) (taken_shut ts tx k I locks)
+shut_open ts (Unadd tx u k by ∷ log) locks = shut_open ts log locks
 
 -- sets with the same members
 update_alike : (ss ts : List TxId) → ((t : TxId) → tx_in t ss ≡ tx_in t ts) → (r : LogRecord) (locks : Locks) → with_update ss r locks ≡ with_update ts r locks
-update_alike ss ts same (Update tx k b a) locks = ap (λ c. cond c (take_one (At k) (open_lock tx) locks) locks) (same tx)
+update_alike ss ts same (Update tx k b a) locks = ap (λ c. cond c (take_one (At k) (open_lock tx X) locks) locks) (same tx)
 update_alike ss ts same (Clr tx u k a) locks = refl
 update_alike ss ts same (Prepare tx home ps) locks = refl
 update_alike ss ts same (Commit tx ps) locks = refl
 update_alike ss ts same (Abort tx) locks = refl
 update_alike ss ts same (End tx) locks = refl
 update_alike ss ts same (Restart run epoch) locks = refl
+update_alike ss ts same (Add tx k by) locks = ap (λ c. cond c (take_one (At k) (open_lock tx I) locks) locks) (same tx)
+update_alike ss ts same (Unadd tx u k by) locks = refl
 
 open_alike : (ss ts : List TxId) → ((t : TxId) → tx_in t ss ≡ tx_in t ts) → (log : List LogRecord) (locks : Locks) → open_locks ss log locks ≡ open_locks ts log locks
 open_alike ss ts same [] locks = refl

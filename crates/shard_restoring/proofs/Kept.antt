@@ -5,7 +5,7 @@ use Rattle.clv_base.specs.declared.values.Value.{Value as ValueType}
 use Rattle.clv_base.specs.declared.names.TxId.{TxId}
 use Rattle.clv_base.specs.declared.logs.LogRecord.{LogRecord}
 use Rattle.clv_base.specs.declared.modes.Anchor.TheVariants.{At}
-use Rattle.clv_base.specs.declared.modes.Part.TheVariants.{X}
+use Rattle.clv_base.specs.declared.modes.Part.TheVariants.{I}
 use Rattle.clv_base.specs.declared.state.Held.{Held}
 use Rattle.clv_base.specs.Orders.{tx_same, tx_in, anchor_same}
 use Rattle.clv_base.specs.Logs.{StandingUpdate, standing, in_doubt, is_winner, fold_updates}
@@ -23,18 +23,18 @@ use Rattle.law_base.proofs.Names.{restored_there, own_in}
 use Rattle.law_base.proofs.Lists.{all_mono}
 use Rattle.law_base.proofs.Logs.{has_update, restored_have, standing_updates, locks_hold, ghosts_there}
 
--- ---- a lock with key X is a lock
+-- ---- a lock with key I is a lock
 
 first_two : (a b c : Bool) → (a && b && c) ≡ true → (a && b) ≡ true
 first_two true true c h = refl
 first_two true false c h = h
 first_two false b c h = h
 
-lock_from : (t : TxId) (k : ℕ) (locks : Locks) → holds true X (At k) t locks ≡ true → has_lock t k locks ≡ true
+lock_from : (t : TxId) (k : ℕ) (locks : Locks) → holds true I (At k) t locks ≡ true → has_lock t k locks ≡ true
 lock_from t k [] h = h
-lock_from t k (r ∷ rs) h = at (row_holds true X (At k) t r) refl h (lock_from t k rs)
+lock_from t k (r ∷ rs) h = at (row_holds true I (At k) t r) refl h (lock_from t k rs)
   where
-    at : (b : Bool) → row_holds true X (At k) t r ≡ b → (b || holds true X (At k) t rs) ≡ true → (holds true X (At k) t rs ≡ true → has_lock t k rs ≡ true) → ((anchor_same (At k) r.0 && tx_same t (r.1).tx) || has_lock t k rs) ≡ true
+    at : (b : Bool) → row_holds true I (At k) t r ≡ b → (b || holds true I (At k) t rs) ≡ true → (holds true I (At k) t rs ≡ true → has_lock t k rs ≡ true) → ((anchor_same (At k) r.0 && tx_same t (r.1).tx) || has_lock t k rs) ≡ true
     at true e i more = or_left _ _ (first_two (anchor_same (At k) r.0) (tx_same t (r.1).tx) _ e)
     at false e i more = or_right (anchor_same (At k) r.0 && tx_same t (r.1).tx) _ (more i)
 

@@ -3,25 +3,27 @@ use Rattle.std.specs.Prelude.{ℕ, Bool, true, false, cond, length, List, [], �
 use Rattle.std.specs.List.{filter}
 use Rattle.clv_base.specs.declared.names.TxId.{TxId}
 use Rattle.clv_base.specs.declared.logs.LogRecord.{LogRecord}
-use Rattle.clv_base.specs.declared.logs.LogRecord.TheVariants.{Update, Commit}
+use Rattle.clv_base.specs.declared.logs.LogRecord.TheVariants.{Update, Commit, Add}
 use Rattle.clv_base.specs.declared.modes.Anchor.TheVariants.{At}
 use Rattle.clv_base.specs.declared.modes.Holder.{Holder}
-use Rattle.clv_base.specs.declared.modes.Part.TheVariants.{X}
+use Rattle.clv_base.specs.declared.modes.Part.{Part}
+use Rattle.clv_base.specs.declared.modes.Part.TheVariants.{I, X}
 use Rattle.clv_base.specs.Orders.{tx_in}
 use Rattle.clv_base.specs.Modes.{on_key}
 use Rattle.clv_base.specs.Locks.{Locks, take_one, close_locks, holder_of}
 use Rattle.clv_base.specs.Restarts.{old_birth}
 
--- key X, still active
-abbrev pub open_lock : TxId → Holder
-open_lock tx = holder_of tx (old_birth tx) (on_key X)
+-- a lock on a key, still active
+abbrev pub open_lock : TxId → Part → Holder
+open_lock tx part = holder_of tx (old_birth tx) (on_key part)
 
--- with the lock on the key of an UPDATE of one of the transactions
+-- with the lock on the key of an UPDATE or ADD of one of the transactions
 abbrev pub with_update : List TxId → LogRecord → Locks → Locks
-with_update txs (Update tx key before after) locks = cond (tx_in tx txs) (take_one (At key) (open_lock tx) locks) locks
+with_update txs (Update tx key before after) locks = cond (tx_in tx txs) (take_one (At key) (open_lock tx X) locks) locks
+with_update txs (Add tx key by) locks = cond (tx_in tx txs) (take_one (At key) (open_lock tx I) locks) locks
 with_update txs _ locks = locks
 
--- with those on the keys of all their UPDATEs
+-- with those on the keys of all their UPDATEs and ADDs
 abbrev pub open_locks : List TxId → List LogRecord → Locks → Locks
 open_locks txs [] locks = locks
 open_locks txs (r ∷ log) locks = open_locks txs log (with_update txs r locks)

@@ -15,14 +15,14 @@ use lock_table::{Locks, Memory};
 use log_analysis::TxSet;
 use std::alloc::Global;
 
-/// Takes key X on a record.
-fn take_key<L: Locks>(locks: &mut L, tx: TxId, key: u64) -> Result<(), Memory>
-    ensures { OnOk result (L.rows locks.new ≡ take_one (At key) (open_lock tx) (L.rows locks.old)) }
+/// Takes a part on a record.
+fn take_key<L: Locks>(locks: &mut L, tx: TxId, key: u64, part: Part) -> Result<(), Memory>
+    ensures { OnOk result (L.rows locks.new ≡ take_one (At key) (open_lock tx part) (L.rows locks.old)) }
 {
     let need = Need {
         anchor: Anchor::At(key),
         mode: Mode {
-            key: Part::X,
+            key: part,
             gap: Part::N,
         },
     };
@@ -31,19 +31,27 @@ fn take_key<L: Locks>(locks: &mut L, tx: TxId, key: u64) -> Result<(), Memory>
     Ok(())
 }
 
-/// Takes key X on the key of an UPDATE of one of these.
+/// Takes key X on the key of an UPDATE of one of these, and key I on that of an ADD.
 fn take_update<L: Locks>(locks: &mut L, doubtful: &TxSet, found: &LogRecord) -> Result<(), Memory>
     ensures { OnOk result (L.rows locks.new ≡ with_update doubtful.now found.now (L.rows locks.old)) }
 {
-    if let LogRecord::Update { tx, key, .. } = found {
-        if doubtful.contains(*tx) {
-            take_key(locks, *tx, *key)?;
+    match found {
+        LogRecord::Update { tx, key, .. } => {
+            if doubtful.contains(*tx) {
+                take_key(locks, *tx, *key, Part::X)?;
+            }
         }
+        LogRecord::Add { tx, key, .. } => {
+            if doubtful.contains(*tx) {
+                take_key(locks, *tx, *key, Part::I)?;
+            }
+        }
+        _ => {}
     }
     Ok(())
 }
 
-/// Takes key X on the keys of all UPDATEs of these.
+/// So on the keys of all UPDATEs and ADDs of these.
 fn take_updates<L: Locks>(locks: &mut L, doubtful: &TxSet, log: &[LogRecord]) -> Result<(), Memory>
     ensures { OnOk result (L.rows locks.new ≡ open_locks doubtful.now log.now (L.rows locks.old)) }
 {
@@ -62,7 +70,8 @@ fn close_all<L: Locks>(locks: &mut L, txs: &[TxId])
     }
 }
 
-/// The locks of the transactions, which are those of the set: key X, closed, on each key that they wrote.
+/// The locks of the transactions, which are those of the set, closed: key I on each key that they only added to, key X on each other one that
+/// they wrote.
 pub(crate) fn locks_of<L: Locks + Drop>(
     alloc: Global,
     txs: &[TxId],

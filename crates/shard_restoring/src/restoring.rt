@@ -25,17 +25,17 @@ use std::alloc::{AllocError, Global};
 use tx_table::PartTable;
 use txn_core::ShardTx;
 
-/// Whether a record is an UPDATE of one of these.
+/// Whether a record is an UPDATE or ADD of one of these.
 fn is_update(doubtful: &TxSet, found: &LogRecord) -> bool
     ensures { result ≡ is_update_by (λ t. tx_in t doubtful.now) found.now }
 {
     match found {
-        LogRecord::Update { tx, .. } => doubtful.contains(*tx),
+        LogRecord::Update { tx, .. } | LogRecord::Add { tx, .. } => doubtful.contains(*tx),
         _ => false,
     }
 }
 
-/// How many UPDATEs of these the log has.
+/// How many UPDATEs and ADDs of these the log has.
 fn count_updates(doubtful: &TxSet, log: &[LogRecord]) -> usize
     ensures { result ≡ updates_by (λ t. tx_in t doubtful.now) log.now }
 {
@@ -44,14 +44,14 @@ fn count_updates(doubtful: &TxSet, log: &[LogRecord]) -> usize
         .count()
 }
 
-/// How many of these transactions have an UPDATE.
+/// How many of these transactions have an UPDATE or ADD.
 fn count_writers(buffer: &LogBuffer<LogRecord>, txs: &[TxId]) -> usize
     ensures { result ≡ length (filter (wrote_in buffer.now.records) txs.now) }
 {
     txs.iter().filter(|tx| buffer.wrote(**tx)).count()
 }
 
-/// Makes room for a CLR for each UPDATE of these, and an ABORT for each that wrote. They are given as a list and as a set.
+/// Makes room for a CLR or UNADD for each write of these, and an ABORT for each that wrote. They are given as a list and as a set.
 fn reserve_undo(
     buffer: &mut LogBuffer<LogRecord>,
     txs: &[TxId],
@@ -150,7 +150,7 @@ fn left_in<L: Locks + Drop>(
 }
 
 /// The transactions of a shard whose log, which ends with a restart's records, is the buffer's, as the restart leaves them: those in doubt have
-/// their parts, closed, their locks, key X on each key that they wrote, and their predecessors without a COMMIT. The log has room to undo them.
+/// their parts, closed, their locks, and their predecessors without a COMMIT. The log has room to undo them.
 /// The store has the records after the restart; the lists are those that recovery tells.
 pub fn restored<S: Store + Drop, L: Locks + Drop>(
     alloc: Global,

@@ -1,4 +1,4 @@
--- A CLR for each UPDATE, and an ABORT for each that wrote, is what an undo may write.
+-- A CLR or UNADD for each write, and an ABORT for each that wrote, is what an undo may write.
 use Rattle.std.proofs.Common.{◌≡◌, sym, ap, ◌∙◌, arith, List}
 use Rattle.clv_base.specs.declared.logs.LogRecord.{LogRecord}
 use Rattle.clv_base.specs.Orders.{tx_in}
