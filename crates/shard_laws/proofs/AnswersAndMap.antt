@@ -24,7 +24,7 @@ use Rattle.clv_base.specs.Undo.{stage_of}
 use Rattle.clv_base.specs.Events.{Reply, Does, landed, put_down, epoch_in}
 use Rattle.clv_base.specs.OneShard.{seen_fits}
 use Rattle.clv_base.specs.Restarts.{revived}
-use Rattle.shard_laws.specs.OneShard.{Deeds, with_one, asks_by_stage, new_asked, MayHappen, Leads, opens, happens, lands, others_ask, revives, new_told, is_member, ops_by, answers_by, AnswersAndMap, Recoverable, new_met}
+use Rattle.shard_laws.specs.OneShard.{Deeds, with_one, asks_by_stage, new_asked, MayHappen, Leads, opens, happens, lands, others_ask, revives, new_told, is_member, ops_by, answers_by, AnswersAndMap, ValuesAreFolds, Recoverable, new_met}
 use Rattle.shard_laws.proofs.Events.DueKeeps.{Sound, as_done, After, More_over, at_once}
 use Rattle.shard_laws.proofs.Restarts.OpeningKeeps.{past_of, sound_opened, opened_undoomed}
 use Rattle.shard_laws.proofs.Restarts.RestartsKeep.{revived_sound}
@@ -192,6 +192,9 @@ answers_and_map shard run before d s cut leads le =
       subst (λ l. replay_answers (stands (before ∷ [])) (ops_by (filter (is_member s cut d.told) l) d.items) ≡ answers_by (filter (is_member s cut d.told) l) d.items) b.4 (subst (λ m. replay_answers m (ops_by (filter (is_member s cut d.told) (b.0).asked) d.items) ≡ answers_by (filter (is_member s cut d.told) (b.0).asked) d.items) b.2 r.0),
       subst (λ l. replay_map (stands (before ∷ [])) (ops_by (filter (is_member s cut d.told) l) d.items) ≡ stands (take cut s.local.log ∷ [])) b.4 (subst (λ m. replay_map m (ops_by (filter (is_member s cut d.told) (b.0).asked) d.items) ≡ stands (take cut s.local.log ∷ [])) b.2 r.1),
     )
+
+pub values_are_folds : ValuesAreFolds
+values_are_folds shard run before d s leads k = let b = held shard run before d s leads in let h = (b.1).kept in h.values k
 
 pub recoverable : Recoverable
 recoverable shard run before d s cut t p leads le e member =

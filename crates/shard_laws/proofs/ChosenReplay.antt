@@ -177,7 +177,7 @@ module _ (all : List Item) (g : Past) (s : Shard) (told : List TxId) (cut : ℕ)
   cut_map q =
       ap (map_get q) (fold_writers chosen (λ t. chosen t && wrote_in s.local.log t) (take cut s.local.log) []
       (λ t w. and_true (chosen t) (wrote_in s.local.log t) (subst (λ l. wrote_in l t ≡ true) whole (wrote_append (take cut s.local.log) (drop cut s.local.log) t ∙ or_left _ _ w))))
-      ∙ fold_values (λ t. chosen t && wrote_in s.local.log t) 0 (take cut s.local.log) [] [] q (whole_log (λ t. chosen t && wrote_in s.local.log t) (take cut s.local.log) cut_alive) refl
+      ∙ fold_values (λ t. chosen t && wrote_in s.local.log t) 0 (take cut s.local.log) [] [] q (whole_log (λ t. chosen t && wrote_in s.local.log t) (take cut s.local.log) cut_alive) (λ j. refl)
       ∙ ap (top_value q) (sym rest_unmoved ∙ sym (filter_alike chosen (λ t. chosen t && wrote_in s.local.log t) (standing s.local.log) writers_wrote))
 
   pub same_chosen : after g.start (filter (λ x. chosen x.tx) g.items) ≡ fold_updates chosen (take cut s.local.log) []

@@ -152,7 +152,7 @@ module _ (shard run : ℕ) (before : List LogRecord) (may : MayServe shard run b
   picks_order : AllLater (λ x y. Clash x y → (x.tx ≡ y.tx) ⊎ (place firsts x.tx < place firsts y.tx)) picks
   picks_order =
       later_mono _ _
-      (λ x y f c. ⊎_elim (λ s. inl s) (λ l. inr (filter_place chosen (found_asked shard before) x.tx y.tx f.1 f.2 (listed_place shard run before may y.tx x.tx l.2 l.1 l.0))) (f.0 c.0 c.1 c.2))
+      (λ x y f c. ⊎_elim (λ s. inl s) (λ l. inr (filter_place chosen (found_asked shard before) x.tx y.tx f.1 f.2 (listed_place shard run before may y.tx x.tx l.2 l.1 l.0))) (f.0 c.0 c.1 c.2 c.4))
       picks (later_filter _ (λ z. chosen z.tx) (found_items shard before) (under_start shard run before may))
 
   picks_doubted : AllByRecursion (λ x. (tx_in x.tx doubt ≡ true) × (chosen x.tx ≡ true)) picks
@@ -201,7 +201,7 @@ module _ (shard run : ℕ) (before : List LogRecord) (may : MayServe shard run b
       ∙ sym (keys_top (filter (of_kept pick) (filter (of_kept (is_winner shard before)) (standing before))) (filter (of_kept pick) (pile (found_items shard before) base)) q
       (keys_filter (of_kept pick) (filter (of_kept (is_winner shard before)) (standing before)) (pile (found_items shard before) base) (split_start shard run before may)))
       ∙ ap (top_value q) (filter_within pick (is_winner shard before) (standing before) picked_wins)
-      ∙ sym (fold_values pick 0 before [] [] q (whole_log pick before undone_unpicked) refl))
+      ∙ sym (fold_values pick 0 before [] [] q (whole_log pick before undone_unpicked) (λ j. refl)))
 
   -- ---- with all that was answered
 

@@ -6,7 +6,6 @@ use Rattle.std.proofs.lemmas.Bool.{both_ways, and_parts, or_cases, cases_Bool}
 use Rattle.std.proofs.lemmas.List.{take_all}
 use Rattle.std.proofs.Math.Bool.{or-false}
 use Rattle.clv_base.specs.declared.modes.Anchor.TheVariants.{At}
-use Rattle.clv_base.specs.declared.modes.Part.TheVariants.{X}
 use Rattle.clv_base.specs.declared.state.Stage.{Stage}
 use Rattle.clv_base.specs.declared.state.Stage.TheVariants.{Active, Closed, Gone}
 use Rattle.clv_base.specs.Maps.{map_get}
@@ -22,7 +21,7 @@ use Rattle.law_base.proofs.Commits.{commit_durable, durable_committed}
 use Rattle.shard_laws.specs.OneShard.{QuietIsSettled}
 use Rattle.shard_laws.proofs.AnswersAndMap.{held}
 use Rattle.law_base.proofs.LockRows.{holder_row}
-use Rattle.shard_laws.proofs.Keeping.WhatOneShardKeeps.{Past, view_of, Kept, Wrote, Belongs, StageFits}
+use Rattle.shard_laws.proofs.Keeping.WhatOneShardKeeps.{Past, view_of, Kept, Wrote, part_for, Belongs, StageFits}
 use Rattle.shard_laws.proofs.Operations.AnswersByValues.{live_rises, live_find}
 use Rattle.shard_laws.proofs.Cuts.WhatCutsHold.{of_kept, cut_values, fold_alike}
 use Rattle.shard_laws.proofs.Cuts.MembersOfCutsReplay.{filter_all_kept}
@@ -45,7 +44,7 @@ pub writer_committed : (g : Past) (s : Shard) (x : StandingUpdate) → Kept g (v
 writer_committed g s x h q w =
     ⊎_elim (λ d. durable_committed s.local.log s.durable x.tx d)
     (λ d.
-    let r = holder_row (Belongs s.local.parts) true X (At x.key) x.tx s.local.locks h.rows (w d).0 in
+    let r = holder_row (Belongs s.local.parts) true (part_for x.change) (At x.key) x.tx s.local.locks h.rows (w d).0 in
     let p = (r.2).0 in
     let t = rows_get (λ r. (is_gone_stage (r.1).stage || committed_in s.local.log r.0) ≡ true) x.tx p s.local.parts (each_row (λ p. is_gone_stage (p.1).stage || committed_in s.local.log p.0) s.local.parts q.3) (r.2).1 in
     ⊎_elim (λ a. absurd (both_ways _ (not_gone r.1 p.stage (r.2).3) a)) (λ a. a) (or_cases (is_gone_stage p.stage) (committed_in s.local.log x.tx) t))

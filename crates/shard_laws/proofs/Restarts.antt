@@ -1,5 +1,6 @@
 -- What a restart finds, makes and restores, and that it keeps what the shard keeps.
 pub mod RestoredLocksAndParts
+pub mod AddsFindNumbers
 pub mod FoundDoubtedActedBefore
 pub mod WinnersKeepTheirWrites
 pub mod RestoredRequestsAndPairs

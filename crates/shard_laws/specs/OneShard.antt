@@ -1,7 +1,6 @@
 -- Histories of one shard alone, with restarts; its members; and what is to be shown of them.
 use Rattle.std.specs.Prelude.{◌⊎◌, ◌≡◌, ⊤, ℕ, ◌+◌, ◌≤◌, ◌<◌, ◌&&◌, Bool, true, false, ◌||◌, not, List, [], ◌∷◌, ◌++◌, map, take, length, Option, Some, None, cond, zero, suc}
 use Rattle.std.specs.List.{list_any, list_all, filter}
-use Rattle.clv_base.specs.declared.values.Value.{Value as ValueType}
 use Rattle.clv_base.specs.declared.names.TxId.{TxId}
 use Rattle.clv_base.specs.declared.names.Birth.{Birth}
 use Rattle.clv_base.specs.declared.state.Stage.{Stage}
@@ -10,22 +9,24 @@ use Rattle.clv_base.specs.declared.state.Held.{Held}
 use Rattle.clv_base.specs.declared.logs.LogRecord.{LogRecord}
 use Rattle.clv_base.specs.declared.logs.LogRecord.TheVariants.{Prepare as PrepareRecord}
 use Rattle.clv_base.specs.declared.ops.Op.{Op}
-use Rattle.clv_base.specs.declared.ops.Op.TheVariants.{Put, Del}
+use Rattle.clv_base.specs.declared.ops.Op.TheVariants.{Put, Del, Add}
 use Rattle.clv_base.specs.declared.ops.Answer.{Answer}
-use Rattle.clv_base.specs.declared.ops.Answer.TheVariants.{Value}
+use Rattle.clv_base.specs.declared.ops.Answer.TheVariants.{Value, Added}
+use Rattle.clv_base.specs.declared.changes.Change.{Change}
+use Rattle.clv_base.specs.declared.changes.Change.TheVariants.{Sets, Adds}
 use Rattle.clv_base.specs.declared.events.Event.{Event}
 use Rattle.clv_base.specs.declared.events.Event.TheVariants.{Op as OpEvent, Request as RequestEvent, Look, Drop, Deliver, FlushIn, Restart as RestartEvent}
 use Rattle.clv_base.specs.declared.events.Outcome.{Outcome}
 use Rattle.clv_base.specs.declared.events.Outcome.TheVariants.{Answered, Acknowledged, Up}
 use Rattle.clv_base.specs.Orders.{tx_same, tx_in, tx_get}
 use Rattle.clv_base.specs.Maps.{KeyMap, replay_map, replay_answers}
-use Rattle.clv_base.specs.Logs.{StandingUpdate, standing, committed_in, prepared_in, aborted_in, wrote_in, in_doubt, fold_updates, stands}
+use Rattle.clv_base.specs.Logs.{StandingUpdate, standing, committed_in, prepared_in, aborted_in, wrote_in, in_doubt, fold_updates, value_in, stands}
 use Rattle.clv_base.specs.declared.messages.Message.{Message}
 use Rattle.clv_base.specs.declared.messages.Message.TheVariants.{Prepare, Vote as VoteMessage, Decide, Done, Ask}
 use Rattle.clv_base.specs.State.{Shard, Local, is_present}
 use Rattle.clv_base.specs.Facts.{predecessors_of}
 use Rattle.clv_base.specs.Locks.{violated}
-use Rattle.clv_base.specs.Needs.{needs_of, live_pairs}
+use Rattle.clv_base.specs.Needs.{needs_of, value_at, live_pairs}
 use Rattle.clv_base.specs.History.{IsQuiet}
 use Rattle.clv_base.specs.declared.state.Voter.{Voter}
 use Rattle.clv_base.specs.declared.state.Request.{Request}
@@ -155,13 +156,18 @@ is_doomed None = false
 
 -- ---- what a log leaves in doubt, as transactions that acted before
 
--- an UPDATE as the operation that it logs, with its answer
-abbrev pub found_op : ℕ → Option ValueType → Op
-found_op k None = Del k
-found_op k (Some v) = Put k v
+-- an UPDATE or ADD as the operation that it logs, with its answer
+abbrev pub found_op : ℕ → Change → Op
+found_op k (Sets before None) = Del k
+found_op k (Sets before (Some v)) = Put k v
+found_op k (Adds by) = Add k by
+
+abbrev pub found_told : Change → Answer
+found_told (Sets before after) = Value before
+found_told (Adds by) = Added true
 
 abbrev pub found_item : StandingUpdate → Item
-found_item w = record { tx = w.tx; op = found_op w.key w.after; answer = Value w.before; lsn = w.lsn }
+found_item w = record { tx = w.tx; op = found_op w.key w.change; answer = found_told w.change; lsn = w.lsn }
 
 -- those of writes, which come the newest first, in the order of the log
 abbrev pub items_found : (TxId → Bool) → List StandingUpdate → List Item
@@ -308,6 +314,11 @@ abbrev pub QuietIsSettled : Type 0
 QuietIsSettled =
     (shard run : ℕ) (before : List LogRecord) (d : Deeds) (s : Shard) → Leads shard run before d s → IsQuiet s
     → live_pairs s.local.records ≡ stands (s.local.log ∷ [])
+
+-- at every moment, whatever was undone, each key has the fold of those of its writes that stand in the log
+abbrev pub ValuesAreFolds : Type 0
+ValuesAreFolds =
+    (shard run : ℕ) (before : List LogRecord) (d : Deeds) (s : Shard) → Leads shard run before d s → (k : ℕ) → value_at k s.local.records ≡ value_in s.local.log k
 
 -- the log of a shard keeps the order rules at every moment
 abbrev pub OrderIsKept : Type 0

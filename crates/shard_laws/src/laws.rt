@@ -1,6 +1,6 @@
 // Laws over all histories of one shard.
 
-ghost use Rattle.shard_laws.specs.OneShard.{AnswersAndMap, Recoverable, QuietIsSettled, ChosenReplay, LaterReplay, ChosenAct, ChosenStandBefore, OrderIsKept};
+ghost use Rattle.shard_laws.specs.OneShard.{AnswersAndMap, Recoverable, QuietIsSettled, ValuesAreFolds, ChosenReplay, LaterReplay, ChosenAct, ChosenStandBefore, OrderIsKept};
 
 /// In each history of one shard the members of each cut of the log at or above what is durable replay, in the order of their requests, from
 /// the map that the log found stands for: to the answers that they were given, and to the map that the cut stands for.
@@ -18,6 +18,11 @@ pub fn quiet_is_settled()
     ensures { QuietIsSettled }
 {}
 
+/// At every moment, whatever was undone, a key's value is the fold of those of its UPDATEs and ADDs that stand in the log.
+pub fn values_are_folds()
+    ensures { ValuesAreFolds }
+{}
+
 /// Where transactions are chosen by the COMMITs of other shards, those that are in doubt here among them, the chosen ones replay to their
 /// answers and to the map of their UPDATEs in the cut.
 pub fn chosen_replay()
@@ -30,8 +35,8 @@ pub fn later_replay()
     ensures { LaterReplay }
 {}
 
-/// In the order in which they were done, the chosen ones' operations after the opening give their answers and come to their map; and of two that meet at
-/// a key that one writes, the earlier is of the same transaction or of one that asked earlier.
+/// In the order in which they were done, the chosen ones' operations after the opening give their answers and come to their map; and of two that
+/// meet at a key that one writes, the earlier is of the same transaction or of one that asked earlier.
 pub fn chosen_act()
     ensures { ChosenAct }
 {}

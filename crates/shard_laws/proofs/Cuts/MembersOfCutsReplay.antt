@@ -4,6 +4,7 @@ use Rattle.std.specs.List.{AllByRecursion, filter}
 use Rattle.std.proofs.lemmas.Bool.{cases_Bool, both_ways, cond-true, or_cases, and_from, cond-false, false_from_ne_true}
 use Rattle.clv_base.specs.declared.names.TxId.{TxId}
 use Rattle.clv_base.specs.Orders.{tx_same, tx_in}
+use Rattle.clv_base.specs.declared.changes.Change.{Change}
 use Rattle.clv_base.specs.Logs.{StandingUpdate, committed_in, wrote_in, standing}
 use Rattle.clv_base.specs.State.{is_present}
 use Rattle.law_base.specs.Items.{Item, wrote, Runs, after, AllLater, Reaches, Clash, pile, on_top, is_write_at}
@@ -15,7 +16,6 @@ use Rattle.law_base.proofs.Commits.{before_second, durable_committed, before_dur
 use Rattle.shard_laws.proofs.Operations.WritesAtEachKey.{keys_top, keys_filter}
 use Rattle.shard_laws.proofs.Keeping.WhatOneShardKeeps.{Past, place, Dep, Known, Ended, is_alive}
 use Rattle.std.specs.Prelude.{take}
-use Rattle.clv_base.specs.declared.values.Value.{Value as ValueType}
 use Rattle.clv_base.specs.Maps.{replay_map, replay_answers}
 use Rattle.clv_base.specs.Logs.{stands, fold_updates, committed_somewhere}
 use Rattle.clv_base.specs.State.{Shard}
@@ -41,7 +41,7 @@ pile_keep f (x ∷ xs) ws =
     same true = refl
     same false = refl
 
-    top : (w : Option (ℕ × Option ValueType × Option ValueType)) → filter (of_kept f) (on_top x.tx x.lsn w ws) ≡ cond (f x.tx) (on_top x.tx x.lsn w (filter (of_kept f) ws)) (filter (of_kept f) ws)
+    top : (w : Option (ℕ × Change)) → filter (of_kept f) (on_top x.tx x.lsn w ws) ≡ cond (f x.tx) (on_top x.tx x.lsn w (filter (of_kept f) ws)) (filter (of_kept f) ws)
     top None = same (f x.tx)
     top (Some w) = refl
 

@@ -1,12 +1,12 @@
 -- The members of a cut are a serial run.
-use Rattle.std.proofs.Common.{◌≡◌, ℕ, zero, suc, ◌<◌, ◌⊎◌, ⊎_elim, Bool, true, false, cond, ◌||◌, List, [], ◌∷◌, ◌++◌, map, length, Option, Some, None, ◌==◌, refl, sym, ap, subst, ◌∙◌, arith, append_assoc, eqb-true, eq-eqb}
+use Rattle.std.proofs.Common.{◌≡◌, ℕ, zero, suc, ◌<◌, ◌⊎◌, ⊎_elim, Bool, true, false, cond, not, ◌&&◌, ◌||◌, List, [], ◌∷◌, ◌++◌, map, length, Option, Some, None, ◌==◌, refl, sym, ap, subst, ◌∙◌, arith, append_assoc, eqb-true, eq-eqb}
 use Rattle.std.specs.List.{AllByRecursion, filter}
 use Rattle.std.proofs.lemmas.Bool.{cases_Bool, both_ways, cond_both, cond-true, cond-false, or_cases, false_from_ne_true, or_from}
 use Rattle.std.proofs.lemmas.List.Folds.{list_any-append}
 use Rattle.clv_base.specs.declared.names.TxId.{TxId}
 use Rattle.clv_base.specs.Orders.{tx_same, tx_in}
 use Rattle.clv_base.specs.Maps.{KeyMap}
-use Rattle.law_base.specs.Items.{Item, Runs, after, AllLater, Clash}
+use Rattle.law_base.specs.Items.{Item, both_add, Runs, after, AllLater, Clash}
 use Rattle.clv_base.proofs.SameNames.{or_left, or_right, tx_true}
 use Rattle.shard_laws.proofs.Keeping.WhatOneShardKeeps.{place}
 use Rattle.std.proofs.lemmas.Bool.{ltb-true}
@@ -15,7 +15,7 @@ use Rattle.clv_base.specs.Maps.{op_after, replay_map, replay_answers}
 use Rattle.clv_base.proofs.Grouping.{is_serial_run}
 use Rattle.clv_base.specs.Folding.{IsRising, Placed, Replays, map_after, ClearOf, InOrder, AllPlacesBelow, at_place, grouped_from, ops_of, answers_of, clash, meets_written, key_written, meets_key}
 use Rattle.shard_laws.specs.OneShard.{items_of, ops_by, answers_by}
-use Rattle.law_base.proofs.Undoing.{write_met}
+use Rattle.law_base.proofs.Running.{write_met}
 use Rattle.shard_laws.proofs.Keeping.ClosingKeeps.{place_in}
 use Rattle.law_base.proofs.Names.{written_at as written_some}
 use Rattle.law_base.proofs.Bools.{none_or}
@@ -44,15 +44,19 @@ met_some o (Some k) e = (k, refl, e)
 
 clash_from : (ms : List TxId) (x y : Item) → clash (placed ms x) (placed ms y) ≡ true → Clash x y
 unfolding placed
-clash_from ms x y e =
-    ⊎_elim
-    (λ h. let m = met_some y.op (key_written x.op x.answer) h in
-    let w = written_some x.op x.answer m.0 m.1 in
-    (m.0, write_met x m.0 w, m.2, λ f. absurd (both_ways _ f w)))
-    (λ h. let m = met_some x.op (key_written y.op y.answer) h in
-    let w = written_some y.op y.answer m.0 m.1 in
-    (m.0, m.2, write_met y m.0 w, λ f. w))
-    (or_cases (meets_written y.op (key_written x.op x.answer)) (meets_written x.op (key_written y.op y.answer)) e)
+clash_from ms x y e = at (both_add x y) refl e
+  where
+    at : (b : Bool) → both_add x y ≡ b → (not b && (meets_written y.op (key_written x.op x.answer) || meets_written x.op (key_written y.op y.answer))) ≡ true → Clash x y
+    at true s e = absurd (both_ways false refl e)
+    at false s e =
+        ⊎_elim
+        (λ h. let m = met_some y.op (key_written x.op x.answer) h in
+        let w = written_some x.op x.answer m.0 m.1 in
+        (m.0, write_met x m.0 w, m.2, (λ f. absurd (both_ways _ f w)), s))
+        (λ h. let m = met_some x.op (key_written y.op y.answer) h in
+        let w = written_some y.op y.answer m.0 m.1 in
+        (m.0, m.2, write_met y m.0 w, (λ f. w), s))
+        (or_cases (meets_written y.op (key_written x.op x.answer)) (meets_written x.op (key_written y.op y.answer)) e)
 
 -- ---- places among those that are kept
 

@@ -1,13 +1,14 @@
 -- What a cut of the log holds: the COMMITs below it, and the writes of those that it commits.
-use Rattle.std.proofs.Common.{◌≡◌, ℕ, zero, suc, ◌+◌, ◌≤◌, ◌<◌, Bool, true, false, cond, ◌||◌, List, [], ◌∷◌, ◌++◌, length, Option, Some, ◌==◌, refl, sym, ap, subst, ◌∙◌, arith, append_assoc}
+use Rattle.std.proofs.Common.{◌≡◌, ℕ, zero, suc, ◌+◌, ◌≤◌, ◌<◌, Bool, true, false, cond, ◌||◌, List, [], ◌∷◌, ◌++◌, length, Option, Some, ◌==◌, refl, sym, ap, subst, ◌∙◌, eqb-true, arith, append_assoc}
 use Rattle.std.specs.List.{AllByRecursion, filter, list_any}
 use Rattle.std.proofs.lemmas.Bool.{both_ways, cond-false, false_from_ne_true}
 use Rattle.std.proofs.lemmas.List.Folds.{list_any-append}
 use Rattle.clv_base.specs.declared.names.TxId.{TxId}
 use Rattle.clv_base.specs.declared.logs.LogRecord.{LogRecord}
-use Rattle.clv_base.specs.declared.logs.LogRecord.TheVariants.{Update, Clr, Prepare, Commit, Abort, End, Restart}
+use Rattle.clv_base.specs.declared.logs.LogRecord.TheVariants.{Update, Clr, Prepare, Commit, Abort, End, Restart, Add, Unadd}
 use Rattle.clv_base.specs.Orders.{tx_same}
-use Rattle.clv_base.specs.Maps.{KeyMap, map_get}
+use Rattle.clv_base.specs.Maps.{KeyMap, map_get, map_add}
+use Rattle.clv_base.specs.declared.changes.Change.TheVariants.{Sets, Adds}
 use Rattle.clv_base.specs.Logs.{StandingUpdate, standing, standing_from, committed_in, is_commit_of}
 use Rattle.law_base.specs.Items.{after}
 use Rattle.clv_base.proofs.SameNames.{or_left, or_right, tx_true, tx_self}
@@ -21,9 +22,8 @@ use Rattle.std.proofs.Common.{append-nil}
 use Rattle.std.specs.Prelude.{take, drop}
 use Rattle.std.proofs.lemmas.List.{take-append-drop}
 use Rattle.clv_base.specs.Maps.{map_set}
-use Rattle.clv_base.specs.Logs.{place_from, fold_updates, standing_after, without_newest, newest_at}
+use Rattle.clv_base.specs.Logs.{place_from, changed, fold_updates, standing_after, without_newest}
 use Rattle.clv_base.proofs.Folding.{get_set}
-use Rattle.law_base.proofs.Running.{after_of}
 
 -- ---- COMMITs below the cut
 
@@ -82,26 +82,31 @@ pub without_other : (keep : TxId → Bool) (t : TxId) (ws : List StandingUpdate)
 without_other keep t [] out = refl
 without_other keep t (w ∷ ws) out = without_case keep t w ws (tx_same t w.tx) refl out (without_other keep t ws out)
 
-top_filter : (keep : TxId → Bool) (k : ℕ) (w : StandingUpdate) (ws : List StandingUpdate) (m : KeyMap) → map_get k m ≡ top_value k (filter (of_kept keep) ws) → map_get k (cond (keep w.tx) (map_set w.key w.after m) m) ≡ top_value k (filter (of_kept keep) (w ∷ ws))
-top_filter keep k w ws m e = at (keep w.tx)
+-- a write of one that passes changes the map as it changes the fold
+top_filter : (keep : TxId → Bool) (k : ℕ) (w : StandingUpdate) (ws : List StandingUpdate) (m : KeyMap) → map_get k m ≡ top_value k (filter (of_kept keep) ws) → (map_get w.key m ≡ top_value w.key (filter (of_kept keep) ws))
+    → map_get k (cond (keep w.tx) (map_set w.key (changed w.change (map_get w.key m)) m) m) ≡ top_value k (filter (of_kept keep) (w ∷ ws))
+top_filter keep k w ws m e own = at (keep w.tx)
   where
-    here : (b : Bool) → cond b w.after (map_get k m) ≡ after_of (cond b (Some w) (newest_at k (filter (of_kept keep) ws)))
-    here true = refl
-    here false = e
+    here : (b : Bool) → (k == w.key) ≡ b
+        → cond b (changed w.change (map_get w.key m)) (map_get k m) ≡ cond b (changed w.change (top_value k (filter (of_kept keep) ws))) (top_value k (filter (of_kept keep) ws))
+    here true q = ap (changed w.change) (own ∙ ap (λ j. top_value j (filter (of_kept keep) ws)) (sym (eqb-true k w.key q)))
+    here false q = e
 
-    at : (b : Bool) → map_get k (cond b (map_set w.key w.after m) m) ≡ top_value k (cond b (w ∷ filter (of_kept keep) ws) (filter (of_kept keep) ws))
-    at true = get_set k w.key w.after m ∙ here (k == w.key)
+    at : (b : Bool) → map_get k (cond b (map_set w.key (changed w.change (map_get w.key m)) m) m) ≡ top_value k (cond b (w ∷ filter (of_kept keep) ws) (filter (of_kept keep) ws))
+    at true = get_set k w.key (changed w.change (map_get w.key m)) m ∙ here (k == w.key) refl
     at false = e
 
-pub fold_values : (keep : TxId → Bool) (n : ℕ) (log : List LogRecord) (ws : List StandingUpdate) (m : KeyMap) (k : ℕ) → KeptWhole keep log → map_get k m ≡ top_value k (filter (of_kept keep) ws) → map_get k (fold_updates keep log m) ≡ top_value k (filter (of_kept keep) (standing_from n log ws))
-fold_values keep n [] ws m k whole e = e
-fold_values keep n (Update tx key before after ∷ rs) ws m k whole e = fold_values keep (suc n) rs (record { lsn = n; tx = tx; key = key; before = before; after = after } ∷ ws) (cond (keep tx) (map_set key after m) m) k whole.1 (top_filter keep k (record { lsn = n; tx = tx; key = key; before = before; after = after }) ws m e)
-fold_values keep n (Clr tx undo_next key after ∷ rs) ws m k whole e = fold_values keep (suc n) rs (without_newest tx ws) m k whole.1 (e ∙ ap (top_value k) (sym (without_other keep tx ws (whole.0 tx (tx_self tx)))))
+pub fold_values : (keep : TxId → Bool) (n : ℕ) (log : List LogRecord) (ws : List StandingUpdate) (m : KeyMap) (k : ℕ) → KeptWhole keep log → ((j : ℕ) → map_get j m ≡ top_value j (filter (of_kept keep) ws)) → map_get k (fold_updates keep log m) ≡ top_value k (filter (of_kept keep) (standing_from n log ws))
+fold_values keep n [] ws m k whole e = e k
+fold_values keep n (Update tx key before after ∷ rs) ws m k whole e = fold_values keep (suc n) rs (record { lsn = n; tx = tx; key = key; change = Sets before after } ∷ ws) (cond (keep tx) (map_set key after m) m) k whole.1 (λ j. top_filter keep j (record { lsn = n; tx = tx; key = key; change = Sets before after }) ws m (e j) (e key))
+fold_values keep n (Clr tx undo_next key after ∷ rs) ws m k whole e = fold_values keep (suc n) rs (without_newest tx ws) m k whole.1 (λ j. e j ∙ ap (top_value j) (sym (without_other keep tx ws (whole.0 tx (tx_self tx)))))
 fold_values keep n (Prepare tx home ps ∷ rs) ws m k whole e = fold_values keep (suc n) rs ws m k whole.1 e
 fold_values keep n (Commit tx ps ∷ rs) ws m k whole e = fold_values keep (suc n) rs ws m k whole.1 e
 fold_values keep n (Abort tx ∷ rs) ws m k whole e = fold_values keep (suc n) rs ws m k whole.1 e
 fold_values keep n (End tx ∷ rs) ws m k whole e = fold_values keep (suc n) rs ws m k whole.1 e
 fold_values keep n (Restart run epoch ∷ rs) ws m k whole e = fold_values keep (suc n) rs ws m k whole.1 e
+fold_values keep n (Add tx key by ∷ rs) ws m k whole e = fold_values keep (suc n) rs (record { lsn = n; tx = tx; key = key; change = Adds by } ∷ ws) (cond (keep tx) (map_add key by m) m) k whole.1 (λ j. top_filter keep j (record { lsn = n; tx = tx; key = key; change = Adds by }) ws m (e j) (e key))
+fold_values keep n (Unadd tx undo_next key by ∷ rs) ws m k whole e = fold_values keep (suc n) rs (without_newest tx ws) m k whole.1 (λ j. e j ∙ ap (top_value j) (sym (without_other keep tx ws (whole.0 tx (tx_self tx)))))
 
 pub fold_alike : (f k : TxId → Bool) (log : List LogRecord) (m : KeyMap) → ((t : TxId) → f t ≡ k t) → fold_updates f log m ≡ fold_updates k log m
 fold_alike f k [] m e = refl
@@ -112,6 +117,8 @@ fold_alike f k (Commit tx ps ∷ rs) m e = fold_alike f k rs m e
 fold_alike f k (Abort tx ∷ rs) m e = fold_alike f k rs m e
 fold_alike f k (End tx ∷ rs) m e = fold_alike f k rs m e
 fold_alike f k (Restart run epoch ∷ rs) m e = fold_alike f k rs m e
+fold_alike f k (Add tx key by ∷ rs) m e = ap (λ c. fold_updates f rs (cond c (map_add key by m) m)) (e tx) ∙ fold_alike f k rs (cond (k tx) (map_add key by m) m) e
+fold_alike f k (Unadd tx u key by ∷ rs) m e = fold_alike f k rs m e
 
 -- ---- no record after the cut moves one that the cut commits
 
@@ -136,6 +143,8 @@ same_after cut before (r ∷ rs) n ws h t =
     one (Abort tx) o = refl
     one (End tx) o = refl
     one (Restart run epoch) o = refl
+    one (Add tx key by) o = cond-false (committed_in cut tx) _ (filter (of_kept (committed_in cut)) ws) (h tx o)
+    one (Unadd tx undo_next key by) o = without_other (committed_in cut) tx ws (h tx o)
 
 pub standing_cut : (c : ℕ) (log : List LogRecord) → Tidy [] log → filter (of_kept (committed_in (take c log))) (standing log) ≡ filter (of_kept (committed_in (take c log))) (standing (take c log))
 standing_cut c log t =
@@ -158,5 +167,5 @@ whole_from c log dead = at (take c log) (λ t e. false_from_ne_true _ (λ h. bot
 -- the map that the cut stands for, key by key
 pub cut_values : (g : Past) (v : View) (c k : ℕ) → Kept g v → map_get k (fold_updates (committed_in (take c v.log)) (take c v.log) []) ≡ top_value k (filter (of_kept (committed_in (take c v.log))) (standing v.log))
 cut_values g v c k h =
-    fold_values (committed_in (take c v.log)) 0 (take c v.log) [] [] k (whole_from c v.log (λ t e. (h.dead t e).0)) refl
+    fold_values (committed_in (take c v.log)) 0 (take c v.log) [] [] k (whole_from c v.log (λ t e. (h.dead t e).0)) (λ j. refl)
     ∙ ap (top_value k) (sym (standing_cut c v.log h.tidy))

@@ -41,7 +41,7 @@ use Rattle.std.specs.List.{list_any}
 use Rattle.clv_base.specs.Needs.{writes_of, key_of}
 use Rattle.shard_laws.proofs.Events.DueKeeps.{PartOf, part_push, part_more, part_filter, Sound, at_once, finish_sound}
 use Rattle.shard_laws.proofs.Events.KeptAfterReplies.{Keeps_reply, ends, late, does}
-use Rattle.shard_laws.proofs.Events.WhoOperatesNow.{dies, stands_now, NewHere, fresh_now, Change, written_parts, written_open, written_wrote, push_own, push_other, told_own, falls_by, falls_written}
+use Rattle.shard_laws.proofs.Events.WhoOperatesNow.{dies, stands_now, NewHere, fresh_now, Written, written_parts, written_open, written_wrote, push_own, push_other, told_own, falls_by, falls_written}
 
 module _ {told : List TxId} (all : List Item) (g : Past) (s : Shard) (tx : TxId) (birth : Birth) (op : Op) (h : Sound all g s) (grant : decide tx birth (needs_of op s.local.records) s.local.locks ≡ Grant) (fresh : tx_get tx s.local.parts ≡ None → Fresh (did all told g) s tx) (same : (h : Held) → tx_get tx s.local.parts ≡ Some h → h.birth ≡ birth)
     (new : tx_in tx g.asked ≡ false) (run_is : tx.run ≡ s.run) (o : (stage_of s.local tx ≡ None) ⊎ (stage_of s.local tx ≡ Some Active)) where
@@ -87,7 +87,7 @@ module _ {told : List TxId} (all : List Item) (g : Past) (s : Shard) (tx : TxId)
       → ((v : TxId) → (tx_in v lost ≡ true) ⊎ (items_of v items ≡ items_of v (all ++ done ∷ []))) → PartOf items (all ++ done ∷ []) → Falls g.asked g.fell lost g.over (new_part tx birth (tx_get tx s.local.parts) s.local.parts) (add_pairs tx vs s.local.pairs) s.local.log s.durable
       → Sound (all ++ done ∷ []) (record g { items = items; lost = lost; met = map (λ p. (tx, p)) vs ++ g.met }) (record s { local = performed tx birth op s.local })
   performed_with items lost kept told within falls =
-      let w : Change = writes_of op (value_at (key_of op) s.local.records) in
+      let w : Written = writes_of op (value_at (key_of op) s.local.records) in
       let u : Local = locked tx birth op s.local in
       record {
         kept = kept;

@@ -3,11 +3,10 @@ use Rattle.std.proofs.Common.{◌≡◌, ℕ, ◌⊎◌, inl, inr, ⊎_elim, Boo
 use Rattle.std.specs.List.{AllByRecursion, filter}
 use Rattle.std.proofs.lemmas.Bool.{both_ways, cond-true, cond-false, false_from_ne_true}
 use Rattle.std.proofs.lemmas.List.Folds.{list_any-append}
-use Rattle.clv_base.specs.declared.values.Value.{Value as ValueType}
 use Rattle.clv_base.specs.declared.names.TxId.{TxId}
 use Rattle.clv_base.specs.declared.names.Birth.{Birth}
 use Rattle.clv_base.specs.declared.logs.LogRecord.{LogRecord}
-use Rattle.clv_base.specs.declared.logs.LogRecord.TheVariants.{Update}
+use Rattle.clv_base.specs.declared.logs.LogRecord.TheVariants.{Update, Add}
 use Rattle.clv_base.specs.LogRules.{before_restart}
 use Rattle.shard_laws.proofs.Order.RecordByRecord.{unwritten_before}
 use Rattle.shard_laws.proofs.Order.WritesLieOnListed.{order_of}
@@ -15,6 +14,8 @@ use Rattle.clv_base.specs.declared.state.Stage.{Stage}
 use Rattle.clv_base.specs.declared.state.Stage.TheVariants.{Active, Closed, Gone}
 use Rattle.clv_base.specs.declared.state.Held.{Held}
 use Rattle.clv_base.specs.Orders.{Table, tx_same, tx_in, tx_get}
+use Rattle.clv_base.specs.declared.changes.Change.{Change}
+use Rattle.clv_base.specs.declared.changes.Change.TheVariants.{Sets, Adds}
 use Rattle.clv_base.specs.Logs.{committed_in, wrote_in, prepared_in, aborted_in, is_update_of}
 use Rattle.clv_base.specs.State.{Local, Shard, is_present}
 use Rattle.clv_base.specs.Undo.{stage_of}
@@ -100,16 +101,17 @@ fresh_now all g s tx birth h may o =
     none_part None e = refl
     none_part (Some h) e = absurd cc
 
-abbrev pub Change : Type 0
-Change = Option (ℕ × Option ValueType × Option ValueType)
+abbrev pub Written : Type 0
+Written = Option (ℕ × Change)
 
-pub written_parts : (tx : TxId) (w : Change) (u : Local) → (written tx w u).parts ≡ u.parts
+pub written_parts : (tx : TxId) (w : Written) (u : Local) → (written tx w u).parts ≡ u.parts
 written_parts tx None u = refl
 written_parts tx (Some w) u = refl
 
-pub written_open : (tx : TxId) (w : Change) (u : Local) (t : TxId) → committed_in u.log t ≡ false → committed_in (written tx w u).log t ≡ false
+pub written_open : (tx : TxId) (w : Written) (u : Local) (t : TxId) → committed_in u.log t ≡ false → committed_in (written tx w u).log t ≡ false
 written_open tx None u t e = e
-written_open tx (Some w) u t e = uncommitted_append u.log (Update tx w.0 w.1 w.2 ∷ []) t e refl
+written_open tx (Some (key, Sets before after)) u t e = uncommitted_append u.log (Update tx key before after ∷ []) t e refl
+written_open tx (Some (key, Adds by)) u t e = uncommitted_append u.log (Add tx key by ∷ []) t e refl
 
 filter_push : (f : Item → Bool) (xs : List Item) (x : Item) → f x ≡ true → filter f (xs ++ x ∷ []) ≡ filter f xs ++ x ∷ []
 filter_push f [] x e = cond-true (f x) (x ∷ []) [] e
@@ -119,9 +121,10 @@ filter_push f (y ∷ ys) x e = ap (λ l. cond (f y) (y ∷ l) l) (filter_push f 
     at true = refl
     at false = refl
 
-pub written_wrote : (tx : TxId) (w : Change) (u : Local) (t : TxId) → wrote_in u.log t ≡ true → wrote_in (written tx w u).log t ≡ true
+pub written_wrote : (tx : TxId) (w : Written) (u : Local) (t : TxId) → wrote_in u.log t ≡ true → wrote_in (written tx w u).log t ≡ true
 written_wrote tx None u t e = e
-written_wrote tx (Some w) u t e = list_any-append (is_update_of t) u.log (Update tx w.0 w.1 w.2 ∷ []) ∙ or_left _ _ e
+written_wrote tx (Some (key, Sets before after)) u t e = list_any-append (is_update_of t) u.log (Update tx key before after ∷ []) ∙ or_left _ _ e
+written_wrote tx (Some (key, Adds by)) u t e = list_any-append (is_update_of t) u.log (Add tx key by ∷ []) ∙ or_left _ _ e
 
 -- the items of a transaction, with a new one
 pub push_own : (x : Item) (tx : TxId) → x.tx ≡ tx → (u : TxId) → u ≡ tx → (xs : List Item) → items_of u (xs ++ x ∷ []) ≡ items_of u xs ++ x ∷ []
@@ -153,11 +156,12 @@ told_own all g s tx u e h fresh new alive o =
     none_part None e = refl
     none_part (Some h) e = absurd cc
 
-pub falls_by : (asked fell lost over : List TxId) (parts : Table Held) (pairs : List (TxId × TxId)) (log : List LogRecord) (durable : ℕ) (tx : TxId) (w : Change) → Falls asked fell lost over parts pairs log durable → Falls asked fell lost over parts pairs (log_by tx w log) durable
+pub falls_by : (asked fell lost over : List TxId) (parts : Table Held) (pairs : List (TxId × TxId)) (log : List LogRecord) (durable : ℕ) (tx : TxId) (w : Written) → Falls asked fell lost over parts pairs log durable → Falls asked fell lost over parts pairs (log_by tx w log) durable
 falls_by asked fell lost over parts pairs log durable tx None f = f
-falls_by asked fell lost over parts pairs log durable tx (Some w) f = falls_more asked fell lost over parts pairs log (Update tx w.0 w.1 w.2 ∷ []) durable f (λ t. refl) (λ t c. absurd (both_ways false refl c))
+falls_by asked fell lost over parts pairs log durable tx (Some (key, Sets before after)) f = falls_more asked fell lost over parts pairs log (Update tx key before after ∷ []) durable f (λ t. refl) (λ t c. absurd (both_ways false refl c))
+falls_by asked fell lost over parts pairs log durable tx (Some (key, Adds by)) f = falls_more asked fell lost over parts pairs log (Add tx key by ∷ []) durable f (λ t. refl) (λ t c. absurd (both_ways false refl c))
 
-pub falls_written : (asked fell lost over : List TxId) (tx : TxId) (birth : Birth) (op : Op) (l : Local) (durable : ℕ) (w : Change) → Falls asked fell lost over (locked tx birth op l).parts (locked tx birth op l).pairs (log_by tx w l.log) durable
+pub falls_written : (asked fell lost over : List TxId) (tx : TxId) (birth : Birth) (op : Op) (l : Local) (durable : ℕ) (w : Written) → Falls asked fell lost over (locked tx birth op l).parts (locked tx birth op l).pairs (log_by tx w l.log) durable
     → Falls asked fell lost over (written tx w (locked tx birth op l)).parts (written tx w (locked tx birth op l)).pairs (written tx w (locked tx birth op l)).log durable
 falls_written asked fell lost over tx birth op l durable None f = f
 falls_written asked fell lost over tx birth op l durable (Some w) f = f

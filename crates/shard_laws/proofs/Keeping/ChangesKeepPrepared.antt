@@ -3,10 +3,12 @@ use Rattle.std.proofs.Common.{◌≡◌, ◌⊎◌, inl, inr, ⊎_elim, refl, sy
 use Rattle.std.specs.List.{AllByRecursion, filter}
 use Rattle.std.proofs.lemmas.Bool.{both_ways, cond-true, cond-false, or_cases, or_from}
 use Rattle.std.proofs.lemmas.List.Folds.{list_any-append}
-use Rattle.clv_base.specs.declared.values.Value.{Value as ValueType}
+use Rattle.clv_base.specs.declared.changes.Change.{Change}
+use Rattle.clv_base.specs.declared.changes.Change.TheVariants.{Sets, Adds}
+use Rattle.clv_base.specs.OneShard.{update_of}
 use Rattle.clv_base.specs.declared.names.TxId.{TxId}
 use Rattle.clv_base.specs.declared.logs.LogRecord.{LogRecord}
-use Rattle.clv_base.specs.declared.logs.LogRecord.TheVariants.{Update, Clr, Prepare, Commit, Abort, End, Restart}
+use Rattle.clv_base.specs.declared.logs.LogRecord.TheVariants.{Update, Clr, Prepare, Commit, Abort, End, Restart, Add, Unadd}
 use Rattle.clv_base.specs.declared.state.Stage.TheVariants.{Active}
 use Rattle.clv_base.specs.declared.state.Held.{Held}
 use Rattle.clv_base.specs.Orders.{Table, tx_same, tx_in}
@@ -45,6 +47,8 @@ prepare_here (Commit tx qs ∷ rs) rest t home ps e = prepare_here rs rest t hom
 prepare_here (Abort tx ∷ rs) rest t home ps e = prepare_here rs rest t home ps e
 prepare_here (End tx ∷ rs) rest t home ps e = prepare_here rs rest t home ps e
 prepare_here (Restart run epoch ∷ rs) rest t home ps e = prepare_here rs rest t home ps e
+prepare_here (Add tx q by ∷ rs) rest t home ps e = prepare_here rs rest t home ps e
+prepare_here (Unadd tx u q by ∷ rs) rest t home ps e = prepare_here rs rest t home ps e
 
 -- ---- more records
 
@@ -70,6 +74,8 @@ prepare_keeps (Commit tx ps ∷ rs) more t e = prepare_keeps rs more t e
 prepare_keeps (Abort tx ∷ rs) more t e = prepare_keeps rs more t e
 prepare_keeps (End tx ∷ rs) more t e = prepare_keeps rs more t e
 prepare_keeps (Restart run epoch ∷ rs) more t e = prepare_keeps rs more t e
+prepare_keeps (Add tx k by ∷ rs) more t e = prepare_keeps rs more t e
+prepare_keeps (Unadd tx u k by ∷ rs) more t e = prepare_keeps rs more t e
 
 abbrev pub by_prepare : Option (ℕ × List TxId) → List TxId
 by_prepare o = elim o [ Some p ↦ p.1 | None ↦ [] ]
@@ -90,6 +96,7 @@ sealed_append before (x ∷ xs) ys t u = (t.0, sealed_append (before ++ x ∷ []
 
 no_update : (before : List LogRecord) (r : LogRecord) (rs : List LogRecord) → ((t : TxId) → wrote_in (r ∷ rs) t ≡ false) → ((t : TxId) → prepared_in (r ∷ rs) t ≡ false) → Unprepared before r
 no_update before (Update tx k b a) rs none unp = absurd (both_ways _ (none tx) (or_left (tx_same tx tx) (wrote_in rs tx) (tx_self tx)))
+no_update before (Add tx k by) rs none unp = absurd (both_ways _ (none tx) (or_left (tx_same tx tx) (wrote_in rs tx) (tx_self tx)))
 no_update before (Prepare tx home ps) rs none unp = absurd (both_ways _ (unp tx) (or_left (tx_same tx tx) (prepared_in rs tx) (tx_self tx)))
 no_update before _ rs none unp = tt
 
@@ -133,11 +140,17 @@ prepared_item items met met2 parts parts2 log item k new active meets = record {
   recover = λ t p m. ⊎_elim (λ s e. absurd (both_ways _ (ap (prepared_in log) s ∙ new) e)) (λ old. k.recover t p old) (meets t p m);
 }
 
--- and its UPDATE
-pub prepared_update : (items : List Item) (met : List (TxId × TxId)) (parts : Table Held) (log : List LogRecord) (tx : TxId) (key : ℕ) (before after : Option ValueType) → Prepared items met parts log → prepared_in log tx ≡ false → Prepared items met parts (log ++ Update tx key before after ∷ [])
-prepared_update items met parts log tx key before after k new = record {
+-- and its UPDATE or ADD
+pub prepared_update : (items : List Item) (met : List (TxId × TxId)) (parts : Table Held) (log : List LogRecord) (tx : TxId) (key : ℕ) (change : Change) → Prepared items met parts log → prepared_in log tx ≡ false → Prepared items met parts (log ++ update_of tx key change ∷ [])
+prepared_update items met parts log tx key (Sets before after) k new = record {
   unprepared = λ t a. unprepared_append log (Update tx key before after ∷ []) t (k.unprepared t a) refl;
   sealed = sealed_append [] log (Update tx key before after ∷ []) k.sealed (new, tt);
   causes = later_mono _ _ (λ x y h r. ⊎_elim (λ s. inl s) (λ l. inr (lists_more log (Update tx key before after ∷ []) y.tx x.tx refl l)) (h r)) items k.causes;
   recover = λ t p e. lists_more log (Update tx key before after ∷ []) t p refl (k.recover t p e);
+}
+prepared_update items met parts log tx key (Adds by) k new = record {
+  unprepared = λ t a. unprepared_append log (Add tx key by ∷ []) t (k.unprepared t a) refl;
+  sealed = sealed_append [] log (Add tx key by ∷ []) k.sealed (new, tt);
+  causes = later_mono _ _ (λ x y h r. ⊎_elim (λ s. inl s) (λ l. inr (lists_more log (Add tx key by ∷ []) y.tx x.tx refl l)) (h r)) items k.causes;
+  recover = λ t p e. lists_more log (Add tx key by ∷ []) t p refl (k.recover t p e);
 }

@@ -5,7 +5,6 @@ use Rattle.std.proofs.lemmas.List.Folds.{list_any-append}
 use Rattle.clv_base.specs.declared.values.Value.{Value as ValueType}
 use Rattle.clv_base.specs.declared.names.TxId.{TxId}
 use Rattle.clv_base.specs.declared.modes.Part.{Part}
-use Rattle.clv_base.specs.declared.modes.Part.TheVariants.{S, X}
 use Rattle.clv_base.specs.declared.modes.Anchor.TheVariants.{At}
 use Rattle.clv_base.specs.declared.state.Stage.{Stage}
 use Rattle.clv_base.specs.declared.state.Stage.TheVariants.{Active, Closed, Gone}
@@ -23,7 +22,8 @@ use Rattle.law_base.proofs.LockRows.{rows_close, close_holds}
 use Rattle.shard_laws.proofs.Operations.NeedsCoverKeys.{holds_at, holds_by}
 use Rattle.law_base.proofs.Tables.{stage_in, stage_by}
 use Rattle.shard_laws.proofs.Keeping.ChangesKeepPrepared.{prepared_parts}
-use Rattle.shard_laws.proofs.Keeping.WhatOneShardKeeps.{View, Past, place, Belongs, Known, Kept}
+use Rattle.shard_laws.proofs.Operations.NeedsCoverKeys.{met_part, wrote_part}
+use Rattle.shard_laws.proofs.Keeping.WhatOneShardKeeps.{is_adding, part_for, View, Past, place, Belongs, Known, Kept}
 use Rattle.clv_base.specs.Locks.{close_locks}
 use Rattle.law_base.proofs.Stages.{get_closed, get_closed_other, get_closed_own, stage_closed, closed_other as stage_other, closed_not_active}
 use Rattle.law_base.proofs.Sets.{flip_apart}
@@ -113,8 +113,8 @@ keeps_close g v t k act asks = record {
         k.rows;
     covered = all_mono _ _ (λ y h active.
         let c = h (stage_back v.parts t y.tx Active act closed_not_active active).1 in
-        (λ q m. holds_closed S y.tx q (c.0 q m), λ q m. holds_closed X y.tx q (c.1 q m))) g.items k.covered;
-    wrote = all_mono _ _ (λ w h out. let c = h out in (close_holds t true X (At w.key) w.tx v.locks ∙ c.0, c.1)) (standing v.log) k.wrote;
+        (λ q m. (holds_closed (met_part (is_adding y)) y.tx q (c.0 q m).0, (c.0 q m).1), λ q m. (holds_closed (wrote_part (is_adding y)) y.tx q (c.1 q m).0, (c.1 q m).1))) g.items k.covered;
+    wrote = all_mono _ _ (λ w h out. let c = h out in (close_holds t true (part_for w.change) (At w.key) w.tx v.locks ∙ c.0, c.1)) (standing v.log) k.wrote;
   };
   parts = record {
     known = all_mono _ _ (λ x h. still_known x.tx h) g.items k.known;

@@ -6,25 +6,25 @@ use Rattle.std.proofs.lemmas.List.Folds.{list_any-append}
 use Rattle.clv_base.specs.declared.values.Value.{Value as ValueType}
 use Rattle.clv_base.specs.declared.names.TxId.{TxId}
 use Rattle.clv_base.specs.declared.logs.LogRecord.{LogRecord}
-use Rattle.clv_base.specs.declared.logs.LogRecord.TheVariants.{Clr, Abort}
+use Rattle.clv_base.specs.declared.logs.LogRecord.TheVariants.{Abort}
 use Rattle.clv_base.specs.declared.modes.Part.{Part}
-use Rattle.clv_base.specs.declared.modes.Part.TheVariants.{S, X}
 use Rattle.clv_base.specs.declared.modes.Anchor.TheVariants.{Low, At}
 use Rattle.clv_base.specs.declared.state.Stage.{Stage}
 use Rattle.clv_base.specs.declared.state.Stage.TheVariants.{Closed}
 use Rattle.clv_base.specs.declared.state.Held.{Held}
 use Rattle.clv_base.specs.Orders.{Table, tx_same, tx_in}
-use Rattle.clv_base.specs.Logs.{StandingUpdate, standing, committed_in, wrote_in, prepared_in, is_commit_of}
+use Rattle.clv_base.specs.declared.changes.Change.TheVariants.{Sets, Adds}
+use Rattle.clv_base.specs.declared.changes.Change.{Change}
+use Rattle.clv_base.specs.Logs.{StandingUpdate, changed, standing, committed_in, wrote_in, prepared_in, is_commit_of, is_update_of, is_prepare_of}
 use Rattle.clv_base.specs.Locks.{Locks, release}
-use Rattle.clv_base.specs.Undo.{gone_in, pairs_without, records_without, aborts_of, clrs_of}
+use Rattle.clv_base.specs.Undo.{gone_in, pairs_without, records_without, aborts_of, clrs_of, compensation}
 use Rattle.clv_base.specs.State.{is_present}
 use Rattle.clv_base.specs.Needs.{Records, lower_anchor}
 use Rattle.law_base.proofs.Cells.{record_at}
 use Rattle.law_base.specs.Items.{Item, wrote, writes, AllLater, Reaches, pile, on_top, is_write_at}
 use Rattle.clv_base.proofs.SameNames.{or_left, or_right, tx_true, tx_self, tx_eq}
 use Rattle.law_base.proofs.Lists.{all_mono, all_both, all_filter, later_mono, later_filter, all_append}
-use Rattle.law_base.proofs.Running.{top_value, after_of, Keeps, kept_runs}
-use Rattle.clv_base.specs.Logs.{newest_at}
+use Rattle.law_base.proofs.Running.{top_value, Keeps, kept_runs}
 use Rattle.law_base.specs.Undone.{stays_of}
 use Rattle.law_base.proofs.Undoing.{Chain, keeps_of, standing_undone, values_undone, HaveRecords, Upward, record_undone, pile_filter, filter_all}
 use Rattle.law_base.proofs.Anchors.{rising_undone, anchor_undone}
@@ -33,11 +33,12 @@ use Rattle.shard_laws.proofs.Operations.NeedsCoverKeys.{holds_at, holds_by}
 use Rattle.law_base.proofs.Tables.{stage_in, is_pair, without_pairs, pairs_stay}
 use Rattle.law_base.proofs.Commits.{commit_durable, before_keeps, before_first, durable_keeps, durable_committed, before_durable, committed_append, uncommitted_append, committed_from}
 use Rattle.shard_laws.proofs.Keeping.ChangesKeepPrepared.{unprepared_append, prepared_more, prepared_parts, prepared_kept}
-use Rattle.shard_laws.proofs.Operations.WritesAtEachKey.{key_writes, keys_filter, keys_all}
+use Rattle.shard_laws.proofs.Operations.WritesAtEachKey.{keys_by, keys_filter, keys_all}
 use Rattle.shard_laws.proofs.Keeping.WhatOneShardKeeps.{View, Past, Belongs, Dep, Known, Kept, Ended, Wrote, Left, of_kept, is_alive}
 use Rattle.shard_laws.proofs.Restarts.RestoredLocksAndParts.{wrote_of}
 use Rattle.protocol_laws.specs.Order.{moves, Open_at, Tidy, undone_in}
-use Rattle.clv_base.specs.Undo.{value_before}
+use Rattle.shard_laws.proofs.Operations.NeedsCoverKeys.{met_part, wrote_part}
+use Rattle.shard_laws.proofs.Keeping.WhatOneShardKeeps.{adds_in, is_adding, part_for}
 use Rattle.law_base.proofs.Undoing.{reset}
 use Rattle.clv_base.specs.Undo.{newest_lsn}
 use Rattle.shard_laws.proofs.Keeping.RecordsAndFrontsKeep.{wrote_keeps, tidy_append, undone_append, wrote_append, ended_more}
@@ -80,8 +81,8 @@ keeps_finish g v t k closed done = record {
     covered = all_mono _ _ (λ y h active.
         let a = active_back (t ∷ []) None y.tx v.parts active in
         let c = h a.1 in
-        (λ q m. holds_go (t ∷ []) v.locks v.records S y.tx q a.0 (c.0 q m), λ q m. holds_go (t ∷ []) v.locks v.records X y.tx q a.0 (c.1 q m))) g.items k.covered;
-    wrote = all_mono _ _ (λ w h out. let c = h.0 out in (release_holds (t ∷ []) true X (At w.key) w.tx v.locks (not_own w.tx (wrote_of v.log w.tx w.key h.1) out) c.0, c.1)) (standing v.log) (all_both _ _ (standing v.log) k.wrote (standing_updates v.log));
+        (λ q m. (holds_go (t ∷ []) v.locks v.records (met_part (is_adding y)) y.tx q a.0 (c.0 q m).0, (c.0 q m).1), λ q m. (holds_go (t ∷ []) v.locks v.records (wrote_part (is_adding y)) y.tx q a.0 (c.1 q m).0, (c.1 q m).1))) g.items k.covered;
+    wrote = all_mono _ _ (λ w h out. let c = h.0 out in (release_holds (t ∷ []) true (part_for w.change) (At w.key) w.tx v.locks (not_own w.tx (wrote_of v.log w.tx w.key h.1) out) c.0, c.1)) (standing v.log) (all_both _ _ (standing v.log) k.wrote (standing_updates v.log));
   };
   parts = record {
     known = all_mono _ _ (λ x h. still_known x.tx h) g.items k.known;
@@ -161,9 +162,15 @@ pub no_commit_aborts : (t : TxId) (ts : List TxId) → committed_in (map (λ u. 
 no_commit_aborts t [] = refl
 no_commit_aborts t (u ∷ us) = no_commit_aborts t us
 
+no_commit_of : (t tx : TxId) (next : Option ℕ) (key : ℕ) (c : Change) → is_commit_of t (compensation tx next key c) ≡ false
+no_commit_of t tx next key (Sets before after) = refl
+no_commit_of t tx next key (Adds by) = refl
+
 pub no_commit_clrs : (set : List TxId) (t : TxId) (ws : List StandingUpdate) → committed_in (clrs_of set ws) t ≡ false
 no_commit_clrs set t [] = refl
-no_commit_clrs set t (w ∷ ws) = cond_both (tx_in w.tx set) _ (clrs_of set ws) (λ l. committed_in l t ≡ false) (λ e. no_commit_clrs set t ws) (λ e. no_commit_clrs set t ws)
+no_commit_clrs set t (w ∷ ws) =
+    cond_both (tx_in w.tx set) (compensation w.tx (newest_lsn w.tx ws) w.key w.change ∷ clrs_of set ws) (clrs_of set ws) (λ l. committed_in l t ≡ false)
+    (λ e. or_from _ _ (no_commit_of t w.tx (newest_lsn w.tx ws) w.key w.change) (no_commit_clrs set t ws)) (λ e. no_commit_clrs set t ws)
 
 pub no_commits : (set : List TxId) (t : TxId) (log : List LogRecord) → committed_in (aborts_of log set ++ clrs_of set (standing log)) t ≡ false
 no_commits set t log = committed_append (aborts_of log set) _ t ∙ both (committed_in (aborts_of log set) t) _ (no_commit_aborts t (filter (wrote_in log) set)) (no_commit_clrs set t (standing log))
@@ -176,9 +183,15 @@ pub no_write_aborts : (t : TxId) (ts : List TxId) → wrote_in (map (λ u. Abort
 no_write_aborts t [] = refl
 no_write_aborts t (u ∷ us) = no_write_aborts t us
 
+no_write_of : (t tx : TxId) (next : Option ℕ) (key : ℕ) (c : Change) → is_update_of t (compensation tx next key c) ≡ false
+no_write_of t tx next key (Sets before after) = refl
+no_write_of t tx next key (Adds by) = refl
+
 pub no_write_clrs : (set : List TxId) (t : TxId) (ws : List StandingUpdate) → wrote_in (clrs_of set ws) t ≡ false
 no_write_clrs set t [] = refl
-no_write_clrs set t (w ∷ ws) = cond_both (tx_in w.tx set) _ (clrs_of set ws) (λ l. wrote_in l t ≡ false) (λ e. no_write_clrs set t ws) (λ e. no_write_clrs set t ws)
+no_write_clrs set t (w ∷ ws) =
+    cond_both (tx_in w.tx set) (compensation w.tx (newest_lsn w.tx ws) w.key w.change ∷ clrs_of set ws) (clrs_of set ws) (λ l. wrote_in l t ≡ false)
+    (λ e. or_from _ _ (no_write_of t w.tx (newest_lsn w.tx ws) w.key w.change) (no_write_clrs set t ws)) (λ e. no_write_clrs set t ws)
 
 no_writes : (set : List TxId) (t : TxId) (log : List LogRecord) → wrote_in (aborts_of log set ++ clrs_of set (standing log)) t ≡ false
 no_writes set t log = wrote_append (aborts_of log set) _ t ∙ or_from _ _ (no_write_aborts t (filter (wrote_in log) set)) (no_write_clrs set t (standing log))
@@ -187,9 +200,15 @@ no_prepare_aborts : (t : TxId) (ts : List TxId) → prepared_in (map (λ u. Abor
 no_prepare_aborts t [] = refl
 no_prepare_aborts t (u ∷ us) = no_prepare_aborts t us
 
+no_prepare_of : (t tx : TxId) (next : Option ℕ) (key : ℕ) (c : Change) → is_prepare_of t (compensation tx next key c) ≡ false
+no_prepare_of t tx next key (Sets before after) = refl
+no_prepare_of t tx next key (Adds by) = refl
+
 no_prepare_clrs : (set : List TxId) (t : TxId) (ws : List StandingUpdate) → prepared_in (clrs_of set ws) t ≡ false
 no_prepare_clrs set t [] = refl
-no_prepare_clrs set t (w ∷ ws) = cond_both (tx_in w.tx set) (Clr w.tx (newest_lsn w.tx ws) w.key w.before ∷ clrs_of set ws) (clrs_of set ws) (λ l. prepared_in l t ≡ false) (λ e. no_prepare_clrs set t ws) (λ e. no_prepare_clrs set t ws)
+no_prepare_clrs set t (w ∷ ws) =
+    cond_both (tx_in w.tx set) (compensation w.tx (newest_lsn w.tx ws) w.key w.change ∷ clrs_of set ws) (clrs_of set ws) (λ l. prepared_in l t ≡ false)
+    (λ e. or_from _ _ (no_prepare_of t w.tx (newest_lsn w.tx ws) w.key w.change) (no_prepare_clrs set t ws)) (λ e. no_prepare_clrs set t ws)
 
 pub no_prepares : (set : List TxId) (t : TxId) (log : List LogRecord) → prepared_in (aborts_of log set ++ clrs_of set (standing log)) t ≡ false
 no_prepares set t log = unprepared_append (aborts_of log set) (clrs_of set (standing log)) t (no_prepare_aborts t (filter (wrote_in log) set)) (no_prepare_clrs set t (standing log))
@@ -200,11 +219,12 @@ no_undo_aborts t (u ∷ us) = no_undo_aborts t us
 
 pub undone_set : (set : List TxId) (t : TxId) (ws : List StandingUpdate) → undone_in (clrs_of set ws) t ≡ true → tx_in t set ≡ true
 undone_set set t [] e = absurd (both_ways false refl e)
-undone_set set t (w ∷ ws) e = at (tx_in w.tx set) refl e (undone_set set t ws)
+undone_set set t (w ∷ ws) e = at (tx_in w.tx set) w.change refl e (undone_set set t ws)
   where
-    at : (b : Bool) → tx_in w.tx set ≡ b → undone_in (cond b (Clr w.tx (newest_lsn w.tx ws) w.key w.before ∷ clrs_of set ws) (clrs_of set ws)) t ≡ true → (undone_in (clrs_of set ws) t ≡ true → tx_in t set ≡ true) → tx_in t set ≡ true
-    at true i e ih = ⊎_elim (λ h. subst (λ z. tx_in z set ≡ true) (sym (tx_true t w.tx h)) i) (λ h. ih h) (or_cases (tx_same t w.tx) (undone_in (clrs_of set ws) t) e)
-    at false i e ih = ih e
+    at : (b : Bool) (c : Change) → tx_in w.tx set ≡ b → undone_in (cond b (compensation w.tx (newest_lsn w.tx ws) w.key c ∷ clrs_of set ws) (clrs_of set ws)) t ≡ true → (undone_in (clrs_of set ws) t ≡ true → tx_in t set ≡ true) → tx_in t set ≡ true
+    at true (Sets before after) i e ih = ⊎_elim (λ h. subst (λ z. tx_in z set ≡ true) (sym (tx_true t w.tx h)) i) (λ h. ih h) (or_cases (tx_same t w.tx) (undone_in (clrs_of set ws) t) e)
+    at true (Adds by) i e ih = ⊎_elim (λ h. subst (λ z. tx_in z set ≡ true) (sym (tx_true t w.tx h)) i) (λ h. ih h) (or_cases (tx_same t w.tx) (undone_in (clrs_of set ws) t) e)
+    at false c i e ih = ih e
 
 undone_here : (set : List TxId) (t : TxId) (log : List LogRecord) → undone_in (aborts_of log set ++ clrs_of set (standing log)) t ≡ true → tx_in t set ≡ true
 undone_here set t log e =
@@ -230,23 +250,27 @@ harmless_aborts : (log : List LogRecord) (ts : List TxId) → AllByRecursion (Ha
 harmless_aborts log [] = tt
 harmless_aborts log (t ∷ ts) = ((tt, λ u. refl), harmless_aborts log ts)
 
+harmless_undo : (log : List LogRecord) (tx : TxId) (next : Option ℕ) (key : ℕ) (c : Change) → committed_in log tx ≡ false → Harmless log (compensation tx next key c)
+harmless_undo log tx next key (Sets before after) h = (h, λ u. refl)
+harmless_undo log tx next key (Adds by) h = (h, λ u. refl)
+
 harmless_clrs : (log : List LogRecord) (set : List TxId) (ws : List StandingUpdate) → ((t : TxId) → tx_in t set ≡ true → committed_in log t ≡ false) → AllByRecursion (Harmless log) (clrs_of set ws)
 harmless_clrs log set [] h = tt
 harmless_clrs log set (w ∷ ws) h =
-    cond_both (tx_in w.tx set) (Clr w.tx (newest_lsn w.tx ws) w.key w.before ∷ clrs_of set ws) (clrs_of set ws) (AllByRecursion (Harmless log))
-    (λ i. ((h w.tx i, λ u. refl), harmless_clrs log set ws h)) (λ i. harmless_clrs log set ws h)
+    cond_both (tx_in w.tx set) (compensation w.tx (newest_lsn w.tx ws) w.key w.change ∷ clrs_of set ws) (clrs_of set ws) (AllByRecursion (Harmless log))
+    (λ i. (harmless_undo log w.tx (newest_lsn w.tx ws) w.key w.change (h w.tx i), harmless_clrs log set ws h)) (λ i. harmless_clrs log set ws h)
 
 -- a fact on each write of the items and of the base
-pub pile_all : (P : StandingUpdate → Type 0) (xs : List Item) (ws : List StandingUpdate) → AllByRecursion (λ x. (w : ℕ × Option ValueType × Option ValueType) → wrote x ≡ Some w → P (record { lsn = x.lsn; tx = x.tx; key = w.0; before = w.1; after = w.2 })) xs → AllByRecursion P ws → AllByRecursion P (pile xs ws)
+pub pile_all : (P : StandingUpdate → Type 0) (xs : List Item) (ws : List StandingUpdate) → AllByRecursion (λ x. (w : ℕ × Change) → wrote x ≡ Some w → P (record { lsn = x.lsn; tx = x.tx; key = w.0; change = w.1 })) xs → AllByRecursion P ws → AllByRecursion P (pile xs ws)
 pile_all P [] ws all base = base
 pile_all P (x ∷ xs) ws all base = pile_all P xs (on_top x.tx x.lsn (wrote x) ws) all.1 (at (wrote x) refl)
   where
-    at : (o : Option (ℕ × Option ValueType × Option ValueType)) → wrote x ≡ o → AllByRecursion P (on_top x.tx x.lsn o ws)
+    at : (o : Option (ℕ × Change)) → wrote x ≡ o → AllByRecursion P (on_top x.tx x.lsn o ws)
     at None e = base
     at (Some w) e = (all.0 w e, base)
 
 -- each write of the items stands in the pile
-pub pile_each : (P : StandingUpdate → Type 0) (xs : List Item) (ws : List StandingUpdate) → AllByRecursion P (pile xs ws) → AllByRecursion (λ x. (w : ℕ × Option ValueType × Option ValueType) → wrote x ≡ Some w → P (record { lsn = x.lsn; tx = x.tx; key = w.0; before = w.1; after = w.2 })) xs
+pub pile_each : (P : StandingUpdate → Type 0) (xs : List Item) (ws : List StandingUpdate) → AllByRecursion P (pile xs ws) → AllByRecursion (λ x. (w : ℕ × Change) → wrote x ≡ Some w → P (record { lsn = x.lsn; tx = x.tx; key = w.0; change = w.1 })) xs
 pile_each P [] ws all = tt
 pile_each P (x ∷ xs) ws all = (λ w e. first x.tx x.lsn w (wrote x) e (pile_base P xs (on_top x.tx x.lsn (wrote x) ws) all), pile_each P xs (on_top x.tx x.lsn (wrote x) ws) all)
   where
@@ -254,43 +278,48 @@ pile_each P (x ∷ xs) ws all = (λ w e. first x.tx x.lsn w (wrote x) e (pile_ba
     pile_base P [] ws all = all
     pile_base P (x ∷ xs) ws all = rest x.tx x.lsn (wrote x) (pile_base P xs (on_top x.tx x.lsn (wrote x) ws) all)
       where
-        rest : (tx : TxId) (lsn : ℕ) (o : Option (ℕ × Option ValueType × Option ValueType)) → AllByRecursion P (on_top tx lsn o ws) → AllByRecursion P ws
+        rest : (tx : TxId) (lsn : ℕ) (o : Option (ℕ × Change)) → AllByRecursion P (on_top tx lsn o ws) → AllByRecursion P ws
         rest tx lsn None a = a
         rest tx lsn (Some w) a = a.1
 
-    first : (tx : TxId) (lsn : ℕ) (w : ℕ × Option ValueType × Option ValueType) (o : Option (ℕ × Option ValueType × Option ValueType)) → o ≡ Some w → AllByRecursion P (on_top tx lsn o ws) → P (record { lsn = lsn; tx = tx; key = w.0; before = w.1; after = w.2 })
+    first : (tx : TxId) (lsn : ℕ) (w : ℕ × Change) (o : Option (ℕ × Change)) → o ≡ Some w → AllByRecursion P (on_top tx lsn o ws) → P (record { lsn = lsn; tx = tx; key = w.0; change = w.1 })
     first tx lsn w None e a = absurd cc
-    first tx lsn w (Some v) e a = subst (λ z. P (record { lsn = lsn; tx = tx; key = z.0; before = z.1; after = z.2 })) (same v w e) a.0
+    first tx lsn w (Some v) e a = subst (λ z. P (record { lsn = lsn; tx = tx; key = z.0; change = z.1 })) (same v w e) a.0
       where
-        same : (v w : ℕ × Option ValueType × Option ValueType) → Some v ≡ Some w → v ≡ w
+        same : (v w : ℕ × Change) → Some v ≡ Some w → v ≡ w
         same v w e = cc
 
-pub write_some : (o : Option (ℕ × Option ValueType × Option ValueType)) (k : ℕ) → is_write_at o k ≡ true → (w : ℕ × Option ValueType × Option ValueType) × (o ≡ Some w)
+pub write_some : (o : Option (ℕ × Change)) (k : ℕ) → is_write_at o k ≡ true → (w : ℕ × Change) × (o ≡ Some w)
 write_some None k e = absurd (both_ways false refl e)
 write_some (Some w) k e = (w, refl)
 
 -- an item's write holds its key
-pub item_wrote : (g : Past) (v : View) → Kept g v → AllByRecursion (λ x. commit_durable v.log v.durable x.tx ≡ false → (q : ℕ) → writes x q ≡ true → (holds true X (At q) x.tx v.locks ≡ true) × (record_at q v.records ≡ None → ⊥)) g.items
+pub item_wrote : (g : Past) (v : View) → Kept g v → AllByRecursion (λ x. commit_durable v.log v.durable x.tx ≡ false → (q : ℕ) → writes x q ≡ true → (holds true (wrote_part (is_adding x)) (At q) x.tx v.locks ≡ true) × (record_at q v.records ≡ None → ⊥)) g.items
 item_wrote g v k =
     all_mono _ _ (λ x h out q e.
     let w = write_some (wrote x) q e in
-    subst (λ z. (holds true X (At z) x.tx v.locks ≡ true) × (record_at z v.records ≡ None → ⊥)) (sym (eqb-true q w.0.0 (ap (λ o. is_write_at o q) (sym w.1) ∙ e))) (h w.0 w.1 out)) g.items
+    subst (λ z. (holds true (wrote_part (is_adding x)) (At z) x.tx v.locks ≡ true) × (record_at z v.records ≡ None → ⊥)) (sym (eqb-true q w.0.0 (ap (λ o. is_write_at o q) (sym w.1) ∙ e)))
+    (subst (λ o. (holds true (wrote_part (adds_in o)) (At w.0.0) x.tx v.locks ≡ true) × (record_at w.0.0 v.records ≡ None → ⊥)) (sym w.1) (h w.0 w.1 out))) g.items
     (pile_each (Wrote v) g.items g.base (keys_all (Wrote v) (filter (of_kept (is_alive g.lost)) (standing v.log)) (pile g.items g.base) k.standing_is (all_kept (Wrote v) (is_alive g.lost) (standing v.log) k.wrote)))
   where
     all_kept : (P : StandingUpdate → Type 0) (f : TxId → Bool) (ws : List StandingUpdate) → AllByRecursion P ws → AllByRecursion P (filter (of_kept f) ws)
     all_kept P f [] a = tt
     all_kept P f (w ∷ ws) a = cond_both (f w.tx) (w ∷ filter (of_kept f) ws) (filter (of_kept f) ws) (AllByRecursion P) (λ e. (a.0, all_kept P f ws a.1)) (λ e. all_kept P f ws a.1)
 
--- where all writes of a key are of those that pass, its newest is among them
+-- where all writes of a key are of those that pass, its fold is theirs
 pub top_alive : (f : TxId → Bool) (q : ℕ) (ws : List StandingUpdate) → AllByRecursion (λ w. w.key ≡ q → f w.tx ≡ true) ws → top_value q (filter (of_kept f) ws) ≡ top_value q ws
 top_alive f q [] a = refl
 top_alive f q (w ∷ ws) a = at (q == w.key) (f w.tx) refl refl (top_alive f q ws a.1)
   where
     at : (b c : Bool) → (q == w.key) ≡ b → f w.tx ≡ c → top_value q (filter (of_kept f) ws) ≡ top_value q ws → top_value q (cond c (w ∷ filter (of_kept f) ws) (filter (of_kept f) ws)) ≡ top_value q (w ∷ ws)
-    at true true e h ih = ap after_of (cond-true (q == w.key) (Some w) (newest_at q (filter (of_kept f) ws)) e ∙ sym (cond-true (q == w.key) (Some w) (newest_at q ws) e))
+    at true true e h ih =
+        cond-true (q == w.key) (changed w.change (top_value q (filter (of_kept f) ws))) (top_value q (filter (of_kept f) ws)) e ∙ ap (changed w.change) ih
+        ∙ sym (cond-true (q == w.key) (changed w.change (top_value q ws)) (top_value q ws) e)
     at true false e h ih = absurd (both_ways _ h (a.0 (sym (eqb-true q w.key e))))
-    at false true e h ih = ap after_of (cond-false (q == w.key) (Some w) (newest_at q (filter (of_kept f) ws)) e) ∙ ih ∙ ap after_of (sym (cond-false (q == w.key) (Some w) (newest_at q ws) e))
-    at false false e h ih = ih ∙ ap after_of (sym (cond-false (q == w.key) (Some w) (newest_at q ws) e))
+    at false true e h ih =
+        cond-false (q == w.key) (changed w.change (top_value q (filter (of_kept f) ws))) (top_value q (filter (of_kept f) ws)) e ∙ ih
+        ∙ sym (cond-false (q == w.key) (changed w.change (top_value q ws)) (top_value q ws) e)
+    at false false e h ih = ih ∙ sym (cond-false (q == w.key) (changed w.change (top_value q ws)) (top_value q ws) e)
 
 -- the writes of those that pass, without a set's
 pub filter_less : (set lost : List TxId) (ws : List StandingUpdate) → filter (of_kept (is_alive (set ++ lost))) ws ≡ filter (stays_of set) (filter (of_kept (is_alive lost)) ws)
@@ -349,13 +378,17 @@ holds_undone : (set : List TxId) (ws : List StandingUpdate) (locks : Locks) (rs 
 holds_undone set ws locks rs p u q h =
     subst (λ o. holds_by p locks (records_without set ws rs) u q o ≡ true) (sym (record_undone set ws rs q)) (at (record_at q rs) h)
   where
-    at : (o : Option (Option ValueType)) → holds_by p locks rs u q o ≡ true → holds_by p locks (records_without set ws rs) u q (reset (value_before set q ws) o) ≡ true
+    at : (o : Option (Option ValueType)) → holds_by p locks rs u q o ≡ true → holds_by p locks (records_without set ws rs) u q (reset set ws q o) ≡ true
     at (Some x) h = h
     at None h = subst (λ a. holds false p a u locks ≡ true) (sym (anchor_undone set ws q Low rs)) h
 
-reset_none : (b o : Option (Option ValueType)) → reset b o ≡ None → o ≡ None
-reset_none b None e = refl
-reset_none b (Some v) e = absurd cc
+reset_none : (set : List TxId) (ws : List StandingUpdate) (q : ℕ) (o : Option (Option ValueType)) → reset set ws q o ≡ None → o ≡ None
+reset_none set ws q None e = refl
+reset_none set ws q (Some v) e = absurd cc
+
+-- where no record stands after an undo, none stood before
+none_stood : (set : List TxId) (ws : List StandingUpdate) (rs : Records) (q : ℕ) → record_at q (records_without set ws rs) ≡ None → record_at q rs ≡ None
+none_stood set ws rs q none = reset_none set ws q (record_at q rs) (sym (record_undone set ws rs q) ∙ none)
 
 module _ (g : Past) (v : View) (set : List TxId) (d : TxId) (k : Kept g v) (may : MayGo v set) (chain_here : Chain (standing v.log)) (upward_here : Upward set (standing v.log)) where
   Taken : List LogRecord → View
@@ -424,9 +457,9 @@ module _ (g : Past) (v : View) (set : List TxId) (d : TxId) (k : Kept g v) (may 
       order = later_mono _ _ (λ x y h c. h.0 c) (filter (keeps_of set) g.items) (later_filter _ (keeps_of set) g.items k.order);
     };
     log = record {
-      standing_is = λ q. ap (key_writes q) (ap (filter (of_kept (is_alive (set ++ g.lost)))) standing_more ∙ filter_sets set g.lost (standing v.log))
-          ∙ keys_filter (stays_of set) (filter (of_kept (is_alive g.lost)) (standing v.log)) (pile g.items g.base) k.standing_is q
-          ∙ ap (key_writes q) (pile_filter set g.items g.base ∙ ap (pile (filter (keeps_of set) g.items)) (filter_all set g.base base_out));
+      standing_is = keys_by (ap (filter (of_kept (is_alive (set ++ g.lost)))) standing_more ∙ filter_sets set g.lost (standing v.log))
+          (keys_filter (stays_of set) (filter (of_kept (is_alive g.lost)) (standing v.log)) (pile g.items g.base) k.standing_is)
+          (pile_filter set g.items g.base ∙ ap (pile (filter (keeps_of set) g.items)) (filter_all set g.base base_out));
       logged = all_mono _ _ (λ x h q w. wrote_keeps v.log _ x.tx (h.0 q w)) (filter (keeps_of set) g.items) (all_filter _ (keeps_of set) g.items k.logged);
       tidy = tidy_append [] v.log _ k.tidy (tidy_harmless v.log v.log _ (λ t e. e) (all_append _ (aborts_of v.log set) (clrs_of set (standing v.log)) (harmless_aborts v.log (filter (wrote_in v.log) set)) (harmless_clrs v.log set (standing v.log) may.undecided)));
     };
@@ -436,14 +469,20 @@ module _ (g : Past) (v : View) (set : List TxId) (d : TxId) (k : Kept g v) (may 
       covered = all_mono _ _ (λ y h active.
           let a = active_back set (Some d) y.tx v.parts active in
           let c = h.0 a.1 in (
-            λ q m. holds_undone set (standing v.log) (release set v.locks) v.records S y.tx q (holds_go set v.locks v.records S y.tx q a.0 (c.0 q m)),
-            λ q m. holds_undone set (standing v.log) (release set v.locks) v.records X y.tx q (holds_go set v.locks v.records X y.tx q a.0 (c.1 q m)),
+            λ q m. (
+              holds_undone set (standing v.log) (release set v.locks) v.records (met_part (is_adding y)) y.tx q (holds_go set v.locks v.records (met_part (is_adding y)) y.tx q a.0 (c.0 q m).0),
+              λ l none. (c.0 q m).1 l (none_stood set (standing v.log) v.records q none),
+            ),
+            λ q m. (
+              holds_undone set (standing v.log) (release set v.locks) v.records (wrote_part (is_adding y)) y.tx q (holds_go set v.locks v.records (wrote_part (is_adding y)) y.tx q a.0 (c.1 q m).0),
+              λ l none. (c.1 q m).1 l (none_stood set (standing v.log) v.records q none),
+            ),
           ))
           (filter (keeps_of set) g.items) (all_filter _ (keeps_of set) g.items k.covered);
       wrote = subst (AllByRecursion (Wrote (Taken (v.log ++ (aborts_of v.log set ++ clrs_of set (standing v.log)))))) (sym standing_more)
           (all_mono _ _ (λ w h out.
           let c = h.0 (false_from_ne_true _ (λ t. both_ways _ out (still_durable w.tx t))) in
-          (release_holds set true X (At w.key) w.tx v.locks (not-true _ h.1) c.0, λ none. c.1 (reset_none (value_before set w.key (standing v.log)) (record_at w.key v.records) (sym (record_undone set (standing v.log) v.records w.key) ∙ none))))
+          (release_holds set true (part_for w.change) (At w.key) w.tx v.locks (not-true _ h.1) c.0, λ none. c.1 (none_stood set (standing v.log) v.records w.key none)))
           (filter (stays_of set) (standing v.log)) (all_filter _ (stays_of set) (standing v.log) k.wrote));
     };
     parts = record {

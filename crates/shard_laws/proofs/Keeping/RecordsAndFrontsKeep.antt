@@ -7,7 +7,6 @@ use Rattle.clv_base.specs.declared.names.TxId.{TxId}
 use Rattle.clv_base.specs.declared.logs.LogRecord.{LogRecord}
 use Rattle.clv_base.specs.declared.logs.LogRecord.TheVariants.{Prepare, Commit, End}
 use Rattle.clv_base.specs.declared.modes.Part.{Part}
-use Rattle.clv_base.specs.declared.modes.Part.TheVariants.{S, X}
 use Rattle.clv_base.specs.declared.modes.Anchor.{Anchor}
 use Rattle.clv_base.specs.declared.modes.Anchor.TheVariants.{Low, At}
 use Rattle.clv_base.specs.declared.state.Stage.{Stage}
@@ -29,8 +28,9 @@ use Rattle.shard_laws.proofs.Operations.NeedsCoverKeys.{holds_at, holds_by}
 use Rattle.law_base.proofs.Tables.{stage_in, is_pair}
 use Rattle.law_base.proofs.Commits.{CommitBefore, commit_durable, before_keeps, before_new, durable_keeps, durable_parts, durable_from, durable_committed, before_second, committed_append, uncommitted_append, place_some, place_less, place_keeps, place_new, durable_further as further}
 use Rattle.shard_laws.proofs.Keeping.ChangesKeepPrepared.{IsListed, Lists, Prepared, by_prepare, prepare_here, unprepared_append, lists_more, sealed_append, prepared_more}
-use Rattle.shard_laws.proofs.Operations.WritesAtEachKey.{key_writes}
-use Rattle.shard_laws.proofs.Keeping.WhatOneShardKeeps.{View, Past, Dep, Kept, KeptFront, Ended, Wrote, of_kept, is_alive}
+use Rattle.shard_laws.proofs.Operations.WritesAtEachKey.{keys_by}
+use Rattle.shard_laws.proofs.Operations.NeedsCoverKeys.{met_part, wrote_part}
+use Rattle.shard_laws.proofs.Keeping.WhatOneShardKeeps.{HoldsPart, is_adding, part_for, View, Past, Dep, Kept, KeptFront, Ended, Wrote, of_kept, is_alive}
 use Rattle.protocol_laws.specs.Order.{moves, Open_at, Tidy, is_clr_of, undone_in}
 use Rattle.std.proofs.Common.{append-nil}
 use Rattle.std.proofs.lemmas.Option.{none-some, same_Some}
@@ -78,7 +78,7 @@ pub keeps_records : (g : Past) (v : View) (more : List LogRecord) → Kept g v �
 keeps_records g v more k m prep = record {
   start = k.start;
   past = k.past;
-  log = record { standing_is = λ q. ap (λ ws. key_writes q (filter (of_kept (is_alive g.lost)) ws)) m.same_standing ∙ k.standing_is q; logged = all_mono _ _ (λ x h q w. wrote_keeps v.log more x.tx (h q w)) g.items k.logged; tidy = tidy_append [] v.log more k.tidy m.tidies };
+  log = record { standing_is = keys_by (ap (filter (of_kept (is_alive g.lost))) m.same_standing) k.standing_is refl; logged = all_mono _ _ (λ x h q w. wrote_keeps v.log more x.tx (h q w)) g.items k.logged; tidy = tidy_append [] v.log more k.tidy m.tidies };
   records = record { rises = k.rises; values = λ q. k.values q ∙ ap (top_value q) (sym m.same_standing) };
   locks = record { rows = k.rows; covered = k.covered; wrote = subst (AllByRecursion (Wrote (record v { log = v.log ++ more }))) (sym m.same_standing) (all_mono _ _ (λ x h out. h (undurable v.log more v.durable v.durable x.tx (omega arith) out)) (standing v.log) k.wrote) };
   parts = k.parts;
@@ -265,6 +265,14 @@ purge_case locks rs p tx k None e h =
 purge_holds : (locks : Locks) (rs : Records) (p : Part) (tx : TxId) (k : ℕ) → holds_at p locks rs tx k ≡ true → holds_at p locks (without_ghosts locks rs) tx k ≡ true
 purge_holds locks rs p tx k h = purge_case locks rs p tx k (record_at k rs) refl h
 
+-- where none stands after a purge at a key that is held, none stood before
+purge_stands : (locks : Locks) (rs : Records) (p : Part) (tx : TxId) (k : ℕ) (o : Option (Option ValueType)) → record_at k rs ≡ o → holds_by p locks rs tx k o ≡ true → record_at k (without_ghosts locks rs) ≡ None → o ≡ None
+purge_stands locks rs p tx k (Some v) e h none = sym (record_kept (is_locked_or_live locks) k rs (λ x. at_key locks true p (At k) tx h (k, x) refl) ∙ e) ∙ none
+purge_stands locks rs p tx k None e h none = refl
+
+purge_part : (locks : Locks) (rs : Records) (tx : TxId) (p : Part) (k : ℕ) → HoldsPart rs locks tx p k → HoldsPart (without_ghosts locks rs) locks tx p k
+purge_part locks rs tx p k h = (purge_holds locks rs p tx k h.0, λ l none. h.1 l (purge_stands locks rs p tx k (record_at k rs) refl h.0 none))
+
 pub keeps_purge : (g : Past) (v : View) → Kept g v → Kept g (record v { records = without_ghosts v.locks v.records })
 keeps_purge g v k = record {
   start = k.start;
@@ -273,8 +281,8 @@ keeps_purge g v k = record {
   records = record { rises = rising_filter (is_locked_or_live v.locks) v.records k.rises; values = λ q. value_purged v.locks q v.records k.rises ∙ k.values q };
   locks = record {
     rows = k.rows;
-    covered = all_mono _ _ (λ y h active. let c = h active in (λ q m. purge_holds v.locks v.records S y.tx q (c.0 q m), λ q m. purge_holds v.locks v.records X y.tx q (c.1 q m))) g.items k.covered;
-    wrote = all_mono _ _ (λ w h out. let c = h out in (c.0, λ none. c.1 (sym (record_kept (is_locked_or_live v.locks) w.key v.records (λ b. at_key v.locks true X (At w.key) w.tx c.0 (w.key, b) refl)) ∙ none))) (standing v.log) k.wrote;
+    covered = all_mono _ _ (λ y h active. let c = h active in (λ q m. purge_part v.locks v.records y.tx (met_part (is_adding y)) q (c.0 q m), λ q m. purge_part v.locks v.records y.tx (wrote_part (is_adding y)) q (c.1 q m))) g.items k.covered;
+    wrote = all_mono _ _ (λ w h out. let c = h out in (c.0, λ none. c.1 (sym (record_kept (is_locked_or_live v.locks) w.key v.records (λ b. at_key v.locks true (part_for w.change) (At w.key) w.tx c.0 (w.key, b) refl)) ∙ none))) (standing v.log) k.wrote;
   };
   parts = k.parts;
   fates = k.fates;

@@ -4,28 +4,30 @@ use Rattle.std.specs.List.{AllByRecursion, filter}
 use Rattle.clv_base.specs.declared.names.TxId.{TxId}
 use Rattle.clv_base.specs.declared.names.Birth.{Birth}
 use Rattle.clv_base.specs.declared.logs.LogRecord.{LogRecord}
-use Rattle.clv_base.specs.declared.modes.Part.TheVariants.{S, X}
+use Rattle.clv_base.specs.declared.changes.Change.{Change}
+use Rattle.clv_base.specs.declared.modes.Part.{Part}
+use Rattle.clv_base.specs.declared.modes.Part.TheVariants.{S}
 use Rattle.clv_base.specs.declared.modes.Anchor.TheVariants.{At}
 use Rattle.clv_base.specs.declared.state.Stage.{Stage}
 use Rattle.clv_base.specs.declared.state.Stage.TheVariants.{Active, Closed, Gone}
 use Rattle.clv_base.specs.declared.state.Held.{Held}
 use Rattle.clv_base.specs.Orders.{Table, tx_in, tx_get}
 use Rattle.clv_base.specs.Maps.{KeyMap, map_get}
-use Rattle.clv_base.specs.Logs.{StandingUpdate, standing, committed_in, wrote_in}
+use Rattle.clv_base.specs.Logs.{StandingUpdate, is_setting, standing, committed_in, wrote_in}
 use Rattle.clv_base.specs.Locks.{Locks}
 use Rattle.clv_base.specs.State.{Shard}
 use Rattle.clv_base.specs.State.{is_present}
 use Rattle.clv_base.specs.Needs.{Records, value_at}
 use Rattle.law_base.proofs.Cells.{record_at}
 use Rattle.clv_base.specs.Folding.{IsRising}
-use Rattle.law_base.specs.Items.{Item, writes, meets, Runs, AllLater, Reaches, Clash, pile}
+use Rattle.law_base.specs.Items.{Item, wrote, writes, meets, Runs, AllLater, Reaches, Clash, pile}
 use Rattle.protocol_laws.specs.Order.{undone_in, Tidy}
 pub use Rattle.shard_laws.specs.OneShard.{place}
 use Rattle.law_base.proofs.Running.{top_value}
 use Rattle.law_base.proofs.Undoing.{Chain}
 use Rattle.law_base.proofs.Anchors.{Rising}
-use Rattle.law_base.proofs.LockRows.{holds, Rows}
-use Rattle.shard_laws.proofs.Operations.NeedsCoverKeys.{holds_at}
+use Rattle.law_base.proofs.LockRows.{least, holds, Rows}
+use Rattle.shard_laws.proofs.Operations.NeedsCoverKeys.{met_part, wrote_part, holds_at}
 use Rattle.shard_laws.proofs.Operations.WritesAtEachKey.{SameAtKeys}
 use Rattle.law_base.proofs.Tables.{stage_in, is_pair}
 use Rattle.law_base.proofs.Commits.{CommitBefore, commit_durable}
@@ -69,13 +71,31 @@ StageFits c (Gone d) = ⊥
 abbrev pub Belongs : Table Held → TxId → Birth → Bool → Type 0
 Belongs parts tx birth closed = (h : Held) × (tx_get tx parts ≡ Some h) × (h.birth ≡ birth) × StageFits closed h.stage
 
+-- whether what was written was added
+abbrev pub adds_in : Option (ℕ × Change) → Bool
+adds_in None = false
+adds_in (Some w) = not (is_setting w.1)
+
+abbrev pub is_adding : Item → Bool
+is_adding y = adds_in (wrote y)
+
+-- a part is held at a key; that of one who adds is held of a record
+abbrev pub HoldsPart : Records → Locks → TxId → Part → ℕ → Type 0
+HoldsPart records locks tx p k = (holds_at p locks records tx k ≡ true) × (least S p ≡ false → record_at k records ≡ None → ⊥)
+
 -- an active part holds what its operations met, and more where they wrote
 abbrev pub Covers : Records → Locks → Item → Type 0
-Covers records locks y = ((k : ℕ) → meets y k ≡ true → holds_at S locks records y.tx k ≡ true) × ((k : ℕ) → writes y k ≡ true → holds_at X locks records y.tx k ≡ true)
+Covers records locks y =
+    ((k : ℕ) → meets y k ≡ true → HoldsPart records locks y.tx (met_part (is_adding y)) k)
+    × ((k : ℕ) → writes y k ≡ true → HoldsPart records locks y.tx (wrote_part (is_adding y)) k)
+
+-- the part of its key that a write needs
+abbrev pub part_for : Change → Part
+part_for c = wrote_part (not (is_setting c))
 
 -- who wrote and whose COMMIT is not durable holds the key, and a record stands there
 abbrev pub WroteIn : Records → Locks → List LogRecord → ℕ → StandingUpdate → Type 0
-WroteIn records locks log durable w = commit_durable log durable w.tx ≡ false → (holds true X (At w.key) w.tx locks ≡ true) × (record_at w.key records ≡ None → ⊥)
+WroteIn records locks log durable w = commit_durable log durable w.tx ≡ false → (holds true (part_for w.change) (At w.key) w.tx locks ≡ true) × (record_at w.key records ≡ None → ⊥)
 
 abbrev pub Wrote : View → StandingUpdate → Type 0
 Wrote v = WroteIn v.records v.locks v.log v.durable

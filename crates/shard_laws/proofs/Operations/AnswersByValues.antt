@@ -6,9 +6,9 @@ use Rattle.std.specs.Cmp.{unsigned_tied}
 use Rattle.std.proofs.lemmas.Bool.{cases_Bool, both_ways, cond-true, cond-false, and_from}
 use Rattle.clv_base.specs.declared.values.Value.{Value as ValueType}
 use Rattle.clv_base.specs.declared.ops.Op.{Op}
-use Rattle.clv_base.specs.declared.ops.Op.TheVariants.{Get, Put, Del, Scan}
-use Rattle.clv_base.specs.declared.ops.Answer.TheVariants.{Value, Pairs}
-use Rattle.clv_base.specs.Maps.{KeyMap, map_get, map_between, lies_between, op_answer}
+use Rattle.clv_base.specs.declared.ops.Op.TheVariants.{Get, Put, Del, Scan, Add}
+use Rattle.clv_base.specs.declared.ops.Answer.TheVariants.{Value, Pairs, Added}
+use Rattle.clv_base.specs.Maps.{KeyMap, is_number, map_get, map_between, lies_between, op_answer}
 use Rattle.clv_base.specs.Needs.{Records, value_at, live_pairs, records_between, answer_of}
 use Rattle.law_base.proofs.Cells.{record_at, live_by}
 use Rattle.clv_base.specs.Folding.{IsRising}
@@ -91,4 +91,5 @@ pub same_told : (o : Op) (rs : Records) (m : KeyMap) → Rising rs → IsRising 
 same_told (Get k) rs m h g e = ap Value (sym (e k))
 same_told (Put k v) rs m h g e = ap Value (sym (e k))
 same_told (Del k) rs m h g e = ap Value (sym (e k))
+same_told (Add k n) rs m h g e = ap (λ v. Added (is_number v)) (sym (e k))
 same_told (Scan lo hi) rs m h g e = ap Pairs (scan_same lo hi rs m h g e)

@@ -1,17 +1,16 @@
--- Who holds X on a key or on a gap wrote.
+-- Who holds I or X on a key or on a gap wrote.
 use Rattle.std.proofs.Common.{◌≡◌, ◌⊎◌, inl, inr, ⊎_elim, Bool, true, false, cond, not, ◌&&◌, List, [], ◌∷◌, map, ℕ, Option, Some, None, refl, sym, subst, ◌∙◌}
 use Rattle.std.specs.List.{AllByRecursion}
 use Rattle.std.specs.declared.cmp.Ordering.{Ordering}
 use Rattle.std.specs.declared.cmp.Ordering.TheVariants.{Less, Equal, Greater}
 use Rattle.std.specs.Ordering.{match_ordering}
 use Rattle.std.proofs.lemmas.Bool.{both_ways, cond_both, or_cases, and_parts, not-true}
-use Rattle.clv_base.specs.declared.values.Value.{Value as ValueType}
 use Rattle.clv_base.specs.declared.names.TxId.{TxId}
 use Rattle.clv_base.specs.declared.names.Birth.{Birth}
 use Rattle.clv_base.specs.declared.logs.LogRecord.{LogRecord}
-use Rattle.clv_base.specs.declared.logs.LogRecord.TheVariants.{Update, Clr, Prepare, Commit, Abort, End, Restart}
+use Rattle.clv_base.specs.declared.logs.LogRecord.TheVariants.{Update, Clr, Prepare, Commit, Abort, End, Restart, Add, Unadd}
 use Rattle.clv_base.specs.declared.modes.Part.{Part}
-use Rattle.clv_base.specs.declared.modes.Part.TheVariants.{N, S, X}
+use Rattle.clv_base.specs.declared.modes.Part.TheVariants.{N, S, I, X}
 use Rattle.clv_base.specs.declared.modes.Mode.{Mode}
 use Rattle.clv_base.specs.declared.modes.Anchor.{Anchor}
 use Rattle.clv_base.specs.declared.modes.Anchor.TheVariants.{At}
@@ -20,10 +19,14 @@ use Rattle.clv_base.specs.declared.modes.Holder.{Holder}
 use Rattle.clv_base.specs.declared.modes.Found.{Found}
 use Rattle.clv_base.specs.declared.modes.Found.TheVariants.{Live, Ghost, Absent}
 use Rattle.clv_base.specs.declared.ops.Op.{Op}
+use Rattle.clv_base.specs.declared.ops.Op.TheVariants as ops
 use Rattle.clv_base.specs.declared.ops.Op.TheVariants.{Get, Put, Del, Scan}
 use Rattle.clv_base.specs.Orders.{tx_same, tx_in, tx_insert, anchor_same}
 use Rattle.clv_base.specs.Modes.{part_join, part_writes, on_key, on_both, writes as overwrites}
 use Rattle.clv_base.specs.Locks.{Locks, row_cmp, with_mode, take_one, holder_of, take_all, gap_alone, holds_gap, copy_gaps, split_gap, close_locks, release, meets as meets_need, violated_by, violated}
+use Rattle.clv_base.specs.declared.changes.Change.{Change}
+use Rattle.clv_base.specs.declared.changes.Change.TheVariants.{Sets, Adds}
+use Rattle.clv_base.specs.declared.values.Value.TheVariants.{Num, Bytes}
 use Rattle.clv_base.specs.Logs.{wrote_in}
 use Rattle.clv_base.specs.Needs.{Records, need, needs_by, needs_of, records_between, lower_anchor, key_of, found_at, live_of, value_at, writes_of}
 use Rattle.clv_base.specs.OneShard.{inserted_locks}
@@ -33,7 +36,7 @@ use Rattle.law_base.proofs.Lists.{all_mono}
 use Rattle.law_base.proofs.LockRows.{least, row_equal}
 
 abbrev pub Writes_by : (TxId → Type 0) → TxId → Mode → Type 0
-Writes_by W tx m = (least X m.key ≡ true → W tx) × (least X m.gap ≡ true → W tx)
+Writes_by W tx m = (least I m.key ≡ true → W tx) × (least I m.gap ≡ true → W tx)
 
 abbrev pub IsWriter : (TxId → Type 0) → Anchor × Holder → Type 0
 IsWriter W r = Writes_by W (r.1).tx (r.1).mode
@@ -44,18 +47,20 @@ Writers W locks = AllByRecursion (IsWriter W) locks
 pub writers_more : (V W : TxId → Type 0) → ((t : TxId) → V t → W t) → (locks : Locks) → Writers V locks → Writers W locks
 writers_more V W more locks all = all_mono _ _ (λ r h. (λ e. more (r.1).tx (h.0 e), λ e. more (r.1).tx (h.1 e))) locks all
 
-join_X : (a b : Part) → least X (part_join a b) ≡ true → (least X a ≡ true) ⊎ (least X b ≡ true)
-join_X N b e = inr e
-join_X S N e = absurd (both_ways false refl e)
-join_X S S e = absurd (both_ways false refl e)
-join_X S X e = inr refl
-join_X X b e = inl refl
+join_writes : (a b : Part) → least I (part_join a b) ≡ true → (least I a ≡ true) ⊎ (least I b ≡ true)
+join_writes N b e = inr e
+join_writes S N e = absurd (both_ways false refl e)
+join_writes S S e = absurd (both_ways false refl e)
+join_writes S I e = inr refl
+join_writes S X e = inr refl
+join_writes I b e = inl refl
+join_writes X b e = inl refl
 
 take_case : (o : Ordering) (W : TxId → Type 0) (a : Anchor) (h : Holder) (r : Anchor × Holder) (rs ts : Locks) → (o ≡ Equal → (a ≡ r.0) × (h.tx ≡ (r.1).tx)) → Writes_by W h.tx h.mode → Writers W (r ∷ rs) → Writers W ts
     → Writers W (match_ordering o ((a, h) ∷ r ∷ rs) ((a, with_mode r.1 h.mode) ∷ rs) (r ∷ ts))
 take_case Less W a h r rs ts same p all ih = (p, all)
 take_case Equal W a h r rs ts same p all ih = (
-  (λ e. ⊎_elim (λ x. all.0.0 x) (λ x. subst W (same refl).1 (p.0 x)) (join_X ((r.1).mode).key (h.mode).key e), λ e. ⊎_elim (λ x. all.0.1 x) (λ x. subst W (same refl).1 (p.1 x)) (join_X ((r.1).mode).gap (h.mode).gap e)),
+  (λ e. ⊎_elim (λ x. all.0.0 x) (λ x. subst W (same refl).1 (p.0 x)) (join_writes ((r.1).mode).key (h.mode).key e), λ e. ⊎_elim (λ x. all.0.1 x) (λ x. subst W (same refl).1 (p.1 x)) (join_writes ((r.1).mode).gap (h.mode).gap e)),
   all.1,
 )
 take_case Greater W a h r rs ts same p all ih = (all.0, ih)
@@ -68,13 +73,13 @@ pub writers_all : (W : TxId → Type 0) (tx : TxId) (birth : Birth) (ns : List N
 writers_all W tx birth [] locks ps all = all
 writers_all W tx birth (n ∷ ns) locks ps all = writers_all W tx birth ns _ ps.1 (writers_take W n.anchor (holder_of tx birth n.mode) locks ps.0 all)
 
-no_X : least X N ≡ true → ⊥
-no_X e = both_ways false refl e
+none_writes : least I N ≡ true → ⊥
+none_writes e = both_ways false refl e
 
 writers_copy : (W : TxId → Type 0) (lower new : Anchor) (rs locks : Locks) → Writers W rs → Writers W locks → Writers W (copy_gaps lower new rs locks)
 writers_copy W lower new [] locks all more = more
 writers_copy W lower new (r ∷ rs) locks all more =
-    writers_copy W lower new rs _ all.1 (cond_both (holds_gap lower r) (take_one new (gap_alone r.1) locks) locks (Writers W) (λ t. writers_take W new (gap_alone r.1) locks (λ e. absurd (no_X e), all.0.1) more) (λ t. more))
+    writers_copy W lower new rs _ all.1 (cond_both (holds_gap lower r) (take_one new (gap_alone r.1) locks) locks (Writers W) (λ t. writers_take W new (gap_alone r.1) locks (λ e. absurd (none_writes e), all.0.1) more) (λ t. more))
 
 pub writers_insert : (W : TxId → Type 0) (tx : TxId) (birth : Birth) (rs : Records) (ins : Option ℕ) (locks : Locks) → ((k : ℕ) → ins ≡ Some k → W tx) → Writers W locks → Writers W (inserted_locks tx birth rs ins locks)
 writers_insert W tx birth rs None locks own all = all
@@ -100,36 +105,41 @@ all_S : (W : TxId → Type 0) (tx : TxId) (rs : Records) → AllByRecursion (λ 
 all_S W tx [] = tt
 all_S W tx (r ∷ rs) = ((λ e. absurd (both_ways false refl e), λ e. absurd (both_ways false refl e)), all_S W tx rs)
 
-needs_case : (W : TxId → Type 0) (tx : TxId) (op : Op) (rs : Records) (f : Found) → ((w : ℕ × Option ValueType × Option ValueType) → writes_of op (live_of f) ≡ Some w → W tx) → AllByRecursion (λ n. Writes_by W tx n.mode) (needs_by op rs f)
+needs_case : (W : TxId → Type 0) (tx : TxId) (op : Op) (rs : Records) (f : Found) → ((w : ℕ × Change) → writes_of op (live_of f) ≡ Some w → W tx) → AllByRecursion (λ n. Writes_by W tx n.mode) (needs_by op rs f)
 needs_case W tx (Get k) rs (Live v) own = ((λ e. absurd (both_ways false refl e), λ e. absurd (both_ways false refl e)), tt)
 needs_case W tx (Get k) rs Ghost own = ((λ e. absurd (both_ways false refl e), λ e. absurd (both_ways false refl e)), tt)
 needs_case W tx (Get k) rs Absent own = ((λ e. absurd (both_ways false refl e), λ e. absurd (both_ways false refl e)), tt)
-needs_case W tx (Put k v) rs (Live w) own = ((λ e. own (k, Some w, Some v) refl, λ e. own (k, Some w, Some v) refl), tt)
-needs_case W tx (Put k v) rs Ghost own = ((λ e. own (k, None, Some v) refl, λ e. own (k, None, Some v) refl), tt)
-needs_case W tx (Put k v) rs Absent own = ((λ e. own (k, None, Some v) refl, λ e. own (k, None, Some v) refl), tt)
-needs_case W tx (Del k) rs (Live v) own = ((λ e. own (k, Some v, None) refl, λ e. own (k, Some v, None) refl), tt)
+needs_case W tx (Put k v) rs (Live w) own = ((λ e. own (k, Sets (Some w) (Some v)) refl, λ e. own (k, Sets (Some w) (Some v)) refl), tt)
+needs_case W tx (Put k v) rs Ghost own = ((λ e. own (k, Sets None (Some v)) refl, λ e. own (k, Sets None (Some v)) refl), tt)
+needs_case W tx (Put k v) rs Absent own = ((λ e. own (k, Sets None (Some v)) refl, λ e. own (k, Sets None (Some v)) refl), tt)
+needs_case W tx (Del k) rs (Live v) own = ((λ e. own (k, Sets (Some v) None) refl, λ e. own (k, Sets (Some v) None) refl), tt)
 needs_case W tx (Del k) rs Ghost own = ((λ e. absurd (both_ways false refl e), λ e. absurd (both_ways false refl e)), tt)
 needs_case W tx (Del k) rs Absent own = ((λ e. absurd (both_ways false refl e), λ e. absurd (both_ways false refl e)), tt)
+needs_case W tx (ops.Add k n) rs (Live (Num v)) own = ((λ e. own (k, Adds n) refl, λ e. own (k, Adds n) refl), tt)
+needs_case W tx (ops.Add k n) rs (Live (Bytes b)) own = ((λ e. absurd (both_ways false refl e), λ e. absurd (both_ways false refl e)), tt)
+needs_case W tx (ops.Add k n) rs Ghost own = ((λ e. absurd (both_ways false refl e), λ e. absurd (both_ways false refl e)), tt)
+needs_case W tx (ops.Add k n) rs Absent own = ((λ e. absurd (both_ways false refl e), λ e. absurd (both_ways false refl e)), tt)
 needs_case W tx (Scan lo hi) rs (Live v) own = all_S W tx (records_between lo hi rs)
 needs_case W tx (Scan lo hi) rs Ghost own = all_S W tx (records_between lo hi rs)
 needs_case W tx (Scan lo hi) rs Absent own = ((λ e. absurd (both_ways false refl e), λ e. absurd (both_ways false refl e)), all_S W tx (records_between lo hi rs))
 
-pub needs_write : (W : TxId → Type 0) (tx : TxId) (op : Op) (rs : Records) → ((w : ℕ × Option ValueType × Option ValueType) → writes_of op (value_at (key_of op) rs) ≡ Some w → W tx) → AllByRecursion (λ n. Writes_by W tx n.mode) (needs_of op rs)
+pub needs_write : (W : TxId → Type 0) (tx : TxId) (op : Op) (rs : Records) → ((w : ℕ × Change) → writes_of op (value_at (key_of op) rs) ≡ Some w → W tx) → AllByRecursion (λ n. Writes_by W tx n.mode) (needs_of op rs)
 needs_write W tx op rs own = needs_case W tx op rs (found_at (key_of op) rs) own
 
 -- ---- whose writes are violated wrote
 
-part_X : (a h : Part) → part_writes a h ≡ true → least X h ≡ true
-part_X a X e = refl
-part_X a S e = absurd (both_ways false refl e)
-part_X a N e = absurd (both_ways false refl e)
+part_wrote : (a h : Part) → part_writes a h ≡ true → least I h ≡ true
+part_wrote a X e = refl
+part_wrote a I e = refl
+part_wrote a S e = absurd (both_ways false refl e)
+part_wrote a N e = absurd (both_ways false refl e)
 
 row_wrote : (W : TxId → Type 0) (ns : List Need) (r : Anchor × Holder) → IsWriter W r → meets_need overwrites ns r ≡ true → W (r.1).tx
 row_wrote W [] r p e = absurd (both_ways false refl e)
 row_wrote W (n ∷ ns) r p e =
     ⊎_elim
     (λ h. let q = and_parts (anchor_same n.anchor r.0) (overwrites n.mode (r.1).mode) h in
-    ⊎_elim (λ x. p.0 (part_X (n.mode).key ((r.1).mode).key x)) (λ x. p.1 (part_X (n.mode).gap ((r.1).mode).gap x)) (or_cases (part_writes (n.mode).key ((r.1).mode).key) (part_writes (n.mode).gap ((r.1).mode).gap) q.1))
+    ⊎_elim (λ x. p.0 (part_wrote (n.mode).key ((r.1).mode).key x)) (λ x. p.1 (part_wrote (n.mode).gap ((r.1).mode).gap x)) (or_cases (part_writes (n.mode).key ((r.1).mode).key) (part_writes (n.mode).gap ((r.1).mode).gap) q.1))
     (λ h. row_wrote W ns r p h)
     (or_cases (anchor_same n.anchor r.0 && overwrites n.mode (r.1).mode) (meets_need overwrites ns r) e)
 
@@ -166,3 +176,9 @@ writers_restored W txs (Commit tx ps ∷ log) locks wrote all = writers_restored
 writers_restored W txs (Abort tx ∷ log) locks wrote all = writers_restored W txs log locks wrote all
 writers_restored W txs (End tx ∷ log) locks wrote all = writers_restored W txs log locks wrote all
 writers_restored W txs (Restart run e ∷ log) locks wrote all = writers_restored W txs log locks wrote all
+writers_restored W txs (Add tx key by ∷ log) locks wrote all =
+    let own : W tx = wrote tx (or_left _ _ (tx_self tx)) in
+    writers_restored W txs log _ (λ t e. wrote t (or_right (tx_same t tx) _ e))
+    (cond_both (tx_in tx txs) (take_one (At key) (record { tx = tx; birth = old_birth tx; mode = on_key I; closed = true }) locks) locks (Writers W)
+    (λ e. writers_take W (At key) (record { tx = tx; birth = old_birth tx; mode = on_key I; closed = true }) locks (λ x. own, λ x. own) all) (λ e. all))
+writers_restored W txs (Unadd tx u k by ∷ log) locks wrote all = writers_restored W txs log locks wrote all

@@ -3,17 +3,18 @@ use Rattle.std.proofs.Common.{◌≡◌, ℕ, ⊎_elim, Bool, true, false, ◌&&
 use Rattle.std.proofs.lemmas.Bool.{cases_Bool, both_ways, cond_both, cond-true, cond-false, or_cases, and_parts, and_from, leb-true, le-leb}
 use Rattle.clv_base.specs.declared.values.Value.{Value as ValueType}
 use Rattle.clv_base.specs.declared.ops.Op.{Op}
-use Rattle.clv_base.specs.declared.ops.Op.TheVariants.{Get, Put, Del, Scan}
+use Rattle.clv_base.specs.declared.ops.Op.TheVariants.{Get, Put, Del, Scan, Add}
 use Rattle.clv_base.specs.declared.names.TxId.{TxId}
 use Rattle.clv_base.specs.declared.modes.Part.{Part}
-use Rattle.clv_base.specs.declared.modes.Part.TheVariants.{S, X}
+use Rattle.clv_base.specs.declared.modes.Part.TheVariants.{S, I, X}
 use Rattle.clv_base.specs.declared.modes.Anchor.{Anchor}
 use Rattle.clv_base.specs.declared.modes.Anchor.TheVariants.{Low, At}
 use Rattle.clv_base.specs.declared.modes.Need.{Need}
 use Rattle.clv_base.specs.Modes.{on_key, on_gap, on_both}
 use Rattle.clv_base.specs.Locks.{Locks}
 use Rattle.clv_base.specs.Orders.{anchor_same}
-use Rattle.clv_base.specs.Maps.{lies_between}
+use Rattle.clv_base.specs.declared.values.Value.TheVariants.{Num, Bytes}
+use Rattle.clv_base.specs.Maps.{is_number, lies_between}
 use Rattle.clv_base.specs.Folding.{meets_key}
 use Rattle.clv_base.specs.Needs.{Records, value_at, lower_anchor, records_between, need, found_at, found_by, gap_below, needs_by, needs_of, key_of, writes_of}
 use Rattle.law_base.proofs.Cells.{record_at, live_by}
@@ -37,6 +38,23 @@ holds_by p locks rs tx k None = holds false p (lower_anchor k rs) tx locks
 abbrev pub holds_at : Part → Locks → Records → TxId → ℕ → Bool
 holds_at p locks rs tx k = holds_by p locks rs tx k (record_at k rs)
 
+-- the part that is asked for at a key that is met, and at one that is written, by whether it is added to
+abbrev pub met_part : Bool → Part
+met_part true = I
+met_part false = S
+
+abbrev pub wrote_part : Bool → Part
+wrote_part true = I
+wrote_part false = X
+
+-- whether an operation adds, by the value at its key
+abbrev pub adds_to : Op → Option ValueType → Bool
+adds_to (Get k) b = false
+adds_to (Put k v) b = false
+adds_to (Del k) b = false
+adds_to (Scan lo hi) b = false
+adds_to (Add k n) b = is_number b
+
 one_asks : (f : Bool) (p : Part) (n : Need) → least p (part_of f n.mode) ≡ true → asks f p n.anchor (n ∷ []) ≡ true
 one_asks f p n h = or_left _ _ (and_from _ _ (anchor_self n.anchor) h)
 
@@ -55,6 +73,12 @@ del_asks : (k : ℕ) (rs : Records) (o : Option (Option ValueType)) → asks_by 
 del_asks k rs (Some (Some v)) = one_asks true S (need (At k) (on_key X)) refl
 del_asks k rs (Some None) = one_asks true S (need (At k) (on_key S)) refl
 del_asks k rs None = one_asks false S (need (lower_anchor k rs) (on_gap S)) refl
+
+add_asks : (k n : ℕ) (rs : Records) (o : Option (Option ValueType)) → asks_by (met_part (is_number (live_by o))) (needs_by (Add k n) rs (found_by o)) rs k o ≡ true
+add_asks k n rs (Some (Some (Num v))) = one_asks true I (need (At k) (on_key I)) refl
+add_asks k n rs (Some (Some (Bytes b))) = one_asks true S (need (At k) (on_key S)) refl
+add_asks k n rs (Some None) = one_asks true S (need (At k) (on_key S)) refl
+add_asks k n rs None = one_asks false S (need (lower_anchor k rs) (on_gap S)) refl
 
 -- the records of a scan
 append_right : (f : Bool) (p : Part) (a : Anchor) (xs ys : List Need) → asks f p a ys ≡ true → asks f p a (xs ++ ys) ≡ true
@@ -100,10 +124,11 @@ scan_asks lo hi k rs h within None e =
     (scan_below lo k Low rs (leb-true lo k (and_parts (nat_le lo k) (nat_le k hi) within).0) h e)
 
 -- each key that it meets
-pub asks_met : (o : Op) (rs : Records) (k : ℕ) → Rising rs → meets_key o k ≡ true → asks_at S (needs_of o rs) rs k ≡ true
+pub asks_met : (o : Op) (rs : Records) (k : ℕ) → Rising rs → meets_key o k ≡ true → asks_at (met_part (adds_to o (value_at (key_of o) rs))) (needs_of o rs) rs k ≡ true
 asks_met (Get j) rs k h e = subst (λ i. asks_at S (needs_of (Get j) rs) rs i ≡ true) (eqb-true j k e) (get_asks j rs (record_at j rs))
 asks_met (Put j v) rs k h e = subst (λ i. asks_at S (needs_of (Put j v) rs) rs i ≡ true) (eqb-true j k e) (put_asks S j v rs (record_at j rs) refl)
 asks_met (Del j) rs k h e = subst (λ i. asks_at S (needs_of (Del j) rs) rs i ≡ true) (eqb-true j k e) (del_asks j rs (record_at j rs))
+asks_met (Add j n) rs k h e = subst (λ i. asks_at (met_part (is_number (value_at j rs))) (needs_of (Add j n) rs) rs i ≡ true) (eqb-true j k e) (add_asks j n rs (record_at j rs))
 asks_met (Scan lo hi) rs k h e = scan_asks lo hi k rs h e (record_at k rs) refl
 
 del_writes : (j : ℕ) (rs : Records) (o : Option (Option ValueType)) → is_write_at (writes_of (Del j) (live_by o)) j ≡ true → asks_by X (needs_by (Del j) rs (found_by o)) rs j o ≡ true
@@ -111,21 +136,31 @@ del_writes j rs (Some (Some v)) e = one_asks true X (need (At j) (on_key X)) ref
 del_writes j rs (Some None) e = absurd (both_ways false refl e)
 del_writes j rs None e = absurd (both_ways false refl e)
 
+add_writes : (j n : ℕ) (rs : Records) (o : Option (Option ValueType)) → is_write_at (writes_of (Add j n) (live_by o)) j ≡ true → asks_by (wrote_part (is_number (live_by o))) (needs_by (Add j n) rs (found_by o)) rs j o ≡ true
+add_writes j n rs (Some (Some (Num v))) e = one_asks true I (need (At j) (on_key I)) refl
+add_writes j n rs (Some (Some (Bytes b))) e = absurd (both_ways false refl e)
+add_writes j n rs (Some None) e = absurd (both_ways false refl e)
+add_writes j n rs None e = absurd (both_ways false refl e)
+
 written_key : (o : Op) (b : Option ValueType) (k : ℕ) → is_write_at (writes_of o b) k ≡ true → k ≡ key_of o
 written_key (Get j) b k e = absurd (both_ways false refl e)
 written_key (Put j v) b k e = eqb-true k j e
 written_key (Del j) (Some v) k e = eqb-true k j e
 written_key (Del j) None k e = absurd (both_ways false refl e)
 written_key (Scan lo hi) b k e = absurd (both_ways false refl e)
+written_key (Add j n) (Some (Num v)) k e = eqb-true k j e
+written_key (Add j n) (Some (Bytes b)) k e = absurd (both_ways false refl e)
+written_key (Add j n) None k e = absurd (both_ways false refl e)
 
-writes_here : (o : Op) (rs : Records) → is_write_at (writes_of o (value_at (key_of o) rs)) (key_of o) ≡ true → asks_at X (needs_of o rs) rs (key_of o) ≡ true
+writes_here : (o : Op) (rs : Records) → is_write_at (writes_of o (value_at (key_of o) rs)) (key_of o) ≡ true → asks_at (wrote_part (adds_to o (value_at (key_of o) rs))) (needs_of o rs) rs (key_of o) ≡ true
 writes_here (Get j) rs e = absurd (both_ways false refl e)
 writes_here (Put j v) rs e = put_asks X j v rs (record_at j rs) refl
 writes_here (Del j) rs e = del_writes j rs (record_at j rs) e
 writes_here (Scan lo hi) rs e = absurd (both_ways false refl e)
+writes_here (Add j n) rs e = add_writes j n rs (record_at j rs) e
 
 -- and that it writes
-pub asks_written : (o : Op) (rs : Records) (k : ℕ) → is_write_at (writes_of o (value_at (key_of o) rs)) k ≡ true → asks_at X (needs_of o rs) rs k ≡ true
+pub asks_written : (o : Op) (rs : Records) (k : ℕ) → is_write_at (writes_of o (value_at (key_of o) rs)) k ≡ true → asks_at (wrote_part (adds_to o (value_at (key_of o) rs))) (needs_of o rs) rs k ≡ true
 asks_written o rs k e =
     let same : k ≡ key_of o = written_key o (value_at (key_of o) rs) k e in
-    subst (λ i. asks_at X (needs_of o rs) rs i ≡ true) (sym same) (writes_here o rs (subst (λ i. is_write_at (writes_of o (value_at (key_of o) rs)) i ≡ true) same e))
+    subst (λ i. asks_at (wrote_part (adds_to o (value_at (key_of o) rs))) (needs_of o rs) rs i ≡ true) (sym same) (writes_here o rs (subst (λ i. is_write_at (writes_of o (value_at (key_of o) rs)) i ≡ true) same e))

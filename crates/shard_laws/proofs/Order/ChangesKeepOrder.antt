@@ -5,14 +5,14 @@ use Rattle.std.proofs.lemmas.Bool.{both_ways, or_cases, and_parts, and_from, not
 use Rattle.std.proofs.lemmas.List.Folds.{list_any-append}
 use Rattle.clv_base.specs.declared.names.TxId.{TxId}
 use Rattle.clv_base.specs.declared.logs.LogRecord.{LogRecord}
-use Rattle.clv_base.specs.declared.logs.LogRecord.TheVariants.{Update, Clr, Prepare, Commit, Abort, End, Restart}
+use Rattle.clv_base.specs.declared.logs.LogRecord.TheVariants.{Update, Clr, Prepare, Commit, Abort, End, Restart, Add, Unadd}
 use Rattle.clv_base.specs.declared.state.Stage.TheVariants.{Active, Closed}
 use Rattle.clv_base.specs.declared.state.Held.{Held}
 use Rattle.clv_base.specs.Orders.{Table, tx_same, tx_in, nat_in}
 use Rattle.clv_base.specs.State.{is_present}
 use Rattle.clv_base.specs.Locks.{Locks}
-use Rattle.clv_base.specs.Logs.{StandingUpdate, standing, committed_in, prepared_in, aborted_in, wrote_in, prepare_of, is_update_of, is_prepare_of, is_abort_of}
-use Rattle.clv_base.specs.LogRules.{may_follow, last_restart, before_restart, in_last_run, has_above, writes_below, listed_in, commit_by_prepare, some_parts}
+use Rattle.clv_base.specs.Logs.{is_setting, StandingUpdate, standing, committed_in, prepared_in, aborted_in, wrote_in, prepare_of, is_update_of, is_prepare_of, is_abort_of}
+use Rattle.clv_base.specs.LogRules.{lies_below, may_follow, last_restart, before_restart, in_last_run, has_above, writes_below, listed_in, commit_by_prepare, some_parts}
 use Rattle.clv_base.specs.Restarts.{greatest_run}
 use Rattle.clv_base.proofs.SameNames.{or_left, or_right, tx_true, tx_eq, tx_ne}
 use Rattle.law_base.proofs.Lists.{all_mono, all_both}
@@ -33,7 +33,7 @@ LiesOn pairs done t p = (p ≡ t) ⊎ ((done p ≡ true) ⊎ (is_pair pairs t p 
 
 abbrev pub Under : List (TxId × TxId) → (TxId → Bool) → List StandingUpdate → Type 0
 Under pairs done [] = Unit {0}
-Under pairs done (v ∷ vs) = AllByRecursion (λ w. w.key ≡ v.key → LiesOn pairs done v.tx w.tx) vs × Under pairs done vs
+Under pairs done (v ∷ vs) = AllByRecursion (λ w. w.key ≡ v.key → (is_setting w.change || is_setting v.change) ≡ true → LiesOn pairs done v.tx w.tx) vs × Under pairs done vs
 
 pub record Lying (locks : Locks) (pairs : List (TxId × TxId)) (log : List LogRecord) : Type 0 where
   pub under : Under pairs (committed_in log) (standing log)
@@ -92,6 +92,8 @@ prepare_some (Commit tx ps ∷ rs) t e = prepare_some rs t e
 prepare_some (Abort tx ∷ rs) t e = prepare_some rs t e
 prepare_some (End tx ∷ rs) t e = prepare_some rs t e
 prepare_some (Restart run epoch ∷ rs) t e = prepare_some rs t e
+prepare_some (Add tx k by ∷ rs) t e = prepare_some rs t e
+prepare_some (Unadd tx u k by ∷ rs) t e = prepare_some rs t e
 
 pub prepare_same : (log more : List LogRecord) (t : TxId) → prepared_in more t ≡ false → prepare_of (log ++ more) t ≡ prepare_of log t
 prepare_same [] more t e = prepare_none more t e
@@ -102,6 +104,8 @@ prepare_same (Commit tx ps ∷ rs) more t e = prepare_same rs more t e
 prepare_same (Abort tx ∷ rs) more t e = prepare_same rs more t e
 prepare_same (End tx ∷ rs) more t e = prepare_same rs more t e
 prepare_same (Restart run epoch ∷ rs) more t e = prepare_same rs more t e
+prepare_same (Add tx k by ∷ rs) more t e = prepare_same rs more t e
+prepare_same (Unadd tx u k by ∷ rs) more t e = prepare_same rs more t e
 
 pub listed_same : (log more : List LogRecord) (t : TxId) → prepared_in more t ≡ false → listed_in (log ++ more) t ≡ listed_in log t
 listed_same log more t e = ap by_prepare (prepare_same log more t e)
@@ -173,7 +177,7 @@ ordered_parts shard run parts parts2 pairs pairs2 log o s = subst (Ordered shard
 
 pub under_more : (pairs : List (TxId × TxId)) (f h : TxId → Bool) (ws : List StandingUpdate) → ((t : TxId) → f t ≡ true → h t ≡ true) → Under pairs f ws → Under pairs h ws
 under_more pairs f h [] more u = tt
-under_more pairs f h (v ∷ vs) more u = (all_mono _ _ (λ w l e. ⊎_elim (λ s. inl s) (λ m. inr (⊎_elim (λ c. inl (more w.tx c)) (λ p. inr p) m)) (l e)) vs u.0, under_more pairs f h vs more u.1)
+under_more pairs f h (v ∷ vs) more u = (all_mono _ _ (λ w l e q. ⊎_elim (λ s. inl s) (λ m. inr (⊎_elim (λ c. inl (more w.tx c)) (λ p. inr p) m)) (l e q)) vs u.0, under_more pairs f h vs more u.1)
 
 -- records that leave the standing UPDATEs
 pub lying_more : (locks : Locks) (pairs : List (TxId × TxId)) (log more : List LogRecord) → standing (log ++ more) ≡ standing log → Lying locks pairs log → Lying locks pairs (log ++ more)
@@ -184,18 +188,25 @@ lying_more locks pairs log more e l = record {
 
 none_above : (tx : TxId) (u : StandingUpdate) (vs : List StandingUpdate) → AllByRecursion (λ v. v.lsn ≤ u.lsn) vs → has_above tx u vs ≡ false
 none_above tx u [] a = refl
-none_above tx u (v ∷ vs) a = or_from _ _ (false_from_ne_true _ (λ e. let l = ltb-true u.lsn v.lsn (and_parts (tx_same tx v.tx && (v.key == u.key)) (nat_lt u.lsn v.lsn) e).1 in let m = a.0 in omega (arith, l, m))) (none_above tx u vs a.1)
+none_above tx u (v ∷ vs) a = or_from _ _ (false_from_ne_true _ below) (none_above tx u vs a.1)
+  where
+    below : (tx_same tx v.tx && lies_below u v) ≡ true → ⊥
+    below e =
+        let p = and_parts (tx_same tx v.tx) (lies_below u v) e in
+        let q = and_parts ((v.key == u.key) && nat_lt u.lsn v.lsn) (is_setting u.change || is_setting v.change) p.1 in
+        let l = ltb-true u.lsn v.lsn (and_parts (v.key == u.key) (nat_lt u.lsn v.lsn) q.0).1 in let m = a.0 in omega (arith, l, m)
 
 pub below_all : (pairs : List (TxId × TxId)) (done : TxId → Bool) (tx : TxId) (ws : List StandingUpdate) → Falling ws → Under pairs done ws → AllByRecursion (λ w. has_above tx w ws ≡ true → LiesOn pairs done tx w.tx) ws
 below_all pairs done tx [] f u = tt
 below_all pairs done tx (v ∷ vs) f u = (
   (λ e. absurd (both_ways _ (none_above tx v (v ∷ vs) (omega arith, all_mono _ _ (λ w l. omega (arith, l)) vs f.0)) e)),
   all_mono _ _ (λ w h e. ⊎_elim
-      (λ t. let p = and_parts (tx_same tx v.tx && (v.key == w.key)) (nat_lt w.lsn v.lsn) t in
-      let q = and_parts (tx_same tx v.tx) (v.key == w.key) p.0 in
-      subst (λ z. LiesOn pairs done z w.tx) (sym (tx_true tx v.tx q.0)) (h.0 (sym (eqb-true v.key w.key q.1))))
+      (λ t. let p = and_parts (tx_same tx v.tx) (lies_below w v) t in
+      let q = and_parts ((v.key == w.key) && nat_lt w.lsn v.lsn) (is_setting w.change || is_setting v.change) p.1 in
+      let r = and_parts (v.key == w.key) (nat_lt w.lsn v.lsn) q.0 in
+      subst (λ z. LiesOn pairs done z w.tx) (sym (tx_true tx v.tx p.0)) (h.0 (sym (eqb-true v.key w.key r.0)) q.1))
       (λ t. h.1 t)
-      (or_cases (tx_same tx v.tx && (v.key == w.key) && nat_lt w.lsn v.lsn) (has_above tx w vs) e))
+      (or_cases (tx_same tx v.tx && lies_below w v) (has_above tx w vs) e))
       vs (all_both _ _ vs u.0 (below_all pairs done tx vs f.1 u.1)),
 )
 

@@ -1,18 +1,20 @@
 -- A part that is closed, one that leaves, and a set that is taken away keep the order rules.
-use Rattle.std.proofs.Common.{◌≡◌, ◌⊎◌, inl, inr, ⊎_elim, refl, sym, ap, subst, ◌∙◌, ℕ, Bool, true, false, List, [], ◌∷◌, ◌++◌, map, Option, Some, is_some, append_assoc}
+use Rattle.std.proofs.Common.{◌≡◌, ◌⊎◌, inl, inr, ⊎_elim, refl, sym, ap, subst, ◌∙◌, ℕ, Bool, true, false, ◌||◌, List, [], ◌∷◌, ◌++◌, map, Option, Some, is_some, append_assoc}
 use Rattle.std.specs.List.{AllByRecursion, filter}
 use Rattle.std.proofs.lemmas.Bool.{cases_Bool, both_ways, cond_both, not-true, false_from_ne_true, or_from}
 use Rattle.clv_base.specs.declared.names.TxId.{TxId}
 use Rattle.clv_base.specs.declared.logs.LogRecord.{LogRecord}
-use Rattle.clv_base.specs.declared.logs.LogRecord.TheVariants.{Clr, Prepare, Abort}
+use Rattle.clv_base.specs.declared.logs.LogRecord.TheVariants.{Prepare, Abort}
+use Rattle.clv_base.specs.declared.changes.Change.{Change}
+use Rattle.clv_base.specs.declared.changes.Change.TheVariants.{Sets, Adds}
 use Rattle.clv_base.specs.declared.state.Stage.TheVariants.{Active, Closed}
 use Rattle.clv_base.specs.declared.state.Held.{Held}
 use Rattle.clv_base.specs.Orders.{Table, tx_same, tx_in}
 use Rattle.clv_base.specs.State.{is_present}
 use Rattle.clv_base.specs.Locks.{Locks, close_locks, release}
-use Rattle.clv_base.specs.Logs.{StandingUpdate, standing, committed_in, prepared_in, wrote_in, is_update_of, is_abort_of}
+use Rattle.clv_base.specs.Logs.{StandingUpdate, is_setting, standing, committed_in, prepared_in, wrote_in, is_update_of, is_abort_of}
 use Rattle.clv_base.specs.LogRules.{may_follow, listed_in}
-use Rattle.clv_base.specs.Undo.{gone_in, pairs_without, aborts_of, clrs_of, newest_lsn}
+use Rattle.clv_base.specs.Undo.{gone_in, pairs_without, aborts_of, clrs_of, newest_lsn, compensation}
 use Rattle.clv_base.specs.OneShard.{closed_in}
 use Rattle.clv_base.proofs.SameNames.{or_left, or_right, tx_true, tx_self, tx_ne}
 use Rattle.law_base.specs.Undone.{stays_of}
@@ -32,6 +34,7 @@ use Rattle.law_base.proofs.Stages.{active_back, closed_back, stage_other, own_go
 use Rattle.law_base.proofs.Sets.{filter_in, in_filter}
 use Rattle.shard_laws.proofs.Order.RecordByRecord.{Follows, follows_append, last_push, before_push, greatest_plain}
 use Rattle.shard_laws.proofs.Order.UndoMayFollow.{undo_follows}
+use Rattle.shard_laws.proofs.Order.WritesLieOnListed.{order_of}
 use Rattle.shard_laws.proofs.Operations.HoldersOfXWrote.{writers_more, writers_close, writers_release}
 use Rattle.shard_laws.proofs.Order.ChangesKeepOrder.{LiesOn, Under, Lying, Ordered, Calm, Stepped, listed_same, ordered_step, under_more}
 use Rattle.law_base.proofs.Logs.{standing_updates}
@@ -87,11 +90,11 @@ under_without set pairs log (v ∷ vs) h wrote lie u = (one (tx_in v.tx set) ref
     stays : (w : StandingUpdate) → (is_pair pairs v.tx w.tx ≡ true → (committed_in log w.tx ≡ true) ⊎ (is_pair (pairs_without set pairs) v.tx w.tx ≡ true)) → LiesOn pairs (committed_in log) v.tx w.tx → LiesOn (pairs_without set pairs) (committed_in log) v.tx w.tx
     stays w k l = ⊎_elim (λ s. inl s) (λ m. inr (⊎_elim (λ c. inl c) k m)) l
 
-    one : (b : Bool) → tx_in v.tx set ≡ b → AllByRecursion (λ w. w.key ≡ v.key → LiesOn (pairs_without set pairs) (committed_in log) v.tx w.tx) vs
-    one false out = all_mono _ _ (λ w l e. stays w (λ i. inr (pairs_stay set pairs v.tx w.tx out i)) (l e)) vs u.0
+    one : (b : Bool) → tx_in v.tx set ≡ b → AllByRecursion (λ w. w.key ≡ v.key → (is_setting w.change || is_setting v.change) ≡ true → LiesOn (pairs_without set pairs) (committed_in log) v.tx w.tx) vs
+    one false out = all_mono _ _ (λ w l e q. stays w (λ i. inr (pairs_stay set pairs v.tx w.tx out i)) (l e q)) vs u.0
     one true own =
-        ⊎_elim (λ c. all_mono _ _ (λ w k e. inr (inl (k e))) vs (lie.0 (c wrote.0)))
-        (λ none. all_mono _ _ (λ w l e. stays w (λ i. absurd (none w.tx i)) (l e)) vs u.0) (h v.tx own)
+        ⊎_elim (λ c. all_mono _ _ (λ w k e q. inr (inl (k e q))) vs (lie.0 (c wrote.0)))
+        (λ none. all_mono _ _ (λ w l e q. stays w (λ i. absurd (none w.tx i)) (l e q)) vs u.0) (h v.tx own)
 
 pub all_wrote : (log : List LogRecord) → AllByRecursion (λ w. wrote_in log w.tx ≡ true) (standing log)
 all_wrote log = all_mono _ _ (λ w h. wrote_of log w.tx w.key h) (standing log) (standing_updates log)
@@ -124,7 +127,7 @@ ordered_leave shard run locks parts pairs log set d o l lie h = (
 pub upward_under : (set : List TxId) (pairs : List (TxId × TxId)) (done : TxId → Bool) (ws : List StandingUpdate) → ((t p : TxId) → is_pair pairs t p ≡ true → tx_in p set ≡ true → tx_in t set ≡ true) → ((t : TxId) → done t ≡ true → tx_in t set ≡ false) → Under pairs done ws → Upward set ws
 upward_under set pairs done [] up open_ u = tt
 upward_under set pairs done (v ∷ vs) up open_ u = (
-  (λ out. all_mono _ _ (λ w l e. ⊎_elim (λ s. subst (λ z. tx_in z set ≡ false) (sym s) out) (λ m. ⊎_elim (λ c. open_ w.tx c) (λ i. false_from_ne_true _ (λ own. both_ways _ out (up v.tx w.tx i own))) m) (l e)) vs u.0),
+  (λ out. all_mono _ _ (λ w l e q. ⊎_elim (λ s. subst (λ z. tx_in z set ≡ false) (sym s) out) (λ m. ⊎_elim (λ c. open_ w.tx c) (λ i. false_from_ne_true _ (λ own. both_ways _ out (up v.tx w.tx i own))) m) (l e q)) vs u.0),
   upward_under set pairs done vs up open_ u.1,
 )
 
@@ -133,7 +136,7 @@ under_filter : (set : List TxId) (pairs : List (TxId × TxId)) (done : TxId → 
 under_filter set pairs done [] u = tt
 under_filter set pairs done (v ∷ vs) u =
     cond_both (stays_of set v) (v ∷ filter (stays_of set) vs) (filter (stays_of set) vs) (Under (pairs_without set pairs) done)
-    (λ e. (all_stay (λ w. w.key ≡ v.key → LiesOn (pairs_without set pairs) done v.tx w.tx) vs (all_mono _ _ (λ w l q. ⊎_elim (λ s. inl s) (λ m. inr (⊎_elim (λ c. inl c) (λ i. inr (pairs_stay set pairs v.tx w.tx (not-true _ e) i)) m)) (l q)) vs u.0), under_filter set pairs done vs u.1))
+    (λ e. (all_stay (λ w. w.key ≡ v.key → (is_setting w.change || is_setting v.change) ≡ true → LiesOn (pairs_without set pairs) done v.tx w.tx) vs (all_mono _ _ (λ w l q s. ⊎_elim (λ s. inl s) (λ m. inr (⊎_elim (λ c. inl c) (λ i. inr (pairs_stay set pairs v.tx w.tx (not-true _ e) i)) m)) (l q s)) vs u.0), under_filter set pairs done vs u.1))
     (λ e. under_filter set pairs done vs u.1)
   where
     all_stay : (P : StandingUpdate → Type 0) (xs : List StandingUpdate) → AllByRecursion P xs → AllByRecursion P (filter (stays_of set) xs)
@@ -152,11 +155,15 @@ calm_aborts parts (t ∷ ts) h = (
   calm_aborts parts ts (λ u i. h u (or_right (tx_same t u) _ i)),
 )
 
+calm_undo : (parts : Table Held) (tx : TxId) (next : Option ℕ) (key : ℕ) (c : Change) → Calm parts (compensation tx next key c)
+calm_undo parts tx next key (Sets before after) = record { plainly = tt; no_update = λ u. refl; no_prepare = λ u. refl; no_abort = λ u p. refl }
+calm_undo parts tx next key (Adds by) = record { plainly = tt; no_update = λ u. refl; no_prepare = λ u. refl; no_abort = λ u p. refl }
+
 calm_clrs : (parts : Table Held) (set : List TxId) (ws : List StandingUpdate) → AllByRecursion (Calm parts) (clrs_of set ws)
 calm_clrs parts set [] = tt
 calm_clrs parts set (w ∷ ws) =
-    cond_both (tx_in w.tx set) (Clr w.tx (newest_lsn w.tx ws) w.key w.before ∷ clrs_of set ws) (clrs_of set ws) (AllByRecursion (Calm parts))
-    (λ i. (record { plainly = tt; no_update = λ u. refl; no_prepare = λ u. refl; no_abort = λ u p. refl }, calm_clrs parts set ws)) (λ i. calm_clrs parts set ws)
+    cond_both (tx_in w.tx set) (compensation w.tx (newest_lsn w.tx ws) w.key w.change ∷ clrs_of set ws) (clrs_of set ws) (AllByRecursion (Calm parts))
+    (λ i. (calm_undo parts w.tx (newest_lsn w.tx ws) w.key w.change, calm_clrs parts set ws)) (λ i. calm_clrs parts set ws)
 
 module _ (shard run : ℕ) (locks : Locks) (parts : Table Held) (pairs : List (TxId × TxId)) (log : List LogRecord) (set : List TxId) (d : TxId) (o : Ordered shard run parts pairs log) (l : Lying locks pairs log)
     (upward : (t p : TxId) → is_pair pairs t p ≡ true → tx_in p set ≡ true → tx_in t set ≡ true) (open_ : (t : TxId) → tx_in t set ≡ true → committed_in log t ≡ false) (here : (t : TxId) → tx_in t set ≡ true → is_present (stage_in parts t) ≡ true) (once : Once set) where
@@ -167,7 +174,7 @@ module _ (shard run : ℕ) (locks : Locks) (parts : Table Held) (pairs : List (T
   taken_follows =
       undo_follows shard log set (filter (wrote_in log) set) (ap is_some (o.last).1) (once_filter (wrote_in log) set once)
       (λ t i. let f = in_filter (wrote_in log) t set i in (f.1, open_ t f.0, o.unaborted t (here t f.0)))
-      (upward_under set pairs (committed_in log) (standing log) upward not_own l.under)
+      (upward_under set pairs (committed_in log) (standing log) upward not_own l.under) ((order_of shard log o.follows).writes).falls
       (all_mono _ _ (λ w h i. inr (filter_in (wrote_in log) w.tx set i h)) (standing log) (all_wrote log))
 
   taken_stepped : Stepped shard parts (gone_in set (Some d) parts) pairs (pairs_without set pairs) log (aborts_of log set ++ clrs_of set (standing log))

@@ -1,18 +1,19 @@
 -- A granted operation keeps the order rules: its UPDATE may follow, and what lies under it is done or of a predecessor.
-use Rattle.std.proofs.Common.{◌≡◌, ◌⊎◌, inl, inr, ⊎_elim, refl, sym, ap, subst, ◌∙◌, ℕ, ◌+◌, Bool, true, false, cond, not, ◌||◌, List, [], ◌∷◌, ◌++◌, length, Option, Some, None, is_some, ◌==◌, eqb-true, eq-eqb}
+use Rattle.std.proofs.Common.{◌≡◌, ◌⊎◌, inl, inr, ⊎_elim, refl, sym, ap, subst, ◌∙◌, ℕ, ◌+◌, Bool, true, false, not, ◌&&◌, ◌||◌, List, [], ◌∷◌, ◌++◌, length, Option, Some, None, is_some, ◌==◌, eqb-true, eq-eqb}
 use Rattle.std.specs.List.{AllByRecursion}
 use Rattle.std.proofs.lemmas.List.Folds.{list_any-append}
 use Rattle.std.proofs.lemmas.Bool.{cases_Bool, both_ways, and_parts, and_from, false_from_ne_true}
 use Rattle.clv_base.specs.declared.values.Value.{Value as ValueType}
+use Rattle.clv_base.specs.declared.values.Value.TheVariants.{Num, Bytes}
 use Rattle.clv_base.specs.declared.names.TxId.{TxId}
 use Rattle.clv_base.specs.declared.names.Birth.{Birth}
 use Rattle.clv_base.specs.declared.logs.LogRecord.{LogRecord}
-use Rattle.clv_base.specs.declared.logs.LogRecord.TheVariants.{Update}
-use Rattle.clv_base.specs.declared.modes.Part.TheVariants.{X}
+use Rattle.clv_base.specs.declared.logs.LogRecord.TheVariants.{Update, Add}
 use Rattle.clv_base.specs.declared.modes.Anchor.TheVariants.{At}
 use Rattle.clv_base.specs.declared.modes.Need.{Need}
 use Rattle.clv_base.specs.declared.modes.Decision.TheVariants.{Grant}
 use Rattle.clv_base.specs.declared.ops.Op.{Op}
+use Rattle.clv_base.specs.declared.ops.Op.TheVariants as ops
 use Rattle.clv_base.specs.declared.ops.Op.TheVariants.{Get, Put, Del, Scan}
 use Rattle.clv_base.specs.declared.state.Stage.{Stage}
 use Rattle.clv_base.specs.declared.state.Stage.TheVariants.{Active, Closed}
@@ -20,28 +21,31 @@ use Rattle.clv_base.specs.declared.state.Held.{Held}
 use Rattle.clv_base.specs.Orders.{Table, tx_same, tx_in, tx_get}
 use Rattle.clv_base.specs.State.{is_present}
 use Rattle.clv_base.specs.Locks.{Locks, decide, violated, take_all}
-use Rattle.clv_base.specs.Logs.{StandingUpdate, standing, committed_in, prepared_in, aborted_in, wrote_in, newest_at, value_in, is_update_of, is_abort_of}
+use Rattle.clv_base.specs.declared.changes.Change.TheVariants.{Sets, Adds}
+use Rattle.clv_base.specs.declared.changes.Change.{Change}
+use Rattle.clv_base.specs.Logs.{StandingUpdate, is_setting, standing, standing_after, committed_in, prepared_in, aborted_in, wrote_in, value_in, is_update_of, is_abort_of}
 use Rattle.clv_base.specs.Values.{same_optional_value}
-use Rattle.clv_base.specs.LogRules.{may_follow, may_cover, before_restart}
+use Rattle.clv_base.specs.Modes.{part_compatible}
+use Rattle.clv_base.specs.Maps.{is_number}
+use Rattle.clv_base.specs.LogRules.{may_follow, may_write, may_set, may_add, may_cover, before_restart}
 use Rattle.law_base.proofs.Options.{optional_value_self}
 use Rattle.clv_base.specs.Needs.{needs_of, found_at, value_at, key_of, inserts, writes_of}
-use Rattle.clv_base.specs.OneShard.{new_part, add_pairs, inserted_locks}
+use Rattle.clv_base.specs.OneShard.{update_of, new_part, add_pairs, inserted_locks}
 use Rattle.clv_base.proofs.SameNames.{or_left, or_right, tx_true, tx_self, tx_eq, tx_ne, cases_tx}
 use Rattle.law_base.specs.Items.{is_write_at}
 use Rattle.law_base.proofs.Cells.{record_at}
 use Rattle.law_base.proofs.Lists.{all_mono, all_both}
-use Rattle.law_base.proofs.Running.{value_top}
 use Rattle.law_base.proofs.Undoing.{standing_append}
 use Rattle.law_base.proofs.Tables.{stage_in, stage_by, is_pair, insert_from, add_keeps, add_has}
 use Rattle.law_base.proofs.Commits.{commit_durable, durable_committed, committed_keeps}
 use Rattle.protocol_laws.proofs.LogsInOrder.OneRecordMore.{push_cases}
 use Rattle.protocol_laws.proofs.LogsInOrder.{Order}
 use Rattle.law_base.proofs.LockRows.{conflict, violates, violated_row, holds, asks}
-use Rattle.shard_laws.proofs.Operations.NeedsCoverKeys.{asks_by, asks_written}
-use Rattle.shard_laws.proofs.Keeping.WhatOneShardKeeps.{View, Past, Belongs, Kept}
+use Rattle.shard_laws.proofs.Operations.NeedsCoverKeys.{wrote_part, asks_by, asks_at, asks_written}
+use Rattle.shard_laws.proofs.Keeping.WhatOneShardKeeps.{adds_in, part_for, View, Past, Belongs, Kept}
 use Rattle.shard_laws.proofs.Keeping.RecordsAndFrontsKeep.{wrote_keeps}
 use Rattle.shard_laws.proofs.Keeping.ChangesKeepPrepared.{prepared_append}
-use Rattle.shard_laws.proofs.Keeping.GrantingKeeps.{Change, log_by, own_part, not_active, is_closed, closed_row, insert_writes, writing}
+use Rattle.shard_laws.proofs.Keeping.GrantingKeeps.{Written, log_by, adds_same, wrote_holds, own_part, not_active, is_closed, closed_row, insert_writes, writing}
 use Rattle.law_base.proofs.Stages.{other_part, closed_not_active}
 use Rattle.shard_laws.proofs.Order.RecordByRecord.{follows_append, last_push, before_push, greatest_plain}
 use Rattle.shard_laws.proofs.Operations.HoldersOfXWrote.{writers_more, writers_all, writers_insert, needs_write, violated_wrote}
@@ -49,11 +53,11 @@ use Rattle.shard_laws.proofs.Order.ChangesKeepOrder.{LiesOn, Under, Lying, Order
 use Rattle.shard_laws.proofs.Order.ClosingKeepsOrder.{all_wrote}
 use Rattle.law_base.proofs.Names.{MayStand}
 
--- ---- an UPDATE of an active part
+-- ---- an UPDATE or ADD of an active part
 
-pub ordered_update : (shard run : ℕ) (parts : Table Held) (pairs : List (TxId × TxId)) (log : List LogRecord) (t : TxId) (key : ℕ) (before after : Option ValueType) → Ordered shard run parts pairs log → may_follow shard log (Update t key before after) ≡ true
-    → stage_in parts t ≡ Some Active → Ordered shard run parts pairs (log ++ Update t key before after ∷ [])
-ordered_update shard run parts pairs log t key before after o m act = record {
+pub ordered_update : (shard run : ℕ) (parts : Table Held) (pairs : List (TxId × TxId)) (log : List LogRecord) (t : TxId) (key : ℕ) (change : Change) → Ordered shard run parts pairs log → may_follow shard log (update_of t key change) ≡ true
+    → stage_in parts t ≡ Some Active → Ordered shard run parts pairs (log ++ update_of t key change ∷ [])
+ordered_update shard run parts pairs log t key (Sets before after) o m act = record {
   follows = follows_append shard [] log (Update t key before after ∷ []) o.follows (m, tt);
   last = ((o.last).0, last_push log (Update t key before after) tt ∙ (o.last).1);
   latest = greatest_plain log (Update t key before after) run tt o.latest;
@@ -64,6 +68,18 @@ ordered_update shard run parts pairs log t key before after o m act = record {
       (λ a. absurd (closed_not_active (sym c ∙ ap (stage_in parts) (tx_true u t a) ∙ act))) (push_cases (is_update_of u) log (Update t key before after) w);
   others = λ u p e. let q = o.others u p e in (q.0, ⊎_elim (λ c. inl (committed_keeps log (Update t key before after ∷ []) p c)) (λ c. inr (c.0, wrote_keeps log (Update t key before after ∷ []) p c.1)) q.1);
   lists = λ u p c i. ⊎_elim (λ k. inl (committed_keeps log (Update t key before after ∷ []) p k)) (λ e. inr e) (o.lists u p c (ap (tx_in p) (sym (listed_same log (Update t key before after ∷ []) u refl)) ∙ i));
+}
+ordered_update shard run parts pairs log t key (Adds by) o m act = record {
+  follows = follows_append shard [] log (Add t key by ∷ []) o.follows (m, tt);
+  last = ((o.last).0, last_push log (Add t key by) tt ∙ (o.last).1);
+  latest = greatest_plain log (Add t key by) run tt o.latest;
+  of_run = o.of_run;
+  new = λ u a. ap (λ l. wrote_in l u) (before_push [] log (Add t key by) tt) ∙ o.new u a;
+  unaborted = λ u p. false_from_ne_true _ (λ e. ⊎_elim (λ a. both_ways _ (o.unaborted u p) a) (λ a. both_ways false refl a) (push_cases (is_abort_of u) log (Add t key by) e));
+  decided = λ u c w. ⊎_elim (λ old. ⊎_elim (λ p. inl (prepared_append log (Add t key by ∷ []) u ∙ or_left _ _ p)) (λ k. inr (committed_keeps log (Add t key by ∷ []) u k)) (o.decided u c old))
+      (λ a. absurd (closed_not_active (sym c ∙ ap (stage_in parts) (tx_true u t a) ∙ act))) (push_cases (is_update_of u) log (Add t key by) w);
+  others = λ u p e. let q = o.others u p e in (q.0, ⊎_elim (λ c. inl (committed_keeps log (Add t key by ∷ []) p c)) (λ c. inr (c.0, wrote_keeps log (Add t key by ∷ []) p c.1)) q.1);
+  lists = λ u p c i. ⊎_elim (λ k. inl (committed_keeps log (Add t key by ∷ []) p k)) (λ e. inr e) (o.lists u p c (ap (tx_in p) (sym (listed_same log (Add t key by ∷ []) u refl)) ∙ i));
 }
 
 -- ---- a new part, and more pairs
@@ -103,33 +119,47 @@ ordered_new shard run parts parts2 pairs log t vs o own same was run_is unwritte
 
 -- ---- what an operation writes
 
-change_is : (op : Op) (b : Option ValueType) (w : ℕ × Option ValueType × Option ValueType) → writes_of op b ≡ Some w → (w.0 ≡ key_of op) × (w.1 ≡ b) × ((is_some w.1 || is_some w.2) ≡ true)
+-- a change by what stood before: an UPDATE names it, an ADD finds a number
+abbrev FitsChange : Change → Option ValueType → Type 0
+FitsChange (Sets before after) b = (before ≡ b) × ((is_some before || is_some after) ≡ true)
+FitsChange (Adds n) b = is_number b ≡ true
+
+same_write : (x w : ℕ × Change) → Some x ≡ Some w → x ≡ w
+same_write x w e = cc
+
+change_is : (op : Op) (b : Option ValueType) (w : ℕ × Change) → writes_of op b ≡ Some w → (w.0 ≡ key_of op) × FitsChange w.1 b
 change_is (Get k) b w e = absurd cc
-change_is (Put k v) b w e = subst (λ z. (z.0 ≡ k) × (z.1 ≡ b) × ((is_some z.1 || is_some z.2) ≡ true)) (same (k, b, Some v) w e) (refl, refl, or_right (is_some b) _ refl)
-  where
-    same : (x w : ℕ × Option ValueType × Option ValueType) → Some x ≡ Some w → x ≡ w
-    same x w e = cc
+change_is (Put k v) b w e = subst (λ z. (z.0 ≡ k) × FitsChange z.1 b) (same_write (k, Sets b (Some v)) w e) (refl, (refl, or_right (is_some b) _ refl))
 change_is (Del k) None w e = absurd cc
-change_is (Del k) (Some x) w e = subst (λ z. (z.0 ≡ k) × (z.1 ≡ Some x) × ((is_some z.1 || is_some z.2) ≡ true)) (same (k, Some x, None) w e) (refl, refl, refl)
-  where
-    same : (x w : ℕ × Option ValueType × Option ValueType) → Some x ≡ Some w → x ≡ w
-    same x w e = cc
+change_is (Del k) (Some x) w e = subst (λ z. (z.0 ≡ k) × FitsChange z.1 (Some x)) (same_write (k, Sets (Some x) None) w e) (refl, (refl, refl))
 change_is (Scan lo hi) b w e = absurd cc
+change_is (ops.Add k n) None w e = absurd cc
+change_is (ops.Add k n) (Some (Num v)) w e = subst (λ z. (z.0 ≡ k) × FitsChange z.1 (Some (Num v))) (same_write (k, Adds n) w e) (refl, refl)
+change_is (ops.Add k n) (Some (Bytes b)) w e = absurd cc
+
+-- two parts of those who write fit where both add alone
+wrote_wrote : (a b : Bool) → (a && b) ≡ false → part_compatible (wrote_part b) (wrote_part a) ≡ false
+wrote_wrote true true e = absurd (both_ways true e refl)
+wrote_wrote true false e = refl
+wrote_wrote false true e = refl
+wrote_wrote false false e = refl
+
+and_none : (b : Bool) → (b && false) ≡ false
+and_none true = refl
+and_none false = refl
 
 same_self : (a b : Option ValueType) → a ≡ b → same_optional_value a b ≡ true
 same_self a b e = subst (λ z. same_optional_value a z ≡ true) e (optional_value_self a)
 
--- the newest write at a key
-newest_holds : (P : StandingUpdate → Type 0) (k : ℕ) (ws : List StandingUpdate) (w : StandingUpdate) → AllByRecursion P ws → newest_at k ws ≡ Some w → P w × (k ≡ w.key)
-newest_holds P k [] w a e = absurd cc
-newest_holds P k (v ∷ vs) w a e = at (k == v.key) refl e (newest_holds P k vs w a.1)
-  where
-    same : (v w : StandingUpdate) → Some v ≡ Some w → v ≡ w
-    same v w e = cc
+stands_then : (n : ℕ) (tx : TxId) (key : ℕ) (c : Change) (ws : List StandingUpdate) → standing_after n (update_of tx key c) ws ≡ record { lsn = n; tx = tx; key = key; change = c } ∷ ws
+stands_then n tx key (Sets before after) ws = refl
+stands_then n tx key (Adds by) ws = refl
 
-    at : (b : Bool) → (k == v.key) ≡ b → cond b (Some v) (newest_at k vs) ≡ Some w → (newest_at k vs ≡ Some w → P w × (k ≡ w.key)) → P w × (k ≡ w.key)
-    at true q f ih = subst (λ z. P z × (k ≡ z.key)) (same v w f) (a.0, eqb-true k v.key q)
-    at false q f ih = ih f
+-- where one of two sets, not both add
+not_both : (a b : Bool) → (a || b) ≡ true → (not a && not b) ≡ false
+not_both true b e = refl
+not_both false true e = refl
+not_both false false e = absurd (both_ways false refl e)
 
 -- ---- all of it
 
@@ -139,8 +169,11 @@ module _ (shard run : ℕ) (g : Past) (v : View) (tx : TxId) (birth : Birth) (op
   abbrev needs : List Need
   needs = needs_of op v.records
 
-  abbrev change : Change
+  abbrev change : Written
   change = writes_of op (value_at (key_of op) v.records)
+
+  abbrev adding : Bool
+  adding = adds_in change
 
   abbrev ins : Option ℕ
   ins = inserts op (found_at (key_of op) v.records)
@@ -174,81 +207,123 @@ module _ (shard run : ℕ) (g : Past) (v : View) (tx : TxId) (birth : Birth) (op
       (w.0, (closed_row v.parts p r.0 r.1, w.1))
 
   abbrev Held_write : StandingUpdate → Type 0
-  Held_write w = commit_durable v.log v.durable w.tx ≡ false → (holds true X (At w.key) w.tx v.locks ≡ true) × (record_at w.key v.records ≡ None → ⊥)
+  Held_write w = commit_durable v.log v.durable w.tx ≡ false → (holds true (part_for w.change) (At w.key) w.tx v.locks ≡ true) × (record_at w.key v.records ≡ None → ⊥)
 
-  -- another's write of the key that is written is committed, or violated
-  write_met : (w : StandingUpdate) → Held_write w → is_write_at change w.key ≡ true → (w.tx ≡ tx) ⊎ ((committed_in v.log w.tx ≡ true) ⊎ (tx_in w.tx (violated tx needs v.locks) ≡ true))
-  write_met w h e =
+  -- another's write of the key that is written is committed, or violated; but both may add
+  write_met : (w : StandingUpdate) → Held_write w → is_write_at change w.key ≡ true → (not (is_setting w.change) && adding) ≡ false
+      → (w.tx ≡ tx) ⊎ ((committed_in v.log w.tx ≡ true) ⊎ (tx_in w.tx (violated tx needs v.locks) ≡ true))
+  write_met w h e apart =
       ⊎_elim (λ s. inl s)
       (λ ne. inr (⊎_elim (λ d. inl (durable_committed v.log v.durable w.tx d))
       (λ out. let held = h out in inr (violates_here ne held.0 held.1))
       (cases_Bool (commit_durable v.log v.durable w.tx))))
       (cases_tx w.tx tx)
     where
-      asked_X : (q : Option (Option ValueType)) → (q ≡ None → ⊥) → asks_by X needs v.records w.key q ≡ true → asks true X (At w.key) needs ≡ true
-      asked_X (Some x) n e = e
-      asked_X None n e = absurd (n refl)
+      asked : (q : Option (Option ValueType)) → (q ≡ None → ⊥) → asks_by (wrote_part adding) needs v.records w.key q ≡ true → asks true (wrote_part adding) (At w.key) needs ≡ true
+      asked (Some x) n e = e
+      asked None n e = absurd (n refl)
 
-      violates_here : (w.tx ≡ tx → ⊥) → holds true X (At w.key) w.tx v.locks ≡ true → (record_at w.key v.records ≡ None → ⊥) → tx_in w.tx (violated tx needs v.locks) ≡ true
+      violates_here : (w.tx ≡ tx → ⊥) → holds true (part_for w.change) (At w.key) w.tx v.locks ≡ true → (record_at w.key v.records ≡ None → ⊥) → tx_in w.tx (violated tx needs v.locks) ≡ true
       violates_here ne held there =
-          let a : asks true X (At w.key) needs ≡ true = asked_X (record_at w.key v.records) there (asks_written op v.records w.key e) in
-          let c = conflict (Belongs v.parts) tx w.tx birth true X X (At w.key) needs v.locks k.rows grant held a refl (λ s. ne (sym s)) in
-          violates (Belongs v.parts) tx w.tx true X (At w.key) needs v.locks k.rows
-          (λ b d z. is_closed v.parts w.tx b d z (λ active. not_active v.parts w.tx c.0 c.1 active)) held a refl (λ s. ne (sym s))
+          let needed = subst (λ b. asks_at (wrote_part b) needs v.records w.key ≡ true) (adds_same op (value_at (key_of op) v.records)) (asks_written op v.records w.key e) in
+          let a : asks true (wrote_part adding) (At w.key) needs ≡ true = asked (record_at w.key v.records) there needed in
+          let clash = wrote_wrote (not (is_setting w.change)) adding apart in
+          let c = conflict (Belongs v.parts) tx w.tx birth true (part_for w.change) (wrote_part adding) (At w.key) needs v.locks k.rows grant held a clash (λ s. ne (sym s)) in
+          violates (Belongs v.parts) tx w.tx true (part_for w.change) (wrote_part adding) (At w.key) needs v.locks k.rows
+          (λ b d z. is_closed v.parts w.tx b d z (λ active. not_active v.parts w.tx c.0 c.1 active)) (wrote_holds (not (is_setting w.change))) held a clash (λ s. ne (sym s))
 
-  lies_new : (w : StandingUpdate) → Held_write w → is_write_at change w.key ≡ true → LiesOn pairs_after (committed_in v.log) tx w.tx
-  lies_new w h e = ⊎_elim (λ s. inl s) (λ m. inr (⊎_elim (λ c. inl c) (λ i. inr (add_has tx (violated tx needs v.locks) v.pairs w.tx i)) m)) (write_met w h e)
+  lies_new : (w : StandingUpdate) → Held_write w → is_write_at change w.key ≡ true → (not (is_setting w.change) && adding) ≡ false → LiesOn pairs_after (committed_in v.log) tx w.tx
+  lies_new w h e apart = ⊎_elim (λ s. inl s) (λ m. inr (⊎_elim (λ c. inl c) (λ i. inr (add_has tx (violated tx needs v.locks) v.pairs w.tx i)) m)) (write_met w h e apart)
 
-  may_lie : (o2 : Option StandingUpdate) (q : ℕ) → newest_at q (standing v.log) ≡ o2 → is_write_at change q ≡ true → may_cover v.log tx o2 ≡ true
-  may_lie None q e w = refl
-  may_lie (Some u) q e w =
-      let f = newest_holds (λ z. Held_write z × (wrote_in v.log z.tx ≡ true)) q (standing v.log) u (all_both _ _ (standing v.log) k.wrote (all_wrote v.log)) e in
+  -- so it may be covered
+  covers : (u : StandingUpdate) → Held_write u × (wrote_in v.log u.tx ≡ true) → is_write_at change u.key ≡ true → (not (is_setting u.change) && adding) ≡ false → may_cover v.log tx u ≡ true
+  covers u f w apart =
       ⊎_elim (λ s. or_left _ _ (tx_eq tx u.tx (sym s)))
       (λ m. or_right (tx_same tx u.tx) _ (⊎_elim
       (λ c. and_from _ _ (or_right (prepared_in v.log u.tx) _ c) (ap not (order.apart u.tx c)))
       (λ i. let x = violated_closed u.tx i in
       and_from _ _ (⊎_elim (λ p. or_left _ _ p) (λ c. or_right (prepared_in v.log u.tx) _ c) (o.decided u.tx x.1.0 x.1.1)) (ap not (o.unaborted u.tx (ap is_present x.1.0)))) m))
-      (write_met u f.0.0 (subst (λ z. is_write_at change z ≡ true) f.1 w))
+      (write_met u f.0 w apart)
 
-  update_follows : (w : ℕ × Option ValueType × Option ValueType) → change ≡ Some w → may_follow shard v.log (Update tx w.0 w.1 w.2) ≡ true
-  update_follows w e =
-      let c = change_is op (value_at (key_of op) v.records) w e in
-      and_from _ _ (and_from _ _ (and_from _ _ (and_from _ _ (and_from _ _ (and_from _ _ (and_from _ _
-      (ap (λ z. elim z [ Some p ↦ tx.run == p.0 | None ↦ false ]) (o.last).1 ∙ eq-eqb tx.run run run_is) (ap not unprepared)) (ap not open_)) (ap not unaborted)) (ap not unwritten))
-      (same_self w.1 (value_in v.log w.0) (c.1 ∙ ap (λ q. value_at q v.records) (sym c.0) ∙ k.values w.0 ∙ sym (value_top (newest_at w.0 (standing v.log))))))
-      c.2) (may_lie (newest_at w.0 (standing v.log)) w.0 refl (ap (λ z. is_write_at z w.0) e ∙ eq-eqb w.0 w.0 refl))
+  abbrev AllHeld : List StandingUpdate → Type 0
+  AllHeld ws = AllByRecursion (λ z. Held_write z × (wrote_in v.log z.tx ≡ true)) ws
+
+  all_set : (q : ℕ) (ws : List StandingUpdate) → AllHeld ws → is_write_at change q ≡ true → adding ≡ false → may_set v.log tx q ws ≡ true
+  all_set q [] a w sets = refl
+  all_set q (u ∷ us) a w sets =
+      and_from _ _
+      (⊎_elim
+      (λ e. or_right (not (q == u.key)) _ (covers u a.0 (subst (λ z. is_write_at change z ≡ true) (eqb-true q u.key e) w) (ap (λ b. not (is_setting u.change) && b) sets ∙ and_none (not (is_setting u.change)))))
+      (λ e. or_left _ _ (ap not e)) (cases_Bool (q == u.key)))
+      (all_set q us a.1 w sets)
+
+  all_add : (q : ℕ) (ws : List StandingUpdate) → AllHeld ws → is_write_at change q ≡ true → may_add v.log tx q ws ≡ true
+  all_add q [] a w = refl
+  all_add q (u ∷ us) a w =
+      and_from _ _
+      (⊎_elim
+      (λ e. ⊎_elim
+      (λ s. or_right (not (q == u.key) || not (is_setting u.change)) _ (covers u a.0 (subst (λ z. is_write_at change z ≡ true) (eqb-true q u.key e) w) (ap (λ b. not b && adding) s)))
+      (λ s. or_left _ _ (or_right (not (q == u.key)) _ (ap not s))) (cases_Bool (is_setting u.change)))
+      (λ e. or_left _ _ (or_left _ _ (ap not e))) (cases_Bool (q == u.key)))
+      (all_add q us a.1 w)
+
+  held_all : AllHeld (standing v.log)
+  held_all = all_both _ _ (standing v.log) k.wrote (all_wrote v.log)
+
+  writes_now : may_write v.log tx ≡ true
+  writes_now =
+      and_from _ _ (and_from _ _ (and_from _ _ (and_from _ _
+      (ap (λ z. elim z [ Some p ↦ tx.run == p.0 | None ↦ false ]) (o.last).1 ∙ eq-eqb tx.run run run_is) (ap not unprepared)) (ap not open_)) (ap not unaborted)) (ap not unwritten)
+
+  value_now : (key : ℕ) → key ≡ key_of op → value_at (key_of op) v.records ≡ value_in v.log key
+  value_now key is = ap (λ q. value_at q v.records) (sym is) ∙ k.values key
+
+  follows : (key : ℕ) (c : Change) → key ≡ key_of op → FitsChange c (value_at (key_of op) v.records) → change ≡ Some (key, c) → may_follow shard v.log (update_of tx key c) ≡ true
+  follows key (Sets before after) is fits e =
+      and_from _ _ (and_from _ _ (and_from _ _ writes_now (same_self before (value_in v.log key) (fits.0 ∙ value_now key is))) fits.1)
+      (all_set key (standing v.log) held_all (ap (λ z. is_write_at z key) e ∙ eq-eqb key key refl) (ap adds_in e))
+  follows key (Adds n) is fits e =
+      and_from _ _ (and_from _ _ writes_now (ap is_number (sym (value_now key is)) ∙ fits)) (all_add key (standing v.log) held_all (ap (λ z. is_write_at z key) e ∙ eq-eqb key key refl))
+
+  update_follows : (w : ℕ × Change) → change ≡ Some w → may_follow shard v.log (update_of tx w.0 w.1) ≡ true
+  update_follows w e = let c = change_is op (value_at (key_of op) v.records) w e in follows w.0 w.1 c.0 c.1 e
 
   new_ordered : Ordered shard run parts_after pairs_after v.log
   new_ordered = ordered_new shard run v.parts parts_after v.pairs v.log tx (violated tx needs v.locks) o stage_own stage_same not_closed run_is unwritten unaborted violated_closed
 
-  ordered_by : (w : Change) → change ≡ w → Ordered shard run parts_after pairs_after (log_by tx w v.log)
+  ordered_by : (w : Written) → change ≡ w → Ordered shard run parts_after pairs_after (log_by tx w v.log)
   ordered_by None e = new_ordered
-  ordered_by (Some w) e = ordered_update shard run parts_after pairs_after v.log tx w.0 w.1 w.2 new_ordered (update_follows w e) stage_own
+  ordered_by (Some w) e = ordered_update shard run parts_after pairs_after v.log tx w.0 w.1 new_ordered (update_follows w e) stage_own
 
   pub ordered_performed : Ordered shard run parts_after pairs_after (log_by tx change v.log)
   ordered_performed = ordered_by change refl
 
   under_old : (ws : List StandingUpdate) → Under v.pairs (committed_in v.log) ws → Under pairs_after (committed_in v.log) ws
   under_old [] u = tt
-  under_old (w ∷ ws) u = (all_mono _ _ (λ z h e. ⊎_elim (λ s. inl s) (λ m. inr (⊎_elim (λ c. inl c) (λ i. inr (add_keeps tx (violated tx needs v.locks) v.pairs w.tx z.tx i)) m)) (h e)) ws u.0, under_old ws u.1)
+  under_old (w ∷ ws) u = (all_mono _ _ (λ z h e q. ⊎_elim (λ s. inl s) (λ m. inr (⊎_elim (λ c. inl c) (λ i. inr (add_keeps tx (violated tx needs v.locks) v.pairs w.tx z.tx i)) m)) (h e q)) ws u.0, under_old ws u.1)
 
-  under_by : (w : Change) → change ≡ w → Under pairs_after (committed_in (log_by tx w v.log)) (standing (log_by tx w v.log))
+  under_by : (w : Written) → change ≡ w → Under pairs_after (committed_in (log_by tx w v.log)) (standing (log_by tx w v.log))
   under_by None e = under_old (standing v.log) l.under
   under_by (Some w) e =
-      subst (Under pairs_after (committed_in (v.log ++ Update tx w.0 w.1 w.2 ∷ []))) (sym (standing_append 0 v.log (Update tx w.0 w.1 w.2 ∷ []) []))
-      (under_more pairs_after (committed_in v.log) (committed_in (v.log ++ Update tx w.0 w.1 w.2 ∷ [])) (record { lsn = 0 + length v.log; tx = tx; key = w.0; before = w.1; after = w.2 } ∷ standing v.log)
-      (λ t c. committed_keeps v.log (Update tx w.0 w.1 w.2 ∷ []) t c)
-      (all_mono _ _ (λ z h q. lies_new z h (ap (λ y. is_write_at y z.key) e ∙ eq-eqb z.key w.0 q)) (standing v.log) k.wrote, under_old (standing v.log) l.under))
+      subst (Under pairs_after (committed_in (v.log ++ update_of tx w.0 w.1 ∷ []))) (sym (standing_append 0 v.log (update_of tx w.0 w.1 ∷ []) [] ∙ stands_then (0 + length v.log) tx w.0 w.1 (standing v.log)))
+      (under_more pairs_after (committed_in v.log) (committed_in (v.log ++ update_of tx w.0 w.1 ∷ [])) (record { lsn = 0 + length v.log; tx = tx; key = w.0; change = w.1 } ∷ standing v.log)
+      (λ t c. committed_keeps v.log (update_of tx w.0 w.1 ∷ []) t c) (
+        all_mono _ _ (λ z h q s. lies_new z h (ap (λ y. is_write_at y z.key) e ∙ eq-eqb z.key w.0 q) (ap (λ b. not (is_setting z.change) && b) (ap adds_in e) ∙ not_both (is_setting z.change) (is_setting w.1) s)) (standing v.log) k.wrote,
+        under_old (standing v.log) l.under,
+      ))
 
-  own_by : (w : Change) (x : ℕ × Option ValueType × Option ValueType) → w ≡ Some x → wrote_in (log_by tx w v.log) tx ≡ true
+  own_by : (w : Written) (x : ℕ × Change) → w ≡ Some x → wrote_in (log_by tx w v.log) tx ≡ true
   own_by None x e = absurd cc
-  own_by (Some w) x e = list_any-append (is_update_of tx) v.log (Update tx w.0 w.1 w.2 ∷ []) ∙ or_right (wrote_in v.log tx) _ (or_left _ _ (tx_self tx))
+  own_by (Some (key, Sets before after)) x e = list_any-append (is_update_of tx) v.log (Update tx key before after ∷ []) ∙ or_right (wrote_in v.log tx) _ (or_left _ _ (tx_self tx))
+  own_by (Some (key, Adds by)) x e = list_any-append (is_update_of tx) v.log (Add tx key by ∷ []) ∙ or_right (wrote_in v.log tx) _ (or_left _ _ (tx_self tx))
 
-  more_by : (w : Change) (t : TxId) → wrote_in v.log t ≡ true → wrote_in (log_by tx w v.log) t ≡ true
+  more_by : (w : Written) (t : TxId) → wrote_in v.log t ≡ true → wrote_in (log_by tx w v.log) t ≡ true
   more_by None t e = e
-  more_by (Some w) t e = wrote_keeps v.log (Update tx w.0 w.1 w.2 ∷ []) t e
+  more_by (Some (key, Sets before after)) t e = wrote_keeps v.log (Update tx key before after ∷ []) t e
+  more_by (Some (key, Adds by)) t e = wrote_keeps v.log (Add tx key by ∷ []) t e
 
-  write_some : (w : Change) (q : ℕ) → is_write_at w q ≡ true → (x : ℕ × Option ValueType × Option ValueType) × (w ≡ Some x)
+  write_some : (w : Written) (q : ℕ) → is_write_at w q ≡ true → (x : ℕ × Change) × (w ≡ Some x)
   write_some None q e = absurd (both_ways false refl e)
   write_some (Some w) q e = (w, refl)
 

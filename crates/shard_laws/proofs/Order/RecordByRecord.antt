@@ -6,7 +6,7 @@ use Rattle.std.proofs.lemmas.List.{take-append-drop}
 use Rattle.std.proofs.Math.Bool.{or-false}
 use Rattle.clv_base.specs.declared.names.TxId.{TxId}
 use Rattle.clv_base.specs.declared.logs.LogRecord.{LogRecord}
-use Rattle.clv_base.specs.declared.logs.LogRecord.TheVariants.{Update, Clr, Prepare, Commit, Abort, End, Restart}
+use Rattle.clv_base.specs.declared.logs.LogRecord.TheVariants.{Update, Clr, Prepare, Commit, Abort, End, Restart, Add, Unadd}
 use Rattle.clv_base.specs.Logs.{wrote_in}
 use Rattle.clv_base.specs.LogRules.{may_follow, disorder_from, last_restart, since_restart, before_restart, above_restarts}
 use Rattle.clv_base.specs.Restarts.{greatest_run, greatest_epoch}
@@ -72,6 +72,10 @@ last_push (Prepare tx home ps ∷ rs) r p = last_push rs r p
 last_push (Commit tx parts ∷ rs) r p = last_push rs r p
 last_push (Abort tx ∷ rs) r p = last_push rs r p
 last_push (End tx ∷ rs) r p = last_push rs r p
+last_push [] (Add tx k by) p = refl
+last_push (Add tx k by ∷ rs) r p = last_push rs r p
+last_push [] (Unadd tx u k by) p = refl
+last_push (Unadd tx u k by ∷ rs) r p = last_push rs r p
 
 pub before_push : (sf log : List LogRecord) (r : LogRecord) → Plainly r → before_restart sf (log ++ r ∷ []) ≡ before_restart sf log
 before_push sf [] (Update tx k b a) p = refl
@@ -88,6 +92,10 @@ before_push sf (Prepare tx home ps ∷ rs) r p = before_push (sf ++ Prepare tx h
 before_push sf (Commit tx parts ∷ rs) r p = before_push (sf ++ Commit tx parts ∷ []) rs r p
 before_push sf (Abort tx ∷ rs) r p = before_push (sf ++ Abort tx ∷ []) rs r p
 before_push sf (End tx ∷ rs) r p = before_push (sf ++ End tx ∷ []) rs r p
+before_push sf [] (Add tx k by) p = refl
+before_push sf (Add tx k by ∷ rs) r p = before_push (sf ++ Add tx k by ∷ []) rs r p
+before_push sf [] (Unadd tx u k by) p = refl
+before_push sf (Unadd tx u k by ∷ rs) r p = before_push (sf ++ Unadd tx u k by ∷ []) rs r p
 
 -- who wrote, wrote before or since the last RESTART
 or_three : (a b c : Bool) → ((a || b) || c) ≡ (a || (b || c))
@@ -107,6 +115,8 @@ same_before t xs ys (Prepare tx h ps ∷ zs) e = same_before t (xs ++ Prepare tx
 same_before t xs ys (Commit tx ps ∷ zs) e = same_before t (xs ++ Commit tx ps ∷ []) (ys ++ Commit tx ps ∷ []) zs (wrote_append xs (Commit tx ps ∷ []) t ∙ ap (λ z. z || false) e ∙ sym (wrote_append ys (Commit tx ps ∷ []) t))
 same_before t xs ys (Abort tx ∷ zs) e = same_before t (xs ++ Abort tx ∷ []) (ys ++ Abort tx ∷ []) zs (wrote_append xs (Abort tx ∷ []) t ∙ ap (λ z. z || false) e ∙ sym (wrote_append ys (Abort tx ∷ []) t))
 same_before t xs ys (End tx ∷ zs) e = same_before t (xs ++ End tx ∷ []) (ys ++ End tx ∷ []) zs (wrote_append xs (End tx ∷ []) t ∙ ap (λ z. z || false) e ∙ sym (wrote_append ys (End tx ∷ []) t))
+same_before t xs ys (Add tx k by ∷ zs) e = same_before t (xs ++ Add tx k by ∷ []) (ys ++ Add tx k by ∷ []) zs (wrote_append xs (Add tx k by ∷ []) t ∙ ap (λ z. z || wrote_in (Add tx k by ∷ []) t) e ∙ sym (wrote_append ys (Add tx k by ∷ []) t))
+same_before t xs ys (Unadd tx u k by ∷ zs) e = same_before t (xs ++ Unadd tx u k by ∷ []) (ys ++ Unadd tx u k by ∷ []) zs (wrote_append xs (Unadd tx u k by ∷ []) t ∙ ap (λ z. z || false) e ∙ sym (wrote_append ys (Unadd tx u k by ∷ []) t))
 
 pub wrote_split : (t : TxId) (sf rs : List LogRecord) → (wrote_in sf t || wrote_in rs t) ≡ (wrote_in (before_restart sf rs) t || wrote_in (since_restart sf rs) t)
 wrote_split t sf [] = or-false (wrote_in sf t)
@@ -117,6 +127,8 @@ wrote_split t sf (Prepare tx home ps ∷ rs) = one_more t sf rs (Prepare tx home
 wrote_split t sf (Commit tx parts ∷ rs) = one_more t sf rs (Commit tx parts) ∙ wrote_split t (sf ++ Commit tx parts ∷ []) rs
 wrote_split t sf (Abort tx ∷ rs) = one_more t sf rs (Abort tx) ∙ wrote_split t (sf ++ Abort tx ∷ []) rs
 wrote_split t sf (End tx ∷ rs) = one_more t sf rs (End tx) ∙ wrote_split t (sf ++ End tx ∷ []) rs
+wrote_split t sf (Add tx k by ∷ rs) = one_more t sf rs (Add tx k by) ∙ wrote_split t (sf ++ Add tx k by ∷ []) rs
+wrote_split t sf (Unadd tx u k by ∷ rs) = one_more t sf rs (Unadd tx u k by) ∙ wrote_split t (sf ++ Unadd tx u k by ∷ []) rs
 
 or_first : (a b : Bool) → (a || b) ≡ true → a ≡ false → b ≡ true
 or_first true b e f = absurd (both_ways true f refl)
@@ -139,6 +151,8 @@ greatest_push (Prepare tx home ps ∷ rs) r n l m = greatest_push rs r n l m
 greatest_push (Commit tx parts ∷ rs) r n l m = greatest_push rs r n l m
 greatest_push (Abort tx ∷ rs) r n l m = greatest_push rs r n l m
 greatest_push (End tx ∷ rs) r n l m = greatest_push rs r n l m
+greatest_push (Add tx k by ∷ rs) r n l m = greatest_push rs r n l m
+greatest_push (Unadd tx u k by ∷ rs) r n l m = greatest_push rs r n l m
 
 pub greatest_plain : (log : List LogRecord) (r : LogRecord) (n : ℕ) → Plainly r → greatest_run log ≤ n → greatest_run (log ++ r ∷ []) ≤ n
 greatest_plain log r n p l = greatest_push log r n l (at r p)
@@ -151,6 +165,8 @@ greatest_plain log r n p l = greatest_push log r n l (at r p)
     at (Abort tx) p = omega arith
     at (End tx) p = omega arith
     at (Restart run epoch) p = absurd p
+    at (Add tx k by) p = omega arith
+    at (Unadd tx u k by) p = omega arith
 
 pub greatest_front : (xs ys : List LogRecord) (n : ℕ) → greatest_run (xs ++ ys) ≤ n → greatest_run xs ≤ n
 greatest_front [] ys n l = omega arith
@@ -161,6 +177,8 @@ greatest_front (Prepare tx home ps ∷ rs) ys n l = greatest_front rs ys n l
 greatest_front (Commit tx parts ∷ rs) ys n l = greatest_front rs ys n l
 greatest_front (Abort tx ∷ rs) ys n l = greatest_front rs ys n l
 greatest_front (End tx ∷ rs) ys n l = greatest_front rs ys n l
+greatest_front (Add tx k by ∷ rs) ys n l = greatest_front rs ys n l
+greatest_front (Unadd tx u k by ∷ rs) ys n l = greatest_front rs ys n l
 
 pub greatest_both : (xs ys : List LogRecord) (n : ℕ) → greatest_run xs ≤ n → greatest_run ys ≤ n → greatest_run (xs ++ ys) ≤ n
 greatest_both [] ys n l m = m
@@ -171,6 +189,8 @@ greatest_both (Prepare tx home ps ∷ rs) ys n l m = greatest_both rs ys n l m
 greatest_both (Commit tx parts ∷ rs) ys n l m = greatest_both rs ys n l m
 greatest_both (Abort tx ∷ rs) ys n l m = greatest_both rs ys n l m
 greatest_both (End tx ∷ rs) ys n l m = greatest_both rs ys n l m
+greatest_both (Add tx k by ∷ rs) ys n l m = greatest_both rs ys n l m
+greatest_both (Unadd tx u k by ∷ rs) ys n l m = greatest_both rs ys n l m
 
 -- a later run is above, and so is a later epoch of the same run
 pub above_later : (run epoch : ℕ) (log : List LogRecord) → greatest_run log < run → above_restarts run epoch log ≡ true
@@ -182,6 +202,8 @@ above_later run epoch (Prepare tx home ps ∷ rs) l = above_later run epoch rs l
 above_later run epoch (Commit tx parts ∷ rs) l = above_later run epoch rs l
 above_later run epoch (Abort tx ∷ rs) l = above_later run epoch rs l
 above_later run epoch (End tx ∷ rs) l = above_later run epoch rs l
+above_later run epoch (Add tx k by ∷ rs) l = above_later run epoch rs l
+above_later run epoch (Unadd tx u k by ∷ rs) l = above_later run epoch rs l
 
 pub above_next : (run own epoch : ℕ) (log : List LogRecord) → greatest_run log ≤ run → greatest_epoch run own log < epoch → above_restarts run epoch log ≡ true
 above_next run own epoch [] l m = refl
@@ -200,6 +222,8 @@ above_next run own epoch (Prepare tx home ps ∷ rs) l m = above_next run own ep
 above_next run own epoch (Commit tx parts ∷ rs) l m = above_next run own epoch rs l m
 above_next run own epoch (Abort tx ∷ rs) l m = above_next run own epoch rs l m
 above_next run own epoch (End tx ∷ rs) l m = above_next run own epoch rs l m
+above_next run own epoch (Add tx k by ∷ rs) l m = above_next run own epoch rs l m
+above_next run own epoch (Unadd tx u k by ∷ rs) l m = above_next run own epoch rs l m
 
 pub above_push : (run epoch : ℕ) (log : List LogRecord) (r : LogRecord) → Plainly r → above_restarts run epoch (log ++ r ∷ []) ≡ above_restarts run epoch log
 above_push run epoch [] (Update tx k b a) p = refl
@@ -216,6 +240,10 @@ above_push run epoch (Prepare tx home ps ∷ rs) q p = above_push run epoch rs q
 above_push run epoch (Commit tx parts ∷ rs) q p = above_push run epoch rs q p
 above_push run epoch (Abort tx ∷ rs) q p = above_push run epoch rs q p
 above_push run epoch (End tx ∷ rs) q p = above_push run epoch rs q p
+above_push run epoch [] (Add tx k by) p = refl
+above_push run epoch (Add tx k by ∷ rs) q p = above_push run epoch rs q p
+above_push run epoch [] (Unadd tx u k by) p = refl
+above_push run epoch (Unadd tx u k by ∷ rs) q p = above_push run epoch rs q p
 
 -- ---- what holds of each front of a log in order
 

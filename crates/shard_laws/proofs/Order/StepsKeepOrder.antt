@@ -5,7 +5,9 @@ use Rattle.std.proofs.lemmas.Bool.{both_ways, cond_both, and_from, false_from_ne
 use Rattle.std.proofs.lemmas.List.Folds.{list_any-append}
 use Rattle.clv_base.specs.declared.names.TxId.{TxId}
 use Rattle.clv_base.specs.declared.logs.LogRecord.{LogRecord}
-use Rattle.clv_base.specs.declared.logs.LogRecord.TheVariants.{Update, Clr, Prepare, Commit, Abort, End}
+use Rattle.clv_base.specs.declared.logs.LogRecord.TheVariants.{Update, Prepare, Commit, Abort, End, Add}
+use Rattle.clv_base.specs.declared.changes.Change.{Change}
+use Rattle.clv_base.specs.declared.changes.Change.TheVariants.{Sets, Adds}
 use Rattle.clv_base.specs.declared.state.Stage.TheVariants.{Active, Closed}
 use Rattle.clv_base.specs.declared.state.Held.{Held}
 use Rattle.clv_base.specs.declared.state.Request.{Request}
@@ -15,7 +17,7 @@ use Rattle.clv_base.specs.State.{Local, Shard, is_present}
 use Rattle.clv_base.specs.Locks.{Locks, close_locks, release, decide}
 use Rattle.clv_base.specs.Logs.{StandingUpdate, standing, committed_in, prepared_in, aborted_in, wrote_in, ended_in, prepare_of, commit_parts, is_commit_of, is_prepare_of}
 use Rattle.clv_base.specs.LogRules.{may_follow, before_restart, listed_in, commit_by_prepare, some_parts}
-use Rattle.clv_base.specs.Undo.{gone_in, pairs_without, aborts_of, clrs_of, newest_lsn}
+use Rattle.clv_base.specs.Undo.{gone_in, pairs_without, aborts_of, clrs_of, newest_lsn, compensation}
 use Rattle.clv_base.specs.OneShard.{closed_in, closing, marked_in, locked, written, performed}
 use Rattle.clv_base.proofs.SameNames.{or_left, or_right, tx_true, tx_self}
 use Rattle.law_base.proofs.Tables.{stage_in, is_pair}
@@ -25,7 +27,7 @@ use Rattle.protocol_laws.proofs.LogsInOrder.OneRecordMore.{push_right, push_case
 use Rattle.shard_laws.proofs.Cuts.MembersRunSerially.{Once}
 use Rattle.shard_laws.proofs.Keeping.ChangesKeepPrepared.{by_prepare, prepare_here}
 use Rattle.shard_laws.proofs.Keeping.WhatOneShardKeeps.{Past, Kept, view_of}
-use Rattle.shard_laws.proofs.Keeping.GrantingKeeps.{Change, log_by}
+use Rattle.shard_laws.proofs.Keeping.GrantingKeeps.{Written, log_by}
 use Rattle.shard_laws.proofs.Order.OperationsKeepOrder.{ordered_performed, lying_performed}
 use Rattle.clv_base.specs.declared.names.Birth.{Birth}
 use Rattle.clv_base.specs.declared.ops.Op.{Op}
@@ -85,7 +87,12 @@ module _ (asked : List TxId) (shard run : ℕ) (locks : Locks) (parts : Table He
     where
       clrs : (ws : List StandingUpdate) → ended_in (clrs_of set ws) t ≡ false
       clrs [] = refl
-      clrs (w ∷ ws) = cond_both (tx_in w.tx set) (Clr w.tx (newest_lsn w.tx ws) w.key w.before ∷ clrs_of set ws) (clrs_of set ws) (λ l. ended_in l t ≡ false) (λ e. clrs ws) (λ e. clrs ws)
+      clrs (w ∷ ws) =
+          cond_both (tx_in w.tx set) (compensation w.tx (newest_lsn w.tx ws) w.key w.change ∷ clrs_of set ws) (clrs_of set ws) (λ l. ended_in l t ≡ false) (λ e. at w.change (clrs ws)) (λ e. clrs ws)
+        where
+          at : (c : Change) → ended_in (clrs_of set ws) t ≡ false → ended_in (compensation w.tx (newest_lsn w.tx ws) w.key c ∷ clrs_of set ws) t ≡ false
+          at (Sets before after) more = more
+          at (Adds by) more = more
 
       aborts : (us : List TxId) → ended_in (map (λ u. Abort u) us ++ clrs_of set (standing log)) t ≡ false
       aborts [] = clrs (standing log)
@@ -193,15 +200,17 @@ module _ (asked : List TxId) (shard run : ℕ) (locks : Locks) (parts : Table He
 
 -- ---- a granted operation
 
-rulings_by : (shard run : ℕ) (requests : Table Request) (log : List LogRecord) (tx : TxId) (w : Change) → Rulings shard run requests log → Rulings shard run requests (log_by tx w log)
+rulings_by : (shard run : ℕ) (requests : Table Request) (log : List LogRecord) (tx : TxId) (w : Written) → Rulings shard run requests log → Rulings shard run requests (log_by tx w log)
 rulings_by shard run requests log tx None r = r
-rulings_by shard run requests log tx (Some w) r = rulings_more shard run requests log (Update tx w.0 w.1 w.2 ∷ []) (λ t. refl) (λ t. refl) r
+rulings_by shard run requests log tx (Some (key, Sets before after)) r = rulings_more shard run requests log (Update tx key before after ∷ []) (λ t. refl) (λ t. refl) r
+rulings_by shard run requests log tx (Some (key, Adds by)) r = rulings_more shard run requests log (Add tx key by ∷ []) (λ t. refl) (λ t. refl) r
 
-asks_by : (asked : List TxId) (run : ℕ) (log : List LogRecord) (tx : TxId) (w : Change) → AskedFirst asked run log → AskedFirst asked run (log_by tx w log)
+asks_by : (asked : List TxId) (run : ℕ) (log : List LogRecord) (tx : TxId) (w : Written) → AskedFirst asked run log → AskedFirst asked run (log_by tx w log)
 asks_by asked run log tx None a = a
-asks_by asked run log tx (Some w) a = asked_more asked run log (Update tx w.0 w.1 w.2 ∷ []) (λ t. refl) a
+asks_by asked run log tx (Some (key, Sets before after)) a = asked_more asked run log (Update tx key before after ∷ []) (λ t. refl) a
+asks_by asked run log tx (Some (key, Adds by)) a = asked_more asked run log (Add tx key by ∷ []) (λ t. refl) a
 
-order_written : (asked : List TxId) (shard run : ℕ) (tx : TxId) (birth : Birth) (op : Op) (l : Local) (requests : Table Request) (w : Change)
+order_written : (asked : List TxId) (shard run : ℕ) (tx : TxId) (birth : Birth) (op : Op) (l : Local) (requests : Table Request) (w : Written)
     → KeepsOrder asked shard run (locked tx birth op l).locks (locked tx birth op l).parts (locked tx birth op l).pairs (log_by tx w l.log) requests
     → KeepsOrder asked shard run (written tx w (locked tx birth op l)).locks (written tx w (locked tx birth op l)).parts (written tx w (locked tx birth op l)).pairs (written tx w (locked tx birth op l)).log requests
 order_written asked shard run tx birth op l requests None k = k
@@ -212,7 +221,7 @@ pub order_performs : (asked : List TxId) (g : Past) (s : Shard) (tx : TxId) (bir
     → KeepsOrder asked s.shard s.run (performed tx birth op s.local).locks (performed tx birth op s.local).parts (performed tx birth op s.local).pairs (performed tx birth op s.local).log s.requests
 order_performs asked g s tx birth op kept k grant may run_is open_ unprepared unaborted unwritten =
     let o = order_of s.shard s.local.log (k.ordered).follows in
-    let w : Change = writes_of op (value_at (key_of op) s.local.records) in
+    let w : Written = writes_of op (value_at (key_of op) s.local.records) in
     order_written asked s.shard s.run tx birth op s.local s.requests (writes_of op (value_at (key_of op) s.local.records)) (record {
       ordered = ordered_performed s.shard s.run g (view_of s) tx birth op kept k.ordered k.lying o grant may run_is open_ unprepared unaborted unwritten;
       lying = lying_performed s.shard s.run g (view_of s) tx birth op kept k.ordered k.lying o grant may run_is open_ unprepared unaborted unwritten;

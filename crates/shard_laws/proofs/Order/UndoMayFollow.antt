@@ -1,14 +1,17 @@
--- The ABORTs and CLRs of a set may follow a log: each that wrote is aborted once, and each CLR compensates the newest write of its key.
-use Rattle.std.proofs.Common.{◌≡◌, ◌⊎◌, inl, inr, ⊎_elim, refl, sym, ap, subst, ◌∙◌, ℕ, suc, true, false, not, List, [], ◌∷◌, ◌++◌, map, Option, Some, None, is_some, ◌==◌, length, ◌+◌, append_assoc, eq-eqb, eqb-true}
-use Rattle.std.specs.List.{AllByRecursion}
-use Rattle.std.proofs.lemmas.Bool.{both_ways, or_cases, cond_both, cond-true, cond-false, and_from, not-true, false_from_ne_true}
+-- The ABORTs, CLRs and UNADDs of a set may follow a log: each that wrote is aborted once, each CLR compensates the newest write of its key,
+-- and over what an UNADD compensates no UPDATE stands.
+use Rattle.std.proofs.Common.{◌≡◌, ◌⊎◌, inl, inr, ⊎_elim, refl, sym, ap, subst, ◌∙◌, ℕ, suc, ◌<◌, Bool, true, false, not, ◌&&◌, ◌||◌, nat_lt, List, [], ◌∷◌, ◌++◌, map, Option, Some, None, is_some, ◌==◌, length, ◌+◌, append_assoc, eq-eqb, eqb-true, arith}
+use Rattle.std.specs.List.{AllByRecursion, list_all}
+use Rattle.std.proofs.lemmas.Bool.{both_ways, or_cases, cond_both, cond-true, cond-false, and_parts, and_from, ltb-true, not-true, false_from_ne_true}
 use Rattle.clv_base.specs.declared.names.TxId.{TxId}
 use Rattle.clv_base.specs.declared.logs.LogRecord.{LogRecord}
-use Rattle.clv_base.specs.declared.logs.LogRecord.TheVariants.{Clr, Abort}
+use Rattle.clv_base.specs.declared.logs.LogRecord.TheVariants.{Abort}
+use Rattle.clv_base.specs.declared.changes.Change.{Change}
+use Rattle.clv_base.specs.declared.changes.Change.TheVariants.{Sets, Adds}
 use Rattle.clv_base.specs.Orders.{tx_same, tx_in}
-use Rattle.clv_base.specs.Logs.{StandingUpdate, standing, standing_from, wrote_in, committed_in, aborted_in, is_update_of, is_commit_of, is_abort_of, newest_of, newest_at, without_newest}
-use Rattle.clv_base.specs.LogRules.{last_restart, same_option, compensates, may_follow}
-use Rattle.clv_base.specs.Undo.{clrs_of, newest_lsn}
+use Rattle.clv_base.specs.Logs.{StandingUpdate, is_setting, standing, standing_after, standing_from, wrote_in, committed_in, aborted_in, is_update_of, is_commit_of, is_abort_of, newest_of, newest_at, without_newest}
+use Rattle.clv_base.specs.LogRules.{last_restart, same_option, lies_below, clears, unadds, compensates, may_follow}
+use Rattle.clv_base.specs.Undo.{clrs_of, compensation, newest_lsn}
 use Rattle.clv_base.proofs.SameNames.{or_left, or_right, tx_true, tx_self, tx_ne, tx_flip}
 use Rattle.law_base.specs.Undone.{stays_of}
 use Rattle.law_base.proofs.Lists.{all_mono, all_push}
@@ -16,7 +19,8 @@ use Rattle.law_base.proofs.Undoing.{Upward, standing_append}
 use Rattle.law_base.proofs.Options.{option_self, optional_value_self}
 use Rattle.protocol_laws.proofs.LogsInOrder.OneRecordMore.{push_right, push_false}
 use Rattle.shard_laws.proofs.Cuts.MembersRunSerially.{Once}
-use Rattle.shard_laws.proofs.Order.RecordByRecord.{Follows, follows_append, last_push}
+use Rattle.protocol_laws.proofs.LogsInOrder.StandingUpdatesLie.{Falling}
+use Rattle.shard_laws.proofs.Order.RecordByRecord.{Follows, Plainly, follows_append, last_push}
 use Rattle.law_base.proofs.Logs.{push_left}
 
 -- ---- ABORTs
@@ -82,53 +86,120 @@ all_drop : (P : StandingUpdate → Type 0) (pre : List StandingUpdate) (w : Stan
 all_drop P [] w ws a = a.1
 all_drop P (v ∷ vs) w ws a = (a.0, all_drop P vs w ws a.1)
 
-apart_keys : (set : List TxId) (pre : List StandingUpdate) (w : StandingUpdate) (ws : List StandingUpdate) → AllByRecursion (λ v. stays_of set v ≡ true) pre → Upward set (pre ++ w ∷ ws) → tx_in w.tx set ≡ true → AllByRecursion (λ v. (w.key == v.key) ≡ false) pre
-apart_keys set [] w ws st up i = tt
-apart_keys set (v ∷ vs) w ws st up i = (
-  false_from_ne_true _ (λ e. both_ways _ (all_in (λ u. u.key ≡ v.key → tx_in u.tx set ≡ false) vs w ws (up.0 (not-true _ st.0)) (eqb-true w.key v.key e)) i),
-  apart_keys set vs w ws st.1 up.1 i,
+-- no write of another lies above an UPDATE of the set, at its key
+apart_keys : (set : List TxId) (pre : List StandingUpdate) (w : StandingUpdate) (ws : List StandingUpdate) → is_setting w.change ≡ true → AllByRecursion (λ v. stays_of set v ≡ true) pre → Upward set (pre ++ w ∷ ws) → tx_in w.tx set ≡ true
+    → AllByRecursion (λ v. (w.key == v.key) ≡ false) pre
+apart_keys set [] w ws sets st up i = tt
+apart_keys set (v ∷ vs) w ws sets st up i = (
+  false_from_ne_true _ (λ e. both_ways _
+      (all_in (λ u. u.key ≡ v.key → (is_setting u.change || is_setting v.change) ≡ true → tx_in u.tx set ≡ false) vs w ws (up.0 (not-true _ st.0)) (eqb-true w.key v.key e) (or_left _ _ sets)) i),
+  apart_keys set vs w ws sets st.1 up.1 i,
 )
 
 upward_drop : (set : List TxId) (pre : List StandingUpdate) (w : StandingUpdate) (ws : List StandingUpdate) → Upward set (pre ++ w ∷ ws) → Upward set (pre ++ ws)
 upward_drop set [] w ws up = up.1
 upward_drop set (v ∷ vs) w ws up = ((λ out. all_drop _ vs w ws (up.0 out)), upward_drop set vs w ws up.1)
 
--- the newest of its key and of its transaction is compensated
-clr_case : (log : List LogRecord) (w : StandingUpdate) (next : Option ℕ) (o : Option StandingUpdate) → o ≡ Some w → newest_at w.key (standing log) ≡ Some w → next ≡ newest_lsn w.tx (without_newest w.tx (standing log))
-    → compensates log w.tx next w.key w.before o ≡ true
-clr_case log w next o e at below = subst (λ z. compensates log w.tx next w.key w.before z ≡ true) (sym e)
-    (and_from _ _ (and_from _ _ (and_from _ _ (eq-eqb w.key w.key refl) (optional_value_self w.before)) (subst (λ z. elim z [ Some v ↦ v.lsn == w.lsn | None ↦ false ] ≡ true) (sym at) (eq-eqb w.lsn w.lsn refl)))
+-- ---- places fall
+
+falling_drop : (pre : List StandingUpdate) (w : StandingUpdate) (ws : List StandingUpdate) → Falling (pre ++ w ∷ ws) → Falling (pre ++ ws)
+falling_drop [] w ws f = f.1
+falling_drop (v ∷ vs) w ws f = (all_drop _ vs w ws f.0, falling_drop vs w ws f.1)
+
+-- ---- no UPDATE stands above an ADD of the set, at its key
+
+module _ (set : List TxId) (w : StandingUpdate) (i : tx_in w.tx set ≡ true) (adds : is_setting w.change ≡ false) where
+  abbrev Under : StandingUpdate → Bool
+  Under v = not (is_setting v.change && lies_below w v)
+
+  not_lower : (v : StandingUpdate) → v.lsn < w.lsn → Under v ≡ true
+  not_lower v low = ap not (false_from_ne_true _ (λ e.
+      let p = and_parts (is_setting v.change) (lies_below w v) e in
+      let q = and_parts ((v.key == w.key) && nat_lt w.lsn v.lsn) (is_setting w.change || is_setting v.change) p.1 in
+      let l = ltb-true w.lsn v.lsn (and_parts (v.key == w.key) (nat_lt w.lsn v.lsn) q.0).1 in
+      omega (arith, l, low)))
+
+  none_lower : (ws : List StandingUpdate) → AllByRecursion (λ v. v.lsn < w.lsn) ws → list_all Under ws ≡ true
+  none_lower [] low = refl
+  none_lower (v ∷ vs) low = and_from _ _ (not_lower v low.0) (none_lower vs low.1)
+
+  none_over : (pre ws : List StandingUpdate) → AllByRecursion (λ v. stays_of set v ≡ true) pre → Upward set (pre ++ w ∷ ws) → Falling (pre ++ w ∷ ws) → list_all Under (pre ++ w ∷ ws) ≡ true
+  none_over [] ws st up fall = and_from _ _ (ap (λ b. not (b && lies_below w w)) adds) (none_lower ws fall.0)
+  none_over (v ∷ vs) ws st up fall =
+      and_from _ _
+      (ap not (false_from_ne_true _ (λ e.
+      let p = and_parts (is_setting v.change) (lies_below w v) e in
+      let q = and_parts ((v.key == w.key) && nat_lt w.lsn v.lsn) (is_setting w.change || is_setting v.change) p.1 in
+      let same : w.key ≡ v.key = sym (eqb-true v.key w.key (and_parts (v.key == w.key) (nat_lt w.lsn v.lsn) q.0).0) in
+      both_ways _ (all_in (λ u. u.key ≡ v.key → (is_setting u.change || is_setting v.change) ≡ true → tx_in u.tx set ≡ false) vs w ws (up.0 (not-true _ st.0)) same (or_right (is_setting w.change) _ p.0)) i)))
+      (none_over vs ws st.1 up.1 fall.1)
+
+-- ---- the newest of its transaction is compensated
+
+undo_case : (test : StandingUpdate → Bool) (log : List LogRecord) (w : StandingUpdate) (next : Option ℕ) (o : Option StandingUpdate) → o ≡ Some w → test w ≡ true → next ≡ newest_lsn w.tx (without_newest w.tx (standing log))
+    → compensates test w.tx next w.key (standing log) o ≡ true
+undo_case test log w next o e t below = subst (λ z. compensates test w.tx next w.key (standing log) z ≡ true) (sym e)
+    (and_from _ _ (and_from _ _ (eq-eqb w.key w.key refl) t)
     (subst (λ z. same_option z (newest_lsn w.tx (without_newest w.tx (standing log))) ≡ true) (sym below) (option_self (newest_lsn w.tx (without_newest w.tx (standing log))))))
 
-clr_may : (shard : ℕ) (set : List TxId) (log : List LogRecord) (pre : List StandingUpdate) (w : StandingUpdate) (ws : List StandingUpdate) → is_some (last_restart log) ≡ true → standing log ≡ pre ++ w ∷ ws → AllByRecursion (λ v. stays_of set v ≡ true) pre
-    → Upward set (pre ++ w ∷ ws) → tx_in w.tx set ≡ true → aborted_in log w.tx ≡ true → may_follow shard log (Clr w.tx (newest_lsn w.tx ws) w.key w.before) ≡ true
-clr_may shard set log pre w ws s e st up i a =
-    let none = none_of set w.tx pre i st in
-    and_from _ _ (and_from _ _ s a)
-    (clr_case log w (newest_lsn w.tx ws) (newest_of w.tx (standing log))
-    (ap (newest_of w.tx) e ∙ newest_skip w.tx pre (w ∷ ws) none ∙ cond-true (tx_same w.tx w.tx) (Some w) (newest_of w.tx ws) (tx_self w.tx))
-    (ap (newest_at w.key) e ∙ at_skip w.key pre (w ∷ ws) (apart_keys set pre w ws st up i) ∙ cond-true (w.key == w.key) (Some w) (newest_at w.key ws) (eq-eqb w.key w.key refl))
-    (ap (λ o. elim o [ Some v ↦ Some v.lsn | None ↦ None ]) (sym (newest_skip w.tx pre ws none)) ∙ ap (newest_lsn w.tx) (sym (ap (without_newest w.tx) e ∙ drop_first w.tx pre w ws none (tx_self w.tx)))))
+undo_may : (shard : ℕ) (set : List TxId) (log : List LogRecord) (pre : List StandingUpdate) (w : StandingUpdate) (ws : List StandingUpdate) → is_some (last_restart log) ≡ true → standing log ≡ pre ++ w ∷ ws → AllByRecursion (λ v. stays_of set v ≡ true) pre
+    → Upward set (pre ++ w ∷ ws) → Falling (pre ++ w ∷ ws) → tx_in w.tx set ≡ true → aborted_in log w.tx ≡ true → (c : Change) → w.change ≡ c → may_follow shard log (compensation w.tx (newest_lsn w.tx ws) w.key c) ≡ true
+undo_may shard set log pre w ws s e st up fall i a c is = at c is
+  where
+    none : AllByRecursion (λ v. tx_same w.tx v.tx ≡ false) pre
+    none = none_of set w.tx pre i st
 
-pub clrs_follow : (shard : ℕ) (set : List TxId) (log : List LogRecord) (pre ws : List StandingUpdate) → is_some (last_restart log) ≡ true → standing log ≡ pre ++ ws → AllByRecursion (λ v. stays_of set v ≡ true) pre → Upward set (pre ++ ws)
+    own : newest_of w.tx (standing log) ≡ Some w
+    own = ap (newest_of w.tx) e ∙ newest_skip w.tx pre (w ∷ ws) none ∙ cond-true (tx_same w.tx w.tx) (Some w) (newest_of w.tx ws) (tx_self w.tx)
+
+    next : newest_lsn w.tx ws ≡ newest_lsn w.tx (without_newest w.tx (standing log))
+    next = ap (λ o. elim o [ Some v ↦ Some v.lsn | None ↦ None ]) (sym (newest_skip w.tx pre ws none)) ∙ ap (newest_lsn w.tx) (sym (ap (without_newest w.tx) e ∙ drop_first w.tx pre w ws none (tx_self w.tx)))
+
+    on_top : is_setting w.change ≡ true → newest_at w.key (standing log) ≡ Some w
+    on_top sets = ap (newest_at w.key) e ∙ at_skip w.key pre (w ∷ ws) (apart_keys set pre w ws sets st up i) ∙ cond-true (w.key == w.key) (Some w) (newest_at w.key ws) (eq-eqb w.key w.key refl)
+
+    at : (c : Change) → w.change ≡ c → may_follow shard log (compensation w.tx (newest_lsn w.tx ws) w.key c) ≡ true
+    at (Sets before after) is =
+        and_from _ _ (and_from _ _ s a)
+        (undo_case (λ u. clears u before (standing log) u.change) log w (newest_lsn w.tx ws) (newest_of w.tx (standing log)) own
+        (subst (λ z. clears w before (standing log) z ≡ true) (sym is)
+        (and_from _ _ (optional_value_self before) (subst (λ z. elim z [ Some v ↦ v.lsn == w.lsn | None ↦ false ] ≡ true) (sym (on_top (ap is_setting is))) (eq-eqb w.lsn w.lsn refl))))
+        next)
+    at (Adds by) is =
+        and_from _ _ (and_from _ _ s a)
+        (undo_case (λ u. unadds u by (standing log) u.change) log w (newest_lsn w.tx ws) (newest_of w.tx (standing log)) own
+        (subst (λ z. unadds w by (standing log) z ≡ true) (sym is)
+        (and_from _ _ (eq-eqb by by refl) (subst (λ l. list_all (λ v. not (is_setting v.change && lies_below w v)) l ≡ true) (sym e) (none_over set w i (ap is_setting is) pre ws st up fall))))
+        next)
+
+pub plainly_compensation : (tx : TxId) (next : Option ℕ) (key : ℕ) (c : Change) → Plainly (compensation tx next key c)
+plainly_compensation tx next key (Sets before after) = tt
+plainly_compensation tx next key (Adds by) = tt
+
+compensated : (n : ℕ) (tx : TxId) (next : Option ℕ) (key : ℕ) (c : Change) (ws : List StandingUpdate) → standing_after n (compensation tx next key c) ws ≡ without_newest tx ws
+compensated n tx next key (Sets before after) ws = refl
+compensated n tx next key (Adds by) ws = refl
+
+pub clrs_follow : (shard : ℕ) (set : List TxId) (log : List LogRecord) (pre ws : List StandingUpdate) → is_some (last_restart log) ≡ true → standing log ≡ pre ++ ws → AllByRecursion (λ v. stays_of set v ≡ true) pre → Upward set (pre ++ ws) → Falling (pre ++ ws)
     → AllByRecursion (λ w. tx_in w.tx set ≡ true → aborted_in log w.tx ≡ true) ws → Follows shard log (clrs_of set ws)
-clrs_follow shard set log pre [] s e st up ab = tt
-clrs_follow shard set log pre (w ∷ ws) s e st up ab =
-    let r : LogRecord = Clr w.tx (newest_lsn w.tx ws) w.key w.before in
-    cond_both (tx_in w.tx set) (Clr w.tx (newest_lsn w.tx ws) w.key w.before ∷ clrs_of set ws) (clrs_of set ws) (Follows shard log)
+clrs_follow shard set log pre [] s e st up fall ab = tt
+clrs_follow shard set log pre (w ∷ ws) s e st up fall ab =
+    let r : LogRecord = compensation w.tx (newest_lsn w.tx ws) w.key w.change in
+    cond_both (tx_in w.tx set) (compensation w.tx (newest_lsn w.tx ws) w.key w.change ∷ clrs_of set ws) (clrs_of set ws) (Follows shard log)
     (λ i. (
-      clr_may shard set log pre w ws s e st up i (ab.0 i),
-      clrs_follow shard set (log ++ r ∷ []) pre ws (ap is_some (last_push log r tt) ∙ s)
-          (standing_append 0 log (r ∷ []) [] ∙ ap (without_newest w.tx) e ∙ drop_first w.tx pre w ws (none_of set w.tx pre i st) (tx_self w.tx)) st (upward_drop set pre w ws up)
-          (all_mono _ _ (λ v h j. push_left (is_abort_of v.tx) log r (h j)) ws ab.1),
+      undo_may shard set log pre w ws s e st up fall i (ab.0 i) w.change refl,
+      clrs_follow shard set (log ++ r ∷ []) pre ws (ap is_some (last_push log r (plainly_compensation w.tx (newest_lsn w.tx ws) w.key w.change)) ∙ s)
+          (standing_append 0 log (r ∷ []) [] ∙ compensated (0 + length log) w.tx (newest_lsn w.tx ws) w.key w.change (standing log) ∙ ap (without_newest w.tx) e ∙ drop_first w.tx pre w ws (none_of set w.tx pre i st) (tx_self w.tx)) st
+          (upward_drop set pre w ws up) (falling_drop pre w ws fall) (all_mono _ _ (λ v h j. push_left (is_abort_of v.tx) log r (h j)) ws ab.1),
     ))
-    (λ i. clrs_follow shard set log (pre ++ w ∷ []) ws s (e ∙ sym (append_assoc pre (w ∷ []) ws)) (all_push _ pre w st (ap not i)) (subst (Upward set) (sym (append_assoc pre (w ∷ []) ws)) up) ab.1)
+    (λ i. clrs_follow shard set log (pre ++ w ∷ []) ws s (e ∙ sym (append_assoc pre (w ∷ []) ws)) (all_push _ pre w st (ap not i)) (subst (Upward set) (sym (append_assoc pre (w ∷ []) ws)) up)
+    (subst Falling (sym (append_assoc pre (w ∷ []) ws)) fall) ab.1)
 
 -- ---- both
 
 pub undo_follows : (shard : ℕ) (log : List LogRecord) (set ts : List TxId) → is_some (last_restart log) ≡ true → Once ts → ((t : TxId) → tx_in t ts ≡ true → (wrote_in log t ≡ true) × (committed_in log t ≡ false) × (aborted_in log t ≡ false))
-    → Upward set (standing log) → AllByRecursion (λ w. tx_in w.tx set ≡ true → (aborted_in log w.tx ≡ true) ⊎ (tx_in w.tx ts ≡ true)) (standing log) → Follows shard log (map (λ t. Abort t) ts ++ clrs_of set (standing log))
-undo_follows shard log set ts s once open_ up ab =
+    → Upward set (standing log) → Falling (standing log) → AllByRecursion (λ w. tx_in w.tx set ≡ true → (aborted_in log w.tx ≡ true) ⊎ (tx_in w.tx ts ≡ true)) (standing log) → Follows shard log (map (λ t. Abort t) ts ++ clrs_of set (standing log))
+undo_follows shard log set ts s once open_ up falls ab =
     follows_append shard log (map (λ t. Abort t) ts) (clrs_of set (standing log)) (aborts_follow shard log ts s once open_)
-    (clrs_follow shard set (log ++ map (λ t. Abort t) ts) [] (standing log) (ap is_some (last_aborted log ts) ∙ s) (standing_aborted log ts) tt up
+    (clrs_follow shard set (log ++ map (λ t. Abort t) ts) [] (standing log) (ap is_some (last_aborted log ts) ∙ s) (standing_aborted log ts) tt up falls
     (all_mono _ _ (λ w h i. aborted_now log ts w.tx (h i)) (standing log) ab))

@@ -1,13 +1,13 @@
 -- In a log in order, under a write of a prepared transaction lie writes of its own, of committed ones, and of those that its PREPARE lists.
-use Rattle.std.proofs.Common.{◌≡◌, ◌⊎◌, inl, inr, ⊎_elim, refl, sym, ap, subst, ◌∙◌, ℕ, ◌+◌, ◌<◌, Bool, true, false, cond, not, ◌&&◌, ◌||◌, List, [], ◌∷◌, ◌++◌, length, Option, Some, None, is_some, ◌==◌, nat_lt, eq-eqb}
+use Rattle.std.proofs.Common.{◌≡◌, ◌⊎◌, inl, inr, ⊎_elim, refl, sym, ap, subst, ◌∙◌, ℕ, ◌+◌, ◌<◌, Bool, true, false, cond, not, ◌&&◌, ◌||◌, List, [], ◌∷◌, ◌++◌, length, Option, Some, None, is_some, ◌==◌, eq-eqb}
 use Rattle.std.specs.List.{AllByRecursion, list_any, list_all}
 use Rattle.std.proofs.lemmas.Bool.{cases_Bool, both_ways, cond_both, or_cases, and_from, not-true, lt-ltb, false_from_ne_true}
 use Rattle.clv_base.specs.declared.names.TxId.{TxId}
 use Rattle.clv_base.specs.declared.logs.LogRecord.{LogRecord}
-use Rattle.clv_base.specs.declared.logs.LogRecord.TheVariants.{Update, Clr, Prepare, Commit, Abort, End, Restart}
+use Rattle.clv_base.specs.declared.logs.LogRecord.TheVariants.{Update, Clr, Prepare, Commit, Abort, End, Restart, Add, Unadd}
 use Rattle.clv_base.specs.Orders.{tx_same, tx_in}
-use Rattle.clv_base.specs.Logs.{StandingUpdate, standing, standing_after, without_newest, committed_in, prepared_in, ended_in, wrote_in, commit_parts, is_prepare_of, is_commit_of, is_end_of, is_update_of, in_doubt, is_winner, aborted_in}
-use Rattle.clv_base.specs.LogRules.{listed_in, may_follow, has_above, last_restart, some_parts}
+use Rattle.clv_base.specs.Logs.{StandingUpdate, is_setting, standing, standing_after, without_newest, committed_in, prepared_in, ended_in, wrote_in, commit_parts, is_prepare_of, is_commit_of, is_end_of, is_update_of, in_doubt, is_winner, aborted_in}
+use Rattle.clv_base.specs.LogRules.{listed_in, may_follow, lies_below, has_above, last_restart, some_parts}
 use Rattle.clv_base.proofs.SameNames.{or_left, or_right, tx_true, tx_self}
 use Rattle.law_base.proofs.Lists.{all_mono, all_both, filter_passes}
 use Rattle.law_base.proofs.Undoing.{standing_append}
@@ -35,7 +35,7 @@ Beneath log t p = (p ≡ t) ⊎ ((committed_in log p ≡ true) ⊎ (tx_in p (lis
 
 abbrev pub LieListed : List LogRecord → List StandingUpdate → Type 0
 LieListed log [] = Unit {0}
-LieListed log (v ∷ vs) = (prepared_in log v.tx ≡ true → AllByRecursion (λ w. w.key ≡ v.key → Beneath log v.tx w.tx) vs) × LieListed log vs
+LieListed log (v ∷ vs) = (prepared_in log v.tx ≡ true → AllByRecursion (λ w. w.key ≡ v.key → (is_setting w.change || is_setting v.change) ≡ true → Beneath log v.tx w.tx) vs) × LieListed log vs
 
 beneath_more : (log : List LogRecord) (r : LogRecord) (t p : TxId) → prepared_in log t ≡ true → Beneath log t p → Beneath (log ++ r ∷ []) t p
 beneath_more log r t p e (inl s) = inl s
@@ -45,7 +45,7 @@ beneath_more log r t p e (inr (inr l)) = inr (inr (ap (tx_in p) (listed_keeps lo
 more_listed : (log : List LogRecord) (r : LogRecord) → ((t : TxId) → is_prepare_of t r ≡ false) → (ws : List StandingUpdate) → LieListed log ws → LieListed (log ++ r ∷ []) ws
 more_listed log r none [] l = tt
 more_listed log r none (v ∷ vs) l = (
-  (λ p. let old : prepared_in log v.tx ≡ true = push_same (is_prepare_of v.tx) log r (none v.tx) ∙ p in all_mono _ _ (λ w h k. beneath_more log r v.tx w.tx old (h k)) vs (l.0 old)),
+  (λ p. let old : prepared_in log v.tx ≡ true = push_same (is_prepare_of v.tx) log r (none v.tx) ∙ p in all_mono _ _ (λ w h k q. beneath_more log r v.tx w.tx old (h k q)) vs (l.0 old)),
   more_listed log r none vs l.1,
 )
 
@@ -59,7 +59,7 @@ module _ (log : List LogRecord) (tx : TxId) (home : ℕ) (ps : List TxId) (first
   abbrev Below : StandingUpdate → Type 0
   Below w = (not (tx_same tx w.tx) && has_above tx w all) ≡ true → (committed_in log w.tx || tx_in w.tx ps) ≡ true
 
-  below : (v w : StandingUpdate) → v.tx ≡ tx → list_any (λ u. tx_same tx u.tx && (u.key == w.key) && nat_lt w.lsn u.lsn) all ≡ true → Below w → Beneath (log ++ Prepare tx home ps ∷ []) v.tx w.tx
+  below : (v w : StandingUpdate) → v.tx ≡ tx → list_any (λ u. tx_same tx u.tx && lies_below w u) all ≡ true → Below w → Beneath (log ++ Prepare tx home ps ∷ []) v.tx w.tx
   below v w e a b =
       ⊎_elim (λ s. inl (sym (tx_true tx w.tx s) ∙ sym e))
       (λ s. ⊎_elim (λ c. inr (inl (committed_keeps log (Prepare tx home ps ∷ []) w.tx c)))
@@ -71,14 +71,14 @@ module _ (log : List LogRecord) (tx : TxId) (home : ℕ) (ps : List TxId) (first
   prepare_listed [] part b fall l = tt
   prepare_listed (v ∷ vs) part b fall l = (head, prepare_listed vs (λ test e. part test (or_right (test v) _ e)) b.1 fall.1 l.1)
     where
-      passes : (w : StandingUpdate) → v.tx ≡ tx → w.lsn < v.lsn → w.key ≡ v.key → (tx_same tx v.tx && (v.key == w.key) && nat_lt w.lsn v.lsn) ≡ true
-      passes w e low k = and_from _ _ (and_from _ _ (subst (λ z. tx_same tx z ≡ true) (sym e) (tx_self tx)) (eq-eqb v.key w.key (sym k))) (lt-ltb w.lsn v.lsn low)
+      passes : (w : StandingUpdate) → v.tx ≡ tx → w.lsn < v.lsn → w.key ≡ v.key → (is_setting w.change || is_setting v.change) ≡ true → (tx_same tx v.tx && lies_below w v) ≡ true
+      passes w e low k q = and_from _ _ (subst (λ z. tx_same tx z ≡ true) (sym e) (tx_self tx)) (and_from _ _ (and_from _ _ (eq-eqb v.key w.key (sym k)) (lt-ltb w.lsn v.lsn low)) q)
 
-      head : prepared_in (log ++ Prepare tx home ps ∷ []) v.tx ≡ true → AllByRecursion (λ w. w.key ≡ v.key → Beneath (log ++ Prepare tx home ps ∷ []) v.tx w.tx) vs
+      head : prepared_in (log ++ Prepare tx home ps ∷ []) v.tx ≡ true → AllByRecursion (λ w. w.key ≡ v.key → (is_setting w.change || is_setting v.change) ≡ true → Beneath (log ++ Prepare tx home ps ∷ []) v.tx w.tx) vs
       head p =
-          ⊎_elim (λ old. all_mono _ _ (λ w h k. beneath_more log (Prepare tx home ps) v.tx w.tx old (h k)) vs (l.0 old))
+          ⊎_elim (λ old. all_mono _ _ (λ w h k q. beneath_more log (Prepare tx home ps) v.tx w.tx old (h k q)) vs (l.0 old))
           (λ new. let e : v.tx ≡ tx = tx_true v.tx tx new in
-          all_mono _ _ (λ w h k. below v w e (part (λ u. tx_same tx u.tx && (u.key == w.key) && nat_lt w.lsn u.lsn) (or_left _ _ (passes w e h.1 k))) h.0) vs (all_both _ _ vs b.1 fall.0))
+          all_mono _ _ (λ w h k q. below v w e (part (λ u. tx_same tx u.tx && lies_below w u) (or_left _ _ (passes w e h.1 k q))) h.0) vs (all_both _ _ vs b.1 fall.0))
           (push_cases (is_prepare_of v.tx) log (Prepare tx home ps) p)
 
 listed_step : (shard : ℕ) (log : List LogRecord) (r : LogRecord) → Order shard log → may_follow shard log r ≡ true → LieListed log (standing log) → LieListed (log ++ r ∷ []) (standing_after (0 + length log) r (standing log))
@@ -93,6 +93,10 @@ listed_step shard log (Commit tx parts) o m l = more_listed log (Commit tx parts
 listed_step shard log (Abort tx) o m l = more_listed log (Abort tx) (λ t. refl) (standing log) l
 listed_step shard log (End tx) o m l = more_listed log (End tx) (λ t. refl) (standing log) l
 listed_step shard log (Restart run epoch) o m l = more_listed log (Restart run epoch) (λ t. refl) (standing log) l
+listed_step shard log (Add tx key by) o m l =
+    let unprepared : prepared_in log tx ≡ false = not-true _ (last _ _ (front _ _ (front _ _ (front _ _ (front _ _ (front _ _ m)))))) in
+    ((λ p. absurd (both_ways _ unprepared (push_same (is_prepare_of tx) log (Add tx key by) refl ∙ p))), more_listed log (Add tx key by) (λ t. refl) (standing log) l)
+listed_step shard log (Unadd tx next key by) o m l = without_listed (log ++ Unadd tx next key by ∷ []) tx (standing log) (more_listed log (Unadd tx next key by) (λ t. refl) (standing log) l)
 
 pub order_of : (shard : ℕ) (log : List LogRecord) → Follows shard [] log → Order shard log
 order_of shard log f = in_order shard log (to_disorder shard 0 [] log f)
@@ -111,8 +115,8 @@ beneath_wins shard log t p d w (inr (inr l)) = list_all_at (λ q. committed_in l
 pub winners_lie : (shard : ℕ) (log : List LogRecord) → Order shard log → (ws : List StandingUpdate) → LieOnThese (committed_in log) ws → LieListed log ws → LieOnThese (is_winner shard log) ws
 winners_lie shard log o [] c l = tt
 winners_lie shard log o (v ∷ vs) c l = (
-  (λ w. ⊎_elim (λ k. all_mono _ _ (λ u h e. or_left _ _ (h e)) vs (c.0 k))
-      (λ i. let d = doubted shard log v.tx o.sealed i in all_mono _ _ (λ u h e. beneath_wins shard log v.tx u.tx d w (h e)) vs (l.0 d.prepared))
+  (λ w. ⊎_elim (λ k. all_mono _ _ (λ u h e q. or_left _ _ (h e q)) vs (c.0 k))
+      (λ i. let d = doubted shard log v.tx o.sealed i in all_mono _ _ (λ u h e q. beneath_wins shard log v.tx u.tx d w (h e q)) vs (l.0 d.prepared))
       (or_cases (committed_in log v.tx) (tx_in v.tx (in_doubt shard log)) w)),
   winners_lie shard log o vs c.1 l.1,
 )
@@ -146,6 +150,9 @@ restart_step shard log (Prepare tx home ps) m old t e = ap is_some (last_push lo
 restart_step shard log (Commit tx parts) m old t e = ap is_some (last_push log (Commit tx parts) tt) ∙ old t (push_same (is_update_of t) log (Commit tx parts) refl ∙ e)
 restart_step shard log (Abort tx) m old t e = ap is_some (last_push log (Abort tx) tt) ∙ old t (push_same (is_update_of t) log (Abort tx) refl ∙ e)
 restart_step shard log (End tx) m old t e = ap is_some (last_push log (End tx) tt) ∙ old t (push_same (is_update_of t) log (End tx) refl ∙ e)
+restart_step shard log (Add tx key by) m old t e =
+    ap is_some (last_push log (Add tx key by) tt) ∙ in_last_some tx (last_restart log) (front _ _ (front _ _ (front _ _ (front _ _ (front _ _ (front _ _ m))))))
+restart_step shard log (Unadd tx next key by) m old t e = ap is_some (last_push log (Unadd tx next key by) tt) ∙ old t (push_same (is_update_of t) log (Unadd tx next key by) refl ∙ e)
 
 pub wrote_restart : (shard : ℕ) (log : List LogRecord) → Follows shard [] log → (t : TxId) → wrote_in log t ≡ true → is_some (last_restart log) ≡ true
 wrote_restart shard log f = through (λ l. (t : TxId) → wrote_in l t ≡ true → is_some (last_restart l) ≡ true) shard [] log tt f (λ t e. absurd (both_ways false refl e)) (λ l r g p m. restart_step shard l r m p)
@@ -238,6 +245,8 @@ commit_step shard log r m old t p c i = push_left (is_commit_of p) log r (at r m
     at (Abort tx) m c i = old t p (was (Abort tx) refl c) (same (Abort tx) refl i)
     at (End tx) m c i = old t p (was (End tx) refl c) (same (End tx) refl i)
     at (Restart run e) m c i = old t p (was (Restart run e) refl c) (same (Restart run e) refl i)
+    at (Add tx k by) m c i = old t p (was (Add tx k by) refl c) (same (Add tx k by) refl i)
+    at (Unadd tx u k by) m c i = old t p (was (Unadd tx u k by) refl c) (same (Unadd tx u k by) refl i)
 
 pub committed_lists : (shard : ℕ) (log : List LogRecord) → Follows shard [] log → (t p : TxId) → committed_in log t ≡ true → tx_in p (listed_in log t) ≡ true → committed_in log p ≡ true
 committed_lists shard log f = through (λ l. (t p : TxId) → committed_in l t ≡ true → tx_in p (listed_in l t) ≡ true → committed_in l p ≡ true) shard [] log tt f (λ t p c i. absurd (both_ways false refl c)) (λ l r g p m. commit_step shard l r m p)
@@ -269,6 +278,8 @@ stands_step log r old t e = ⊎_elim (λ i. inl (subst (λ l. tx_in t (writers l
     at (Abort tx) w = keep (Abort tx) (push_same (is_update_of t) log (Abort tx) refl ∙ w) (λ i. i)
     at (End tx) w = keep (End tx) (push_same (is_update_of t) log (End tx) refl ∙ w) (λ i. i)
     at (Restart run ep) w = keep (Restart run ep) (push_same (is_update_of t) log (Restart run ep) refl ∙ w) (λ i. i)
+    at (Add tx k by) w = ⊎_elim (λ o. keep (Add tx k by) o (λ i. insert_keeps tx t (writers (standing log)) i)) (λ s. inl (subst (λ z. tx_in z (tx_insert tx (writers (standing log))) ≡ true) (sym (tx_true t tx s)) (insert_has tx (writers (standing log))))) (push_cases (is_update_of t) log (Add tx k by) w)
+    at (Unadd tx u k by) w = ⊎_elim (λ s. inr (push_right (is_clr_of t) log (Unadd tx u k by) s)) (λ n. keep (Unadd tx u k by) (push_same (is_update_of t) log (Unadd tx u k by) refl ∙ w) (λ i. without_writers tx t (standing log) n i)) (cases_Bool (tx_same t tx))
 
 pub wrote_stands : (shard : ℕ) (log : List LogRecord) → Follows shard [] log → (t : TxId) → wrote_in log t ≡ true → (tx_in t (writers (standing log)) ≡ true) ⊎ (undone_in log t ≡ true)
 unfolding Stands

@@ -1,28 +1,30 @@
 -- What a log leaves in doubt, as transactions that acted before: their writes run from what the log commits, and lie on those whom their
 -- PREPAREs list, which stand before them.
-use Rattle.std.proofs.Common.{◌≡◌, ◌⊎◌, inl, inr, ⊎_elim, refl, sym, ap, subst, ◌∙◌, ℕ, ◌+◌, ◌<◌, Bool, true, false, cond, ◌||◌, ◌==◌, List, [], ◌∷◌, ◌++◌, length, Option, Some, None, is_some, append-nil, eqb-true}
+use Rattle.std.proofs.Common.{◌≡◌, ◌⊎◌, inl, inr, ⊎_elim, refl, sym, ap, subst, ◌∙◌, ℕ, ◌+◌, ◌<◌, Bool, true, false, cond, not, ◌&&◌, ◌||◌, ◌==◌, List, [], ◌∷◌, ◌++◌, length, Option, Some, None, is_some, append-nil, eqb-true}
 use Rattle.std.specs.List.{AllByRecursion, filter}
 use Rattle.std.proofs.lemmas.Bool.{cases_Bool, both_ways, cond_both, cond-true, cond-false, or_cases, not-true, false_from_ne_true}
 use Rattle.clv_base.specs.declared.values.Value.{Value as ValueType}
 use Rattle.clv_base.specs.declared.names.TxId.{TxId}
-use Rattle.clv_base.specs.declared.ops.Answer.TheVariants.{Value}
+use Rattle.clv_base.specs.declared.ops.Answer.TheVariants.{Value, Added}
+use Rattle.clv_base.specs.declared.changes.Change.{Change}
+use Rattle.clv_base.specs.declared.changes.Change.TheVariants.{Sets, Adds}
 use Rattle.clv_base.specs.declared.logs.LogRecord.{LogRecord}
-use Rattle.clv_base.specs.declared.logs.LogRecord.TheVariants.{Update, Clr, Prepare, Commit, Abort, End, Restart}
+use Rattle.clv_base.specs.declared.logs.LogRecord.TheVariants.{Update, Clr, Prepare, Commit, Abort, End, Restart, Add, Unadd}
 use Rattle.clv_base.specs.Orders.{tx_same, tx_in}
-use Rattle.clv_base.specs.Maps.{KeyMap, map_get, op_answer}
+use Rattle.clv_base.specs.Maps.{KeyMap, map_get, is_number, op_answer}
 use Rattle.clv_base.specs.Needs.{writes_of}
-use Rattle.clv_base.specs.Folding.{meets_key}
-use Rattle.clv_base.specs.Logs.{StandingUpdate, standing, standing_after, committed_in, prepared_in, is_prepare_of}
+use Rattle.clv_base.specs.Folding.{meets_key, adds}
+use Rattle.clv_base.specs.Logs.{StandingUpdate, changed, is_setting, standing, standing_after, committed_in, prepared_in, is_prepare_of}
 use Rattle.clv_base.specs.LogRules.{may_follow, listed_in}
 use Rattle.clv_base.proofs.SameNames.{or_left, or_right, tx_true, tx_flip}
-use Rattle.law_base.specs.Items.{Item, wrote, meets, Runs, after, AllLater, on_top, pile}
-use Rattle.law_base.proofs.Lists.{all_mono, all_push, later_push}
+use Rattle.law_base.specs.Items.{Item, told, wrote, meets, both_add, Runs, after, AllLater, on_top, pile}
+use Rattle.law_base.proofs.Lists.{all_mono, all_push, all_filter, later_push}
 use Rattle.law_base.proofs.Running.{top_value, runs_push, pile_value, pile_push}
-use Rattle.law_base.proofs.Undoing.{Chain, standing_append}
+use Rattle.law_base.proofs.Undoing.{IsOver, Chain, standing_append}
 use Rattle.protocol_laws.specs.Order.{LieOnThese}
 use Rattle.protocol_laws.proofs.LogsInOrder.OneRecordMore.{push_cases}
-use Rattle.shard_laws.specs.OneShard.{found_op, found_item, items_found, prepared_order}
-use Rattle.shard_laws.proofs.Operations.WritesAtEachKey.{key_writes, SameAtKeys, top_at}
+use Rattle.shard_laws.specs.OneShard.{found_op, found_told, found_item, items_found, prepared_order}
+use Rattle.shard_laws.proofs.Operations.WritesAtEachKey.{MaySwap, SameAtKeys, unmoved, behind, twice, keys_past, keys_top}
 use Rattle.shard_laws.proofs.Keeping.WhatOneShardKeeps.{of_kept, place}
 use Rattle.shard_laws.proofs.Keeping.ChangesKeepPrepared.{listed_keeps}
 use Rattle.shard_laws.proofs.Order.RecordByRecord.{Follows, follows_append, through}
@@ -30,14 +32,19 @@ use Rattle.shard_laws.proofs.Order.ChangesKeepOrder.{unlisted}
 use Rattle.shard_laws.proofs.Keeping.ClosingKeeps.{place_in, place_out, place_push}
 use Rattle.shard_laws.proofs.Cuts.MembersRunSerially.{Once, once_push}
 use Rattle.shard_laws.proofs.Order.WritesLieOnListed.{Beneath, LieListed, listed_prepared, lists_others}
+use Rattle.shard_laws.proofs.Restarts.AddsFindNumbers.{OverNumber, FindNumbers, number_over, add_number}
 use Rattle.law_base.proofs.Bools.{and_first as front, and_second as last}
 use Rattle.law_base.proofs.Names.{all_without}
 
--- ---- an UPDATE as an operation
+-- ---- a write as an operation
 
--- a value before or after
+-- an UPDATE has a value before or after
+abbrev pub TellsBy : Change → Type 0
+TellsBy (Sets before after) = (is_some before || is_some after) ≡ true
+TellsBy (Adds by) = Unit {0}
+
 abbrev pub Tells : StandingUpdate → Type 0
-Tells w = (is_some w.before || is_some w.after) ≡ true
+Tells w = TellsBy w.change
 
 tells_step : (shard : ℕ) (log : List LogRecord) (r : LogRecord) → may_follow shard log r ≡ true → AllByRecursion Tells (standing log) → AllByRecursion Tells (standing_after (0 + length log) r (standing log))
 tells_step shard log (Update tx k b a) m old = (last _ _ (front _ _ m), old)
@@ -47,28 +54,60 @@ tells_step shard log (Commit tx ps) m old = old
 tells_step shard log (Abort tx) m old = old
 tells_step shard log (End tx) m old = old
 tells_step shard log (Restart run epoch) m old = old
+tells_step shard log (Add tx k by) m old = (tt, old)
+tells_step shard log (Unadd tx next k by) m old = all_without Tells tx (standing log) old
 
 pub all_tell : (shard : ℕ) (log : List LogRecord) → Follows shard [] log → AllByRecursion Tells (standing log)
 all_tell shard log f = through (λ l. AllByRecursion Tells (standing l)) shard [] log tt f tt (λ l r g p m. subst (AllByRecursion Tells) (sym (standing_append 0 l (r ∷ []) [])) (tells_step shard l r m p))
 
-pub found_wrote : (w : StandingUpdate) → Tells w → wrote (found_item w) ≡ Some (w.key, w.before, w.after)
-found_wrote w e = at w.before w.after e
+pub found_wrote : (w : StandingUpdate) → Tells w → wrote (found_item w) ≡ Some (w.key, w.change)
+found_wrote w e = at w.change e
   where
-    at : (b a : Option ValueType) → (is_some b || is_some a) ≡ true → writes_of (found_op w.key a) b ≡ Some (w.key, b, a)
-    at b (Some v) e = refl
-    at (Some v) None e = refl
-    at None None e = absurd (both_ways false refl e)
+    at : (c : Change) → TellsBy c → writes_of (found_op w.key c) (told (found_told c)) ≡ Some (w.key, c)
+    at (Sets b (Some v)) e = refl
+    at (Sets (Some v) None) e = refl
+    at (Sets None None) e = absurd (both_ways false refl e)
+    at (Adds by) e = refl
 
 pub found_key : (w : StandingUpdate) (k : ℕ) → meets (found_item w) k ≡ true → w.key ≡ k
-found_key w k e = at w.after e
+found_key w k e = at w.change e
   where
-    at : (a : Option ValueType) → meets_key (found_op w.key a) k ≡ true → w.key ≡ k
-    at None e = eqb-true w.key k e
-    at (Some v) e = eqb-true w.key k e
+    at : (c : Change) → meets_key (found_op w.key c) k ≡ true → w.key ≡ k
+    at (Sets b None) e = eqb-true w.key k e
+    at (Sets b (Some v)) e = eqb-true w.key k e
+    at (Adds by) e = eqb-true w.key k e
 
-found_answer : (k : ℕ) (a : Option ValueType) (m : KeyMap) → op_answer (found_op k a) m ≡ Value (map_get k m)
-found_answer k None m = refl
-found_answer k (Some v) m = refl
+-- what a change finds: an UPDATE the value that it names, an ADD a number
+abbrev Finds : Change → Option ValueType → Type 0
+Finds (Sets before after) v = before ≡ v
+Finds (Adds by) v = is_number v ≡ true
+
+found_answer : (k : ℕ) (c : Change) (m : KeyMap) → Finds c (map_get k m) → found_told c ≡ op_answer (found_op k c) m
+found_answer k (Sets b None) m e = ap Value e
+found_answer k (Sets b (Some v)) m e = ap Value e
+found_answer k (Adds by) m e = ap Added (sym e)
+
+find_same : (c : Change) (v u : Option ValueType) → v ≡ u → IsOver c u → OverNumber c u → Finds c v
+find_same (Sets before after) v u e o n = o ∙ sym e
+find_same (Adds by) v u e o n = ap is_number e ∙ n
+
+find_number : (c : Change) (v u : Option ValueType) → is_setting c ≡ false → is_number v ≡ is_number u → OverNumber c u → Finds c v
+find_number (Sets before after) v u a e n = absurd (both_ways true a refl)
+find_number (Adds by) v u a e n = e ∙ n
+
+-- two that don't both add
+found_adds : (k : ℕ) (c : Change) → adds (found_op k c) (found_told c) ≡ not (is_setting c)
+found_adds k (Sets b None) = refl
+found_adds k (Sets b (Some v)) = refl
+found_adds k (Adds by) = refl
+
+one_sets : (w v : StandingUpdate) → both_add (found_item w) (found_item v) ≡ false → (is_setting w.change || is_setting v.change) ≡ true
+one_sets w v e = at (is_setting w.change) (is_setting v.change) (sym (ap (λ b. b && adds (found_op v.key v.change) (found_told v.change)) (found_adds w.key w.change) ∙ ap (λ b. not (is_setting w.change) && b) (found_adds v.key v.change)) ∙ e)
+  where
+    at : (a b : Bool) → (not a && not b) ≡ false → (a || b) ≡ true
+    at true b e = refl
+    at false true e = refl
+    at false false e = absurd (both_ways true e refl)
 
 -- ---- those of all writes
 
@@ -101,89 +140,143 @@ pile_found doubt (w ∷ ws) base t = at (doubt w.tx) (pile_found doubt ws base t
     at true ih = pile_push (items_found doubt ws) (found_item w) base ∙ ap (λ o. on_top w.tx w.lsn o (pile (items_found doubt ws) base)) (found_wrote w t.0) ∙ ap (λ l. w ∷ l) ih
     at false ih = ih
 
--- ---- at each key those in doubt wrote over those that are done
+-- ---- those in doubt wrote over those that are done, but that an ADD may stand over ADDs
 
-pub key_append : (q : ℕ) (xs ys : List StandingUpdate) → key_writes q (xs ++ ys) ≡ key_writes q xs ++ key_writes q ys
-key_append q [] ys = refl
-key_append q (x ∷ xs) ys = at (q == x.key) (key_append q xs ys)
+or_turn : (a b : Bool) → (a || b) ≡ true → (b || a) ≡ true
+or_turn true true e = refl
+or_turn true false e = refl
+or_turn false b e = ⊎_elim (λ h. absurd (both_ways false refl h)) (λ h. or_left b false h) (or_cases false b e)
+
+-- what lies over the same has the same value, or a number as well
+value_over : (k : ℕ) (cs as_ bs : List StandingUpdate) → top_value k as_ ≡ top_value k bs → top_value k (cs ++ as_) ≡ top_value k (cs ++ bs)
+value_over k [] as_ bs e = e
+value_over k (c ∷ cs) as_ bs e = ap (λ v. cond (k == c.key) (changed c.change v) v) (value_over k cs as_ bs e)
+
+numbers_over : (k : ℕ) (cs as_ bs : List StandingUpdate) → is_number (top_value k as_) ≡ is_number (top_value k bs) → is_number (top_value k (cs ++ as_)) ≡ is_number (top_value k (cs ++ bs))
+numbers_over k [] as_ bs e = e
+numbers_over k (c ∷ cs) as_ bs e = at (k == c.key) (numbers_over k cs as_ bs e)
   where
-    at : (b : Bool) → key_writes q (xs ++ ys) ≡ key_writes q xs ++ key_writes q ys → cond b (x ∷ key_writes q (xs ++ ys)) (key_writes q (xs ++ ys)) ≡ cond b (x ∷ key_writes q xs) (key_writes q xs) ++ key_writes q ys
-    at true ih = ap (λ l. x ∷ l) ih
+    at : (b : Bool) → is_number (top_value k (cs ++ as_)) ≡ is_number (top_value k (cs ++ bs))
+        → is_number (cond b (changed c.change (top_value k (cs ++ as_))) (top_value k (cs ++ as_))) ≡ is_number (cond b (changed c.change (top_value k (cs ++ bs))) (top_value k (cs ++ bs)))
+    at true ih = number_over c.change (top_value k (cs ++ as_)) (top_value k (cs ++ bs)) ih
     at false ih = ih
-
-key_top : (q : ℕ) (ws vs : List StandingUpdate) → key_writes q ws ≡ key_writes q vs → top_value q ws ≡ top_value q vs
-key_top q ws vs e = sym (top_at q ws) ∙ ap (top_value q) e ∙ top_at q vs
 
 module _ (done doubt : TxId → Bool) (apart : (t : TxId) → doubt t ≡ true → done t ≡ false) where
   not_doubt : (t : TxId) → done t ≡ true → doubt t ≡ false
   not_doubt t e = false_from_ne_true _ (λ d. both_ways _ (apart t d) e)
 
-  -- where all are done none is in doubt
-  none_there : (q : ℕ) (ws : List StandingUpdate) → AllByRecursion (λ v. v.key ≡ q → done v.tx ≡ true) ws → key_writes q (filter (of_kept doubt) ws) ≡ []
-  none_there q [] a = refl
-  none_there q (w ∷ ws) a = at (doubt w.tx) (q == w.key) refl refl (none_there q ws a.1)
-    where
-      at : (b c : Bool) → doubt w.tx ≡ b → (q == w.key) ≡ c → key_writes q (filter (of_kept doubt) ws) ≡ [] → key_writes q (cond b (w ∷ filter (of_kept doubt) ws) (filter (of_kept doubt) ws)) ≡ []
-      at true true e k ih = absurd (both_ways _ (apart w.tx e) (a.0 (sym (eqb-true q w.key k))))
-      at true false e k ih = cond-false (q == w.key) _ _ k ∙ ih
-      at false c e k ih = ih
+  abbrev Under : StandingUpdate → List StandingUpdate → Type 0
+  Under w ws = AllByRecursion (λ v. v.key ≡ w.key → (is_setting v.change || is_setting w.change) ≡ true → done v.tx ≡ true) ws
+
+  -- those in doubt that lie under one that is done may change places with it
+  past_doubt : (w : StandingUpdate) (ws : List StandingUpdate) → Under w ws → AllByRecursion (λ v. MaySwap w v) (filter (of_kept doubt) ws)
+  past_doubt w ws a =
+      all_mono _ _ (λ v h k. false_from_ne_true _ (λ s. both_ways _ (apart v.tx h.1) (h.0 (sym k) (or_turn (is_setting w.change) (is_setting v.change) s)))) (filter (of_kept doubt) ws) (all_filter _ (of_kept doubt) ws a)
 
   pub keys_split : (ws : List StandingUpdate) → LieOnThese done ws → SameAtKeys (filter (of_kept (λ t. done t || doubt t)) ws) (filter (of_kept doubt) ws ++ filter (of_kept done) ws)
-  keys_split [] l q = refl
-  keys_split (w ∷ ws) l q =
-      at (filter (of_kept (λ t. done t || doubt t)) ws) (filter (of_kept doubt) ws) (filter (of_kept done) ws) (done w.tx) (doubt w.tx) refl refl
-      (λ e k. none_there q ws (all_mono _ _ (λ v h f. h (f ∙ eqb-true q w.key k)) ws (l.0 e))) (keys_split ws l.1 q)
+  keys_split [] l = unmoved
+  keys_split (w ∷ ws) l = at (done w.tx) (doubt w.tx) refl refl (λ e. past_doubt w ws (l.0 e)) (keys_split ws l.1)
     where
-      over : (as_ bs cs : List StandingUpdate) (c : Bool) → (q == w.key) ≡ c → (c ≡ true → key_writes q bs ≡ []) → key_writes q as_ ≡ key_writes q bs ++ key_writes q cs → cond c (w ∷ key_writes q as_) (key_writes q as_) ≡ key_writes q bs ++ cond c (w ∷ key_writes q cs) (key_writes q cs)
-      over as_ bs cs true k none ih = ap (λ z. w ∷ z) (ih ∙ ap (λ z. z ++ key_writes q cs) (none refl)) ∙ ap (λ z. z ++ w ∷ key_writes q cs) (sym (none refl))
-      over as_ bs cs false k none ih = ih
-
-      at : (as_ bs cs : List StandingUpdate) (b c : Bool) → done w.tx ≡ b → doubt w.tx ≡ c → (b ≡ true → (q == w.key) ≡ true → key_writes q bs ≡ []) → key_writes q as_ ≡ key_writes q (bs ++ cs) → key_writes q (cond (b || c) (w ∷ as_) as_) ≡ key_writes q (cond c (w ∷ bs) bs ++ cond b (w ∷ cs) cs)
-      at as_ bs cs true true e d none ih = absurd (both_ways _ (apart w.tx d) e)
-      at as_ bs cs true false e d none ih = over as_ bs cs (q == w.key) refl (none refl) (ih ∙ key_append q bs cs) ∙ sym (key_append q bs (w ∷ cs))
-      at as_ bs cs false true e d none ih = ap (λ z. cond (q == w.key) (w ∷ z) z) ih
-      at as_ bs cs false false e d none ih = ih
+      at : (b c : Bool) → done w.tx ≡ b → doubt w.tx ≡ c → (done w.tx ≡ true → AllByRecursion (λ v. MaySwap w v) (filter (of_kept doubt) ws))
+          → SameAtKeys (filter (of_kept (λ t. done t || doubt t)) ws) (filter (of_kept doubt) ws ++ filter (of_kept done) ws)
+          → SameAtKeys (cond (b || c) (w ∷ filter (of_kept (λ t. done t || doubt t)) ws) (filter (of_kept (λ t. done t || doubt t)) ws))
+          (cond c (w ∷ filter (of_kept doubt) ws) (filter (of_kept doubt) ws) ++ cond b (w ∷ filter (of_kept done) ws) (filter (of_kept done) ws))
+      at true true e d past ih = absurd (both_ways _ (apart w.tx d) e)
+      at true false e d past ih = twice (behind w ih) (keys_past w (filter (of_kept doubt) ws) (filter (of_kept done) ws) (past e))
+      at false true e d past ih = behind w ih
+      at false false e d past ih = ih
 
   -- the writes of those in doubt run from a map of those that are done
   module _ (start : KeyMap) (base : List StandingUpdate) (start_is : (q : ℕ) → map_get q start ≡ top_value q base) where
-    -- the base holds what these hold of those that are done, or none in doubt wrote the key
-    abbrev Based : List StandingUpdate → ℕ → Type 0
-    Based ws q = (key_writes q base ≡ key_writes q (filter (of_kept done) ws)) ⊎ AllByRecursion (λ w. w.key ≡ q → doubt w.tx ≡ false) ws
+    -- those in doubt only added at the key, or wrote nothing there
+    abbrev DoubtAdds : List StandingUpdate → ℕ → Type 0
+    DoubtAdds ws q = AllByRecursion (λ w. w.key ≡ q → doubt w.tx ≡ true → is_setting w.change ≡ false) ws
 
-    based_below : (w : StandingUpdate) (ws : List StandingUpdate) (q : ℕ) → (done w.tx ≡ true → AllByRecursion (λ v. v.key ≡ w.key → done v.tx ≡ true) ws) → Based (w ∷ ws) q → Based ws q
-    based_below w ws q l (inr none) = inr none.1
-    based_below w ws q l (inl same) = at (done w.tx) (q == w.key) refl refl same
+    abbrev NoDoubt : List StandingUpdate → ℕ → Type 0
+    NoDoubt ws q = AllByRecursion (λ w. w.key ≡ q → doubt w.tx ≡ false) ws
+
+    -- the base has the value that these have of those that are done; or those in doubt only added there, and both or neither have a number; or
+    -- none in doubt wrote the key
+    abbrev Based : List StandingUpdate → ℕ → Type 0
+    Based ws q =
+        (top_value q base ≡ top_value q (filter (of_kept done) ws))
+        ⊎ (((is_number (top_value q base) ≡ is_number (top_value q (filter (of_kept done) ws))) × DoubtAdds ws q) ⊎ NoDoubt ws q)
+
+    based_same : (w : StandingUpdate) (ws : List StandingUpdate) (q : ℕ) → top_value q (filter (of_kept done) (w ∷ ws)) ≡ top_value q (filter (of_kept done) ws) → Based (w ∷ ws) q → Based ws q
+    based_same w ws q e (inl s) = inl (s ∙ e)
+    based_same w ws q e (inr (inl s)) = inr (inl (s.0 ∙ ap is_number e, s.1.1))
+    based_same w ws q e (inr (inr n)) = inr (inr n.1)
+
+    based_add : (w : StandingUpdate) (ws : List StandingUpdate) (q : ℕ) → is_number (top_value q (filter (of_kept done) (w ∷ ws))) ≡ is_number (top_value q (filter (of_kept done) ws)) → DoubtAdds ws q → Based (w ∷ ws) q → Based ws q
+    based_add w ws q e a (inl s) = inr (inl (ap is_number s ∙ e, a))
+    based_add w ws q e a (inr (inl s)) = inr (inl (s.0 ∙ e, a))
+    based_add w ws q e a (inr (inr n)) = inr (inr n.1)
+
+    based_below : (w : StandingUpdate) (ws : List StandingUpdate) (q : ℕ) → (done w.tx ≡ true → Under w ws) → Based (w ∷ ws) q → Based ws q
+    based_below w ws q l b = at (done w.tx) (q == w.key) (is_setting w.change) refl refl refl
       where
-        at : (b c : Bool) → done w.tx ≡ b → (q == w.key) ≡ c → key_writes q base ≡ key_writes q (cond b (w ∷ filter (of_kept done) ws) (filter (of_kept done) ws)) → Based ws q
-        at true true e k s = inr (all_mono _ _ (λ v h f. not_doubt v.tx (h (f ∙ eqb-true q w.key k))) ws (l e))
-        at true false e k s = inl (s ∙ cond-false (q == w.key) _ _ k)
-        at false c e k s = inl s
+        under : done w.tx ≡ true → (q == w.key) ≡ true → AllByRecursion (λ v. v.key ≡ q → (is_setting v.change || is_setting w.change) ≡ true → done v.tx ≡ true) ws
+        under e k = all_mono _ _ (λ v h f. h (f ∙ eqb-true q w.key k)) ws (l e)
+
+        at : (c k s : Bool) → done w.tx ≡ c → (q == w.key) ≡ k → is_setting w.change ≡ s → Based ws q
+        at false k s e f a = based_same w ws q (ap (λ z. top_value q (cond z (w ∷ filter (of_kept done) ws) (filter (of_kept done) ws))) e) b
+        at true false s e f a =
+            based_same w ws q
+            (ap (λ z. top_value q (cond z (w ∷ filter (of_kept done) ws) (filter (of_kept done) ws))) e
+            ∙ cond-false (q == w.key) (changed w.change (top_value q (filter (of_kept done) ws))) (top_value q (filter (of_kept done) ws)) f)
+            b
+        at true true true e f a = inr (inr (all_mono _ _ (λ v h k. not_doubt v.tx (h k (or_right (is_setting v.change) _ a))) ws (under e f)))
+        at true true false e f a =
+            based_add w ws q
+            (ap (λ z. is_number (top_value q (cond z (w ∷ filter (of_kept done) ws) (filter (of_kept done) ws)))) e
+            ∙ add_number w.change (q == w.key) (top_value q (filter (of_kept done) ws)) a)
+            (all_mono _ _ (λ v h k d. false_from_ne_true _ (λ s. both_ways _ (apart v.tx d) (h k (or_left _ (is_setting w.change) s)))) ws (under e f)) b
+
+    abbrev both : TxId → Bool
+    both t = done t || doubt t
 
     chain_rest : (b : Bool) (w : StandingUpdate) (ws : List StandingUpdate) → Chain (cond b (w ∷ ws) ws) → Chain ws
     chain_rest true w ws c = c.1
     chain_rest false w ws c = c
 
-    pub runs_found : (ws : List StandingUpdate) → AllByRecursion Tells ws → Chain (filter (of_kept (λ t. done t || doubt t)) ws) → LieOnThese done ws → ((q : ℕ) → Based ws q) → Runs start (items_found doubt ws)
-    runs_found [] tells chain lie based = tt
-    runs_found (w ∷ ws) tells chain lie based =
-        let rest : Runs start (items_found doubt ws) = runs_found ws tells.1 (chain_rest (done w.tx || doubt w.tx) w (filter (of_kept (λ t. done t || doubt t)) ws) chain) lie.1 (λ q. based_below w ws q lie.0 (based q)) in
-        cond_both (doubt w.tx) (items_found doubt ws ++ found_item w ∷ []) (items_found doubt ws) (Runs start) (λ d. runs_push (items_found doubt ws) (found_item w) start rest (answers rest d)) (λ d. rest)
+    numbers_rest : (b : Bool) (w : StandingUpdate) (ws : List StandingUpdate) → FindNumbers (cond b (w ∷ ws) ws) → FindNumbers ws
+    numbers_rest true w ws c = c.1
+    numbers_rest false w ws c = c
+
+    pub runs_found : (ws : List StandingUpdate) → AllByRecursion Tells ws → Chain (filter (of_kept (λ t. done t || doubt t)) ws) → FindNumbers (filter (of_kept (λ t. done t || doubt t)) ws) → LieOnThese done ws → ((q : ℕ) → Based ws q)
+        → Runs start (items_found doubt ws)
+    runs_found [] tells chain numbers lie based = tt
+    runs_found (w ∷ ws) tells chain numbers lie based =
+        let rest : Runs start (items_found doubt ws) = runs_found ws tells.1 (chain_rest (both w.tx) w (filter (of_kept both) ws) chain) (numbers_rest (both w.tx) w (filter (of_kept both) ws) numbers) lie.1 (λ q. based_below w ws q lie.0 (based q)) in
+        cond_both (doubt w.tx) (items_found doubt ws ++ found_item w ∷ []) (items_found doubt ws) (Runs start)
+        (λ d. runs_push (items_found doubt ws) (found_item w) start rest (found_answer w.key w.change (after start (items_found doubt ws)) (finds rest d (based w.key)))) (λ d. rest)
       where
-        same_base : doubt w.tx ≡ true → Based (w ∷ ws) w.key → key_writes w.key base ≡ key_writes w.key (filter (of_kept done) ws)
-        same_base d (inr none) = absurd (both_ways _ (none.0 refl) d)
-        same_base d (inl same) = same ∙ ap (key_writes w.key) (cond-false (done w.tx) _ _ (apart w.tx d))
+        there : doubt w.tx ≡ true → cond (both w.tx) (w ∷ filter (of_kept both) ws) (filter (of_kept both) ws) ≡ w ∷ filter (of_kept both) ws
+        there d = cond-true (both w.tx) (w ∷ filter (of_kept both) ws) (filter (of_kept both) ws) (or_right (done w.tx) (doubt w.tx) d)
 
-        before_is : doubt w.tx ≡ true → w.before ≡ top_value w.key (filter (of_kept (λ t. done t || doubt t)) ws)
-        before_is d = (subst Chain (cond-true (done w.tx || doubt w.tx) (w ∷ filter (of_kept (λ t. done t || doubt t)) ws) _ (or_right (done w.tx) (doubt w.tx) d)) chain).0
+        over : doubt w.tx ≡ true → IsOver w.change (top_value w.key (filter (of_kept both) ws))
+        over d = (subst Chain (there d) chain).0
 
-        answers : Runs start (items_found doubt ws) → doubt w.tx ≡ true → Value w.before ≡ op_answer (found_op w.key w.after) (after start (items_found doubt ws))
-        answers rest d =
-            ap Value (before_is d
-            ∙ key_top w.key (filter (of_kept (λ t. done t || doubt t)) ws) (filter (of_kept doubt) ws ++ base)
-            (keys_split ws lie.1 w.key ∙ key_append w.key (filter (of_kept doubt) ws) (filter (of_kept done) ws) ∙ ap (λ l. key_writes w.key (filter (of_kept doubt) ws) ++ l) (sym (same_base d (based w.key))) ∙ sym (key_append w.key (filter (of_kept doubt) ws) base))
-            ∙ ap (top_value w.key) (sym (pile_found doubt ws base tells.1))
-            ∙ sym (pile_value (items_found doubt ws) start base w.key rest (start_is w.key)))
-            ∙ sym (found_answer w.key w.after (after start (items_found doubt ws)))
+        number : doubt w.tx ≡ true → OverNumber w.change (top_value w.key (filter (of_kept both) ws))
+        number d = (subst FindNumbers (there d) numbers).0
+
+        value_now : Runs start (items_found doubt ws) → map_get w.key (after start (items_found doubt ws)) ≡ top_value w.key (filter (of_kept doubt) ws ++ base)
+        value_now rest = pile_value (items_found doubt ws) start base w.key rest (start_is w.key) ∙ ap (top_value w.key) (pile_found doubt ws base tells.1)
+
+        split : top_value w.key (filter (of_kept doubt) ws ++ filter (of_kept done) ws) ≡ top_value w.key (filter (of_kept both) ws)
+        split = sym (keys_top (filter (of_kept both) ws) (filter (of_kept doubt) ws ++ filter (of_kept done) ws) w.key (keys_split ws lie.1))
+
+        skipped : doubt w.tx ≡ true → top_value w.key (filter (of_kept done) (w ∷ ws)) ≡ top_value w.key (filter (of_kept done) ws)
+        skipped d = ap (λ z. top_value w.key (cond z (w ∷ filter (of_kept done) ws) (filter (of_kept done) ws))) (apart w.tx d)
+
+        finds : Runs start (items_found doubt ws) → doubt w.tx ≡ true → Based (w ∷ ws) w.key → Finds w.change (map_get w.key (after start (items_found doubt ws)))
+        finds rest d (inl s) =
+            find_same w.change (map_get w.key (after start (items_found doubt ws))) (top_value w.key (filter (of_kept both) ws))
+            (value_now rest ∙ value_over w.key (filter (of_kept doubt) ws) base (filter (of_kept done) ws) (s ∙ skipped d) ∙ split) (over d) (number d)
+        finds rest d (inr (inl s)) =
+            find_number w.change (map_get w.key (after start (items_found doubt ws))) (top_value w.key (filter (of_kept both) ws)) (s.1.0 refl d)
+            (ap is_number (value_now rest) ∙ numbers_over w.key (filter (of_kept doubt) ws) base (filter (of_kept done) ws) (s.0 ∙ ap is_number (skipped d)) ∙ ap is_number split) (number d)
+        finds rest d (inr (inr n)) = absurd (both_ways _ (n.0 refl) d)
 
 -- ---- the order of PREPAREs
 
@@ -200,6 +293,8 @@ order_append doubt (Commit tx ps ∷ rs) ys = order_append doubt rs ys
 order_append doubt (Abort tx ∷ rs) ys = order_append doubt rs ys
 order_append doubt (End tx ∷ rs) ys = order_append doubt rs ys
 order_append doubt (Restart run epoch ∷ rs) ys = order_append doubt rs ys
+order_append doubt (Add tx k by ∷ rs) ys = order_append doubt rs ys
+order_append doubt (Unadd tx u k by ∷ rs) ys = order_append doubt rs ys
 
 pub order_has : (doubt : TxId → Bool) (log : List LogRecord) (t : TxId) → prepared_in log t ≡ true → doubt t ≡ true → tx_in t (prepared_order doubt log) ≡ true
 order_has doubt [] t p d = absurd (both_ways false refl p)
@@ -214,6 +309,8 @@ order_has doubt (Commit tx ps ∷ rs) t p d = order_has doubt rs t p d
 order_has doubt (Abort tx ∷ rs) t p d = order_has doubt rs t p d
 order_has doubt (End tx ∷ rs) t p d = order_has doubt rs t p d
 order_has doubt (Restart run epoch ∷ rs) t p d = order_has doubt rs t p d
+order_has doubt (Add tx k by ∷ rs) t p d = order_has doubt rs t p d
+order_has doubt (Unadd tx u k by ∷ rs) t p d = order_has doubt rs t p d
 
 order_out : (doubt : TxId → Bool) (log : List LogRecord) (t : TxId) → prepared_in log t ≡ false → tx_in t (prepared_order doubt log) ≡ false
 order_out doubt [] t p = refl
@@ -233,41 +330,45 @@ order_out doubt (Commit tx ps ∷ rs) t p = order_out doubt rs t p
 order_out doubt (Abort tx ∷ rs) t p = order_out doubt rs t p
 order_out doubt (End tx ∷ rs) t p = order_out doubt rs t p
 order_out doubt (Restart run epoch ∷ rs) t p = order_out doubt rs t p
+order_out doubt (Add tx k by ∷ rs) t p = order_out doubt rs t p
+order_out doubt (Unadd tx u k by ∷ rs) t p = order_out doubt rs t p
 
 -- a record more adds its own transaction where it is a new PREPARE, or none
-data Adds (doubt : TxId → Bool) (log : List LogRecord) : LogRecord → List TxId → Type 0 where
-  one : (tx : TxId) (home : ℕ) (ps : List TxId) → prepared_in log tx ≡ false → Adds doubt log (Prepare tx home ps) (tx ∷ [])
-  none : (r : LogRecord) → Adds doubt log r []
+data Joins (doubt : TxId → Bool) (log : List LogRecord) : LogRecord → List TxId → Type 0 where
+  one : (tx : TxId) (home : ℕ) (ps : List TxId) → prepared_in log tx ≡ false → Joins doubt log (Prepare tx home ps) (tx ∷ [])
+  none : (r : LogRecord) → Joins doubt log r []
 
-adds : (shard : ℕ) (doubt : TxId → Bool) (log : List LogRecord) (r : LogRecord) → may_follow shard log r ≡ true → Adds doubt log r (prepared_order doubt (r ∷ []))
-adds shard doubt log (Prepare tx home ps) m =
-    cond_both (doubt tx) (tx ∷ []) [] (Adds doubt log (Prepare tx home ps)) (λ e. one tx home ps (not-true _ (last _ _ (front _ _ (front _ _ (front _ _ (front _ _ m))))))) (λ e. none (Prepare tx home ps))
-adds shard doubt log (Update tx k b a) m = none (Update tx k b a)
-adds shard doubt log (Clr tx u k a) m = none (Clr tx u k a)
-adds shard doubt log (Commit tx ps) m = none (Commit tx ps)
-adds shard doubt log (Abort tx) m = none (Abort tx)
-adds shard doubt log (End tx) m = none (End tx)
-adds shard doubt log (Restart run epoch) m = none (Restart run epoch)
+joins : (shard : ℕ) (doubt : TxId → Bool) (log : List LogRecord) (r : LogRecord) → may_follow shard log r ≡ true → Joins doubt log r (prepared_order doubt (r ∷ []))
+joins shard doubt log (Prepare tx home ps) m =
+    cond_both (doubt tx) (tx ∷ []) [] (Joins doubt log (Prepare tx home ps)) (λ e. one tx home ps (not-true _ (last _ _ (front _ _ (front _ _ (front _ _ (front _ _ m))))))) (λ e. none (Prepare tx home ps))
+joins shard doubt log (Update tx k b a) m = none (Update tx k b a)
+joins shard doubt log (Clr tx u k a) m = none (Clr tx u k a)
+joins shard doubt log (Commit tx ps) m = none (Commit tx ps)
+joins shard doubt log (Abort tx) m = none (Abort tx)
+joins shard doubt log (End tx) m = none (End tx)
+joins shard doubt log (Restart run epoch) m = none (Restart run epoch)
+joins shard doubt log (Add tx k by) m = none (Add tx k by)
+joins shard doubt log (Unadd tx u k by) m = none (Unadd tx u k by)
 
-once_step : (doubt : TxId → Bool) (log : List LogRecord) (r : LogRecord) (more : List TxId) → Adds doubt log r more → Once (prepared_order doubt log) → Once (prepared_order doubt log ++ more)
+once_step : (doubt : TxId → Bool) (log : List LogRecord) (r : LogRecord) (more : List TxId) → Joins doubt log r more → Once (prepared_order doubt log) → Once (prepared_order doubt log ++ more)
 once_step doubt log _ _ (one tx home ps new) o = once_push (prepared_order doubt log) tx o (order_out doubt log tx new)
 once_step doubt log _ _ (none r) o = subst Once (sym (append-nil (prepared_order doubt log))) o
 
 pub order_once : (shard : ℕ) (doubt : TxId → Bool) (log : List LogRecord) → Follows shard [] log → Once (prepared_order doubt log)
 order_once shard doubt log f = through (λ l. Once (prepared_order doubt l)) shard [] log tt f tt
-    (λ l r g o m. subst Once (sym (order_append doubt l (r ∷ []))) (once_step doubt l r (prepared_order doubt (r ∷ [])) (adds shard doubt l r m) o))
+    (λ l r g o m. subst Once (sym (order_append doubt l (r ∷ []))) (once_step doubt l r (prepared_order doubt (r ∷ [])) (joins shard doubt l r m) o))
 
 -- whom a PREPARE lists stands before
 abbrev StandBefore : (TxId → Bool) → List LogRecord → Type 0
 StandBefore doubt log = (t p : TxId) → tx_in p (listed_in log t) ≡ true → doubt t ≡ true → doubt p ≡ true → place (prepared_order doubt log) p < place (prepared_order doubt log) t
 
-place_more : (doubt : TxId → Bool) (log : List LogRecord) (r : LogRecord) (more : List TxId) (p t : TxId) → Adds doubt log r more → place (prepared_order doubt log) p < place (prepared_order doubt log) t → place (prepared_order doubt log ++ more) p < place (prepared_order doubt log ++ more) t
+place_more : (doubt : TxId → Bool) (log : List LogRecord) (r : LogRecord) (more : List TxId) (p t : TxId) → Joins doubt log r more → place (prepared_order doubt log) p < place (prepared_order doubt log) t → place (prepared_order doubt log ++ more) p < place (prepared_order doubt log ++ more) t
 place_more doubt log _ _ p t (one tx home ps new) l = place_push (prepared_order doubt log) tx p t l
 place_more doubt log _ _ p t (none r) l = subst (λ z. place z p < place z t) (sym (append-nil (prepared_order doubt log))) l
 
 before_step : (shard : ℕ) (doubt : TxId → Bool) (log : List LogRecord) (r : LogRecord) → Follows shard [] log → may_follow shard log r ≡ true → StandBefore doubt log → StandBefore doubt (log ++ r ∷ [])
 before_step shard doubt log r g m old t p i dt dp =
-    subst (λ z. place z p < place z t) (sym (order_append doubt log (r ∷ []))) (place_more doubt log r (prepared_order doubt (r ∷ [])) p t (adds shard doubt log r m) (⊎_elim (λ a. was a) (λ a. new a) (cases_Bool (prepared_in log t))))
+    subst (λ z. place z p < place z t) (sym (order_append doubt log (r ∷ []))) (place_more doubt log r (prepared_order doubt (r ∷ [])) p t (joins shard doubt log r m) (⊎_elim (λ a. was a) (λ a. new a) (cases_Bool (prepared_in log t))))
   where
     whole : Follows shard [] (log ++ r ∷ [])
     whole = follows_append shard [] log (r ∷ []) g (m, tt)
@@ -294,9 +395,9 @@ listed_before shard doubt log f = through (StandBefore doubt) shard [] log tt f 
 
 -- ---- what lies under a write of one in doubt
 
--- it is its own, or of another in doubt that its PREPARE lists
+-- it is its own, or of another in doubt that its PREPARE lists, or both add
 abbrev pub UnderFound : List LogRecord → (TxId → Bool) → Item → Item → Type 0
-UnderFound log doubt x y = (k : ℕ) → meets x k ≡ true → meets y k ≡ true → (x.tx ≡ y.tx) ⊎ ((tx_in x.tx (listed_in log y.tx) ≡ true) × (doubt x.tx ≡ true) × (doubt y.tx ≡ true))
+UnderFound log doubt x y = (k : ℕ) → meets x k ≡ true → meets y k ≡ true → both_add x y ≡ false → (x.tx ≡ y.tx) ⊎ ((tx_in x.tx (listed_in log y.tx) ≡ true) × (doubt x.tx ≡ true) × (doubt y.tx ≡ true))
 
 pub under_found : (log : List LogRecord) (doubt : TxId → Bool) → ((t : TxId) → doubt t ≡ true → (prepared_in log t ≡ true) × (committed_in log t ≡ false)) → (ws : List StandingUpdate) → LieListed log ws → AllLater (UnderFound log doubt) (items_found doubt ws)
 under_found log doubt open_ ws l = found_later (UnderFound log doubt) doubt ws (below ws l)
@@ -311,9 +412,9 @@ under_found log doubt open_ ws l = found_later (UnderFound log doubt) doubt ws (
     below (v ∷ vs) l = (at (doubt v.tx) refl, below vs l.1)
       where
         at : (b : Bool) → doubt v.tx ≡ b → AllByRecursion (λ w. doubt v.tx ≡ true → doubt w.tx ≡ true → UnderFound log doubt (found_item w) (found_item v)) vs
-        at true d = all_mono _ _ (λ w h a e k x y. lies v w a e (h (found_key w k x ∙ sym (found_key v k y)))) vs (l.0 (open_ v.tx d).0)
+        at true d = all_mono _ _ (λ w h a e k x y n. lies v w a e (h (found_key w k x ∙ sym (found_key v k y)) (one_sets w v n))) vs (l.0 (open_ v.tx d).0)
         at false d = none vs
           where
             none : (us : List StandingUpdate) → AllByRecursion (λ w. doubt v.tx ≡ true → doubt w.tx ≡ true → UnderFound log doubt (found_item w) (found_item v)) us
             none [] = tt
-            none (u ∷ us) = ((λ a e k x y. absurd (both_ways _ d a)), none us)
+            none (u ∷ us) = ((λ a e k x y n. absurd (both_ways _ d a)), none us)

@@ -25,8 +25,7 @@ use Rattle.clv_base.specs.State.{is_present}
 use Rattle.clv_base.proofs.SameNames.{or_left}
 use Rattle.law_base.specs.Items.{Item, writes, Runs, AllLater, Reaches, pile}
 use Rattle.law_base.proofs.Lists.{all_mono, later_mono}
-use Rattle.law_base.proofs.Running.{top_value}
-use Rattle.law_base.proofs.Undoing.{write_met}
+use Rattle.law_base.proofs.Running.{top_value, write_met}
 use Rattle.law_base.proofs.Tables.{stage_in, is_pair}
 use Rattle.law_base.proofs.Commits.{commit_durable}
 use Rattle.law_base.proofs.Sets.{filter_in, list_all_at}
@@ -35,7 +34,7 @@ use Rattle.protocol_laws.proofs.LogsInOrder.RunsAreOfRestarts.{record_fits}
 use Rattle.protocol_laws.proofs.LogsInOrder.StandingUpdatesLie.{chain_kept}
 use Rattle.protocol_laws.proofs.LogsInOrder.{Order, in_order, undone_open}
 use Rattle.shard_laws.specs.OneShard.{MayServe, is_doomed, found_items, found_asked, found_met}
-use Rattle.shard_laws.proofs.Operations.WritesAtEachKey.{SameAtKeys, key_writes}
+use Rattle.shard_laws.proofs.Operations.WritesAtEachKey.{SameAtKeys, keys_by}
 use Rattle.shard_laws.proofs.Keeping.WhatOneShardKeeps.{Past, is_alive, place}
 use Rattle.shard_laws.proofs.Events.DueKeeps.{part_same, Sound}
 use Rattle.shard_laws.proofs.Cuts.WhatCutsHold.{of_kept, fold_alike, fold_values}
@@ -53,6 +52,8 @@ use Rattle.shard_laws.proofs.Restarts.RestoredRequestsAndPairs.{requests_none, u
 use Rattle.shard_laws.proofs.Restarts.WinnersKeepTheirWrites.{Restarted, of_whole}
 use Rattle.shard_laws.proofs.Restarts.RecordsAfterRestart.{whole_log, committed_remade, values_remade, rises_remade, wrote_remade}
 use Rattle.shard_laws.proofs.Restarts.RestartsKeep.{state_with, restored_committed, IsCommitted}
+use Rattle.protocol_laws.specs.Order.{LieOnThese}
+use Rattle.shard_laws.proofs.Restarts.AddsFindNumbers.{find_numbers, numbers_kept}
 use Rattle.shard_laws.proofs.Restarts.FoundDoubtedActedBefore.{UnderFound, all_tell, found_all, found_doubted, pile_found, keys_split, runs_found, order_has, listed_before, under_found}
 use Rattle.law_base.proofs.Logs.{fold_rises, standing_updates}
 use Rattle.clv_base.proofs.Folding.{or_left as or_false_left, or_right as or_false_right}
@@ -142,7 +143,7 @@ module _ (shard run : ℕ) (before : List LogRecord) (may : MayServe shard run b
   map_is = fold_alike (committed_somewhere (before ∷ [])) (committed_in before) before [] (λ t. or-false (committed_in before t))
 
   pub start_value : (k : ℕ) → map_get k (stands (before ∷ [])) ≡ top_value k (filter (of_kept (committed_in before)) (standing before))
-  start_value k = ap (map_get k) map_is ∙ fold_values (committed_in before) 0 before [] [] k (whole_log (committed_in before) before (λ t u. undone_open shard before t order u)) refl
+  start_value k = ap (map_get k) map_is ∙ fold_values (committed_in before) 0 before [] [] k (whole_log (committed_in before) before (λ t u. undone_open shard before t order u)) (λ j. refl)
 
   base_done : (ws : List StandingUpdate) → AllByRecursion (λ w. commit_durable Now (length Now) w.tx ≡ true) (filter (of_kept (committed_in before)) ws)
   base_done [] = tt
@@ -153,21 +154,21 @@ module _ (shard run : ℕ) (before : List LogRecord) (may : MayServe shard run b
 
   pub runs_start : Runs (stands (before ∷ [])) (found_items shard before)
   runs_start =
+      let lie : LieOnThese (is_winner shard before) (standing before) = winners_lie shard before order (standing before) order.writes.lie (lie_listed shard before follows) in
       runs_found (committed_in before) (λ t. tx_in t doubt) doubt_apart (stands (before ∷ [])) (filter (of_kept (committed_in before)) (standing before)) start_value (standing before) (all_tell shard before follows)
-      (chain_kept (is_winner shard before) (standing before) (winners_lie shard before order (standing before) order.writes.lie (lie_listed shard before follows)) order.writes.chain) order.writes.lie (λ q. inl refl)
+      (chain_kept (is_winner shard before) (standing before) lie order.writes.chain) (numbers_kept (is_winner shard before) (standing before) lie (find_numbers shard before follows)) order.writes.lie (λ q. inl refl)
 
   all_alive : (ws : List StandingUpdate) → AllByRecursion (λ w. is_alive [] w.tx ≡ true) ws
   all_alive [] = tt
   all_alive (w ∷ ws) = (refl, all_alive ws)
 
   pub split_start : SameAtKeys (filter (of_kept (is_winner shard before)) (standing before)) (pile (found_items shard before) (filter (of_kept (committed_in before)) (standing before)))
-  split_start q =
-      keys_split (committed_in before) (λ t. tx_in t doubt) doubt_apart (standing before) order.writes.lie q
-      ∙ ap (key_writes q) (sym (pile_found (λ t. tx_in t doubt) (standing before) (filter (of_kept (committed_in before)) (standing before)) (all_tell shard before follows)))
+  split_start =
+      keys_by refl (keys_split (committed_in before) (λ t. tx_in t doubt) doubt_apart (standing before) order.writes.lie)
+      (sym (pile_found (λ t. tx_in t doubt) (standing before) (filter (of_kept (committed_in before)) (standing before)) (all_tell shard before follows)))
 
   standing_start : SameAtKeys (filter (of_kept (is_alive [])) (standing Now)) (pile (found_items shard before) (filter (of_kept (committed_in before)) (standing before)))
-  standing_start q =
-      ap (key_writes q) (filter_all_kept (is_alive []) (standing Now) (all_alive (standing Now)) ∙ re.only_kept) ∙ split_start q
+  standing_start = keys_by (filter_all_kept (is_alive []) (standing Now) (all_alive (standing Now)) ∙ re.only_kept) split_start refl
 
   logged_start : AllByRecursion (λ x. (k : ℕ) → writes x k ≡ true → wrote_in Now x.tx ≡ true) (found_items shard before)
   logged_start = found_all (λ x. (k : ℕ) → writes x k ≡ true → wrote_in Now x.tx ≡ true) (λ t. tx_in t doubt) (standing before)
@@ -180,7 +181,7 @@ module _ (shard run : ℕ) (before : List LogRecord) (may : MayServe shard run b
   under_start = under_found before (λ t. tx_in t doubt) (λ t i. ((doubt_of t i).prepared, doubt_apart t i)) (standing before) (lie_listed shard before follows)
 
   pub reached : (x y : Item) → UnderFound before (λ t. tx_in t doubt) x y → Reaches x y → (x.tx ≡ y.tx) ⊎ ((tx_in x.tx (listed_in before y.tx) ≡ true) × (tx_in x.tx doubt ≡ true) × (tx_in y.tx doubt ≡ true))
-  reached x y u r = u r.0 (write_met x r.0 r.1) r.2
+  reached x y u r = u r.0 (write_met x r.0 r.1) r.2 r.3
 
   -- ---- the order of the log
 
@@ -250,7 +251,7 @@ module _ (shard run : ℕ) (before : List LogRecord) (may : MayServe shard run b
   sound_start = record {
     kept = record {
       start = record { start_rises = fold_rises (committed_somewhere (before ∷ [])) before [] tt; base_value = start_value; base_chain = chain_kept (committed_in before) (standing before) order.writes.lie order.writes.chain };
-      past = record { runs = runs_start; alive = all_mono _ _ (λ x i. refl) (found_items shard before) items_doubted; order = later_mono _ _ (λ x y u c. ⊎_elim (λ s. inl s) (λ l. inr (listed_place y.tx x.tx l.2 l.1 l.0)) (u c.0 c.1 c.2)) (found_items shard before) under_start };
+      past = record { runs = runs_start; alive = all_mono _ _ (λ x i. refl) (found_items shard before) items_doubted; order = later_mono _ _ (λ x y u c. ⊎_elim (λ s. inl s) (λ l. inr (listed_place y.tx x.tx l.2 l.1 l.0)) (u c.0 c.1 c.2 c.4)) (found_items shard before) under_start };
       log = record { standing_is = standing_start; logged = logged_start; tidy = re.found.tidy };
       records = record { rises = rises_remade shard before Now re; values = values_remade shard before Now re };
       locks = record { rows = rows_restored doubt Now [] tt; covered = all_mono _ _ (λ x i a. absurd (no_active x.tx a)) (found_items shard before) items_doubted; wrote = wrote_remade shard before Now re };

@@ -1,5 +1,5 @@
 -- The records and the writes that a restart leaves, and the part of the state that counts.
-use Rattle.std.proofs.Common.{◌≡◌, ℕ, ◌<◌, ⊎_elim, Bool, true, false, cond, ◌&&◌, List, [], ◌∷◌, length, Some, None, ◌==◌, T, nat_lt, refl, sym, ap, subst, ◌∙◌}
+use Rattle.std.proofs.Common.{◌≡◌, ℕ, ◌<◌, ⊎_elim, Bool, true, false, cond, ◌&&◌, List, [], ◌∷◌, length, Some, None, ◌==◌, T, not, nat_lt, refl, sym, ap, subst, ◌∙◌}
 use Rattle.std.specs.List.{AllByRecursion, filter}
 use Rattle.std.proofs.lemmas.Bool.{both_ways, cond_both, cond-true, or_cases, ltb-true}
 use Rattle.std.specs.declared.cmp.Ordering.TheVariants.{Less, Equal, Greater}
@@ -10,7 +10,8 @@ use Rattle.clv_base.specs.declared.names.TxId.{TxId}
 use Rattle.clv_base.specs.declared.logs.LogRecord.{LogRecord}
 use Rattle.clv_base.specs.Orders.{tx_in}
 use Rattle.clv_base.specs.Maps.{KeyMap, map_get}
-use Rattle.clv_base.specs.Logs.{StandingUpdate, standing, committed_in, in_doubt, is_winner, fold_updates}
+use Rattle.clv_base.specs.declared.modes.Anchor.TheVariants.{At}
+use Rattle.clv_base.specs.Logs.{StandingUpdate, is_setting, standing, committed_in, in_doubt, is_winner, fold_updates}
 use Rattle.clv_base.specs.Needs.{value_at}
 use Rattle.clv_base.specs.Folding.{IsRising}
 use Rattle.clv_base.specs.Restarts.{records_of, with_ghosts, restored_locks, restored_parts, restored_pairs}
@@ -21,12 +22,14 @@ use Rattle.law_base.proofs.Running.{top_value}
 use Rattle.law_base.proofs.Anchors.{Rising, AllAbove}
 use Rattle.law_base.proofs.Commits.{commit_durable}
 use Rattle.protocol_laws.specs.Order.{is_clr_of, undone_in}
-use Rattle.shard_laws.proofs.Keeping.WhatOneShardKeeps.{View, Wrote}
+use Rattle.law_base.proofs.LockRows.{holds}
+use Rattle.shard_laws.proofs.Operations.NeedsCoverKeys.{wrote_part}
+use Rattle.shard_laws.proofs.Keeping.WhatOneShardKeeps.{part_for, View, Wrote}
 use Rattle.shard_laws.proofs.Cuts.WhatCutsHold.{of_kept, KeptWhole, fold_alike, fold_values}
 use Rattle.shard_laws.proofs.Restarts.RestoredLocksAndParts.{ghosts_value, ghosts_rise}
 use Rattle.shard_laws.proofs.Restarts.WinnersKeepTheirWrites.{winners, Restarted}
 use Rattle.shard_laws.proofs.Restarts.UnrestoredFell.{all_durable}
-use Rattle.law_base.proofs.Logs.{fold_rises, has_update, standing_updates, locks_hold, ghosts_there}
+use Rattle.law_base.proofs.Logs.{fold_rises, has_update, has_setting, standing_updates, standing_settings, locks_hold, locks_set, ghosts_there}
 
 -- ---- the records of a map
 
@@ -100,7 +103,7 @@ module _ (shard : ℕ) (cut log : List LogRecord) (re : Restarted shard cut log)
       ghosts_value (in_doubt shard cut) log (records_of (fold_updates (is_winner shard log) log [])) q
       ∙ get_records q (fold_updates (is_winner shard log) log [])
       ∙ ap (map_get q) (fold_alike (is_winner shard log) (is_winner shard cut) log [] (λ t. winners shard cut log t re.found))
-      ∙ fold_values (is_winner shard cut) 0 log [] [] q (whole_log (is_winner shard cut) log re.found.dead) refl
+      ∙ fold_values (is_winner shard cut) 0 log [] [] q (whole_log (is_winner shard cut) log re.found.dead) (λ j. refl)
       ∙ ap (top_value q) standing_kept
 
   pub rises_remade : Rising (view_remade shard cut log).records
@@ -118,6 +121,19 @@ module _ (shard : ℕ) (cut log : List LogRecord) (re : Restarted shard cut log)
   pub wrote_remade : AllByRecursion (Wrote (view_remade shard cut log)) (standing log)
   wrote_remade = all_mono _ _ (λ w r out.
       ⊎_elim (λ k. absurd (both_ways _ out (committed_remade w.tx k)))
-      (λ i. (locks_hold (in_doubt shard cut) log [] w.tx w.key i r.1, ghosts_there (in_doubt shard cut) log (records_of (fold_updates (is_winner shard log) log [])) w.tx w.key i r.1))
+      (λ i. (held w i r.1.0 r.1.1, ghosts_there (in_doubt shard cut) log (records_of (fold_updates (is_winner shard log) log [])) w.tx w.key i r.1.0))
       (or_cases (committed_in cut w.tx) (tx_in w.tx (in_doubt shard cut)) r.0))
-      (standing log) all_written
+      (standing log) (all_both _ _ (standing log) (won_only (standing log) all_written) (all_both _ _ (standing log) (standing_updates log) (standing_settings log)))
+    where
+      won_only : (ws : List StandingUpdate) → AllByRecursion (λ w. (is_winner shard cut w.tx ≡ true) × (has_update log w.tx w.key ≡ true)) ws → AllByRecursion (λ w. is_winner shard cut w.tx ≡ true) ws
+      won_only [] a = tt
+      won_only (w ∷ ws) a = (a.0.0, won_only ws a.1)
+
+      -- who set the value holds X, who added I
+      held : (w : StandingUpdate) → tx_in w.tx (in_doubt shard cut) ≡ true → has_update log w.tx w.key ≡ true → (is_setting w.change ≡ true → has_setting log w.tx w.key ≡ true)
+          → holds true (part_for w.change) (At w.key) w.tx (restored_locks (in_doubt shard cut) log []) ≡ true
+      held w i wrote sets = at (is_setting w.change) sets
+        where
+          at : (b : Bool) → (b ≡ true → has_setting log w.tx w.key ≡ true) → holds true (wrote_part (not b)) (At w.key) w.tx (restored_locks (in_doubt shard cut) log []) ≡ true
+          at true sets = locks_set (in_doubt shard cut) log [] w.tx w.key i (sets refl)
+          at false sets = locks_hold (in_doubt shard cut) log [] w.tx w.key i wrote

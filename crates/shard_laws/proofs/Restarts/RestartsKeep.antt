@@ -6,18 +6,18 @@ use Rattle.std.proofs.lemmas.Bool.{cases_Bool, both_ways, cond_both, or_cases, a
 use Rattle.std.proofs.lemmas.List.{take-append-drop}
 use Rattle.std.proofs.lemmas.List.Folds.{list_any-append}
 use Rattle.std.proofs.lemmas.Option.{none-some}
-use Rattle.clv_base.specs.declared.values.Value.{Value as ValueType}
 use Rattle.clv_base.specs.declared.names.TxId.{TxId}
 use Rattle.clv_base.specs.declared.causes.Vote.{Vote}
 use Rattle.clv_base.specs.declared.causes.Vote.TheVariants.{Read}
 use Rattle.clv_base.specs.declared.logs.LogRecord.{LogRecord}
-use Rattle.clv_base.specs.declared.logs.LogRecord.TheVariants.{Update}
+use Rattle.clv_base.specs.declared.logs.LogRecord.TheVariants.{Update, Add}
 use Rattle.clv_base.specs.declared.state.Stage.{Stage}
 use Rattle.clv_base.specs.declared.state.Stage.TheVariants.{Active, Closed, Gone}
 use Rattle.clv_base.specs.declared.state.Request.{Request}
 use Rattle.clv_base.specs.declared.state.RequestState.TheVariants.{Undecided, Finished}
 use Rattle.clv_base.specs.declared.state.Voter.{Voter}
 use Rattle.clv_base.specs.Orders.{Table, tx_same, tx_in, tx_get}
+use Rattle.clv_base.specs.declared.changes.Change.{Change}
 use Rattle.clv_base.specs.Logs.{StandingUpdate, standing, committed_in, prepared_in, wrote_in, is_update_of, is_commit_of, in_doubt, is_winner, fold_updates, is_abort_of}
 use Rattle.clv_base.specs.Locks.{Locks}
 use Rattle.clv_base.specs.State.{Shard, is_present}
@@ -37,7 +37,7 @@ use Rattle.law_base.proofs.Sets.{filter_in, in_filter}
 use Rattle.law_base.proofs.Stages.{present_is}
 use Rattle.protocol_laws.specs.Order.{moves, Open_at, Tidy, Unprepared, Sealed, undone_in}
 use Rattle.shard_laws.specs.OneShard.{items_of, is_member, is_doomed, left_out}
-use Rattle.shard_laws.proofs.Operations.WritesAtEachKey.{SameAtKeys, key_writes, keys_filter, keys_all}
+use Rattle.shard_laws.proofs.Operations.WritesAtEachKey.{SameAtKeys, keys_by, keys_filter, keys_all}
 use Rattle.shard_laws.proofs.Keeping.WhatOneShardKeeps.{View, view_of, Past, Dep, Known, Left, is_alive, place}
 use Rattle.shard_laws.proofs.Keeping.ChangesKeepPrepared.{IsListed, Lists, prepared_append, sealed_later, listed_keeps}
 use Rattle.shard_laws.proofs.Keeping.RecordsAndFrontsKeep.{undone_append, wrote_append, later_both}
@@ -110,6 +110,7 @@ tidy_closed before (r ∷ rs) t d c w = ⊎_elim (λ h. one r d.0 h) (λ h. tidy
   where
     one : (r : LogRecord) → Open_at before (moves r) → is_update_of t r ≡ true → ⊥
     one (Update tx k b a) o e = both_ways _ (subst (λ z. committed_in before z ≡ false) (sym (tx_true t tx e)) o) c
+    one (Add tx k by) o e = both_ways _ (subst (λ z. committed_in before z ≡ false) (sym (tx_true t tx e)) o) c
     one _ o e = both_ways false refl e
 
 pub sealed_closed : (before rs : List LogRecord) (t : TxId) → Sealed before rs → prepared_in before t ≡ true → wrote_in rs t ≡ true → ⊥
@@ -118,6 +119,7 @@ sealed_closed before (r ∷ rs) t d c w = ⊎_elim (λ h. one r d.0 h) (λ h. se
   where
     one : (r : LogRecord) → Unprepared before r → is_update_of t r ≡ true → ⊥
     one (Update tx k b a) o e = both_ways _ (subst (λ z. prepared_in before z ≡ false) (sym (tx_true t tx e)) o) c
+    one (Add tx k by) o e = both_ways _ (subst (λ z. prepared_in before z ≡ false) (sym (tx_true t tx e)) o) c
     one _ o e = both_ways false refl e
 
 -- between the steps those that an abort took away have fallen
@@ -257,14 +259,15 @@ module _ (all : List Item) (g : Past) (s : Shard) (c epoch : ℕ) (log : List Lo
   every_swap (w ∷ ws) = (and_swap (is_winner s.shard (take c s.local.log) w.tx) (is_alive g.lost w.tx), every_swap ws)
 
   standing_now : SameAtKeys (filter (of_kept (is_alive (left_out s (revived s epoch log) ++ g.lost))) (standing log)) (pile (filter (λ x. stays x.tx) g.items) g.base)
-  standing_now q =
-      ap (key_writes q) (ap (filter (of_kept (is_alive (left_out s (revived s epoch log) ++ g.lost)))) re.only_kept
+  standing_now =
+      keys_by
+      (ap (filter (of_kept (is_alive (left_out s (revived s epoch log) ++ g.lost)))) re.only_kept
       ∙ filter_and (is_alive g.lost) (is_alive (left_out s (revived s epoch log) ++ g.lost)) (λ t. is_winner s.shard (take c s.local.log) t) (standing (take c s.local.log)) same_alive
       ∙ sym standing_rest
       ∙ filter_alike (λ t. is_winner s.shard (take c s.local.log) t && is_alive g.lost t) (λ t. is_alive g.lost t && is_winner s.shard (take c s.local.log) t) (standing s.local.log) (every_swap (standing s.local.log))
       ∙ sym (filter_and (λ t. is_winner s.shard (take c s.local.log) t) (λ t. is_winner s.shard (take c s.local.log) t) (is_alive g.lost) (standing s.local.log) (λ t e. refl)))
-      ∙ keys_filter (of_kept (λ t. is_winner s.shard (take c s.local.log) t)) (filter (of_kept (is_alive g.lost)) (standing s.local.log)) (pile g.items g.base) h.kept.standing_is q
-      ∙ ap (key_writes q) (sym (filter_alike (λ t. is_winner s.shard (take c s.local.log) t || tx_in t g.over) (λ t. is_winner s.shard (take c s.local.log) t) (pile g.items g.base) writers_now)
+      (keys_filter (of_kept (λ t. is_winner s.shard (take c s.local.log) t)) (filter (of_kept (is_alive g.lost)) (standing s.local.log)) (pile g.items g.base) h.kept.standing_is)
+      (sym (filter_alike (λ t. is_winner s.shard (take c s.local.log) t || tx_in t g.over) (λ t. is_winner s.shard (take c s.local.log) t) (pile g.items g.base) writers_now)
       ∙ pile_keep (λ t. is_winner s.shard (take c s.local.log) t || tx_in t g.over) g.items g.base
       ∙ ap (pile (filter (λ x. stays x.tx) g.items)) (filter_all_kept (λ t. is_winner s.shard (take c s.local.log) t || tx_in t g.over) g.base (all_mono _ _ (λ w e. or_left _ _ e) g.base base_wins)))
 
@@ -314,7 +317,7 @@ module _ (all : List Item) (g : Past) (s : Shard) (c epoch : ℕ) (log : List Lo
   kept_of P f [] a = tt
   kept_of P f (w ∷ ws) a = cond_both (f w.tx) (w ∷ filter (of_kept f) ws) (filter (of_kept f) ws) (AllByRecursion P) (λ e. (a.0, kept_of P f ws a.1)) (λ e. kept_of P f ws a.1)
 
-  key_is : (o : Option (ℕ × Option ValueType × Option ValueType)) (w : ℕ × Option ValueType × Option ValueType) (q : ℕ) → o ≡ Some w → is_write_at o q ≡ true → q ≡ w.0
+  key_is : (o : Option (ℕ × Change)) (w : ℕ × Change) (q : ℕ) → o ≡ Some w → is_write_at o q ≡ true → q ≡ w.0
   key_is o w q e i = eqb-true q w.0 (ap (λ z. is_write_at z q) (sym e) ∙ i)
 
   wrote_now : AllByRecursion (λ x. (q : ℕ) → writes x q ≡ true → (wins x.tx ≡ true) × (has_update log x.tx q ≡ true)) (filter (λ x. stays x.tx) g.items)

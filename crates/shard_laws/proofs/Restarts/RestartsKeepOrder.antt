@@ -6,14 +6,14 @@ use Rattle.std.proofs.lemmas.Bool.{cases_Bool, both_ways, cond_both, or_cases, a
 use Rattle.std.proofs.lemmas.List.{take-append-drop}
 use Rattle.clv_base.specs.declared.names.TxId.{TxId}
 use Rattle.clv_base.specs.declared.logs.LogRecord.{LogRecord}
-use Rattle.clv_base.specs.declared.logs.LogRecord.TheVariants.{Update, Clr, Prepare, Commit, Abort, End, Restart}
+use Rattle.clv_base.specs.declared.logs.LogRecord.TheVariants.{Update, Clr, Prepare, Commit, Abort, End, Restart, Add, Unadd}
 use Rattle.clv_base.specs.declared.state.Stage.TheVariants.{Active, Closed}
 use Rattle.clv_base.specs.declared.state.RequestState.TheVariants.{Undecided, Committed}
 use Rattle.clv_base.specs.Orders.{tx_same, tx_in}
 use Rattle.clv_base.specs.State.{Shard}
 use Rattle.clv_base.specs.Logs.{StandingUpdate, standing, committed_in, aborted_in, wrote_in, is_commit_of, in_doubt, is_winner, writers}
 use Rattle.clv_base.specs.LogRules.{may_follow, last_restart, above_restarts, listed_in}
-use Rattle.clv_base.specs.Undo.{clrs_of, newest_lsn}
+use Rattle.clv_base.specs.Undo.{clrs_of, newest_lsn, compensation}
 use Rattle.clv_base.specs.Coordinator.{restored_requests}
 use Rattle.clv_base.specs.Restarts.{losers, undo_records, restart_records, log_after_restart, restored_locks, restored_parts, restored_pairs, unended_in, greatest_run, next_epoch, FailedRestarts, Restarts, untouched, failed_first}
 use Rattle.clv_base.proofs.SameNames.{tx_eq, tx_flip, in_insert}
@@ -32,7 +32,7 @@ use Rattle.shard_laws.proofs.Cuts.WhoIsInDoubt.{Doubted, doubted}
 use Rattle.shard_laws.proofs.Restarts.RestoredLocksAndParts.{restored_closed, restored_stage}
 use Rattle.shard_laws.proofs.Order.RecordByRecord.{Follows, follows_append, follows_take, through, Plainly, greatest_front, greatest_both, above_next, above_push}
 use Rattle.shard_laws.proofs.Order.RisingAreDistinct.{writers_once}
-use Rattle.shard_laws.proofs.Order.UndoMayFollow.{undo_follows}
+use Rattle.shard_laws.proofs.Order.UndoMayFollow.{undo_follows, plainly_compensation}
 use Rattle.shard_laws.proofs.Order.WritesLieOnListed.{prepared_wrote, lists_others, Beneath, LieListed, order_of, lie_listed, winners_lie, wrote_restart}
 use Rattle.shard_laws.proofs.Operations.HoldersOfXWrote.{writers_restored}
 use Rattle.shard_laws.proofs.Order.ChangesKeepOrder.{LiesOn, Under, Lying, Ordered, list_all_from}
@@ -48,7 +48,7 @@ use Rattle.clv_base.proofs.Folding.{or_left as or_false_left, or_right as or_fal
 upward_from : (these : TxId → Bool) (set : List TxId) (ws : List StandingUpdate) → AllByRecursion (λ w. not (tx_in w.tx set) ≡ these w.tx) ws → LieOnThese these ws → Upward set ws
 upward_from these set [] a l = tt
 upward_from these set (w ∷ ws) a l = (
-  (λ out. all_mono _ _ (λ v h e. not-true _ (h.1 ∙ h.0 e)) ws (all_both _ _ ws (l.0 (sym a.0 ∙ ap not out)) a.1)),
+  (λ out. all_mono _ _ (λ v h e q. not-true _ (h.1 ∙ h.0 e q)) ws (all_both _ _ ws (l.0 (sym a.0 ∙ ap not out)) a.1)),
   upward_from these set ws a.1 l.1,
 )
 
@@ -83,7 +83,9 @@ plainly_aborts (t ∷ ts) = (tt, plainly_aborts ts)
 
 plainly_clrs : (set : List TxId) (ws : List StandingUpdate) → AllByRecursion Plainly (clrs_of set ws)
 plainly_clrs set [] = tt
-plainly_clrs set (w ∷ ws) = cond_both (tx_in w.tx set) (Clr w.tx (newest_lsn w.tx ws) w.key w.before ∷ clrs_of set ws) (clrs_of set ws) (AllByRecursion Plainly) (λ i. (tt, plainly_clrs set ws)) (λ i. plainly_clrs set ws)
+plainly_clrs set (w ∷ ws) =
+    cond_both (tx_in w.tx set) (compensation w.tx (newest_lsn w.tx ws) w.key w.change ∷ clrs_of set ws) (clrs_of set ws) (AllByRecursion Plainly)
+    (λ i. (plainly_compensation w.tx (newest_lsn w.tx ws) w.key w.change, plainly_clrs set ws)) (λ i. plainly_clrs set ws)
 
 plainly_undo : (shard : ℕ) (log : List LogRecord) → AllByRecursion Plainly (undo_records shard log)
 plainly_undo shard log = all_append Plainly (map (λ t. Abort t) (filter (λ t. not (aborted_in log t)) (losers shard log))) (clrs_of (losers shard log) (standing log)) (plainly_aborts (filter (λ t. not (aborted_in log t)) (losers shard log))) (plainly_clrs (losers shard log) (standing log))
@@ -101,6 +103,8 @@ greatest_plainly (Prepare tx home ps ∷ rs) n p = greatest_plainly rs n p.1
 greatest_plainly (Commit tx ps ∷ rs) n p = greatest_plainly rs n p.1
 greatest_plainly (Abort tx ∷ rs) n p = greatest_plainly rs n p.1
 greatest_plainly (End tx ∷ rs) n p = greatest_plainly rs n p.1
+greatest_plainly (Add tx k by ∷ rs) n p = greatest_plainly rs n p.1
+greatest_plainly (Unadd tx u k by ∷ rs) n p = greatest_plainly rs n p.1
 
 all_kept : (f g : TxId → Bool) (ws : List StandingUpdate) → ((t : TxId) → f t ≡ g t) → AllByRecursion (λ w. f w.tx ≡ true) (filter (of_kept g) ws)
 all_kept f g [] e = tt
@@ -125,7 +129,7 @@ module _ (shard : ℕ) (log : List LogRecord) (f : Follows shard [] log) where
 
   undo_some : is_some (last_restart log) ≡ true → Follows shard log (undo_records shard log)
   undo_some s = undo_follows shard log (losers shard log) (filter (λ t. not (aborted_in log t)) (losers shard log)) s
-      (once_filter (λ t. not (aborted_in log t)) (losers shard log) (once_filter (λ t. not (is_winner shard log t)) (writers (standing log)) (writers_once (standing log)))) loser_open upward_losers
+      (once_filter (λ t. not (aborted_in log t)) (losers shard log) (once_filter (λ t. not (is_winner shard log t)) (writers (standing log)) (writers_once (standing log)))) loser_open upward_losers (order.writes).falls
       (all_mono _ _ (λ w h i. ⊎_elim (λ a. inl a) (λ a. inr (filter_in (λ u. not (aborted_in log u)) w.tx (losers shard log) i (ap not a))) (cases_Bool (aborted_in log w.tx))) (standing log) (all_wrote log))
 
   -- where nothing stands there is nothing to undo
@@ -218,6 +222,8 @@ one_push (Prepare u home ps ∷ rs) tx parts o e = one_push rs tx parts o e
 one_push (Abort u ∷ rs) tx parts o e = one_push rs tx parts o e
 one_push (End u ∷ rs) tx parts o e = one_push rs tx parts o e
 one_push (Restart run epoch ∷ rs) tx parts o e = one_push rs tx parts o e
+one_push (Add u k by ∷ rs) tx parts o e = one_push rs tx parts o e
+one_push (Unadd u n k by ∷ rs) tx parts o e = one_push rs tx parts o e
 
 one_other : (log : List LogRecord) (r : LogRecord) → ((t : TxId) → is_commit_of t r ≡ false) → OneCommit log → OneCommit (r ∷ []) → OneCommit (log ++ r ∷ [])
 one_other [] r none o l = l
@@ -228,6 +234,8 @@ one_other (Prepare u home ps ∷ rs) r none o l = one_other rs r none o l
 one_other (Abort u ∷ rs) r none o l = one_other rs r none o l
 one_other (End u ∷ rs) r none o l = one_other rs r none o l
 one_other (Restart run epoch ∷ rs) r none o l = one_other rs r none o l
+one_other (Add u k by ∷ rs) r none o l = one_other rs r none o l
+one_other (Unadd u n k by ∷ rs) r none o l = one_other rs r none o l
 
 one_step : (shard : ℕ) (log : List LogRecord) (r : LogRecord) → may_follow shard log r ≡ true → OneCommit log → OneCommit (log ++ r ∷ [])
 one_step shard log (Commit tx parts) m o = one_push log tx parts o (not-true _ (last _ _ (front _ _ (front _ _ (front _ _ (front _ _ (front _ _ (front _ _ m))))))))
@@ -237,6 +245,8 @@ one_step shard log (Prepare tx home ps) m o = one_other log (Prepare tx home ps)
 one_step shard log (Abort tx) m o = one_other log (Abort tx) (λ t. refl) o tt
 one_step shard log (End tx) m o = one_other log (End tx) (λ t. refl) o tt
 one_step shard log (Restart run epoch) m o = one_other log (Restart run epoch) (λ t. refl) o tt
+one_step shard log (Add tx k by) m o = one_other log (Add tx k by) (λ t. refl) o tt
+one_step shard log (Unadd tx u k by) m o = one_other log (Unadd tx u k by) (λ t. refl) o tt
 
 pub one_commit : (shard : ℕ) (log : List LogRecord) → Follows shard [] log → OneCommit log
 one_commit shard log f = through OneCommit shard [] log tt f tt (λ l r g p m. one_step shard l r m p)
@@ -283,8 +293,8 @@ module _ (shard run : ℕ) (log : List LogRecord) (r : Renewed shard run log) wh
   under_now [] w c l = tt
   under_now (v ∷ vs) w c l = (
     ⊎_elim
-        (λ k. all_mono _ _ (λ u h e. inr (inl (h e))) vs (c.0 k))
-        (λ i. all_mono _ _ (λ u h e. lies i (h e)) vs (l.0 (doubt_of v.tx i).prepared))
+        (λ k. all_mono _ _ (λ u h e q. inr (inl (h e q))) vs (c.0 k))
+        (λ i. all_mono _ _ (λ u h e q. lies i (h e q)) vs (l.0 (doubt_of v.tx i).prepared))
         (or_cases (committed_in log v.tx) (tx_in v.tx (in_doubt shard log)) w.0),
     under_now vs w.1 c.1 l.1,
   )

@@ -3,8 +3,9 @@ use Rattle.std.proofs.Common.{◌≡◌, ⊎_elim, refl, sym, ap, ◌∙◌, ℕ
 use Rattle.std.proofs.lemmas.Bool.{both_ways, cond_both, or_cases, and_parts}
 use Rattle.clv_base.specs.declared.names.TxId.{TxId}
 use Rattle.clv_base.specs.declared.logs.LogRecord.{LogRecord}
-use Rattle.clv_base.specs.declared.logs.LogRecord.TheVariants.{Update, Clr, Prepare, Commit, Abort, End, Restart}
+use Rattle.clv_base.specs.declared.logs.LogRecord.TheVariants.{Update, Clr, Prepare, Commit, Abort, End, Restart, Add, Unadd}
 use Rattle.clv_base.specs.declared.modes.Anchor.TheVariants.{At}
+use Rattle.clv_base.specs.declared.modes.Part.TheVariants.{I, X}
 use Rattle.clv_base.specs.declared.state.Stage.{Stage}
 use Rattle.clv_base.specs.declared.state.Stage.TheVariants.{Closed}
 use Rattle.clv_base.specs.Orders.{tx_same, tx_in, tx_get}
@@ -35,6 +36,8 @@ wrote_of (Commit tx ps ∷ rs) t q e = wrote_of rs t q e
 wrote_of (Abort tx ∷ rs) t q e = wrote_of rs t q e
 wrote_of (End tx ∷ rs) t q e = wrote_of rs t q e
 wrote_of (Restart run epoch ∷ rs) t q e = wrote_of rs t q e
+wrote_of (Add tx k by ∷ rs) t q e = ⊎_elim (λ h. or_left _ _ (and_parts (tx_same t tx) (q == k) h).0) (λ h. or_right (tx_same t tx) _ (wrote_of rs t q h)) (or_cases (tx_same t tx && (q == k)) (has_update rs t q) e)
+wrote_of (Unadd tx u k by ∷ rs) t q e = wrote_of rs t q e
 
 -- ---- parts
 
@@ -64,15 +67,20 @@ restored_none txs t i = at (stage_in (restored_parts txs) t) refl
 pub rows_restored : (txs : List TxId) (log : List LogRecord) (locks : Locks) → Rows (Belongs (restored_parts txs)) locks → Rows (Belongs (restored_parts txs)) (restored_locks txs log locks)
 rows_restored txs [] locks h = h
 rows_restored txs (Update tx key b a ∷ rs) locks h =
-    rows_restored txs rs (cond (tx_in tx txs) (take_one (At key) (shut_lock tx) locks) locks)
-    (cond_both (tx_in tx txs) (take_one (At key) (shut_lock tx) locks) locks (Rows (Belongs (restored_parts txs)))
-    (λ i. rows_take (Belongs (restored_parts txs)) (At key) (shut_lock tx) locks (restored_part tx, restored_there txs tx i, refl, tt) h) (λ i. h))
+    rows_restored txs rs (cond (tx_in tx txs) (take_one (At key) (shut_lock tx X) locks) locks)
+    (cond_both (tx_in tx txs) (take_one (At key) (shut_lock tx X) locks) locks (Rows (Belongs (restored_parts txs)))
+    (λ i. rows_take (Belongs (restored_parts txs)) (At key) (shut_lock tx X) locks (restored_part tx, restored_there txs tx i, refl, tt) h) (λ i. h))
 rows_restored txs (Clr tx u k a ∷ rs) locks h = rows_restored txs rs locks h
 rows_restored txs (Prepare tx home ps ∷ rs) locks h = rows_restored txs rs locks h
 rows_restored txs (Commit tx ps ∷ rs) locks h = rows_restored txs rs locks h
 rows_restored txs (Abort tx ∷ rs) locks h = rows_restored txs rs locks h
 rows_restored txs (End tx ∷ rs) locks h = rows_restored txs rs locks h
 rows_restored txs (Restart run epoch ∷ rs) locks h = rows_restored txs rs locks h
+rows_restored txs (Add tx key by ∷ rs) locks h =
+    rows_restored txs rs (cond (tx_in tx txs) (take_one (At key) (shut_lock tx I) locks) locks)
+    (cond_both (tx_in tx txs) (take_one (At key) (shut_lock tx I) locks) locks (Rows (Belongs (restored_parts txs)))
+    (λ i. rows_take (Belongs (restored_parts txs)) (At key) (shut_lock tx I) locks (restored_part tx, restored_there txs tx i, refl, tt) h) (λ i. h))
+rows_restored txs (Unadd tx u k by ∷ rs) locks h = rows_restored txs rs locks h
 
 -- ---- records
 
@@ -101,6 +109,10 @@ ghosts_value txs (Commit tx ps ∷ log) rs q = ghosts_value txs log rs q
 ghosts_value txs (Abort tx ∷ log) rs q = ghosts_value txs log rs q
 ghosts_value txs (End tx ∷ log) rs q = ghosts_value txs log rs q
 ghosts_value txs (Restart run epoch ∷ log) rs q = ghosts_value txs log rs q
+ghosts_value txs (Add tx key by ∷ log) rs q =
+    ghosts_value txs log (cond (tx_in tx txs) (ghost_if_absent key rs (found_at key rs)) rs) q
+    ∙ cond_both (tx_in tx txs) (ghost_if_absent key rs (found_at key rs)) rs (λ l. value_at q l ≡ value_at q rs) (λ e. ghost_value key q rs (found_at key rs) refl) (λ e. refl)
+ghosts_value txs (Unadd tx u k by ∷ log) rs q = ghosts_value txs log rs q
 
 pub ghosts_rise : (txs : List TxId) (log : List LogRecord) (rs : Records) → Rising rs → Rising (with_ghosts txs log rs)
 ghosts_rise txs [] rs h = h
@@ -112,3 +124,6 @@ ghosts_rise txs (Commit tx ps ∷ log) rs h = ghosts_rise txs log rs h
 ghosts_rise txs (Abort tx ∷ log) rs h = ghosts_rise txs log rs h
 ghosts_rise txs (End tx ∷ log) rs h = ghosts_rise txs log rs h
 ghosts_rise txs (Restart run epoch ∷ log) rs h = ghosts_rise txs log rs h
+ghosts_rise txs (Add tx key by ∷ log) rs h =
+    ghosts_rise txs log (cond (tx_in tx txs) (ghost_if_absent key rs (found_at key rs)) rs) (cond_both (tx_in tx txs) (ghost_if_absent key rs (found_at key rs)) rs Rising (λ e. ghost_rises key rs (found_at key rs) h) (λ e. h))
+ghosts_rise txs (Unadd tx u k by ∷ log) rs h = ghosts_rise txs log rs h

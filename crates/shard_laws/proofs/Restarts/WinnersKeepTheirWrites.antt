@@ -5,17 +5,19 @@ use Rattle.std.specs.List.{AllByRecursion, filter}
 use Rattle.std.proofs.lemmas.Bool.{both_ways, cond_both, cond-false, or_cases, not-true, false_from_ne_true}
 use Rattle.clv_base.specs.declared.names.TxId.{TxId}
 use Rattle.clv_base.specs.declared.logs.LogRecord.{LogRecord}
-use Rattle.clv_base.specs.declared.logs.LogRecord.TheVariants.{Update, Clr, Prepare, Commit, Abort, End, Restart}
+use Rattle.clv_base.specs.declared.logs.LogRecord.TheVariants.{Update, Clr, Prepare, Commit, Abort, End, Restart, Add, Unadd}
+use Rattle.clv_base.specs.declared.changes.Change.{Change}
 use Rattle.clv_base.specs.Orders.{tx_same, tx_in}
+use Rattle.clv_base.specs.declared.changes.Change.TheVariants.{Sets, Adds}
 use Rattle.clv_base.specs.Logs.{StandingUpdate, standing, standing_from, without_newest, committed_in, prepared_in, wrote_in, aborted_in, is_update_of, is_commit_of, is_prepare_of, writers, in_doubt, is_winner, is_abort_of}
-use Rattle.clv_base.specs.Undo.{clrs_of, newest_lsn}
+use Rattle.clv_base.specs.Undo.{clrs_of, newest_lsn, compensation}
 use Rattle.clv_base.specs.State.{Shard}
 use Rattle.clv_base.specs.Restarts.{losers, restart_records, log_after_restart, next_epoch, FailedRestarts, untouched, failed_first, Restarts}
 use Rattle.clv_base.proofs.SameNames.{or_left, or_right, tx_true, tx_self}
 use Rattle.law_base.proofs.Lists.{all_mono, all_append, all_taken}
 use Rattle.law_base.proofs.Undoing.{standing_append, standing_aborts, standing_clrs}
 use Rattle.law_base.proofs.Commits.{committed_append}
-use Rattle.law_base.proofs.Doubts.{Unlike, is_it, nobody, abort_unlike, clr_unlike, restart_unlike, doubts_more}
+use Rattle.law_base.proofs.Doubts.{Unlike, is_it, nobody, abort_unlike, clr_unlike, unadd_unlike, restart_unlike, doubts_more}
 use Rattle.law_base.proofs.Sets.{filter_in, in_filter, each_writer}
 use Rattle.law_base.proofs.Bools.{or_right_false}
 use Rattle.protocol_laws.specs.Order.{moves, Open_at, Tidy, Sealed, is_clr_of, undone_in}
@@ -85,13 +87,16 @@ pub unmoved_from : (keep : TxId → Bool) (n : ℕ) (rs : List LogRecord) (ws : 
     → filter (of_kept keep) (standing_from n rs ws) ≡ filter (of_kept keep) ws
 unmoved_from keep n [] ws w u = refl
 unmoved_from keep n (Update tx k b a ∷ rs) ws w u =
-    unmoved_from keep (suc n) rs (record { lsn = n; tx = tx; key = k; before = b; after = a } ∷ ws) (λ t e. w t (or_right (tx_same t tx) _ e)) (λ t e. u t e) ∙ cond-false (keep tx) _ (filter (of_kept keep) ws) (w tx (or_left _ _ (tx_self tx)))
+    unmoved_from keep (suc n) rs (record { lsn = n; tx = tx; key = k; change = Sets b a } ∷ ws) (λ t e. w t (or_right (tx_same t tx) _ e)) (λ t e. u t e) ∙ cond-false (keep tx) _ (filter (of_kept keep) ws) (w tx (or_left _ _ (tx_self tx)))
 unmoved_from keep n (Clr tx x k a ∷ rs) ws w u = unmoved_from keep (suc n) rs (without_newest tx ws) (λ t e. w t e) (λ t e. u t (or_right (tx_same t tx) _ e)) ∙ without_other keep tx ws (u tx (or_left _ _ (tx_self tx)))
 unmoved_from keep n (Prepare tx home ps ∷ rs) ws w u = unmoved_from keep (suc n) rs ws w u
 unmoved_from keep n (Commit tx ps ∷ rs) ws w u = unmoved_from keep (suc n) rs ws w u
 unmoved_from keep n (Abort tx ∷ rs) ws w u = unmoved_from keep (suc n) rs ws w u
 unmoved_from keep n (End tx ∷ rs) ws w u = unmoved_from keep (suc n) rs ws w u
 unmoved_from keep n (Restart run epoch ∷ rs) ws w u = unmoved_from keep (suc n) rs ws w u
+unmoved_from keep n (Add tx k by ∷ rs) ws w u =
+    unmoved_from keep (suc n) rs (record { lsn = n; tx = tx; key = k; change = Adds by } ∷ ws) (λ t e. w t (or_right (tx_same t tx) _ e)) (λ t e. u t e) ∙ cond-false (keep tx) _ (filter (of_kept keep) ws) (w tx (or_left _ _ (tx_self tx)))
+unmoved_from keep n (Unadd tx x k by ∷ rs) ws w u = unmoved_from keep (suc n) rs (without_newest tx ws) (λ t e. w t e) (λ t e. u t (or_right (tx_same t tx) _ e)) ∙ without_other keep tx ws (u tx (or_left _ _ (tx_self tx)))
 
 harmless_plain : (shard : ℕ) (log rs : List LogRecord) → AllByRecursion (Plain shard log) rs → AllByRecursion (Harmless log) rs
 harmless_plain shard log rs all = all_mono _ _ (λ r p. (p.opens, p.no_commit)) rs all
@@ -136,18 +141,28 @@ plain_aborts shard log (t ∷ ts) h = (
 plain_clrs : (shard : ℕ) (log : List LogRecord) (set : List TxId) (ws : List StandingUpdate) → ((t : TxId) → tx_in t set ≡ true → is_winner shard log t ≡ false) → AllByRecursion (Plain shard log) (clrs_of set ws)
 plain_clrs shard log set [] h = tt
 plain_clrs shard log set (w ∷ ws) h =
-    cond_both (tx_in w.tx set) (Clr w.tx (newest_lsn w.tx ws) w.key w.before ∷ clrs_of set ws) (clrs_of set ws) (AllByRecursion (Plain shard log))
-    (λ i. (one i, plain_clrs shard log set ws h)) (λ i. plain_clrs shard log set ws h)
+    cond_both (tx_in w.tx set) (compensation w.tx (newest_lsn w.tx ws) w.key w.change ∷ clrs_of set ws) (clrs_of set ws) (AllByRecursion (Plain shard log))
+    (λ i. (one w.change i, plain_clrs shard log set ws h)) (λ i. plain_clrs shard log set ws h)
   where
-    one : tx_in w.tx set ≡ true → Plain shard log (Clr w.tx (newest_lsn w.tx ws) w.key w.before)
-    one i = record {
+    one : (c : Change) → tx_in w.tx set ≡ true → Plain shard log (compensation w.tx (newest_lsn w.tx ws) w.key c)
+    one (Sets before after) i = record {
       opens = or_false_left _ _ (h w.tx i);
       no_commit = λ u. refl;
       no_update = λ u. refl;
       no_prepare = λ u. refl;
       undoes = λ u e. subst (λ z. is_winner shard log z ≡ false) (sym (tx_true u w.tx e)) (h w.tx i);
       whom = nobody;
-      unlike = clr_unlike w.tx (newest_lsn w.tx ws) w.key w.before;
+      unlike = clr_unlike w.tx (newest_lsn w.tx ws) w.key before;
+      spares = λ u j. refl;
+    }
+    one (Adds by) i = record {
+      opens = or_false_left _ _ (h w.tx i);
+      no_commit = λ u. refl;
+      no_update = λ u. refl;
+      no_prepare = λ u. refl;
+      undoes = λ u e. subst (λ z. is_winner shard log z ≡ false) (sym (tx_true u w.tx e)) (h w.tx i);
+      whom = nobody;
+      unlike = unadd_unlike w.tx (newest_lsn w.tx ws) w.key by;
       spares = λ u j. refl;
     }
 
