@@ -11,13 +11,13 @@ use Rattle.clv_base.specs.declared.events.Event.TheVariants.{Op as OpEvent}
 use Rattle.clv_base.specs.declared.events.Outcome.{Outcome}
 use Rattle.clv_base.specs.declared.events.Outcome.TheVariants.{Answered}
 use Rattle.clv_base.specs.Orders.{tx_same, tx_in}
-use Rattle.clv_base.specs.Maps.{KeyMap, op_after, replay_map, replay_answers}
+use Rattle.clv_base.specs.Maps.{KeyMap, map_get, is_number, op_answer, op_after, replay_map, replay_answers}
 use Rattle.clv_base.specs.Folding.{key_written}
 use Rattle.clv_base.specs.Needs.{writes_of}
 use Rattle.clv_base.specs.Shards.{shard_count}
 use Rattle.clv_base.specs.FileRules.{log_passes}
-use Rattle.clv_base.specs.declared.ops.Op.TheVariants.{Get, Put, Del, Scan}
-use Rattle.clv_base.specs.declared.ops.Answer.TheVariants.{Value, Pairs}
+use Rattle.clv_base.specs.declared.ops.Op.TheVariants.{Get, Put, Del, Scan, Add}
+use Rattle.clv_base.specs.declared.ops.Answer.TheVariants.{Value, Pairs, Added}
 use Rattle.clv_base.specs.Logs.{stands}
 use Rattle.clv_base.specs.Journals.{History}
 use Rattle.clv_base.specs.History.{Member, answered_op, ops_in, logs_left, serial_ops, serial_answers}
@@ -25,7 +25,7 @@ use Rattle.clv_base.specs.LogRules.{log_of, all_logs_from, apart}
 use Rattle.clv_base.specs.Restarts.{run_after}
 use Rattle.clv_base.proofs.SameNames.{tx_true, tx_self}
 use Rattle.law_base.specs.Items.{Item, Runs, after, AllLater, Clash, is_write_at, told as value_told}
-use Rattle.law_base.proofs.Lists.{all_mono, all_filter}
+use Rattle.law_base.proofs.Lists.{all_mono, all_both, all_filter}
 use Rattle.law_base.proofs.Sets.{same_flip}
 use Rattle.history_laws.specs.Continuing.{serial_left}
 use Rattle.shard_laws.specs.OneShard.{items_of, ops_by, answers_by, place, found_asked}
@@ -92,18 +92,33 @@ unfolding item
 items_run m [] last k = (tt, k)
 items_run m (a ∷ as_) last k = let p = items_run (op_after (a.done).op m) as_ last k.1 in ((k.0, p.0), p.1)
 
-written_from : (o : Op) (a : Answer) (k : ℕ) → is_write_at (writes_of o (value_told a)) k ≡ true → key_written o a ≡ Some k
-written_from (Get j) a k e = absurd (both_ways false refl e)
-written_from (Put j v) a k e = ap (λ z. Some z) (sym (eqb-true k j e))
-written_from (Del j) (Value (Some v)) k e = ap (λ z. Some z) (sym (eqb-true k j e))
-written_from (Del j) (Value None) k e = absurd (both_ways false refl e)
-written_from (Del j) (Pairs ps) k e = absurd (both_ways false refl e)
-written_from (Scan lo hi) a k e = absurd (both_ways false refl e)
+-- each answers as some map does
+abbrev IsAnswered : Act → Type 0
+IsAnswered a = (m : KeyMap) × ((a.done).answer ≡ op_answer (a.done).op m)
 
-meet_of : (a b : Act) → Clash (item a) (item b) → Meet a b
+all_answered : (m : KeyMap) (as_ : List Act) (last : KeyMap) → AnswersFrom m as_ last → AllByRecursion IsAnswered as_
+all_answered m [] last k = tt
+all_answered m (a ∷ as_) last k = ((m, k.0), all_answered (op_after (a.done).op m) as_ last k.1)
+
+written_from : (o : Op) (a : Answer) (m : KeyMap) (k : ℕ) → a ≡ op_answer o m → is_write_at (writes_of o (value_told a)) k ≡ true → key_written o a ≡ Some k
+written_from (Get j) a m k f e = absurd (both_ways false refl e)
+written_from (Put j v) a m k f e = ap (λ z. Some z) (sym (eqb-true k j e))
+written_from (Del j) (Value (Some v)) m k f e = ap (λ z. Some z) (sym (eqb-true k j e))
+written_from (Del j) (Value None) m k f e = absurd (both_ways false refl e)
+written_from (Del j) (Pairs ps) m k f e = absurd cc
+written_from (Del j) (Added b) m k f e = absurd cc
+written_from (Scan lo hi) a m k f e = absurd (both_ways false refl e)
+written_from (Add j n) a m k f e =
+    subst (λ x. key_written (Add j n) x ≡ Some k) (sym f) (at (is_number (map_get j m)) (subst (λ x. is_write_at (writes_of (Add j n) (value_told x)) k ≡ true) f e))
+  where
+    at : (b : Bool) → is_write_at (writes_of (Add j n) (value_told (Added b))) k ≡ true → key_written (Add j n) (Added b) ≡ Some k
+    at true e = ap (λ z. Some z) (sym (eqb-true k j e))
+    at false e = absurd (both_ways false refl e)
+
+meet_of : (a b : Act) → IsAnswered a → IsAnswered b → Clash (item a) (item b) → Meet a b
 unfolding item
-meet_of a b (k, p, q, w) =
-    ⊎_elim (λ e. (k, p, q, inl (written_from (a.done).op (a.done).answer k e))) (λ e. (k, p, q, inr (written_from (b.done).op (b.done).answer k (w e))))
+meet_of a b f g (k, p, q, w, n) =
+    ⊎_elim (λ e. (k, p, q, inl (written_from (a.done).op (a.done).answer f.0 k f.1 e), n)) (λ e. (k, p, q, inr (written_from (b.done).op (b.done).answer g.0 k g.1 (w e)), n))
     (cases_Bool (is_write_at (writes_of (a.done).op (value_told (a.done).answer)) k))
 
 -- ---- of each transaction its own
@@ -146,17 +161,17 @@ unfolding item
 items_in ts [] a = tt
 items_in ts (x ∷ xs) a = (a.0, items_in ts xs a.1)
 
-items_order : (ts : List TxId) (as_ : List Act) → AreDistinct ts → AllByRecursion (λ a. tx_in a.tx ts ≡ true) as_ → AllLater (λ a b. Meet a b → (a.tx ≡ b.tx) ⊎ StandsBefore a.tx b.tx ts) as_
+items_order : (ts : List TxId) (as_ : List Act) → AreDistinct ts → AllByRecursion (λ a. (tx_in a.tx ts ≡ true) × IsAnswered a) as_ → AllLater (λ a b. Meet a b → (a.tx ≡ b.tx) ⊎ StandsBefore a.tx b.tx ts) as_
     → AllLater (λ x y. Clash x y → (x.tx ≡ y.tx) ⊎ (place ts x.tx < place ts y.tx)) (map item as_)
 unfolding item
 items_order ts as_ d a r =
-    later_told (λ a. tx_in a.tx ts ≡ true) (λ a b. Meet a b → (a.tx ≡ b.tx) ⊎ StandsBefore a.tx b.tx ts) (λ x y. Clash x y → (x.tx ≡ y.tx) ⊎ (place ts x.tx < place ts y.tx)) item
-    (λ x y p q f c. ⊎_elim (λ e. inl e) (λ b. inr (at_place x.tx y.tx ts d b)) (f (meet_of x y c))) as_ a r
+    later_told (λ a. (tx_in a.tx ts ≡ true) × IsAnswered a) (λ a b. Meet a b → (a.tx ≡ b.tx) ⊎ StandsBefore a.tx b.tx ts) (λ x y. Clash x y → (x.tx ≡ y.tx) ⊎ (place ts x.tx < place ts y.tx)) item
+    (λ x y p q f c. ⊎_elim (λ e. inl e) (λ b. inr (at_place x.tx y.tx ts d b)) (f (meet_of x y p.1 q.1 c))) as_ a r
 
 pub acts_replay : ActsReplay
 acts_replay start last ts as_ rises d within base order =
     let r = items_run start as_ last base in
-    let q = serial_of ts start (map item as_) (to_once ts d) rises r.0 (items_order ts as_ d within order) (items_in ts as_ within) in
+    let q = serial_of ts start (map item as_) (to_once ts d) rises r.0 (items_order ts as_ d (all_both _ _ as_ within (all_answered start as_ last base)) order) (items_in ts as_ within) in
     (ap (replay_answers start) (sym (each_ops ts as_)) ∙ q.0 ∙ each_answers ts as_, ap (replay_map start) (sym (each_ops ts as_)) ∙ q.1 ∙ r.1)
 
 -- ---- the members have their own

@@ -6,7 +6,7 @@ use Rattle.std.proofs.lemmas.List.Elements.{filter-append}
 use Rattle.clv_base.specs.declared.names.TxId.{TxId}
 use Rattle.clv_base.specs.declared.logs.LogRecord.{LogRecord}
 use Rattle.clv_base.specs.declared.ops.Op.{Op}
-use Rattle.clv_base.specs.declared.ops.Op.TheVariants.{Get, Put, Del, Scan}
+use Rattle.clv_base.specs.declared.ops.Op.TheVariants.{Get, Put, Del, Scan, Add}
 use Rattle.clv_base.specs.Orders.{tx_in}
 use Rattle.clv_base.specs.Folding.{meets_key}
 use Rattle.clv_base.specs.Shards.{shard_count, are_splits, span, in_span}
@@ -40,8 +40,8 @@ use Rattle.headline_laws.proofs.PredecessorsStandBeforeWhereHere.{stands_later}
 -- ---- what is written at a key
 
 clash_of : (n : ℕ) (x y : Item) → Meet (told n x) (told n y) → Clash x y
-clash_of n x y (k, p, q, inl w) = (k, p, q, λ f. absurd (both_ways _ f (written_at x.op x.answer k w)))
-clash_of n x y (k, p, q, inr w) = (k, p, q, λ f. written_at y.op y.answer k w)
+clash_of n x y (k, p, q, inl w, b) = (k, p, q, (λ f. absurd (both_ways _ f (written_at x.op x.answer k w))), b)
+clash_of n x y (k, p, q, inr w, b) = (k, p, q, (λ f. written_at y.op y.answer k w), b)
 
 -- ---- on two shards none meet
 
@@ -49,10 +49,11 @@ key_lies : (splits : List ℕ) (n : ℕ) (op : Op) (k : ℕ) → lies_in splits 
 key_lies splits n (Get j) k l m = subst (λ z. in_span splits n z ≡ true) (eqb-true j k m) l
 key_lies splits n (Put j v) k l m = subst (λ z. in_span splits n z ≡ true) (eqb-true j k m) l
 key_lies splits n (Del j) k l m = subst (λ z. in_span splits n z ≡ true) (eqb-true j k m) l
+key_lies splits n (Add j by) k l m = subst (λ z. in_span splits n z ≡ true) (eqb-true j k m) l
 key_lies splits n (Scan lo hi) k l m = let p = and_parts (in_span splits n lo) (in_span splits n hi) l in between (span splits n) lo hi k p.0 p.1 m
 
 meet_apart : (splits : List ℕ) (a b : Act) → are_splits splits ≡ true → LiesIn splits a.done → LiesIn splits b.done → ((a.done).shard ≡ (b.done).shard → ⊥) → Meet a b → ⊥
-meet_apart splits a b s p q n (k, x, y, w) =
+meet_apart splits a b s p q n (k, x, y, w, z) =
     n (one_shard splits (a.done).shard (b.done).shard k s p.0 q.0 (key_lies splits (a.done).shard (a.done).op k p.1 x) (key_lies splits (b.done).shard (b.done).op k q.1 y))
 
 -- ---- who is none of the first ones stands behind them

@@ -1,5 +1,5 @@
 -- What the members of a history did, in its order.
-use Rattle.std.specs.Prelude.{◌≡◌, ◌⊎◌, ⊤, ℕ, Bool, true, false, List, [], ◌∷◌, map, Option, Some, None}
+use Rattle.std.specs.Prelude.{◌≡◌, ◌⊎◌, ⊤, ℕ, Bool, true, false, ◌&&◌, List, [], ◌∷◌, map, Option, Some, None}
 use Rattle.std.specs.List.{filter, AllByRecursion}
 use Rattle.clv_base.specs.declared.names.TxId.{TxId}
 use Rattle.clv_base.specs.declared.logs.LogRecord.{LogRecord}
@@ -11,7 +11,7 @@ use Rattle.clv_base.specs.declared.ops.Op.{Op}
 use Rattle.clv_base.specs.declared.ops.Answer.{Answer}
 use Rattle.clv_base.specs.Orders.{tx_same, tx_in}
 use Rattle.clv_base.specs.Maps.{KeyMap, op_answer, op_after, replay_map, replay_answers}
-use Rattle.clv_base.specs.Folding.{IsRising, meets_key, key_written}
+use Rattle.clv_base.specs.Folding.{IsRising, meets_key, key_written, adds}
 use Rattle.clv_base.specs.Logs.{stands}
 use Rattle.clv_base.specs.Journals.{History}
 use Rattle.clv_base.specs.History.{logs_left, serial_ops, serial_answers}
@@ -50,11 +50,13 @@ abbrev pub AnswersFrom : KeyMap → List Act → KeyMap → Type 0
 AnswersFrom m [] last = m ≡ last
 AnswersFrom m (a ∷ as_) last = ((a.done).answer ≡ op_answer (a.done).op m) × AnswersFrom (op_after (a.done).op m) as_ last
 
--- both meet a key that one of them writes (a Del where it found a value; a Scan meets all keys in its bounds)
+-- both meet a key that one of them writes (a Del where it found a value, an Add where it found a number; a Scan meets all keys in its bounds), and not both
+-- of them add to a number
 abbrev pub Meet : Act → Act → Type 0
 Meet a b =
     (k : ℕ) × (meets_key (a.done).op k ≡ true) × (meets_key (b.done).op k ≡ true)
     × ((key_written (a.done).op (a.done).answer ≡ Some k) ⊎ (key_written (b.done).op (b.done).answer ≡ Some k))
+    × ((adds (a.done).op (a.done).answer && adds (b.done).op (b.done).answer) ≡ false)
 
 abbrev pub AnswersAreOfEarlier : Type 0
 AnswersAreOfEarlier =

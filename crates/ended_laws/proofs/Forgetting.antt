@@ -1,22 +1,13 @@
 -- What is due comes to the same in a shard that forgets something, where what is due for each transaction does.
-use Rattle.std.proofs.Common.{◌≡◌, ⊎_elim, refl, sym, ap, subst, ◌∙◌, ℕ, zero, suc, ◌≤◌, true, false, cond, Bool, ◌||◌, List, [], ◌∷◌, Option, Some, None, is_some, arith}
-use Rattle.std.proofs.lemmas.Bool.{both_ways, or_cases, and_parts}
+use Rattle.std.proofs.Common.{◌≡◌, refl, sym, ap, subst, ◌∙◌, ℕ, zero, suc, ◌≤◌, List, [], ◌∷◌, Option, Some, None, is_some, arith}
 use Rattle.std.specs.Map.{keys_of}
 use Rattle.std.specs.List.Sorted.{IsStrictlySortedBy}
 use Rattle.clv_base.specs.declared.names.TxId.{TxId}
-use Rattle.clv_base.specs.declared.state.Held.{Held}
-use Rattle.clv_base.specs.declared.state.Voter.{Voter}
-use Rattle.clv_base.specs.declared.state.Request.{Request}
-use Rattle.clv_base.specs.declared.parts.PartFacts.{PartFacts}
-use Rattle.clv_base.specs.Orders.{Table, tx_same, tx_in, tx_insert, tx_union, tx_get}
 use Rattle.clv_base.specs.State.{Shard}
-use Rattle.clv_base.specs.Facts.{state_by, facts_of, is_closed_state}
 use Rattle.clv_base.specs.Due.{due_of, first_due, known_txs, next_due, with_due_done, work}
 use Rattle.clv_base.proofs.Settling.{each_leaves_less}
-use Rattle.clv_base.proofs.SameNames.{or_left, or_right, tx_true, tx_flip, insert_keeps, insert_has}
-use Rattle.law_base.proofs.Sets.{Rise, union_right, union_rises}
-use Rattle.protocol_laws.specs.Candidates.{is_commit_due, is_vote_due, is_ruling_due, Cover}
-use Rattle.protocol_laws.proofs.Due.DueByFacts.{due_by_facts}
+use Rattle.law_base.proofs.Sets.{Rise, union_rises}
+use Rattle.protocol_laws.specs.Candidates.{Cover}
 use Rattle.protocol_laws.proofs.Due.LeastIsNext.{due_are_known, least_is_next, others_cover, none_is_nothing, at_rest_none}
 use Rattle.protocol_laws.proofs.Due.DoingGoesOn.{nothing_to_do, doing_goes_on}
 use Rattle.history_cases.proofs.Stepping.{Due, due_next, KeptByDue}

@@ -1,6 +1,6 @@
 -- Epochs of requests that a restart lost.
 use Rattle.std.proofs.Common.{◌≡◌, refl, sym, ap, ◌∙◌, ℕ, true, false, cond, Bool, ◌==◌, List, [], ◌∷◌, ◌++◌, Option, Some, None}
-use Rattle.clv_base.specs.declared.values.Value.{Value as ValueType}
+use Rattle.clv_base.specs.declared.changes.Change.{Change}
 use Rattle.clv_base.specs.declared.names.TxId.{TxId}
 use Rattle.clv_base.specs.declared.names.Birth.{Birth}
 use Rattle.clv_base.specs.declared.ops.Op.{Op}
@@ -62,7 +62,7 @@ due_stays n epoch js s _ (rules u q r g e) p = ruling_stays n epoch js s u q r p
 finished_stays : (n epoch : ℕ) (js : List Entry) (s : Shard) → Stays n epoch js s → Stays n epoch js (finish s)
 finished_stays n epoch js s p = settled (Stays n epoch js) s (due_stays n epoch js) p
 
-written_epoch : (u : TxId) (w : Option (ℕ × Option ValueType × Option ValueType)) (l : Local) → (written u w l).epoch ≡ l.epoch
+written_epoch : (u : TxId) (w : Option (ℕ × Change)) (l : Local) → (written u w l).epoch ≡ l.epoch
 written_epoch u None l = refl
 written_epoch u (Some w) l = refl
 

@@ -2,7 +2,6 @@
 use Rattle.std.proofs.Common.{◌≡◌, refl, sym, ap, subst, ◌∙◌, ℕ, true, false, cond, Bool, not, ◌&&◌, nat_lt, List, [], ◌∷◌, map, length, Option, Some, None, is_none, unwrap_or}
 use Rattle.std.specs.Map.{keys_of}
 use Rattle.std.proofs.lemmas.Bool.{both_ways}
-use Rattle.clv_base.specs.declared.values.Value.{Value as ValueType}
 use Rattle.clv_base.specs.declared.names.TxId.{TxId}
 use Rattle.clv_base.specs.declared.names.Birth.{Birth}
 use Rattle.clv_base.specs.declared.ops.Op.{Op}
@@ -21,6 +20,7 @@ use Rattle.clv_base.specs.declared.state.Request.{Request}
 use Rattle.clv_base.specs.declared.state.Ruling.{Ruling}
 use Rattle.clv_base.specs.declared.state.Ruling.TheVariants.{Commit as CommitVerdict, Acknowledge, Abort as AbortVerdict, End as EndVerdict}
 use Rattle.clv_base.specs.Orders.{Table, tx_same, tx_in, tx_get}
+use Rattle.clv_base.specs.declared.changes.Change.{Change}
 use Rattle.clv_base.specs.Logs.{wrote_in, commit_lsn, prepare_lsn}
 use Rattle.clv_base.specs.Locks.{decide}
 use Rattle.clv_base.specs.State.{Local, Shard, with_local, is_present}
@@ -103,7 +103,7 @@ locked_same : (l : Local) (tx u : TxId) (birth : Birth) (op : Op) → tx_same tx
 locked_same l tx u birth op d h =
     ap (λ rows. record (locked u birth op l) { parts = rows }) (ap (λ o. new_part u birth o (without tx l.parts)) (get_without tx u l.parts d) ∙ new_same tx u birth (tx_get u l.parts) l.parts d h)
 
-written_same : (l : Local) (tx u : TxId) (w : Option (ℕ × Option ValueType × Option ValueType)) → written u w (forgets_in tx l) ≡ forgets_in tx (written u w l)
+written_same : (l : Local) (tx u : TxId) (w : Option (ℕ × Change)) → written u w (forgets_in tx l) ≡ forgets_in tx (written u w l)
 written_same l tx u None = refl
 written_same l tx u (Some w) = refl
 

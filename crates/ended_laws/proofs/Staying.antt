@@ -3,7 +3,6 @@ use Rattle.std.proofs.Common.{◌≡◌, ◌⊎◌, inl, inr, ⊎_elim, refl, sy
 use Rattle.std.proofs.lemmas.Bool.{both_ways, cases_Bool, cond-false, false_from_ne_true}
 use Rattle.std.proofs.lemmas.List.Folds.{list_any-append}
 use Rattle.std.specs.Map.{keys_of}
-use Rattle.clv_base.specs.declared.values.Value.{Value as ValueType}
 use Rattle.clv_base.specs.declared.names.TxId.{TxId}
 use Rattle.clv_base.specs.declared.names.Birth.{Birth}
 use Rattle.clv_base.specs.declared.ops.Op.{Op}
@@ -21,6 +20,7 @@ use Rattle.clv_base.specs.declared.state.RequestState.TheVariants.{Undecided, Co
 use Rattle.clv_base.specs.declared.state.Ruling.{Ruling}
 use Rattle.clv_base.specs.declared.state.Ruling.TheVariants.{Commit as CommitVerdict, Acknowledge, Abort as AbortVerdict, End as EndVerdict}
 use Rattle.clv_base.specs.Orders.{tx_same, tx_in, tx_get, tx_put}
+use Rattle.clv_base.specs.declared.changes.Change.{Change}
 use Rattle.clv_base.specs.Logs.{is_commit_of, committed_in, wrote_in, standing}
 use Rattle.clv_base.specs.State.{Local, Shard, is_present}
 use Rattle.clv_base.specs.Undo.{stage_of, doomed_by, doomed_here, aborts_of, clrs_of, release_parts, roll_back}
@@ -112,7 +112,7 @@ pub leaves_closed : (tx u : TxId) (home : ℕ) (alone : Bool) (l : Local) → tx
 leaves_closed tx u home alone l o = record { stays = still_in l.log (closing (wrote_in l.log u) alone u home (undecided_of l u)) tx; fades = inl (closed_other l.parts u tx o) }
 
 -- another's operation
-leaves_written : (tx u : TxId) (w : Option (ℕ × Option ValueType × Option ValueType)) (l : Local) → Leaves tx l (written u w l)
+leaves_written : (tx u : TxId) (w : Option (ℕ × Change)) (l : Local) → Leaves tx l (written u w l)
 leaves_written tx u None l = leaves_same tx l
 leaves_written tx u (Some w) l = record { stays = still_in l.log _ tx; fades = inl refl }
 

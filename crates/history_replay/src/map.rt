@@ -4,8 +4,9 @@ ghost use Rattle.std.specs.Prelude.{◌≡◌, ◌≤◌, [], Some, None, IfOk, 
 ghost use Rattle.std.specs.Ordering.{nat_cmp};
 ghost use Rattle.std.specs.BTreeMap.Range.{entries_between};
 ghost use Rattle.std.specs.declared.ops.Bound.TheVariants.{Included};
-ghost use Rattle.clv_base.specs.Maps.{map_get, map_set, map_between, op_answer, op_after};
+ghost use Rattle.clv_base.specs.Maps.{is_number as is_a_number, map_add, map_get, map_set, map_between, op_answer, op_after};
 
+use clv_base::changes::{is_number, plus};
 use clv_base::lists::Pairs;
 use clv_base::ops::{Answer, Op};
 use clv_base::values::Value;
@@ -126,6 +127,22 @@ impl KeyMap {
         take_at(&mut self.pairs, key)
     }
 
+    /// The value that a key has from now on, or none. An `Err` changes nothing.
+    pub fn set_to(&mut self, key: u64, after: Option<Value>) -> Result<(), AllocError>
+        ensures set { OnOk result (self.new ≡ map_set key after self.old) }
+        ensures err { OnErr result (self.new ≡ self.old) }
+    {
+        match after {
+            Some(value) => {
+                self.set(key, value)?;
+            }
+            None => {
+                self.remove(key);
+            }
+        }
+        Ok(())
+    }
+
     /// The pairs from a key to another, both in, by rising keys.
     pub fn between(
         &self,
@@ -145,6 +162,17 @@ impl KeyMap {
         pairs_of(alloc, &self.pairs)
     }
 
+    /// Adds to the number at a key, if there is one, and answers whether there is. An `Err` changes nothing.
+    pub fn add(&mut self, key: u64, by: u64) -> Result<bool, AllocError>
+        ensures before { IfOk result (λ found. found ≡ is_a_number (map_get key self.old)) }
+        ensures added { OnOk result (self.new ≡ map_add key by self.old) }
+        ensures err { OnErr result (self.new ≡ self.old) }
+    {
+        let before = self.get(key);
+        self.set_to(key, plus(&before, by))?;
+        Ok(is_number(&before))
+    }
+
     /// Does an operation, and gives its answer. An `Err` changes nothing.
     pub fn apply(&mut self, alloc: Global, op: &Op) -> Result<Answer, AllocError>
         ensures answer { IfOk result (λ answer. answer ≡ op_answer op.now self.old) }
@@ -156,6 +184,7 @@ impl KeyMap {
             Op::Put(key, value) => Ok(Answer::Value(self.set(*key, value.copy())?)),
             Op::Del(key) => Ok(Answer::Value(self.remove(*key))),
             Op::Scan(low, high) => Ok(Answer::Pairs(Pairs::new(self.between(alloc, *low, *high)?))),
+            Op::Add(key, by) => Ok(Answer::Added(self.add(*key, *by)?)),
         }
     }
 }

@@ -1,15 +1,14 @@
 // What logs stand for.
 
-ghost use Rattle.std.specs.Prelude.{◌≡◌, ◌||◌, map, [], IfOk, OnOk};
+ghost use Rattle.std.specs.Prelude.{◌≡◌, ◌||◌, map, [], ◌∷◌, IfOk, OnOk};
 ghost use Rattle.clv_base.specs.declared.names.TxId.{TxId as Tx};
 ghost use Rattle.clv_base.specs.Logs.{committed_in, committed_somewhere, fold_updates, stands_from, stands as stands_for};
-ghost use Rattle.clv_base.specs.Maps.{map_set};
 ghost use Rattle.history_replay.specs.Transactions.{has_member};
 
 use crate::transactions::TxSet;
 use crate::{KeyMap, Memory};
 use clv_base::logs::LogRecord;
-use clv_base::values::Value;
+use clv_base::values::copy_of;
 use std::alloc::Global;
 
 // The transactions with a COMMIT in this log join the set.
@@ -35,31 +34,32 @@ fn committed(alloc: Global, logs: &[Vec<LogRecord>]) -> Result<TxSet, Memory>
     Ok(set)
 }
 
-// The value that a key has from now on, or none.
-fn set_to(pairs: &mut KeyMap, key: u64, after: &Option<Value>) -> Result<(), Memory>
-    ensures { OnOk result (pairs.new ≡ map_set key after.now pairs.old) }
+// A record that is an UPDATE or ADD of a transaction of the set is done.
+fn fold_one(pairs: &mut KeyMap, set: &TxSet, record: &LogRecord) -> Result<(), Memory>
+    ensures { OnOk result (pairs.new ≡ fold_updates (has_member set.now) (record.now ∷ []) pairs.old) }
 {
-    match after {
-        Some(value) => {
-            pairs.set(key, value.copy())?;
+    match record {
+        LogRecord::Update { tx, key, after, .. } => {
+            if set.contains(*tx) {
+                pairs.set_to(*key, copy_of(after))?;
+            }
         }
-        None => {
-            pairs.remove(key);
+        LogRecord::Add { tx, key, by } => {
+            if set.contains(*tx) {
+                pairs.add(*key, *by)?;
+            }
         }
+        _ => {}
     }
     Ok(())
 }
 
-// Each UPDATE of a transaction of the set is done, in the log's order.
+// Each UPDATE and ADD of a transaction of the set is done, in the log's order.
 fn fold(pairs: &mut KeyMap, set: &TxSet, log: &[LogRecord]) -> Result<(), Memory>
     ensures { OnOk result (pairs.new ≡ fold_updates (has_member set.now) log.now pairs.old) }
 {
     for record in log {
-        if let LogRecord::Update { tx, key, after, .. } = record {
-            if set.contains(*tx) {
-                set_to(pairs, *key, after)?;
-            }
-        }
+        fold_one(pairs, set, record)?;
     }
     Ok(())
 }
@@ -74,7 +74,8 @@ fn fold_all(pairs: &mut KeyMap, set: &TxSet, logs: &[Vec<LogRecord>]) -> Result<
 }
 
 /// The map that a set of logs stands for: from the empty map, log by log and in order of LSN, each UPDATE of a transaction that has a
-/// COMMIT in some of the logs sets its key to the value after. Each record takes time logarithmic in the records.
+/// COMMIT in some of the logs sets its key to the value after, and each ADD of one adds to the number at its key. Each record takes time
+/// logarithmic in the records.
 pub fn stands(alloc: Global, logs: &[Vec<LogRecord>]) -> Result<KeyMap, Memory>
     ensures { IfOk result (λ pairs. pairs ≡ stands_for (map (λ l. l.items) logs.now)) }
 {

@@ -22,6 +22,7 @@ use Rattle.clv_base.specs.declared.state.Held.{Held}
 use Rattle.clv_base.specs.declared.modes.Decision.{Decision}
 use Rattle.clv_base.specs.declared.modes.Decision.TheVariants.{Grant, Wait, Die}
 use Rattle.clv_base.specs.Orders.{Table, tx_same, tx_in, tx_get}
+use Rattle.clv_base.specs.declared.changes.Change.{Change}
 use Rattle.clv_base.specs.Logs.{in_doubt}
 use Rattle.clv_base.specs.Locks.{decide}
 use Rattle.clv_base.specs.State.{Local, Shard, is_active_stage, is_present}
@@ -39,7 +40,6 @@ use Rattle.history_cases.proofs.Stepping.{commits, votes, rules, KeptByDue, sett
 use Rattle.std.proofs.Common.{◌++◌, ◌==◌, append_assoc, append-nil}
 use Rattle.std.specs.List.{list_any}
 use Rattle.std.proofs.lemmas.Bool.{or_right, or_cases, eq-eqb}
-use Rattle.clv_base.specs.declared.values.Value.{Value as ValueType}
 use Rattle.clv_base.specs.declared.events.Outcome.TheVariants.{Answered}
 use Rattle.law_base.proofs.Rows.{rows_get}
 use Rattle.clv_base.specs.Machines.{BecomesBy, Runs}
@@ -75,7 +75,7 @@ rows_new P u b (Some h) parts p a = a
 abbrev Fits : (TxId → Type 0) → ℕ → Local → Type 0
 Fits P epoch l = (l.epoch ≡ epoch) × Rows P l.parts
 
-fits_written : (P : TxId → Type 0) (epoch : ℕ) (u : TxId) (w : Option (ℕ × Option ValueType × Option ValueType)) (l : Local) → Fits P epoch l → Fits P epoch (written u w l)
+fits_written : (P : TxId → Type 0) (epoch : ℕ) (u : TxId) (w : Option (ℕ × Change)) (l : Local) → Fits P epoch l → Fits P epoch (written u w l)
 fits_written P epoch u None l a = a
 fits_written P epoch u (Some w) l a = (a.0, a.1)
 

@@ -3,7 +3,6 @@ use Rattle.std.proofs.Common.{◌≡◌, ◌≢◌, ◌⊎◌, inl, inr, refl, s
 use Rattle.std.specs.List.{AllByRecursion}
 use Rattle.std.specs.Ordering.{is_eq}
 use Rattle.std.proofs.lemmas.Bool.{both_ways, and_left, false_from_ne_true}
-use Rattle.clv_base.specs.declared.values.Value.{Value as ValueType}
 use Rattle.clv_base.specs.declared.names.TxId.{TxId}
 use Rattle.clv_base.specs.declared.names.Birth.{Birth}
 use Rattle.clv_base.specs.declared.ops.Op.{Op}
@@ -24,6 +23,7 @@ use Rattle.clv_base.specs.declared.state.Held.{Held}
 use Rattle.clv_base.specs.declared.modes.Decision.{Decision}
 use Rattle.clv_base.specs.declared.modes.Decision.TheVariants.{Grant, Wait, Die}
 use Rattle.clv_base.specs.Orders.{Table, tx_same, tx_in, tx_get, tx_put, birth_cmp}
+use Rattle.clv_base.specs.declared.changes.Change.{Change}
 use Rattle.clv_base.specs.Logs.{in_doubt}
 use Rattle.clv_base.specs.Locks.{decide}
 use Rattle.clv_base.specs.State.{Local, Shard, is_active_stage, is_present}
@@ -117,7 +117,7 @@ found_new u b None parts e a =
     old p true q g = none_some (sym e ∙ ap (λ t. tx_get t parts) (sym (tx_true p.0 u q)) ∙ g)
     old p false q g = get_put u p.0 (active_part b) parts ∙ ap (λ c. cond c (Some (active_part b)) (tx_get p.0 parts)) q ∙ g
 
-found_written : (u : TxId) (w : Option (ℕ × Option ValueType × Option ValueType)) (l : Local) → Found l.parts → Found (written u w l).parts
+found_written : (u : TxId) (w : Option (ℕ × Change)) (l : Local) → Found l.parts → Found (written u w l).parts
 found_written u None l a = a
 found_written u (Some w) l a = a
 

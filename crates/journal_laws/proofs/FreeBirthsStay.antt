@@ -3,7 +3,6 @@ use Rattle.std.proofs.Common.{◌≡◌, refl, sym, subst, ◌∙◌, ℕ, ◌==
 use Rattle.std.specs.List.{AllByRecursion}
 use Rattle.std.specs.Ordering.{nat_cmp, ordering_then, is_eq}
 use Rattle.std.proofs.lemmas.Bool.{both_ways, or_parts, or_from, and_left, and_right, false_from_ne_true, eq-eqb}
-use Rattle.clv_base.specs.declared.values.Value.{Value as ValueType}
 use Rattle.clv_base.specs.declared.names.TxId.{TxId}
 use Rattle.clv_base.specs.declared.names.Birth.{Birth}
 use Rattle.clv_base.specs.declared.ops.Op.{Op}
@@ -19,6 +18,7 @@ use Rattle.clv_base.specs.declared.state.Request.{Request}
 use Rattle.clv_base.specs.declared.state.Ruling.{Ruling}
 use Rattle.clv_base.specs.declared.state.Ruling.TheVariants.{Commit as CommitVerdict, Acknowledge, Abort as AbortVerdict, End as EndVerdict}
 use Rattle.clv_base.specs.Orders.{Table, tx_same, tx_in, tx_get, birth_cmp}
+use Rattle.clv_base.specs.declared.changes.Change.{Change}
 use Rattle.clv_base.specs.Logs.{in_doubt}
 use Rattle.clv_base.specs.declared.modes.Decision.{Decision}
 use Rattle.clv_base.specs.declared.modes.Decision.TheVariants.{Grant, Wait, Die}
@@ -96,7 +96,7 @@ free_new tx birth u b None parts h a = rows_put (Leaves tx birth) u (active_part
     row false y h = refl
 free_new tx birth u b (Some h) parts k a = a
 
-free_written : (tx : TxId) (birth : Birth) (u : TxId) (w : Option (ℕ × Option ValueType × Option ValueType)) (l : Local) → Free tx birth l.parts → Free tx birth (written u w l).parts
+free_written : (tx : TxId) (birth : Birth) (u : TxId) (w : Option (ℕ × Change)) (l : Local) → Free tx birth l.parts → Free tx birth (written u w l).parts
 free_written tx birth u None l a = a
 free_written tx birth u (Some w) l a = a
 

@@ -3,7 +3,6 @@ use Rattle.std.proofs.Common.{◌≡◌, refl, sym, ◌∙◌, ap, subst, ℕ, z
 use Rattle.std.specs.declared.cmp.Ordering.{Ordering}
 use Rattle.std.specs.declared.cmp.Ordering.TheVariants.{Less, Equal, Greater}
 use Rattle.std.specs.Ordering.{match_ordering}
-use Rattle.clv_base.specs.declared.values.Value.{Value as ValueType}
 use Rattle.clv_base.specs.declared.names.TxId.{TxId}
 use Rattle.clv_base.specs.declared.names.Birth.{Birth}
 use Rattle.clv_base.specs.declared.ops.Op.{Op}
@@ -28,6 +27,7 @@ use Rattle.clv_base.specs.declared.state.Ruling.{Ruling}
 use Rattle.clv_base.specs.declared.state.Taken.{Taken as DecisionTaken}
 use Rattle.clv_base.specs.declared.state.Taken.TheVariants.{Done as IsDone, Waiting as IsAwaited, Stale as IsStale}
 use Rattle.clv_base.specs.Orders.{Table, tx_cmp, tx_same, tx_in, tx_get, tx_put}
+use Rattle.clv_base.specs.declared.changes.Change.{Change}
 use Rattle.clv_base.specs.Logs.{committed_in, in_doubt, fitting}
 use Rattle.clv_base.specs.Locks.{decide}
 use Rattle.clv_base.specs.Needs.{needs_of, writes_of, value_at, key_of}
@@ -117,7 +117,7 @@ without_same : (tx : TxId) (l : Local) → counted (without_part tx l) ≡ count
 without_same tx l = rolled_if (is_present (stage_of l tx)) tx l
 
 -- the drop marks no other part, so what counts of the part is what counted before it was rolled back
-written_same : (tx : TxId) (w : Option (ℕ × Option ValueType × Option ValueType)) (l : Local) → counted (written tx w l) ≡ counted l
+written_same : (tx : TxId) (w : Option (ℕ × Change)) (l : Local) → counted (written tx w l) ≡ counted l
 written_same tx None l = refl
 written_same tx (Some w) l = refl
 

@@ -4,7 +4,7 @@ use Rattle.std.specs.List.{list_any}
 use Rattle.std.proofs.lemmas.Bool.{both_ways, false_from_ne_true, or_cases, and_from}
 use Rattle.clv_base.specs.declared.names.TxId.{TxId}
 use Rattle.clv_base.specs.declared.logs.LogRecord.{LogRecord}
-use Rattle.clv_base.specs.declared.logs.LogRecord.TheVariants.{Update, Clr, Prepare as PrepareRecord, Commit, Abort, End, Restart as RestartRecord}
+use Rattle.clv_base.specs.declared.logs.LogRecord.TheVariants.{Update, Clr, Prepare as PrepareRecord, Commit, Abort, End, Restart as RestartRecord, Add, Unadd}
 use Rattle.clv_base.specs.declared.messages.Message.{Message}
 use Rattle.clv_base.specs.declared.messages.Message.TheVariants.{Prepare, Decide}
 use Rattle.clv_base.specs.declared.state.Taken.{Taken as DecisionTaken}
@@ -109,6 +109,8 @@ home_from A Q O n t (PrepareRecord u hm ps) p e = absurd (both_ways false refl e
 home_from A Q O n t (Abort u) p e = absurd (both_ways false refl e)
 home_from A Q O n t (End u) p e = absurd (both_ways false refl e)
 home_from A Q O n t (RestartRecord rn ep) p e = absurd (both_ways false refl e)
+home_from A Q O n t (Add u k by) p e = absurd (both_ways false refl e)
+home_from A Q O n t (Unadd u k b by) p e = absurd (both_ways false refl e)
 
 -- who is committed wrote there, or made its request there
 pub committed_wrote : (A : TxId → Type 0) (Q : TxId → ℕ → Type 0) (O : TxId → Type 0) (n : ℕ) (log : List LogRecord) (t : TxId) → AllFrom A Q O n log → Follows n [] log → committed_in log t ≡ true → (wrote_in log t ≡ true) ⊎ OwnRequest Q O n t

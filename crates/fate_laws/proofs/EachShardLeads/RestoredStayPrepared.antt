@@ -3,7 +3,6 @@ use Rattle.std.proofs.Common.{◌≡◌, ◌⊎◌, inl, inr, ⊎_elim, refl, sy
 use Rattle.std.specs.List.{AllByRecursion}
 use Rattle.std.proofs.lemmas.Bool.{both_ways, or_left, or_right}
 use Rattle.std.proofs.lemmas.List.Folds.{list_any-append}
-use Rattle.clv_base.specs.declared.values.Value.{Value as ValueType}
 use Rattle.clv_base.specs.declared.names.TxId.{TxId}
 use Rattle.clv_base.specs.declared.names.Birth.{Birth}
 use Rattle.clv_base.specs.declared.ops.Op.{Op}
@@ -12,7 +11,7 @@ use Rattle.clv_base.specs.declared.causes.AbortCause.{AbortCause}
 use Rattle.clv_base.specs.declared.causes.Vote.{Vote}
 use Rattle.clv_base.specs.declared.causes.Vote.TheVariants.{Yes, Read, No}
 use Rattle.clv_base.specs.declared.logs.LogRecord.{LogRecord}
-use Rattle.clv_base.specs.declared.logs.LogRecord.TheVariants.{Update, Clr, Prepare as PrepareRecord, Commit, Abort, End, Restart as RestartRecord}
+use Rattle.clv_base.specs.declared.logs.LogRecord.TheVariants.{Update, Clr, Prepare as PrepareRecord, Commit, Abort, End, Restart as RestartRecord, Add, Unadd}
 use Rattle.clv_base.specs.declared.state.Held.{Held}
 use Rattle.clv_base.specs.declared.state.Voter.{Voter}
 use Rattle.clv_base.specs.declared.state.Request.{Request}
@@ -21,6 +20,7 @@ use Rattle.clv_base.specs.declared.state.Ruling.TheVariants.{Commit as CommitVer
 use Rattle.clv_base.specs.declared.events.Event.{Event}
 use Rattle.clv_base.specs.declared.events.Outcome.{Outcome}
 use Rattle.clv_base.specs.Orders.{Table, tx_in, tx_same, tx_get, tx_insert}
+use Rattle.clv_base.specs.declared.changes.Change.{Change}
 use Rattle.clv_base.specs.Logs.{prepared_in, is_prepare_of, doubt_by, in_doubt_from, in_doubt}
 use Rattle.clv_base.specs.State.{Shard, Local, is_present}
 use Rattle.clv_base.specs.Undo.{stage_of, gone_part, gone_in, doomed_here, roll_back}
@@ -107,7 +107,7 @@ put log tx birth parts a = at (tx_get tx parts)
     at None = rows_put (Row log) tx (active_part birth) parts (λ e. absurd (both_ways false refl e)) a
     at (Some h) = a
 
-wrote : (l : Local) (tx : TxId) (w : Option (ℕ × Option ValueType × Option ValueType)) → RestoredArePrepared l → RestoredArePrepared (written tx w l)
+wrote : (l : Local) (tx : TxId) (w : Option (ℕ × Change)) → RestoredArePrepared l → RestoredArePrepared (written tx w l)
 wrote l tx None a = a
 wrote l tx (Some w) a = grown l.log _ l.parts (more l.log _) a
 
@@ -159,6 +159,8 @@ doubts log shard (Commit tx ps ∷ rs) sf t i = doubts log shard rs sf t i
 doubts log shard (Abort tx ∷ rs) sf t i = doubts log shard rs sf t i
 doubts log shard (End tx ∷ rs) sf t i = doubts log shard rs sf t i
 doubts log shard (RestartRecord run epoch ∷ rs) sf t i = doubts log shard rs sf t i
+doubts log shard (Add tx b by ∷ rs) sf t i = doubts log shard rs sf t i
+doubts log shard (Unadd tx b c by ∷ rs) sf t i = doubts log shard rs sf t i
 
 restored_rows : (log : List LogRecord) (doubt : List TxId) → ((t : TxId) → tx_in t doubt ≡ true → prepared_in log t ≡ true) → Rows log (restored_parts doubt)
 restored_rows log [] k = tt

@@ -7,7 +7,9 @@ use Rattle.clv_base.specs.declared.causes.AbortCause.{AbortCause}
 use Rattle.clv_base.specs.declared.causes.Vote.{Vote}
 use Rattle.clv_base.specs.declared.causes.Vote.TheVariants.{Yes, Read, No}
 use Rattle.clv_base.specs.declared.logs.LogRecord.{LogRecord}
-use Rattle.clv_base.specs.declared.logs.LogRecord.TheVariants.{Clr, Commit, Abort, End}
+use Rattle.clv_base.specs.declared.logs.LogRecord.TheVariants.{Commit, Abort, End}
+use Rattle.clv_base.specs.declared.changes.Change.{Change as WriteChange}
+use Rattle.clv_base.specs.declared.changes.Change.TheVariants.{Sets, Adds}
 use Rattle.clv_base.specs.declared.parts.PartFacts.{PartFacts}
 use Rattle.clv_base.specs.declared.state.Voter.{Voter}
 use Rattle.clv_base.specs.declared.state.Request.{Request}
@@ -19,7 +21,7 @@ use Rattle.clv_base.specs.declared.state.Stage.TheVariants.{Active, Closed}
 use Rattle.clv_base.specs.Orders.{Table, tx_same, tx_in, tx_get, tx_set}
 use Rattle.clv_base.specs.Logs.{StandingUpdate, standing, committed_in, prepared_in, wrote_in, prepare_of}
 use Rattle.clv_base.specs.State.{Shard, Local, is_present}
-use Rattle.clv_base.specs.Undo.{newest_lsn, stage_of, doomed_here, roll_back, aborts_of, clrs_of}
+use Rattle.clv_base.specs.Undo.{newest_lsn, stage_of, doomed_here, roll_back, aborts_of, clrs_of, compensation}
 use Rattle.clv_base.specs.Facts.{facts_of, is_waiting}
 use Rattle.clv_base.specs.Participant.{vote_by, voted}
 use Rattle.clv_base.specs.Coordinator.{others, vote_from, is_good, yes_shards, agreed_ruling, is_agreed, undecided_ruling, refusal, ruling_in, ruled_request}
@@ -77,11 +79,12 @@ no_prepare_aborts (u ∷ us) t = no_prepare_aborts us t
 
 no_prepare_clrs : (set : List TxId) (ws : List StandingUpdate) (t : TxId) → prepared_in (clrs_of set ws) t ≡ false
 no_prepare_clrs set [] t = refl
-no_prepare_clrs set (w ∷ ws) t = at (tx_in w.tx set) (no_prepare_clrs set ws t)
+no_prepare_clrs set (w ∷ ws) t = at (tx_in w.tx set) w.change (no_prepare_clrs set ws t)
   where
-    at : (b : Bool) → prepared_in (clrs_of set ws) t ≡ false → prepared_in (cond b (Clr w.tx (newest_lsn w.tx ws) w.key w.before ∷ clrs_of set ws) (clrs_of set ws)) t ≡ false
-    at true k = k
-    at false k = k
+    at : (b : Bool) (c : WriteChange) → prepared_in (clrs_of set ws) t ≡ false → prepared_in (cond b (compensation w.tx (newest_lsn w.tx ws) w.key c ∷ clrs_of set ws) (clrs_of set ws)) t ≡ false
+    at true (Sets before after) k = k
+    at true (Adds by) k = k
+    at false c k = k
 
 plain_aborts : (log : List LogRecord) (set : List TxId) → Plainly log (aborts_of log set)
 plain_aborts log set = record { prepares = no_prepare_aborts (filter (wrote_in log) set); updates = λ t. no_write_aborts t (filter (wrote_in log) set); ahead = aborts_ahead log (filter (wrote_in log) set) }

@@ -9,7 +9,7 @@ use Rattle.clv_base.specs.declared.ops.Op.{Op}
 use Rattle.clv_base.specs.declared.ops.Answer.{Answer}
 use Rattle.clv_base.specs.declared.causes.Vote.TheVariants.{Read}
 use Rattle.clv_base.specs.declared.logs.LogRecord.{LogRecord}
-use Rattle.clv_base.specs.declared.logs.LogRecord.TheVariants.{Update, Clr, Prepare, Commit, Abort, End, Restart as RestartRecord}
+use Rattle.clv_base.specs.declared.logs.LogRecord.TheVariants.{Update, Clr, Prepare, Commit, Abort, End, Restart as RestartRecord, Add, Unadd}
 use Rattle.clv_base.specs.declared.messages.Message.TheVariants.{Decide}
 use Rattle.clv_base.specs.declared.state.Held.{Held}
 use Rattle.clv_base.specs.declared.state.Stage.TheVariants.{Active, Closed}
@@ -460,6 +460,8 @@ all_tied (Commit tx parts ∷ rs) = (tt, all_tied rs)
 all_tied (Abort tx ∷ rs) = (tt, all_tied rs)
 all_tied (End tx ∷ rs) = (tt, all_tied rs)
 all_tied (RestartRecord run epoch ∷ rs) = (tt, all_tied rs)
+all_tied (Add tx key by ∷ rs) = (tt, all_tied rs)
+all_tied (Unadd tx u key by ∷ rs) = (tt, all_tied rs)
 
 log_ahead : (splits : List ℕ) (before : List (List LogRecord)) (n : ℕ) → may_open splits before ≡ true → n < length before → Ahead [] (log_of before n)
 log_ahead splits before n m l = follows_ahead n [] (log_of before n) (log_follows splits before n m l)

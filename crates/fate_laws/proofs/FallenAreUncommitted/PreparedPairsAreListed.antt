@@ -1,16 +1,19 @@
 -- What a shard's PREPAREs list: predecessors that were prepared or committed before; and each pair of a prepared one is listed, or committed.
 use Rattle.std.proofs.Common.{◌≡◌, ◌⊎◌, inl, inr, ⊎_elim, refl, sym, ap, subst, ◌∙◌, ℕ, true, false, not, Bool, ◌||◌, List, [], ◌∷◌, ◌++◌, Option, Some, None}
-use Rattle.std.proofs.lemmas.Bool.{both_ways, and_parts, or_cases, or_left, or_right, false_from_ne_true}
+use Rattle.std.proofs.lemmas.Bool.{both_ways, and_parts, or_cases, or_left, or_right, or_from, false_from_ne_true}
 use Rattle.clv_base.specs.declared.values.Value.{Value as ValueType}
 use Rattle.clv_base.specs.declared.names.TxId.{TxId}
 use Rattle.clv_base.specs.declared.names.Birth.{Birth}
 use Rattle.clv_base.specs.declared.ops.Op.{Op}
+use Rattle.clv_base.specs.declared.ops.Op.TheVariants as ops
 use Rattle.clv_base.specs.declared.ops.Op.TheVariants.{Get, Put, Del, Scan}
 use Rattle.clv_base.specs.declared.logs.LogRecord.{LogRecord}
-use Rattle.clv_base.specs.declared.logs.LogRecord.TheVariants.{Update, Prepare, Commit}
+use Rattle.clv_base.specs.declared.logs.LogRecord.TheVariants.{Update, Prepare, Commit, Add}
 use Rattle.clv_base.specs.declared.state.Held.{Held}
 use Rattle.clv_base.specs.declared.state.Stage.TheVariants.{Active, Closed}
 use Rattle.clv_base.specs.Orders.{Table, tx_same, tx_in, tx_get, pair_insert}
+use Rattle.clv_base.specs.declared.changes.Change.{Change}
+use Rattle.clv_base.specs.declared.changes.Change.TheVariants.{Sets, Adds}
 use Rattle.clv_base.specs.Logs.{committed_in, prepared_in, wrote_in, prepare_of}
 use Rattle.clv_base.specs.Locks.{violated, take_all, release, close_locks}
 use Rattle.clv_base.specs.Needs.{needs_of, writes_of, value_at, key_of, inserts, found_at, Records}
@@ -96,11 +99,12 @@ new_pair tx (q ∷ qs) pairs t p e =
     ⊎_elim (λ a. ⊎_elim (λ b. inl b) (λ b. let c = and_parts (tx_same t tx) (tx_same p q) b in inr (or_left (tx_same q p) (tx_in p qs) (tx_flip p q c.1))) (insert_from pairs (tx, q) t p a))
     (λ a. inr (or_right (tx_same q p) (tx_in p qs) a)) (new_pair tx qs (pair_insert (tx, q) pairs) t p e)
 
-inserting : (op : Op) (rs : Records) (b : Option ValueType) (k : ℕ) → inserts op (found_at (key_of op) rs) ≡ Some k → (w : ℕ × Option ValueType × Option ValueType) × (writes_of op b ≡ Some w)
-inserting (Put j v) rs b k e = ((j, b, Some v), refl)
+inserting : (op : Op) (rs : Records) (b : Option ValueType) (k : ℕ) → inserts op (found_at (key_of op) rs) ≡ Some k → (w : ℕ × Change) × (writes_of op b ≡ Some w)
+inserting (Put j v) rs b k e = ((j, Sets b (Some v)), refl)
 inserting (Get j) rs b k e = absurd (none_some k e)
 inserting (Del j) rs b k e = absurd (none_some k e)
 inserting (Scan lo hi) rs b k e = absurd (none_some k e)
+inserting (ops.Add j by) rs b k e = absurd (none_some k e)
 
 pub lined_performed : (l : Local) (tx : TxId) (birth : Birth) (op : Op) (P : TxId → Birth → Bool → Type 0) → Rows P l.locks → ((p : TxId) (b : Birth) → P p b true → stage_of l p ≡ Some Closed)
     → (stage_of l tx ≡ None) ⊎ (stage_of l tx ≡ Some Active) → prepared_in l.log tx ≡ false → Lined l → Lined (performed tx birth op l)
@@ -142,16 +146,30 @@ lined_performed l tx birth op P rows closed st u p = by_write (writes_of op (val
     is_met t q o i e =
         ⊎_elim (λ k. p.met t q o k e) (λ k. absurd (both_ways _ u (subst (λ z. prepared_in l.log z ≡ true) k (prepared_there l.log t o e)))) (add_from tx (violated tx (needs_of op l.records) l.locks) l.pairs t q i)
 
-    locks_by : (log : List LogRecord) → ((t : TxId) → wrote_in l.log t ≡ true → wrote_in log t ≡ true) → ((w : ℕ × Option ValueType × Option ValueType) → writes_of op (value_at (key_of op) l.records) ≡ Some w → wrote_in log tx ≡ true)
+    locks_by : (log : List LogRecord) → ((t : TxId) → wrote_in l.log t ≡ true → wrote_in log t ≡ true) → ((w : ℕ × Change) → writes_of op (value_at (key_of op) l.records) ≡ Some w → wrote_in log tx ≡ true)
         → Writers (λ t. wrote_in log t ≡ true) (locked tx birth op l).locks
     locks_by log more mine =
         writers_insert (λ t. wrote_in log t ≡ true) tx birth l.records (inserts op (found_at (key_of op) l.records)) (take_all tx birth (needs_of op l.records) l.locks) (λ k e. insert_writes log mine k e)
         (writers_all (λ t. wrote_in log t ≡ true) tx birth (needs_of op l.records) l.locks (needs_write (λ t. wrote_in log t ≡ true) tx op l.records mine) (writers_more (λ t. wrote_in l.log t ≡ true) (λ t. wrote_in log t ≡ true) more l.locks p.writers))
       where
-        insert_writes : (log : List LogRecord) → ((w : ℕ × Option ValueType × Option ValueType) → writes_of op (value_at (key_of op) l.records) ≡ Some w → wrote_in log tx ≡ true) → (k : ℕ) → inserts op (found_at (key_of op) l.records) ≡ Some k → wrote_in log tx ≡ true
+        insert_writes : (log : List LogRecord) → ((w : ℕ × Change) → writes_of op (value_at (key_of op) l.records) ≡ Some w → wrote_in log tx ≡ true) → (k : ℕ) → inserts op (found_at (key_of op) l.records) ≡ Some k → wrote_in log tx ≡ true
         insert_writes log mine k e = let w = inserting op l.records (value_at (key_of op) l.records) k e in mine w.0 w.1
 
-    by_write : (w : Option (ℕ × Option ValueType × Option ValueType)) → writes_of op (value_at (key_of op) l.records) ≡ w → Lined (written tx w (locked tx birth op l))
+    -- its UPDATE or ADD
+    by_more : (rs : Records) (more : List LogRecord) → ((t : TxId) → wrote_in more t ≡ (tx_same t tx || false)) → ((t : TxId) → prepared_in more t ≡ false) → Ahead l.log more
+        → Lined (record (locked tx birth op l) { records = rs; log = l.log ++ more })
+    by_more rs more own none further = record {
+      writers = locks_by (l.log ++ more) (λ t k. wrote_keeps l.log more t k) (λ v f. wrote_append l.log more tx ∙ or_right (wrote_in l.log tx) _ (own tx ∙ or_left (tx_same tx tx) false (tx_self tx)));
+      decided = λ t c v. decided_more l.log more t (p.decided t (was_closed t c).1
+          (⊎_elim (λ k. k) (λ k. absurd (⊎_elim (λ s. (was_closed t c).0 (tx_true t tx s)) (λ s. both_ways false refl s) (or_cases (tx_same t tx) false (sym (own t) ∙ k)))) (or_cases (wrote_in l.log t) (wrote_in more t) (sym (wrote_append l.log more t) ∙ v))));
+      paired = λ t q i. is_paired (l.log ++ more) (λ q k. decided_more l.log more q k) t q i;
+      met = λ t q o i f. ⊎_elim (λ h. inl h) (λ h. inr (committed_keeps l.log more q h)) (is_met t q o i (prepare_from l.log more t o (none t) f));
+      wrote = λ t k. wrote_keeps l.log more t (p.wrote t (or_first (prepared_in l.log t) (prepared_in more t) (none t) (sym (prepared_append l.log more t) ∙ k)));
+      unprepared = λ t a. prepared_append l.log more t ∙ or_from _ _ (was_active t a) (none t);
+      ahead = ahead_append [] l.log more p.ahead further;
+    }
+
+    by_write : (w : Option (ℕ × Change)) → writes_of op (value_at (key_of op) l.records) ≡ w → Lined (written tx w (locked tx birth op l))
     by_write None e = record {
       writers = locks_by l.log (λ t k. k) (λ w f. absurd (none_some w (sym e ∙ f)));
       decided = λ t c w. p.decided t (was_closed t c).1 w;
@@ -161,18 +179,8 @@ lined_performed l tx birth op P rows closed st u p = by_write (writes_of op (val
       unprepared = was_active;
       ahead = p.ahead;
     }
-    by_write (Some w) e =
-        let more = Update tx w.0 w.1 w.2 ∷ [] in
-        record {
-          writers = locks_by (l.log ++ more) (λ t k. wrote_keeps l.log more t k) (λ v f. wrote_append l.log more tx ∙ or_right (wrote_in l.log tx) _ (or_left (tx_same tx tx) false (tx_self tx)));
-          decided = λ t c v. decided_more l.log more t (p.decided t (was_closed t c).1
-              (⊎_elim (λ k. k) (λ k. absurd (⊎_elim (λ s. (was_closed t c).0 (tx_true t tx s)) (λ s. both_ways false refl s) (or_cases (tx_same t tx) false k))) (or_cases (wrote_in l.log t) (wrote_in more t) (sym (wrote_append l.log more t) ∙ v))));
-          paired = λ t q i. is_paired (l.log ++ more) (λ q k. decided_more l.log more q k) t q i;
-          met = λ t q o i f. ⊎_elim (λ h. inl h) (λ h. inr (committed_keeps l.log more q h)) (is_met t q o i (prepare_from l.log more t o refl f));
-          wrote = λ t k. wrote_keeps l.log more t (p.wrote t (or_first (prepared_in l.log t) false refl (sym (prepared_append l.log more t) ∙ k)));
-          unprepared = λ t a. prepared_append l.log more t ∙ ap (λ b. b || false) (was_active t a);
-          ahead = ahead_append [] l.log more p.ahead (tt, tt);
-        }
+    by_write (Some (key, Sets before after)) e = by_more _ (Update tx key before after ∷ []) (λ t. refl) (λ t. refl) (tt, tt)
+    by_write (Some (key, Adds by)) e = by_more _ (Add tx key by ∷ []) (λ t. refl) (λ t. refl) (tt, tt)
 
 -- ---- a part that closes
 

@@ -5,12 +5,14 @@ use Rattle.std.specs.List.{filter, list_all}
 use Rattle.std.proofs.lemmas.Bool.{both_ways, and_parts, or_cases, or_left, or_right, not-true, false_from_ne_true, or_parts}
 use Rattle.clv_base.specs.declared.names.TxId.{TxId}
 use Rattle.clv_base.specs.declared.logs.LogRecord.{LogRecord}
-use Rattle.clv_base.specs.declared.logs.LogRecord.TheVariants.{Update, Clr, Prepare, Commit, Abort, End, Restart}
+use Rattle.clv_base.specs.declared.logs.LogRecord.TheVariants.{Update, Clr, Prepare, Commit, Abort, End, Restart, Add, Unadd}
+use Rattle.clv_base.specs.declared.changes.Change.{Change}
+use Rattle.clv_base.specs.declared.changes.Change.TheVariants.{Sets, Adds}
 use Rattle.clv_base.specs.Orders.{tx_same, tx_in, tx_insert}
 use Rattle.clv_base.specs.Logs.{StandingUpdate, standing, committed_in, prepared_in, aborted_in, is_prepare_of, prepare_of, doubt_by, in_doubt_from, in_doubt}
 use Rattle.clv_base.specs.LogRules.{may_follow}
 use Rattle.clv_base.specs.State.{Shard}
-use Rattle.clv_base.specs.Undo.{clrs_of, newest_lsn}
+use Rattle.clv_base.specs.Undo.{clrs_of, newest_lsn, compensation}
 use Rattle.clv_base.specs.Restarts.{restart_records, undo_records, log_after_restart, losers, next_epoch, FailedRestarts, Restarts, untouched, failed_first}
 use Rattle.clv_base.proofs.SameNames.{tx_true, tx_self, in_insert, insert_has}
 use Rattle.law_base.proofs.Changed.{none_some, some_same}
@@ -27,6 +29,8 @@ Fronts front (Commit tx parts) = ⊤
 Fronts front (Abort tx) = ⊤
 Fronts front (End tx) = ⊤
 Fronts front (Restart run epoch) = ⊤
+Fronts front (Add tx key by) = ⊤
+Fronts front (Unadd tx next key by) = ⊤
 
 abbrev pub Ahead : List LogRecord → List LogRecord → Type 0
 Ahead front [] = ⊤
@@ -53,12 +57,13 @@ aborts_ahead front (t ∷ ts) = (tt, aborts_ahead (front ++ Abort t ∷ []) ts)
 
 pub clrs_ahead : (front : List LogRecord) (set : List TxId) (ws : List StandingUpdate) → Ahead front (clrs_of set ws)
 clrs_ahead front set [] = tt
-clrs_ahead front set (w ∷ ws) = at (tx_in w.tx set) (clrs_ahead (front ++ Clr w.tx (newest_lsn w.tx ws) w.key w.before ∷ []) set ws) (clrs_ahead front set ws)
+clrs_ahead front set (w ∷ ws) = at (tx_in w.tx set) w.change (clrs_ahead (front ++ compensation w.tx (newest_lsn w.tx ws) w.key w.change ∷ []) set ws) (clrs_ahead front set ws)
   where
-    at : (b : Bool) → Ahead (front ++ Clr w.tx (newest_lsn w.tx ws) w.key w.before ∷ []) (clrs_of set ws) → Ahead front (clrs_of set ws)
-        → Ahead front (cond b (Clr w.tx (newest_lsn w.tx ws) w.key w.before ∷ clrs_of set ws) (clrs_of set ws))
-    at true k l = (tt, k)
-    at false k l = l
+    at : (b : Bool) (c : Change) → Ahead (front ++ compensation w.tx (newest_lsn w.tx ws) w.key c ∷ []) (clrs_of set ws) → Ahead front (clrs_of set ws)
+        → Ahead front (cond b (compensation w.tx (newest_lsn w.tx ws) w.key c ∷ clrs_of set ws) (clrs_of set ws))
+    at true (Sets before after) k l = (tt, k)
+    at true (Adds by) k l = (tt, k)
+    at false c k l = l
 
 records_ahead : (shard : ℕ) (front log : List LogRecord) (run epoch : ℕ) → Ahead front (restart_records shard log run epoch)
 records_ahead shard front log run epoch =
@@ -101,6 +106,8 @@ follows_fronts shard front (Commit tx parts) m = tt
 follows_fronts shard front (Abort tx) m = tt
 follows_fronts shard front (End tx) m = tt
 follows_fronts shard front (Restart run epoch) m = tt
+follows_fronts shard front (Add tx key by) m = tt
+follows_fronts shard front (Unadd tx next key by) m = tt
 
 pub follows_ahead : (shard : ℕ) (front rs : List LogRecord) → Follows shard front rs → Ahead front rs
 follows_ahead shard front [] f = tt
@@ -134,6 +141,8 @@ was_doubted log shard front (Commit tx ps ∷ rs) sf q a p i = was_doubted log s
 was_doubted log shard front (Abort tx ∷ rs) sf q a p i = was_doubted log shard (front ++ Abort tx ∷ []) rs sf q a.1 (more_prepared front (Abort tx) q p) i
 was_doubted log shard front (End tx ∷ rs) sf q a p i = was_doubted log shard (front ++ End tx ∷ []) rs sf q a.1 (more_prepared front (End tx) q p) i
 was_doubted log shard front (Restart run epoch ∷ rs) sf q a p i = was_doubted log shard (front ++ Restart run epoch ∷ []) rs sf q a.1 (more_prepared front (Restart run epoch) q p) i
+was_doubted log shard front (Add tx k by ∷ rs) sf q a p i = was_doubted log shard (front ++ Add tx k by ∷ []) rs sf q a.1 (more_prepared front (Add tx k by) q p) i
+was_doubted log shard front (Unadd tx u k by ∷ rs) sf q a p i = was_doubted log shard (front ++ Unadd tx u k by ∷ []) rs sf q a.1 (more_prepared front (Unadd tx u k by) q p) i
 
 -- why a prepared one that isn't committed is not in doubt: it was aborted, or this is its home, or it lists one that is neither
 abbrev pub Why : List LogRecord → ℕ → List TxId → TxId → ℕ × List TxId → Type 0
@@ -203,6 +212,8 @@ behind log shard front (Abort tx ∷ rs) sf t p e a u h n c = behind log shard (
 behind log shard front (End tx ∷ rs) sf t p e a u h n c = behind log shard (front ++ End tx ∷ []) rs sf t p (append_assoc front (End tx ∷ []) rs ∙ e) a.1 (still_unprepared front (End tx) t u refl) h n c
 behind log shard front (Restart run epoch ∷ rs) sf t p e a u h n c =
     behind log shard (front ++ Restart run epoch ∷ []) rs sf t p (append_assoc front (Restart run epoch ∷ []) rs ∙ e) a.1 (still_unprepared front (Restart run epoch) t u refl) h n c
+behind log shard front (Add tx k by ∷ rs) sf t p e a u h n c = behind log shard (front ++ Add tx k by ∷ []) rs sf t p (append_assoc front (Add tx k by ∷ []) rs ∙ e) a.1 (still_unprepared front (Add tx k by) t u refl) h n c
+behind log shard front (Unadd tx v k by ∷ rs) sf t p e a u h n c = behind log shard (front ++ Unadd tx v k by ∷ []) rs sf t p (append_assoc front (Unadd tx v k by ∷ []) rs ∙ e) a.1 (still_unprepared front (Unadd tx v k by) t u refl) h n c
 
 -- in a whole log
 pub not_in_doubt : (shard : ℕ) (log : List LogRecord) (t : TxId) (p : ℕ × List TxId) → Ahead [] log → prepare_of log t ≡ Some p → tx_in t (in_doubt shard log) ≡ false → committed_in log t ≡ false → Why log shard (in_doubt shard log) t p
@@ -226,6 +237,8 @@ listed_front log front (Commit tx ps ∷ rs) t q p e a h i = listed_front log (f
 listed_front log front (Abort tx ∷ rs) t q p e a h i = listed_front log (front ++ Abort tx ∷ []) rs t q p (append_assoc front (Abort tx ∷ []) rs ∙ e) a.1 h i
 listed_front log front (End tx ∷ rs) t q p e a h i = listed_front log (front ++ End tx ∷ []) rs t q p (append_assoc front (End tx ∷ []) rs ∙ e) a.1 h i
 listed_front log front (Restart run epoch ∷ rs) t q p e a h i = listed_front log (front ++ Restart run epoch ∷ []) rs t q p (append_assoc front (Restart run epoch ∷ []) rs ∙ e) a.1 h i
+listed_front log front (Add tx k by ∷ rs) t q p e a h i = listed_front log (front ++ Add tx k by ∷ []) rs t q p (append_assoc front (Add tx k by ∷ []) rs ∙ e) a.1 h i
+listed_front log front (Unadd tx v k by ∷ rs) t q p e a h i = listed_front log (front ++ Unadd tx v k by ∷ []) rs t q p (append_assoc front (Unadd tx v k by ∷ []) rs ∙ e) a.1 h i
 
 -- who is in doubt has its home elsewhere
 abroad : (log : List LogRecord) (shard : ℕ) (front rs : List LogRecord) (sf : List TxId) (t : TxId) (p : ℕ × List TxId) → Ahead front rs → prepared_in front t ≡ false → prepare_of rs t ≡ Some p → tx_in t sf ≡ false
@@ -258,6 +271,8 @@ abroad log shard front (Commit tx ps ∷ rs) sf t p a u h n i z = abroad log sha
 abroad log shard front (Abort tx ∷ rs) sf t p a u h n i z = abroad log shard (front ++ Abort tx ∷ []) rs sf t p a.1 (still_unprepared front (Abort tx) t u refl) h n i z
 abroad log shard front (End tx ∷ rs) sf t p a u h n i z = abroad log shard (front ++ End tx ∷ []) rs sf t p a.1 (still_unprepared front (End tx) t u refl) h n i z
 abroad log shard front (Restart run epoch ∷ rs) sf t p a u h n i z = abroad log shard (front ++ Restart run epoch ∷ []) rs sf t p a.1 (still_unprepared front (Restart run epoch) t u refl) h n i z
+abroad log shard front (Add tx k by ∷ rs) sf t p a u h n i z = abroad log shard (front ++ Add tx k by ∷ []) rs sf t p a.1 (still_unprepared front (Add tx k by) t u refl) h n i z
+abroad log shard front (Unadd tx v k by ∷ rs) sf t p a u h n i z = abroad log shard (front ++ Unadd tx v k by ∷ []) rs sf t p a.1 (still_unprepared front (Unadd tx v k by) t u refl) h n i z
 
 pub home_elsewhere : (shard : ℕ) (log : List LogRecord) (t : TxId) (p : ℕ × List TxId) → Ahead [] log → prepare_of log t ≡ Some p → tx_in t (in_doubt shard log) ≡ true → p.0 ≡ shard → ⊥
 home_elsewhere shard log t p a h i z = abroad log shard [] log [] t p a refl h refl i z

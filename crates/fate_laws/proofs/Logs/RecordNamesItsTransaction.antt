@@ -4,7 +4,7 @@ use Rattle.std.specs.List.{list_any}
 use Rattle.std.proofs.lemmas.Bool.{both_ways, or_cases, or_left, or_right}
 use Rattle.clv_base.specs.declared.names.TxId.{TxId}
 use Rattle.clv_base.specs.declared.logs.LogRecord.{LogRecord}
-use Rattle.clv_base.specs.declared.logs.LogRecord.TheVariants.{Update, Prepare, Commit}
+use Rattle.clv_base.specs.declared.logs.LogRecord.TheVariants.{Update, Prepare, Commit, Add}
 use Rattle.clv_base.specs.Logs.{is_record_of, is_update_of, is_prepare_of, is_commit_of, wrote_in, prepared_in, committed_in}
 
 any_more : (f g : LogRecord → Bool) (log : List LogRecord) → ((r : LogRecord) → f r ≡ true → g r ≡ true) → list_any f log ≡ true → list_any g log ≡ true
@@ -16,6 +16,7 @@ update_is log t e = any_more (is_update_of t) (is_record_of t) log one e
   where
     one : (r : LogRecord) → is_update_of t r ≡ true → is_record_of t r ≡ true
     one (Update tx key before after) e = e
+    one (Add tx key by) e = e
     one _ e = absurd (both_ways false refl e)
 
 pub prepare_is : (log : List LogRecord) (t : TxId) → prepared_in log t ≡ true → list_any (is_record_of t) log ≡ true

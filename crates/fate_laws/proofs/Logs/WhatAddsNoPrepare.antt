@@ -10,11 +10,13 @@ use Rattle.clv_base.specs.declared.ops.Op.{Op}
 use Rattle.clv_base.specs.declared.ops.Answer.{Answer}
 use Rattle.clv_base.specs.declared.causes.AbortCause.{AbortCause}
 use Rattle.clv_base.specs.declared.logs.LogRecord.{LogRecord}
-use Rattle.clv_base.specs.declared.logs.LogRecord.TheVariants.{Update, Clr, Prepare, Commit, Abort, End, Restart}
+use Rattle.clv_base.specs.declared.logs.LogRecord.TheVariants.{Update, Clr, Prepare, Commit, Abort, End, Restart, Add, Unadd}
 use Rattle.clv_base.specs.Orders.{tx_same, tx_in}
+use Rattle.clv_base.specs.declared.changes.Change.{Change}
+use Rattle.clv_base.specs.declared.changes.Change.TheVariants.{Sets, Adds}
 use Rattle.clv_base.specs.Logs.{StandingUpdate, is_prepare_of, prepared_in, prepare_of, aborted_in, wrote_in, standing}
 use Rattle.clv_base.specs.State.{Shard, Local, is_present}
-use Rattle.clv_base.specs.Undo.{stage_of, aborts_of, clrs_of, newest_lsn, doomed_here, roll_back}
+use Rattle.clv_base.specs.Undo.{stage_of, aborts_of, clrs_of, newest_lsn, doomed_here, roll_back, compensation}
 use Rattle.clv_base.specs.Needs.{writes_of, value_at, key_of}
 use Rattle.clv_base.specs.OneShard.{OpDies, OpAnswers, op_reply, written, locked, rolled_back_if, drop_part, closing}
 use Rattle.clv_base.specs.Restarts.{undo_records, restart_records, log_after_restart, next_epoch, losers, FailedRestarts, untouched, failed_first, Restarts}
@@ -54,6 +56,8 @@ prepare_new (Commit u parts ∷ rs) tx home ps t p e = prepare_new rs tx home ps
 prepare_new (Abort u ∷ rs) tx home ps t p e = prepare_new rs tx home ps t p e
 prepare_new (End u ∷ rs) tx home ps t p e = prepare_new rs tx home ps t p e
 prepare_new (Restart run epoch ∷ rs) tx home ps t p e = prepare_new rs tx home ps t p e
+prepare_new (Add u key by ∷ rs) tx home ps t p e = prepare_new rs tx home ps t p e
+prepare_new (Unadd u next key by ∷ rs) tx home ps t p e = prepare_new rs tx home ps t p e
 
 -- ---- a log with no PREPAREs but another's
 
@@ -71,18 +75,19 @@ pub plain_more : (log more : List LogRecord) → AllByRecursion IsNoPrepare more
 plain_more log more a t p e = prepare_from log more t p (unprepared more a t) e
 
 -- what each CLR has, those of a rollback have
-pub all_clrs : (P : LogRecord → Type 0) → ((w : StandingUpdate) (n : Option ℕ) → P (Clr w.tx n w.key w.before)) → (set : List TxId) (ws : List StandingUpdate) → AllByRecursion P (clrs_of set ws)
-all_clrs P k set [] = tt
-all_clrs P k set (w ∷ ws) = at (tx_in w.tx set) (all_clrs P k set ws)
+pub all_clrs : (P : LogRecord → Type 0) → ((t : TxId) (n : Option ℕ) (k : ℕ) (v : Option ValueType) → P (Clr t n k v)) → ((t : TxId) (n : Option ℕ) (k by : ℕ) → P (Unadd t n k by)) → (set : List TxId) (ws : List StandingUpdate) → AllByRecursion P (clrs_of set ws)
+all_clrs P k m set [] = tt
+all_clrs P k m set (w ∷ ws) = at (tx_in w.tx set) w.change (all_clrs P k m set ws)
   where
-    at : (b : Bool) → AllByRecursion P (clrs_of set ws) → AllByRecursion P (cond b (Clr w.tx (newest_lsn w.tx ws) w.key w.before ∷ clrs_of set ws) (clrs_of set ws))
-    at true a = (k w (newest_lsn w.tx ws), a)
-    at false a = a
+    at : (b : Bool) (c : Change) → AllByRecursion P (clrs_of set ws) → AllByRecursion P (cond b (compensation w.tx (newest_lsn w.tx ws) w.key c ∷ clrs_of set ws) (clrs_of set ws))
+    at true (Sets before after) a = (k w.tx (newest_lsn w.tx ws) w.key before, a)
+    at true (Adds by) a = (m w.tx (newest_lsn w.tx ws) w.key by, a)
+    at false c a = a
 
 pub rolled : (tx : TxId) (l : Local) → NoMorePrepares l.log (roll_back tx l).log
 rolled tx l t p e =
     plain_more l.log (aborts_of l.log (doomed_here l tx)) (all_map IsNoPrepare (λ u. Abort u) (filter (wrote_in l.log) (doomed_here l tx)) (λ u t. refl)) t p
-    (plain_more (l.log ++ aborts_of l.log (doomed_here l tx)) (clrs_of (doomed_here l tx) (standing l.log)) (all_clrs IsNoPrepare (λ w n t. refl) (doomed_here l tx) (standing l.log)) t p e)
+    (plain_more (l.log ++ aborts_of l.log (doomed_here l tx)) (clrs_of (doomed_here l tx) (standing l.log)) (all_clrs IsNoPrepare (λ t n k v u. refl) (λ t n k by u. refl) (doomed_here l tx) (standing l.log)) t p e)
 
 rolled_if : (b : Bool) (tx : TxId) (l : Local) → NoMorePrepares l.log (rolled_back_if b tx l).log
 rolled_if true tx l = rolled tx l
@@ -91,9 +96,10 @@ rolled_if false tx l = λ t p e. e
 pub dropped : (tx : TxId) (l : Local) → NoMorePrepares l.log (drop_part tx l).log
 dropped tx l = rolled_if (is_present (stage_of l tx)) tx l
 
-writes : (tx : TxId) (w : Option (ℕ × Option ValueType × Option ValueType)) (l : Local) → NoMorePrepares l.log (written tx w l).log
+writes : (tx : TxId) (w : Option (ℕ × Change)) (l : Local) → NoMorePrepares l.log (written tx w l).log
 writes tx None l = λ t p e. e
-writes tx (Some w) l = plain_more l.log (Update tx w.0 w.1 w.2 ∷ []) ((λ t. refl), tt)
+writes tx (Some (key, Sets before after)) l = plain_more l.log (Update tx key before after ∷ []) ((λ t. refl), tt)
+writes tx (Some (key, Adds by)) l = plain_more l.log (Add tx key by ∷ []) ((λ t. refl), tt)
 
 dying : (l m : Local) (tx : TxId) (birth : Birth) (seen : Option ℕ) (op : Op) (c : AbortCause) → OpIs l tx birth seen op (OpDies c m) → NoMorePrepares l.log m.log
 dying l _ tx birth seen op c dies = λ t p e. e
@@ -121,7 +127,7 @@ closes_with log true false tx home us t p e = prepare_new log tx home us t p e
 restart_have : (shard : ℕ) (log : List LogRecord) (run epoch : ℕ) → AllByRecursion IsNoPrepare (restart_records shard log run epoch)
 restart_have shard log run epoch =
     all_append _ (undo_records shard log) (Restart run epoch ∷ [])
-    (all_append _ _ _ (all_map IsNoPrepare (λ u. Abort u) (filter (λ t. not (aborted_in log t)) (losers shard log)) (λ u t. refl)) (all_clrs IsNoPrepare (λ w n t. refl) (losers shard log) (standing log))) ((λ t. refl), tt)
+    (all_append _ _ _ (all_map IsNoPrepare (λ u. Abort u) (filter (λ t. not (aborted_in log t)) (losers shard log)) (λ u t. refl)) (all_clrs IsNoPrepare (λ t n k v u. refl) (λ t n k by u. refl) (losers shard log) (standing log))) ((λ t. refl), tt)
 
 take_have : (n : ℕ) (xs : List LogRecord) → AllByRecursion IsNoPrepare xs → AllByRecursion IsNoPrepare (take n xs)
 take_have zero xs a = tt

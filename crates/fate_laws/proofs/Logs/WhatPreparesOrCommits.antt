@@ -1,7 +1,6 @@
 -- How a step gives a transaction a PREPARE, a closed part or a COMMIT.
 use Rattle.std.proofs.Common.{◌≡◌, ◌⊎◌, inl, inr, ⊎_elim, refl, sym, ap, subst, ◌∙◌, ℕ, true, false, cond, Bool, List, [], ◌∷◌, ◌++◌, Option, Some, None}
 use Rattle.std.proofs.lemmas.Bool.{both_ways}
-use Rattle.clv_base.specs.declared.values.Value.{Value as ValueType}
 use Rattle.clv_base.specs.declared.names.TxId.{TxId}
 use Rattle.clv_base.specs.declared.names.Birth.{Birth}
 use Rattle.clv_base.specs.declared.ops.Op.{Op}
@@ -16,6 +15,7 @@ use Rattle.clv_base.specs.declared.events.Event.TheVariants.{Request as RequestE
 use Rattle.clv_base.specs.declared.events.Outcome.{Outcome}
 use Rattle.clv_base.specs.declared.events.Outcome.TheVariants.{Asked, Taken}
 use Rattle.clv_base.specs.Orders.{tx_same, tx_get, Table}
+use Rattle.clv_base.specs.declared.changes.Change.{Change}
 use Rattle.clv_base.specs.Logs.{committed_in, prepare_of, wrote_in}
 use Rattle.clv_base.specs.Needs.{writes_of, value_at, key_of}
 use Rattle.clv_base.specs.State.{Shard, Local, is_present}
@@ -90,7 +90,7 @@ new_active u birth parts (Some x) e (inr k) = ap stage_by e ∙ k
 performed_closed : (s : Shard) (tx u : TxId) (birth : Birth) (op : Op) → (stage_of s.local u ≡ None) ⊎ (stage_of s.local u ≡ Some Active) → stage_of (performed u birth op s.local) tx ≡ Some Closed → stage_of s.local tx ≡ Some Closed
 performed_closed s tx u birth op k h = at (tx_same tx u) refl
   where
-    parts_are : (w : Option (ℕ × Option ValueType × Option ValueType)) (l : Local) → (written u w l).parts ≡ l.parts
+    parts_are : (w : Option (ℕ × Change)) (l : Local) → (written u w l).parts ≡ l.parts
     parts_are None l = refl
     parts_are (Some w) l = refl
 

@@ -5,7 +5,6 @@ use Rattle.std.specs.Prelude.{⊤, take}
 use Rattle.std.specs.List.{AllByRecursion, filter}
 use Rattle.std.proofs.lemmas.Bool.{both_ways, or_left, or_right, or_cases, false_from_ne_true}
 use Rattle.std.proofs.lemmas.List.Folds.{list_any-append}
-use Rattle.clv_base.specs.declared.values.Value.{Value as ValueType}
 use Rattle.clv_base.specs.declared.names.TxId.{TxId}
 use Rattle.clv_base.specs.declared.names.Birth.{Birth}
 use Rattle.clv_base.specs.declared.ops.Op.{Op}
@@ -14,7 +13,7 @@ use Rattle.clv_base.specs.declared.causes.AbortCause.{AbortCause}
 use Rattle.clv_base.specs.declared.causes.Vote.{Vote}
 use Rattle.clv_base.specs.declared.causes.Vote.TheVariants.{Yes, Read, No}
 use Rattle.clv_base.specs.declared.logs.LogRecord.{LogRecord}
-use Rattle.clv_base.specs.declared.logs.LogRecord.TheVariants.{Update, Commit, Abort, End, Restart}
+use Rattle.clv_base.specs.declared.logs.LogRecord.TheVariants.{Update, Commit, Abort, End, Restart, Add}
 use Rattle.clv_base.specs.declared.state.Stage.{Stage}
 use Rattle.clv_base.specs.declared.state.Stage.TheVariants.{Active}
 use Rattle.clv_base.specs.declared.state.Held.{Held}
@@ -25,6 +24,8 @@ use Rattle.clv_base.specs.declared.events.Event.TheVariants.{Op as OpEvent}
 use Rattle.clv_base.specs.declared.events.Outcome.{Outcome}
 use Rattle.clv_base.specs.declared.events.Outcome.TheVariants.{Answered}
 use Rattle.clv_base.specs.Orders.{Table, tx_same, tx_in, tx_get}
+use Rattle.clv_base.specs.declared.changes.Change.{Change}
+use Rattle.clv_base.specs.declared.changes.Change.TheVariants.{Sets, Adds}
 use Rattle.clv_base.specs.Logs.{standing, writers, is_abort_of, wrote_in, committed_in, aborted_in, prepared_in, in_doubt, is_winner}
 use Rattle.clv_base.specs.Needs.{writes_of, value_at, key_of}
 use Rattle.clv_base.specs.State.{Shard, Local, with_local, is_present}
@@ -179,9 +180,10 @@ new_row : (P : TxId → Type 0) (tx : TxId) (birth : Birth) (o : Option Held) (p
 new_row P tx birth None parts p a = rows_put (λ x. P x.0) tx (active_part birth) parts p a
 new_row P tx birth (Some h) parts p a = a
 
-written_prepares : (tx : TxId) (w : Option (ℕ × Option ValueType × Option ValueType)) (l : Local) (t : TxId) → prepared_in (written tx w l).log t ≡ true → prepared_in l.log t ≡ true
+written_prepares : (tx : TxId) (w : Option (ℕ × Change)) (l : Local) (t : TxId) → prepared_in (written tx w l).log t ≡ true → prepared_in l.log t ≡ true
 written_prepares tx None l t e = e
-written_prepares tx (Some w) l t e = prepared_from l.log (Update tx w.0 w.1 w.2 ∷ []) t refl e
+written_prepares tx (Some (key, Sets before after)) l t e = prepared_from l.log (Update tx key before after ∷ []) t refl e
+written_prepares tx (Some (key, Adds by)) l t e = prepared_from l.log (Add tx key by ∷ []) t refl e
 
 has_performed : (P G : TxId → Type 0) (s : Shard) (tx : TxId) (birth : Birth) (op : Op) → P tx → Has P G s → Has P G (with_work (performed tx birth op s.local) s)
 has_performed P G s tx birth op p k =

@@ -6,7 +6,9 @@ use Rattle.std.proofs.lemmas.Bool.{both_ways, or_cases, eq-eqb}
 use Rattle.clv_base.specs.declared.names.TxId.{TxId}
 use Rattle.clv_base.specs.declared.names.Birth.{Birth}
 use Rattle.clv_base.specs.declared.logs.LogRecord.{LogRecord}
-use Rattle.clv_base.specs.declared.logs.LogRecord.TheVariants.{Update, Clr, Prepare as PrepareRecord, Commit, Abort, End, Restart as RestartRecord}
+use Rattle.clv_base.specs.declared.logs.LogRecord.TheVariants.{Update, Clr, Prepare as PrepareRecord, Commit, Abort, End, Restart as RestartRecord, Add, Unadd}
+use Rattle.clv_base.specs.declared.changes.Change.{Change}
+use Rattle.clv_base.specs.declared.changes.Change.TheVariants.{Sets, Adds}
 use Rattle.clv_base.specs.declared.causes.Vote.{Vote}
 use Rattle.clv_base.specs.declared.causes.Vote.TheVariants.{Yes, Read, No}
 use Rattle.clv_base.specs.declared.messages.Message.{Message}
@@ -23,7 +25,7 @@ use Rattle.clv_base.specs.declared.state.Ruling.TheVariants.{Commit as CommitVer
 use Rattle.clv_base.specs.Orders.{Table, tx_same, tx_in, tx_get, tx_set}
 use Rattle.clv_base.specs.Logs.{StandingUpdate, standing_from, standing, without_newest, wrote_in}
 use Rattle.clv_base.specs.State.{Shard, with_local}
-use Rattle.clv_base.specs.Undo.{aborts_of, clrs_of, newest_lsn, gone_part, gone_in, doomed_here, roll_back}
+use Rattle.clv_base.specs.Undo.{aborts_of, clrs_of, newest_lsn, gone_part, gone_in, doomed_here, roll_back, compensation}
 use Rattle.clv_base.specs.declared.causes.AbortCause.{AbortCause}
 use Rattle.clv_base.specs.declared.parts.PartFacts.{PartFacts}
 use Rattle.clv_base.specs.Facts.{has_durable_predecessors, facts_of}
@@ -89,6 +91,8 @@ RecordFrom A Q O n (Commit tx parts) = CommitFrom Q O n tx parts
 RecordFrom A Q O n (Abort tx) = A tx
 RecordFrom A Q O n (End tx) = OwnRequest Q O n tx
 RecordFrom A Q O n (RestartRecord run epoch) = ⊤
+RecordFrom A Q O n (Add tx key by) = A tx
+RecordFrom A Q O n (Unadd tx next key by) = A tx
 
 -- a request that is coordinated here was taken here, and an undecided one in this run
 abbrev pub StateFrom : (TxId → ℕ → Type 0) → ℕ → TxId → RequestState → Type 0
@@ -171,14 +175,17 @@ standing_all A Q O n i (Commit tx parts ∷ rs) ws a b = standing_all A Q O n (s
 standing_all A Q O n i (Abort tx ∷ rs) ws a b = standing_all A Q O n (suc i) rs ws a.1 b
 standing_all A Q O n i (End tx ∷ rs) ws a b = standing_all A Q O n (suc i) rs ws a.1 b
 standing_all A Q O n i (RestartRecord run epoch ∷ rs) ws a b = standing_all A Q O n (suc i) rs ws a.1 b
+standing_all A Q O n i (Add tx key by ∷ rs) ws a b = standing_all A Q O n (suc i) rs _ a.1 (a.0, b)
+standing_all A Q O n i (Unadd tx next key by ∷ rs) ws a b = standing_all A Q O n (suc i) rs _ a.1 (without_all A tx ws b)
 
 pub clrs_all : (A : TxId → Type 0) (Q : TxId → ℕ → Type 0) (O : TxId → Type 0) (n : ℕ) (set : List TxId) (ws : List StandingUpdate) → AllByRecursion (λ w. A w.tx) ws → AllFrom A Q O n (clrs_of set ws)
 clrs_all A Q O n set [] a = tt
-clrs_all A Q O n set (w ∷ ws) a = at (tx_in w.tx set) (clrs_all A Q O n set ws a.1)
+clrs_all A Q O n set (w ∷ ws) a = at (tx_in w.tx set) w.change (clrs_all A Q O n set ws a.1)
   where
-    at : (b : Bool) → AllFrom A Q O n (clrs_of set ws) → AllFrom A Q O n (cond b (Clr w.tx (newest_lsn w.tx ws) w.key w.before ∷ clrs_of set ws) (clrs_of set ws))
-    at true k = (a.0, k)
-    at false k = k
+    at : (b : Bool) (c : Change) → AllFrom A Q O n (clrs_of set ws) → AllFrom A Q O n (cond b (compensation w.tx (newest_lsn w.tx ws) w.key c ∷ clrs_of set ws) (clrs_of set ws))
+    at true (Sets before after) k = (a.0, k)
+    at true (Adds by) k = (a.0, k)
+    at false c k = k
 
 pub wrote_all : (A : TxId → Type 0) (Q : TxId → ℕ → Type 0) (O : TxId → Type 0) (n : ℕ) (rs : List LogRecord) (t : TxId) → AllFrom A Q O n rs → wrote_in rs t ≡ true → A t
 wrote_all A Q O n [] t a e = absurd (both_ways false refl e)
@@ -189,6 +196,8 @@ wrote_all A Q O n (Commit u parts ∷ rs) t a e = wrote_all A Q O n rs t a.1 e
 wrote_all A Q O n (Abort u ∷ rs) t a e = wrote_all A Q O n rs t a.1 e
 wrote_all A Q O n (End u ∷ rs) t a e = wrote_all A Q O n rs t a.1 e
 wrote_all A Q O n (RestartRecord run epoch ∷ rs) t a e = wrote_all A Q O n rs t a.1 e
+wrote_all A Q O n (Add u key by ∷ rs) t a e = ⊎_elim (λ s. subst A (sym (tx_true t u s)) a.0) (λ s. wrote_all A Q O n rs t a.1 s) (or_cases (tx_same t u) (wrote_in rs t) e)
+wrote_all A Q O n (Unadd u next key by ∷ rs) t a e = wrote_all A Q O n rs t a.1 e
 
 pub aborts_all : (A : TxId → Type 0) (Q : TxId → ℕ → Type 0) (O : TxId → Type 0) (n : ℕ) (log : List LogRecord) (set : List TxId) → AllFrom A Q O n log → AllFrom A Q O n (aborts_of log set)
 aborts_all A Q O n log [] a = tt

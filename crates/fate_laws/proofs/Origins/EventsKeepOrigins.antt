@@ -3,14 +3,13 @@ use Rattle.std.proofs.Common.{◌≡◌, inl, inr, ⊎_elim, refl, sym, ap, subs
 use Rattle.std.specs.Prelude.{⊤, take}
 use Rattle.std.specs.List.{AllByRecursion, filter}
 use Rattle.std.proofs.lemmas.Bool.{both_ways, and_parts, eq-eqb}
-use Rattle.clv_base.specs.declared.values.Value.{Value as ValueType}
 use Rattle.clv_base.specs.declared.names.TxId.{TxId}
 use Rattle.clv_base.specs.declared.names.Birth.{Birth}
 use Rattle.clv_base.specs.declared.ops.Op.{Op}
 use Rattle.clv_base.specs.declared.ops.Answer.{Answer}
 use Rattle.clv_base.specs.declared.causes.AbortCause.{AbortCause}
 use Rattle.clv_base.specs.declared.logs.LogRecord.{LogRecord}
-use Rattle.clv_base.specs.declared.logs.LogRecord.TheVariants.{Update, Clr, Prepare as PrepareRecord, Commit, Abort, End, Restart as RestartRecord}
+use Rattle.clv_base.specs.declared.logs.LogRecord.TheVariants.{Update, Clr, Prepare as PrepareRecord, Commit, Abort, End, Restart as RestartRecord, Add, Unadd}
 use Rattle.clv_base.specs.declared.messages.Message.{Message}
 use Rattle.clv_base.specs.declared.messages.Message.TheVariants.{Prepare, Vote as VoteMessage, Decide, Done, Ask}
 use Rattle.clv_base.specs.declared.state.Stage.{Stage}
@@ -26,6 +25,8 @@ use Rattle.clv_base.specs.declared.events.Outcome.{Outcome}
 use Rattle.clv_base.specs.declared.events.Outcome.TheVariants.{Answered, Asked}
 use Rattle.clv_base.specs.declared.state.Taken.TheVariants.{Waiting as IsAwaited}
 use Rattle.clv_base.specs.Orders.{Table, tx_same, tx_in, tx_get, tx_put, tx_insert}
+use Rattle.clv_base.specs.declared.changes.Change.{Change}
+use Rattle.clv_base.specs.declared.changes.Change.TheVariants.{Sets, Adds}
 use Rattle.clv_base.specs.Logs.{StandingUpdate, standing, wrote_in, aborted_in, ended_in, prepare_of, in_doubt_from, doubt_by, in_doubt, writers, committed_in}
 use Rattle.clv_base.specs.State.{Shard, Local, with_local, is_present}
 use Rattle.clv_base.specs.Undo.{stage_of, clrs_of}
@@ -82,13 +83,14 @@ pub new_known : (tx : TxId) (birth : Birth) (o : Option Held) (parts : Table Hel
 new_known tx birth None parts t e = put_none t tx (active_part birth) parts e
 new_known tx birth (Some h) parts t e = e
 
-written_epoch : (tx : TxId) (w : Option (ℕ × Option ValueType × Option ValueType)) (l : Local) → (written tx w l).epoch ≡ l.epoch
+written_epoch : (tx : TxId) (w : Option (ℕ × Change)) (l : Local) → (written tx w l).epoch ≡ l.epoch
 written_epoch tx None l = refl
 written_epoch tx (Some w) l = refl
 
-written_log : (A : TxId → Type 0) (Q : TxId → ℕ → Type 0) (O : TxId → Type 0) (n : ℕ) (tx : TxId) (w : Option (ℕ × Option ValueType × Option ValueType)) (l : Local) → A tx → AllFrom A Q O n l.log → AllFrom A Q O n (written tx w l).log
+written_log : (A : TxId → Type 0) (Q : TxId → ℕ → Type 0) (O : TxId → Type 0) (n : ℕ) (tx : TxId) (w : Option (ℕ × Change)) (l : Local) → A tx → AllFrom A Q O n l.log → AllFrom A Q O n (written tx w l).log
 written_log A Q O n tx None l a b = b
-written_log A Q O n tx (Some w) l a b = push_records A Q O n l.log (Update tx w.0 w.1 w.2 ∷ []) b (a, tt)
+written_log A Q O n tx (Some (key, Sets before after)) l a b = push_records A Q O n l.log (Update tx key before after ∷ []) b (a, tt)
+written_log A Q O n tx (Some (key, Adds by)) l a b = push_records A Q O n l.log (Add tx key by ∷ []) b (a, tt)
 
 answers_from : (n ep : ℕ) (D : TxId → Birth → Type 0) (A : TxId → Type 0) (Q : TxId → ℕ → Type 0) (O K : TxId → Type 0) → ((t : TxId) (b : Birth) → D t b → A t) → (s : Shard) (tx : TxId) (birth : Birth) (seen : Option ℕ) (op : Op) (a : Answer) (l : Local)
     → OpIs s.local tx birth seen op (OpAnswers a l) → D tx birth → Origins n ep D A Q O K s → Origins n ep D A Q O K (with_work l s)
@@ -334,6 +336,8 @@ doubts_from A Q O n log shard (Commit tx parts ∷ rs) sf a k = doubts_from A Q 
 doubts_from A Q O n log shard (Abort tx ∷ rs) sf a k = doubts_from A Q O n log shard rs sf a.1 k
 doubts_from A Q O n log shard (End tx ∷ rs) sf a k = doubts_from A Q O n log shard rs sf a.1 k
 doubts_from A Q O n log shard (RestartRecord run epoch ∷ rs) sf a k = doubts_from A Q O n log shard rs sf a.1 k
+doubts_from A Q O n log shard (Add tx key by ∷ rs) sf a k = doubts_from A Q O n log shard rs sf a.1 k
+doubts_from A Q O n log shard (Unadd tx next key by ∷ rs) sf a k = doubts_from A Q O n log shard rs sf a.1 k
 
 map_rows : {X : Type 0} {Y : Type 0} (P : X → Type 0) (S : Y → Type 0) (f : X → Y) (xs : List X) → ((x : X) → P x → S (f x)) → AllByRecursion P xs → AllByRecursion S (map f xs)
 map_rows P S f [] k a = tt
@@ -361,6 +365,8 @@ unended_all A Q O n log (PrepareRecord tx home ps ∷ rs) a = unended_all A Q O 
 unended_all A Q O n log (Abort tx ∷ rs) a = unended_all A Q O n log rs a.1
 unended_all A Q O n log (End tx ∷ rs) a = unended_all A Q O n log rs a.1
 unended_all A Q O n log (RestartRecord run epoch ∷ rs) a = unended_all A Q O n log rs a.1
+unended_all A Q O n log (Add tx key by ∷ rs) a = unended_all A Q O n log rs a.1
+unended_all A Q O n log (Unadd tx next key by ∷ rs) a = unended_all A Q O n log rs a.1
 
 in_writers : (A : TxId → Type 0) (ws : List StandingUpdate) → AllByRecursion (λ w. A w.tx) ws → (t : TxId) → tx_in t (writers ws) ≡ true → A t
 in_writers A [] a t i = absurd (both_ways false refl i)
@@ -472,6 +478,8 @@ from_more n ep D D' A A' Q Q' O K s d a q p = record {
     records (Abort tx) x = a tx x
     records (End tx) x = own tx x
     records (RestartRecord run epoch) x = tt
+    records (Add tx key by) x = a tx x
+    records (Unadd tx next key by) x = a tx x
 
     states : (t : TxId) (st : RequestState) → StateFrom Q n t st → StateFrom Q' n t st
     states t Undecided x = q t n x

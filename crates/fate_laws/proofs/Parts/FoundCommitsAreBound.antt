@@ -7,7 +7,7 @@ use Rattle.std.proofs.lemmas.Bool.{both_ways, and_parts, not-true, or_cases, or_
 use Rattle.std.proofs.lemmas.List.{take-append-le, take_all}
 use Rattle.clv_base.specs.declared.names.TxId.{TxId}
 use Rattle.clv_base.specs.declared.logs.LogRecord.{LogRecord}
-use Rattle.clv_base.specs.declared.logs.LogRecord.TheVariants.{Update, Clr, Prepare, Commit, Abort, End, Restart}
+use Rattle.clv_base.specs.declared.logs.LogRecord.TheVariants.{Update, Clr, Prepare, Commit, Abort, End, Restart, Add, Unadd}
 use Rattle.clv_base.specs.Orders.{tx_in}
 use Rattle.clv_base.specs.Logs.{committed_in, prepared_in, aborted_in, wrote_in, prepare_of, is_prepare_of, is_update_of, commit_parts}
 use Rattle.clv_base.specs.LogRules.{since_restart, may_follow, disorder_from, log_of, home_is, part_agrees, agrees_at, listed_in}
@@ -41,6 +41,8 @@ since_wrote so_far (Prepare tx a b ∷ rs) t w = subst (λ l. wrote_in l t ≡ t
 since_wrote so_far (Commit tx a ∷ rs) t w = subst (λ l. wrote_in l t ≡ true) (append_assoc so_far (Commit tx a ∷ []) rs) (since_wrote (so_far ++ Commit tx a ∷ []) rs t w)
 since_wrote so_far (Abort tx ∷ rs) t w = subst (λ l. wrote_in l t ≡ true) (append_assoc so_far (Abort tx ∷ []) rs) (since_wrote (so_far ++ Abort tx ∷ []) rs t w)
 since_wrote so_far (End tx ∷ rs) t w = subst (λ l. wrote_in l t ≡ true) (append_assoc so_far (End tx ∷ []) rs) (since_wrote (so_far ++ End tx ∷ []) rs t w)
+since_wrote so_far (Add tx a by ∷ rs) t w = subst (λ l. wrote_in l t ≡ true) (append_assoc so_far (Add tx a by ∷ []) rs) (since_wrote (so_far ++ Add tx a by ∷ []) rs t w)
+since_wrote so_far (Unadd tx a b by ∷ rs) t w = subst (λ l. wrote_in l t ≡ true) (append_assoc so_far (Unadd tx a b by ∷ []) rs) (since_wrote (so_far ++ Unadd tx a b by ∷ []) rs t w)
 
 prepare_follows : (shard : ℕ) (log : List LogRecord) (r : LogRecord) (t : TxId) → may_follow shard log r ≡ true → is_prepare_of t r ≡ true → wrote_in log t ≡ true
 prepare_follows shard log (Prepare tx home ps) t m e =

@@ -2,7 +2,6 @@
 -- while it is closed; and it gets a PREPARE only as it closes.
 use Rattle.std.proofs.Common.{◌≡◌, ◌⊎◌, inl, inr, ⊎_elim, refl, sym, ap, subst, ◌∙◌, ℕ, true, false, Bool, List, [], ◌∷◌, Option, Some, None}
 use Rattle.std.proofs.lemmas.Bool.{both_ways, false_from_ne_true}
-use Rattle.clv_base.specs.declared.values.Value.{Value as ValueType}
 use Rattle.clv_base.specs.declared.names.TxId.{TxId}
 use Rattle.clv_base.specs.declared.names.Birth.{Birth}
 use Rattle.clv_base.specs.declared.ops.Op.{Op}
@@ -21,6 +20,7 @@ use Rattle.clv_base.specs.declared.events.Event.{Event}
 use Rattle.clv_base.specs.declared.events.Event.TheVariants.{Op as OpEvent}
 use Rattle.clv_base.specs.declared.events.Outcome.{Outcome}
 use Rattle.clv_base.specs.Orders.{tx_same, tx_in, tx_get}
+use Rattle.clv_base.specs.declared.changes.Change.{Change}
 use Rattle.clv_base.specs.Logs.{prepare_of, wrote_in}
 use Rattle.clv_base.specs.Locks.{violated}
 use Rattle.clv_base.specs.Needs.{needs_of, writes_of, value_at, key_of}
@@ -137,7 +137,7 @@ calm_close s tx u home one a i =
     (λ p h. ⊎_elim (λ x. inl x) (λ x. inr x.0) (closes_with s.local.log (wrote_in s.local.log u) one u home (undecided_of s.local u) tx p h))
 
 -- another's operation
-written_parts : (tx : TxId) (w : Option (ℕ × Option ValueType × Option ValueType)) (l : Local) → ((written tx w l).parts ≡ l.parts) × ((written tx w l).pairs ≡ l.pairs)
+written_parts : (tx : TxId) (w : Option (ℕ × Change)) (l : Local) → ((written tx w l).parts ≡ l.parts) × ((written tx w l).pairs ≡ l.pairs)
 written_parts tx None l = (refl, refl)
 written_parts tx (Some w) l = (refl, refl)
 

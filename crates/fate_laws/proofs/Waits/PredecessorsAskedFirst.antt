@@ -3,7 +3,6 @@ use Rattle.std.proofs.Common.{◌≡◌, inl, inr, ⊎_elim, refl, sym, ap, subs
 use Rattle.std.specs.Prelude.{take}
 use Rattle.std.specs.List.{AllByRecursion, filter}
 use Rattle.std.proofs.lemmas.Bool.{both_ways, and_parts, or_left, or_right, or_cases, cond-true}
-use Rattle.clv_base.specs.declared.values.Value.{Value as ValueType}
 use Rattle.clv_base.specs.declared.names.TxId.{TxId}
 use Rattle.clv_base.specs.declared.names.Birth.{Birth}
 use Rattle.clv_base.specs.declared.ops.Op.{Op}
@@ -12,9 +11,9 @@ use Rattle.clv_base.specs.declared.causes.AbortCause.{AbortCause}
 use Rattle.clv_base.specs.declared.causes.Vote.{Vote}
 use Rattle.clv_base.specs.declared.causes.Vote.TheVariants.{Yes, Read, No}
 use Rattle.clv_base.specs.declared.logs.LogRecord.{LogRecord}
-use Rattle.clv_base.specs.declared.logs.LogRecord.TheVariants.{Update, Clr, Prepare, Commit, Abort, End, Restart as RestartRecord}
+use Rattle.clv_base.specs.declared.logs.LogRecord.TheVariants.{Update, Clr, Prepare, Commit, Abort, End, Restart as RestartRecord, Add, Unadd}
 use Rattle.clv_base.specs.declared.modes.Anchor.TheVariants.{At}
-use Rattle.clv_base.specs.declared.modes.Part.TheVariants.{X}
+use Rattle.clv_base.specs.declared.modes.Part.TheVariants.{I, X}
 use Rattle.clv_base.specs.declared.state.Stage.{Stage}
 use Rattle.clv_base.specs.declared.state.Stage.TheVariants.{Active, Closed}
 use Rattle.clv_base.specs.declared.state.Held.{Held}
@@ -26,11 +25,13 @@ use Rattle.clv_base.specs.declared.events.Outcome.{Outcome}
 use Rattle.clv_base.specs.declared.events.Outcome.TheVariants.{Answered}
 use Rattle.clv_base.specs.Orders.{Table, tx_same, tx_in, tx_get}
 use Rattle.clv_base.specs.Modes.{on_key}
+use Rattle.clv_base.specs.declared.changes.Change.{Change}
+use Rattle.clv_base.specs.declared.changes.Change.TheVariants.{Sets, Adds}
 use Rattle.clv_base.specs.Logs.{StandingUpdate, standing, wrote_in, committed_in, aborted_in, prepare_of, in_doubt}
 use Rattle.clv_base.specs.Locks.{Locks, take_one, take_all, split_gap, release, violated}
 use Rattle.clv_base.specs.Needs.{Records, needs_of, need, writes_of, value_at, key_of, lower_anchor}
 use Rattle.clv_base.specs.State.{Shard, Local, with_local, is_present}
-use Rattle.clv_base.specs.Undo.{stage_of, aborts_of, clrs_of, newest_lsn, gone_in, doomed_here, roll_back}
+use Rattle.clv_base.specs.Undo.{stage_of, aborts_of, clrs_of, newest_lsn, gone_in, doomed_here, roll_back, compensation}
 use Rattle.clv_base.specs.Facts.{predecessors_of, undecided_of}
 use Rattle.clv_base.specs.OneShard.{OpDies, OpAnswers, active_part, new_part, inserted_locks, written, locked, performed, rolled_back_if, without_part, closing, closed_part, closed_in, close_part, dropped_part, marked_in, mark_dropped, drop_part}
 use Rattle.clv_base.specs.Due.{finish_part, finish_reader, with_vote, do_ruling, with_ruling}
@@ -65,6 +66,8 @@ ListsAre E (Commit tx parts) = Unit {0}
 ListsAre E (Abort tx) = Unit {0}
 ListsAre E (End tx) = Unit {0}
 ListsAre E (RestartRecord run epoch) = Unit {0}
+ListsAre E (Add tx key by) = Unit {0}
+ListsAre E (Unadd tx next key by) = Unit {0}
 
 pub record Tied (E : TxId → TxId → Type 0) (s : Shard) : Type 0 where
   pub rows : Rows (LockOf s.local.parts) s.local.locks
@@ -79,11 +82,12 @@ none_aborts E (t ∷ ts) = (tt, none_aborts E ts)
 
 none_clrs : (E : TxId → TxId → Type 0) (set : List TxId) (ws : List StandingUpdate) → AllByRecursion (ListsAre E) (clrs_of set ws)
 none_clrs E set [] = tt
-none_clrs E set (w ∷ ws) = at (tx_in w.tx set) (none_clrs E set ws)
+none_clrs E set (w ∷ ws) = at (tx_in w.tx set) w.change (none_clrs E set ws)
   where
-    at : (b : Bool) → AllByRecursion (ListsAre E) (clrs_of set ws) → AllByRecursion (ListsAre E) (cond b (Clr w.tx (newest_lsn w.tx ws) w.key w.before ∷ clrs_of set ws) (clrs_of set ws))
-    at true k = (tt, k)
-    at false k = k
+    at : (b : Bool) (c : Change) → AllByRecursion (ListsAre E) (clrs_of set ws) → AllByRecursion (ListsAre E) (cond b (compensation w.tx (newest_lsn w.tx ws) w.key c ∷ clrs_of set ws) (clrs_of set ws))
+    at true (Sets before after) k = (tt, k)
+    at true (Adds by) k = (tt, k)
+    at false c k = k
 
 -- ---- parts that leave
 
@@ -162,13 +166,14 @@ rows_inserted : (P : TxId → Birth → Bool → Type 0) (tx : TxId) (birth : Bi
 rows_inserted P tx birth rs None locks p a = a
 rows_inserted P tx birth rs (Some k) locks p a = rows_all P tx birth (need (At k) (on_key X) ∷ []) (split_gap (lower_anchor k rs) (At k) locks) p (rows_split P (lower_anchor k rs) (At k) locks a)
 
-written_rest : (tx : TxId) (w : Option (ℕ × Option ValueType × Option ValueType)) (l : Local) → ((written tx w l).parts ≡ l.parts) × ((written tx w l).locks ≡ l.locks) × ((written tx w l).pairs ≡ l.pairs)
+written_rest : (tx : TxId) (w : Option (ℕ × Change)) (l : Local) → ((written tx w l).parts ≡ l.parts) × ((written tx w l).locks ≡ l.locks) × ((written tx w l).pairs ≡ l.pairs)
 written_rest tx None l = (refl, refl, refl)
 written_rest tx (Some w) l = (refl, refl, refl)
 
-written_listed : (E : TxId → TxId → Type 0) (tx : TxId) (w : Option (ℕ × Option ValueType × Option ValueType)) (l : Local) → AllByRecursion (ListsAre E) l.log → AllByRecursion (ListsAre E) (written tx w l).log
+written_listed : (E : TxId → TxId → Type 0) (tx : TxId) (w : Option (ℕ × Change)) (l : Local) → AllByRecursion (ListsAre E) l.log → AllByRecursion (ListsAre E) (written tx w l).log
 written_listed E tx None l a = a
-written_listed E tx (Some w) l a = all_append (ListsAre E) l.log (Update tx w.0 w.1 w.2 ∷ []) a (tt, tt)
+written_listed E tx (Some (key, Sets before after)) l a = all_append (ListsAre E) l.log (Update tx key before after ∷ []) a (tt, tt)
+written_listed E tx (Some (key, Adds by)) l a = all_append (ListsAre E) l.log (Add tx key by ∷ []) a (tt, tt)
 
 tied_performed : (E : TxId → TxId → Type 0) (s : Shard) (tx : TxId) (birth : Birth) (op : Op) → MayStand s.local.parts tx birth → ((p : TxId) → stage_of s.local p ≡ Some Closed → E tx p) → Tied E s → Tied E (with_work (performed tx birth op s.local) s)
 tied_performed E s tx birth op m closed k =
@@ -304,6 +309,12 @@ rows_of_restored txs (Commit tx ps ∷ rs) locks h = rows_of_restored txs rs loc
 rows_of_restored txs (Abort tx ∷ rs) locks h = rows_of_restored txs rs locks h
 rows_of_restored txs (End tx ∷ rs) locks h = rows_of_restored txs rs locks h
 rows_of_restored txs (RestartRecord run epoch ∷ rs) locks h = rows_of_restored txs rs locks h
+rows_of_restored txs (Add tx key by ∷ rs) locks h = rows_of_restored txs rs (cond (tx_in tx txs) (take_one (At key) (record { tx = tx; birth = old_birth tx; mode = on_key I; closed = true }) locks) locks) (at (tx_in tx txs) refl)
+  where
+    at : (c : Bool) → tx_in tx txs ≡ c → Rows (LockOf (restored_parts txs)) (cond c (take_one (At key) (record { tx = tx; birth = old_birth tx; mode = on_key I; closed = true }) locks) locks)
+    at true i = rows_take (LockOf (restored_parts txs)) (At key) (record { tx = tx; birth = old_birth tx; mode = on_key I; closed = true }) locks (restored_part tx, restored_there txs tx i, refl, refl) h
+    at false i = h
+rows_of_restored txs (Unadd tx u k by ∷ rs) locks h = rows_of_restored txs rs locks h
 
 -- whom a PREPARE lists
 prepare_listed : (E : TxId → TxId → Type 0) (t : TxId) (log : List LogRecord) (q : ℕ × List TxId) → AllByRecursion (ListsAre E) log → prepare_of log t ≡ Some q → AllByRecursion (E t) q.1
@@ -319,6 +330,8 @@ prepare_listed E t (Commit tx ps ∷ rs) q a e = prepare_listed E t rs q a.1 e
 prepare_listed E t (Abort tx ∷ rs) q a e = prepare_listed E t rs q a.1 e
 prepare_listed E t (End tx ∷ rs) q a e = prepare_listed E t rs q a.1 e
 prepare_listed E t (RestartRecord run epoch ∷ rs) q a e = prepare_listed E t rs q a.1 e
+prepare_listed E t (Add tx key by ∷ rs) q a e = prepare_listed E t rs q a.1 e
+prepare_listed E t (Unadd tx u key by ∷ rs) q a e = prepare_listed E t rs q a.1 e
 
 abbrev Ties : (TxId → TxId → Type 0) → List (TxId × TxId) → Type 0
 Ties E ps = AllByRecursion (λ (q : TxId × TxId). E q.0 q.1) ps
@@ -397,6 +410,8 @@ lists_mono E F k (Commit tx parts) a = tt
 lists_mono E F k (Abort tx) a = tt
 lists_mono E F k (End tx) a = tt
 lists_mono E F k (RestartRecord run epoch) a = tt
+lists_mono E F k (Add tx key by) a = tt
+lists_mono E F k (Unadd tx next key by) a = tt
 
 pub tied_mono : (E F : TxId → TxId → Type 0) (s : Shard) → ((t p : TxId) → E t p → F t p) → Tied E s → Tied F s
 tied_mono E F s k a = record { rows = a.rows; pairs = λ t p e. k t p (a.pairs t p e); listed = all_mono (ListsAre E) (ListsAre F) (lists_mono E F k) s.local.log a.listed }

@@ -3,7 +3,6 @@ use Rattle.std.proofs.Common.{◌≡◌, ◌⊎◌, inl, inr, ⊎_elim, refl, sy
 use Rattle.std.specs.Prelude.{take}
 use Rattle.std.specs.List.{filter, list_all}
 use Rattle.std.proofs.lemmas.Bool.{both_ways, and_parts, or_cases, false_from_ne_true, or_from}
-use Rattle.clv_base.specs.declared.values.Value.{Value as ValueType}
 use Rattle.clv_base.specs.declared.names.TxId.{TxId}
 use Rattle.clv_base.specs.declared.names.Birth.{Birth}
 use Rattle.clv_base.specs.declared.ops.Op.{Op}
@@ -11,7 +10,7 @@ use Rattle.clv_base.specs.declared.ops.Answer.{Answer}
 use Rattle.clv_base.specs.declared.causes.AbortCause.{AbortCause}
 use Rattle.clv_base.specs.declared.causes.Vote.TheVariants.{Yes, Read, No}
 use Rattle.clv_base.specs.declared.logs.LogRecord.{LogRecord}
-use Rattle.clv_base.specs.declared.logs.LogRecord.TheVariants.{Update, Prepare as PrepareRecord, Commit, End}
+use Rattle.clv_base.specs.declared.logs.LogRecord.TheVariants.{Prepare as PrepareRecord, Commit, End}
 use Rattle.clv_base.specs.declared.state.Held.{Held}
 use Rattle.clv_base.specs.declared.state.Request.{Request}
 use Rattle.clv_base.specs.declared.state.Stage.{Stage}
@@ -21,13 +20,15 @@ use Rattle.clv_base.specs.declared.events.Event.{Event}
 use Rattle.clv_base.specs.declared.events.Event.TheVariants.{Op as OpEvent}
 use Rattle.clv_base.specs.declared.events.Outcome.{Outcome}
 use Rattle.clv_base.specs.Orders.{Table, tx_same, tx_in, tx_get}
+use Rattle.clv_base.specs.declared.changes.Change.{Change}
+use Rattle.clv_base.specs.declared.changes.Change.TheVariants.{Sets, Adds}
 use Rattle.clv_base.specs.Logs.{wrote_in, prepared_in, committed_in, standing, in_doubt}
 use Rattle.clv_base.specs.Needs.{writes_of, value_at, key_of}
 use Rattle.clv_base.specs.State.{Shard, Local, is_present}
 use Rattle.clv_base.specs.Undo.{stage_of, gone_in, doomed_by, doomed_here, roll_back, aborts_of, clrs_of, release_parts}
 use Rattle.clv_base.specs.Facts.{facts_of, is_waiting, undecided_of, has_durable_commit}
 use Rattle.clv_base.specs.Coordinator.{others, is_agreed, is_good, vote_from}
-use Rattle.clv_base.specs.OneShard.{OpDies, OpAnswers, purge, written, locked, performed, rolled_back_if, closing, close_part, mark_dropped}
+use Rattle.clv_base.specs.OneShard.{OpDies, OpAnswers, purge, update_of, written, locked, performed, rolled_back_if, closing, close_part, mark_dropped}
 use Rattle.clv_base.specs.Due.{with_due_done}
 use Rattle.clv_base.specs.Events.{is_alone, finish, with_durable}
 use Rattle.clv_base.specs.Restarts.{restart_records, next_epoch, log_left, revived, FailedRestarts, untouched, failed_first, Restarts}
@@ -111,8 +112,9 @@ quiet_more l m more t e f o k = record {
 foreign_none : (t : TxId) → Foreign [] t
 foreign_none t = record { writes = refl; prepares = refl; commits = refl }
 
-foreign_update : (t u : TxId) (key : ℕ) (b a : Option ValueType) → tx_same t u ≡ false → Foreign (Update u key b a ∷ []) t
-foreign_update t u key b a n = record { writes = or_from _ _ n refl; prepares = refl; commits = refl }
+foreign_update : (t u : TxId) (key : ℕ) (c : Change) → tx_same t u ≡ false → Foreign (update_of u key c ∷ []) t
+foreign_update t u key (Sets before after) n = record { writes = or_from _ _ n refl; prepares = refl; commits = refl }
+foreign_update t u key (Adds by) n = record { writes = or_from _ _ n refl; prepares = refl; commits = refl }
 
 foreign_prepare : (t u : TxId) (home : ℕ) (us : List TxId) → tx_same t u ≡ false → Foreign (PrepareRecord u home us ∷ []) t
 foreign_prepare t u home us n = record { writes = refl; prepares = or_from _ _ n refl; commits = refl }
@@ -160,9 +162,9 @@ quiet_closed l u t home one a k =
     quiet_more l (close_part u home one l) (closing (wrote_in l.log u) one u home (undecided_of l u)) t refl (foreign_closing t u home (wrote_in l.log u) one (undecided_of l u) (tx_ne t u n))
     (subst IsOut (sym (closed_other l.parts u t (tx_ne u t (λ e. n (sym e))))) k.out) k
 
-quiet_written : (l : Local) (u t : TxId) (w : Option (ℕ × Option ValueType × Option ValueType)) → tx_same t u ≡ false → Quiet l t → Quiet (written u w l) t
+quiet_written : (l : Local) (u t : TxId) (w : Option (ℕ × Change)) → tx_same t u ≡ false → Quiet l t → Quiet (written u w l) t
 quiet_written l u t None n k = k
-quiet_written l u t (Some w) n k = quiet_more l (written u (Some w) l) (Update u w.0 w.1 w.2 ∷ []) t refl (foreign_update t u w.0 w.1 w.2 n) k.out k
+quiet_written l u t (Some w) n k = quiet_more l (written u (Some w) l) (update_of u w.0 w.1 ∷ []) t refl (foreign_update t u w.0 w.1 n) k.out k
 
 quiet_performed : (l : Local) (u t : TxId) (birth : Birth) (op : Op) → tx_same t u ≡ false → Quiet l t → Quiet (performed u birth op l) t
 quiet_performed l u t birth op n k =

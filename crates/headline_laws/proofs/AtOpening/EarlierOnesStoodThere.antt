@@ -4,9 +4,10 @@ use Rattle.std.proofs.lemmas.Bool.{both_ways, and_parts, or_cases, false_from_ne
 use Rattle.std.proofs.lemmas.List.{take_all}
 use Rattle.clv_base.specs.declared.names.TxId.{TxId}
 use Rattle.clv_base.specs.declared.logs.LogRecord.{LogRecord}
-use Rattle.clv_base.specs.declared.logs.LogRecord.TheVariants.{Update, Clr, Prepare, Commit, Abort, End, Restart}
+use Rattle.clv_base.specs.declared.logs.LogRecord.TheVariants.{Update, Clr, Prepare, Commit, Abort, End, Restart, Add, Unadd}
+use Rattle.clv_base.specs.Orders.{tx_same}
 use Rattle.clv_base.specs.Logs.{is_update_of, wrote_in, committed_in, committed_somewhere}
-use Rattle.clv_base.specs.LogRules.{log_of, last_restart, above_restarts, in_last_run, may_follow, disorder}
+use Rattle.clv_base.specs.LogRules.{log_of, last_restart, above_restarts, in_last_run, may_write, may_follow, disorder}
 use Rattle.clv_base.specs.Shards.{shard_count}
 use Rattle.clv_base.specs.Restarts.{run_after, log_left, undo_records, restart_records, log_after_restart}
 use Rattle.clv_base.specs.Journals.{History, start_of, final_of, journal_of}
@@ -53,6 +54,8 @@ above_last run epoch (Prepare tx home ps ∷ rs) p a e = above_last run epoch rs
 above_last run epoch (Commit tx parts ∷ rs) p a e = above_last run epoch rs p a e
 above_last run epoch (Abort tx ∷ rs) p a e = above_last run epoch rs p a e
 above_last run epoch (End tx ∷ rs) p a e = above_last run epoch rs p a e
+above_last run epoch (Add tx k by ∷ rs) p a e = above_last run epoch rs p a e
+above_last run epoch (Unadd tx u k by ∷ rs) p a e = above_last run epoch rs p a e
 
 plainly_next : (run : ℕ) (log : List LogRecord) (r : LogRecord) → Plainly r → LastFrom run log → LastFrom run (log ++ r ∷ [])
 plainly_next run log r p k = (k.0, last_push log r p ∙ k.1, k.2)
@@ -68,15 +71,21 @@ last_next shard run log (Prepare tx x y) k m = plainly_next run log (Prepare tx 
 last_next shard run log (Commit tx x) k m = plainly_next run log (Commit tx x) tt k
 last_next shard run log (Abort tx) k m = plainly_next run log (Abort tx) tt k
 last_next shard run log (End tx) k m = plainly_next run log (End tx) tt k
+last_next shard run log (Add tx x by) k m = plainly_next run log (Add tx x by) tt k
+last_next shard run log (Unadd tx x y by) k m = plainly_next run log (Unadd tx x y by) tt k
 
-no_update : (shard run : ℕ) (log : List LogRecord) (r : LogRecord) (t : TxId) → t.run < run → LastFrom run log → may_follow shard log r ≡ true → is_update_of t r ≡ false
-no_update shard run log (Update tx key b a) t l k m =
+no_own : (run : ℕ) (log : List LogRecord) (tx t : TxId) → t.run < run → LastFrom run log → may_write log tx ≡ true → tx_same t tx ≡ false
+no_own run log tx t l k m =
     false_from_ne_true _ (λ e.
-    let i : in_last_run log tx ≡ true = front _ _ (front _ _ (front _ _ (front _ _ (front _ _ (front _ _ (front _ _ m)))))) in
+    let i : in_last_run log tx ≡ true = front _ _ (front _ _ (front _ _ (front _ _ m))) in
     let q = eqb-true tx.run (k.0).0 (subst (λ (o : Option (ℕ × ℕ)). elim o [ Some p ↦ tx.run == p.0 | None ↦ false ] ≡ true) k.1 i) in
     let f = ap (λ (z : TxId). z.run) (tx_true t tx e) in
     let g = k.2 in
     absurd (omega (arith, l, q, f, g)))
+
+no_update : (shard run : ℕ) (log : List LogRecord) (r : LogRecord) (t : TxId) → t.run < run → LastFrom run log → may_follow shard log r ≡ true → is_update_of t r ≡ false
+no_update shard run log (Update tx key b a) t l k m = no_own run log tx t l k (front _ _ (front _ _ (front _ _ m)))
+no_update shard run log (Add tx key by) t l k m = no_own run log tx t l k (front _ _ (front _ _ m))
 no_update shard run log _ t l k m = refl
 
 none_behind : (shard run : ℕ) (log rs : List LogRecord) (t : TxId) → t.run < run → LastFrom run log → Follows shard log rs → wrote_in rs t ≡ false

@@ -5,7 +5,6 @@ use Rattle.std.specs.List.{AllByRecursion, filter}
 use Rattle.std.proofs.lemmas.Bool.{both_ways, or_cases, or_left, or_from}
 use Rattle.std.proofs.lemmas.List.{take-append-drop}
 use Rattle.std.proofs.lemmas.List.Folds.{list_any-append}
-use Rattle.clv_base.specs.declared.values.Value.{Value as ValueType}
 use Rattle.clv_base.specs.declared.names.TxId.{TxId}
 use Rattle.clv_base.specs.declared.names.Birth.{Birth}
 use Rattle.clv_base.specs.declared.ops.Op.{Op}
@@ -14,11 +13,13 @@ use Rattle.clv_base.specs.declared.causes.AbortCause.{AbortCause}
 use Rattle.clv_base.specs.declared.events.Event.{Event}
 use Rattle.clv_base.specs.declared.events.Outcome.{Outcome}
 use Rattle.clv_base.specs.declared.logs.LogRecord.{LogRecord}
-use Rattle.clv_base.specs.declared.logs.LogRecord.TheVariants.{Update, Clr, Prepare, Commit, Abort, End, Restart}
+use Rattle.clv_base.specs.declared.logs.LogRecord.TheVariants.{Update, Clr, Prepare, Commit, Abort, End, Restart, Add, Unadd}
 use Rattle.clv_base.specs.Orders.{tx_same, tx_in, nat_in}
+use Rattle.clv_base.specs.declared.changes.Change.{Change}
+use Rattle.clv_base.specs.declared.changes.Change.TheVariants.{Sets, Adds}
 use Rattle.clv_base.specs.Logs.{StandingUpdate, is_end_of, ended_in, committed_in, aborted_in, wrote_in, commit_parts, standing}
 use Rattle.clv_base.specs.State.{Shard, Local, is_present}
-use Rattle.clv_base.specs.Undo.{stage_of, aborts_of, clrs_of, newest_lsn, doomed_here, roll_back}
+use Rattle.clv_base.specs.Undo.{stage_of, aborts_of, clrs_of, newest_lsn, doomed_here, roll_back, compensation}
 use Rattle.clv_base.specs.Facts.{undecided_of}
 use Rattle.clv_base.specs.Coordinator.{others}
 use Rattle.clv_base.specs.Needs.{writes_of, value_at, key_of}
@@ -47,6 +48,8 @@ parts_there (Prepare tx home qs ∷ rs) t e = parts_there rs t e
 parts_there (Abort tx ∷ rs) t e = parts_there rs t e
 parts_there (End tx ∷ rs) t e = parts_there rs t e
 parts_there (Restart run epoch ∷ rs) t e = parts_there rs t e
+parts_there (Add tx k by ∷ rs) t e = parts_there rs t e
+parts_there (Unadd tx u k by ∷ rs) t e = parts_there rs t e
 
 -- whose COMMIT stands in the front of a log has the same parts there
 pub parts_back : (log more : List LogRecord) (t : TxId) (ps : List ℕ) → committed_in log t ≡ true → commit_parts (log ++ more) t ≡ Some ps → commit_parts log t ≡ Some ps
@@ -113,11 +116,12 @@ aborts_none (t ∷ ts) = ((λ u. refl), aborts_none ts)
 
 clrs_none : (set : List TxId) (ws : List StandingUpdate) → HaveNoEnd (clrs_of set ws)
 clrs_none set [] = tt
-clrs_none set (w ∷ ws) = at (tx_in w.tx set) (clrs_none set ws)
+clrs_none set (w ∷ ws) = at (tx_in w.tx set) w.change (clrs_none set ws)
   where
-    at : (b : Bool) → HaveNoEnd (clrs_of set ws) → HaveNoEnd (cond b (Clr w.tx (newest_lsn w.tx ws) w.key w.before ∷ clrs_of set ws) (clrs_of set ws))
-    at true a = ((λ u. refl), a)
-    at false a = a
+    at : (b : Bool) (c : Change) → HaveNoEnd (clrs_of set ws) → HaveNoEnd (cond b (compensation w.tx (newest_lsn w.tx ws) w.key c ∷ clrs_of set ws) (clrs_of set ws))
+    at true (Sets before after) a = ((λ u. refl), a)
+    at true (Adds by) a = ((λ u. refl), a)
+    at false c a = a
 
 closing_none : (b one : Bool) (tx : TxId) (home : ℕ) (us : List TxId) → HaveNoEnd (closing b one tx home us)
 closing_none false one tx home us = tt
@@ -152,9 +156,10 @@ rolled_if false tx l = on_same l.log
 pub on_dropped : (tx : TxId) (l : Local) → GoesOn l.log (drop_part tx l).log
 on_dropped tx l = rolled_if (is_present (stage_of l tx)) tx l
 
-writes : (tx : TxId) (w : Option (ℕ × Option ValueType × Option ValueType)) (l : Local) → GoesOn l.log (written tx w l).log
+writes : (tx : TxId) (w : Option (ℕ × Change)) (l : Local) → GoesOn l.log (written tx w l).log
 writes tx None l = on_same l.log
-writes tx (Some w) l = on_more l.log (Update tx w.0 w.1 w.2 ∷ []) ((λ u. refl), tt)
+writes tx (Some (key, Sets before after)) l = on_more l.log (Update tx key before after ∷ []) ((λ u. refl), tt)
+writes tx (Some (key, Adds by)) l = on_more l.log (Add tx key by ∷ []) ((λ u. refl), tt)
 
 dying : (l m : Local) (tx : TxId) (birth : Birth) (seen : Option ℕ) (op : Op) (c : AbortCause) → OpIs l tx birth seen op (OpDies c m) → GoesOn l.log m.log
 dying l _ tx birth seen op c dies = on_same l.log

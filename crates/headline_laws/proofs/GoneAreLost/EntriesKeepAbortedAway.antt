@@ -4,7 +4,6 @@ use Rattle.std.specs.Prelude.{drop}
 use Rattle.std.specs.List.{filter}
 use Rattle.std.proofs.lemmas.Bool.{both_ways, or_cases, or_left, or_right, false_from_ne_true}
 use Rattle.std.proofs.lemmas.List.Folds.{list_any-append}
-use Rattle.clv_base.specs.declared.values.Value.{Value as ValueType}
 use Rattle.clv_base.specs.declared.names.TxId.{TxId}
 use Rattle.clv_base.specs.declared.names.Birth.{Birth}
 use Rattle.clv_base.specs.declared.ops.Op.{Op}
@@ -12,7 +11,7 @@ use Rattle.clv_base.specs.declared.ops.Answer.{Answer}
 use Rattle.clv_base.specs.declared.causes.AbortCause.{AbortCause}
 use Rattle.clv_base.specs.declared.causes.Vote.TheVariants.{Yes, Read, No}
 use Rattle.clv_base.specs.declared.logs.LogRecord.{LogRecord}
-use Rattle.clv_base.specs.declared.logs.LogRecord.TheVariants.{Update, Clr, Prepare as PrepareRecord, Commit, Abort, End, Restart as RestartRecord}
+use Rattle.clv_base.specs.declared.logs.LogRecord.TheVariants.{Update, Prepare as PrepareRecord, Commit, Abort, End, Restart as RestartRecord, Add}
 use Rattle.clv_base.specs.declared.state.Ruling.TheVariants.{Commit as CommitVerdict, Acknowledge, Abort as AbortVerdict, End as EndVerdict}
 use Rattle.clv_base.specs.declared.state.Stage.TheVariants.{Active, Closed}
 use Rattle.clv_base.specs.declared.events.Event.{Event}
@@ -21,10 +20,12 @@ use Rattle.clv_base.specs.declared.events.Outcome.{Outcome}
 use Rattle.clv_base.specs.declared.events.Outcome.TheVariants.{Answered}
 use Rattle.clv_base.specs.declared.events.Entry.{Entry}
 use Rattle.clv_base.specs.Orders.{tx_same, tx_in}
+use Rattle.clv_base.specs.declared.changes.Change.{Change}
+use Rattle.clv_base.specs.declared.changes.Change.TheVariants.{Sets, Adds}
 use Rattle.clv_base.specs.Logs.{StandingUpdate, standing, committed_in, wrote_in, aborted_in, is_abort_of, in_doubt}
 use Rattle.clv_base.specs.Needs.{writes_of, value_at, key_of}
 use Rattle.clv_base.specs.State.{Shard, Local, is_present, with_local}
-use Rattle.clv_base.specs.Undo.{newest_lsn, stage_of, gone_in, doomed_here, roll_back, aborts_of, clrs_of}
+use Rattle.clv_base.specs.Undo.{newest_lsn, stage_of, gone_in, doomed_here, roll_back, aborts_of, clrs_of, compensation}
 use Rattle.clv_base.specs.Facts.{facts_of, is_waiting, has_durable_commit, undecided_of}
 use Rattle.clv_base.specs.Coordinator.{others}
 use Rattle.clv_base.specs.OneShard.{OpDies, OpAnswers, written, locked, performed, closing, close_part, closed_in, rolled_back_if, drop_part}
@@ -79,11 +80,12 @@ aborts_in (u ∷ us) t h = ⊎_elim (λ e. or_left (tx_same u t) (tx_in t us) (t
 
 clrs_abort_none : (set : List TxId) (ws : List StandingUpdate) (t : TxId) → aborted_in (clrs_of set ws) t ≡ false
 clrs_abort_none set [] t = refl
-clrs_abort_none set (w ∷ ws) t = at (tx_in w.tx set) (clrs_abort_none set ws t)
+clrs_abort_none set (w ∷ ws) t = at (tx_in w.tx set) w.change (clrs_abort_none set ws t)
   where
-    at : (b : Bool) → aborted_in (clrs_of set ws) t ≡ false → aborted_in (cond b (Clr w.tx (newest_lsn w.tx ws) w.key w.before ∷ clrs_of set ws) (clrs_of set ws)) t ≡ false
-    at true k = k
-    at false k = k
+    at : (b : Bool) (c : Change) → aborted_in (clrs_of set ws) t ≡ false → aborted_in (cond b (compensation w.tx (newest_lsn w.tx ws) w.key c ∷ clrs_of set ws) (clrs_of set ws)) t ≡ false
+    at true (Sets before after) k = k
+    at true (Adds by) k = k
+    at false c k = k
 
 closing_aborts : (log : List LogRecord) (b one : Bool) (tx : TxId) (home : ℕ) (us : List TxId) (t : TxId) → aborted_in (log ++ closing b one tx home us) t ≡ true → aborted_in log t ≡ true
 closing_aborts log false one tx home us t h = aborted_back log [] t refl h
@@ -97,9 +99,10 @@ closing_commits log true true tx home [] t h = new_commit log tx [] t h
 closing_commits log true true tx home (v ∷ vs) t h = inl (with_more log (PrepareRecord tx home (v ∷ vs) ∷ []) ((λ u. refl), tt) t h)
 closing_commits log true false tx home us t h = inl (with_more log (PrepareRecord tx home us ∷ []) ((λ u. refl), tt) t h)
 
-writes_aborts : (tx : TxId) (w : Option (ℕ × Option ValueType × Option ValueType)) (l : Local) (t : TxId) → aborted_in (written tx w l).log t ≡ true → aborted_in l.log t ≡ true
+writes_aborts : (tx : TxId) (w : Option (ℕ × Change)) (l : Local) (t : TxId) → aborted_in (written tx w l).log t ≡ true → aborted_in l.log t ≡ true
 writes_aborts tx None l t h = h
-writes_aborts tx (Some w) l t h = aborted_back l.log (Update tx w.0 w.1 w.2 ∷ []) t refl h
+writes_aborts tx (Some (key, Sets before after)) l t h = aborted_back l.log (Update tx key before after ∷ []) t refl h
+writes_aborts tx (Some (key, Adds by)) l t h = aborted_back l.log (Add tx key by ∷ []) t refl h
 
 -- ---- changes
 

@@ -6,7 +6,7 @@ use Rattle.std.proofs.lemmas.Bool.{both_ways, false_from_ne_true, or_left}
 use Rattle.std.proofs.lemmas.List.Folds.{list_any-append}
 use Rattle.clv_base.specs.declared.names.TxId.{TxId}
 use Rattle.clv_base.specs.declared.logs.LogRecord.{LogRecord}
-use Rattle.clv_base.specs.declared.logs.LogRecord.TheVariants.{Update, Commit, End}
+use Rattle.clv_base.specs.declared.logs.LogRecord.TheVariants.{Update, Commit, End, Add}
 use Rattle.clv_base.specs.Orders.{tx_in}
 use Rattle.clv_base.specs.State.{Shard}
 use Rattle.clv_base.specs.Logs.{is_update_of, is_commit_of, is_end_of, is_abort_of, wrote_in, committed_in, ended_in, aborted_in, in_doubt}
@@ -52,6 +52,7 @@ same_wrote log more t a = same_any (is_update_of t) log more one a
   where
     one : (r : LogRecord) → IsUndo r → is_update_of t r ≡ false
     one (Update tx k b v) u = absurd u
+    one (Add tx k by) u = absurd u
     one _ u = refl
 
 pub same_committed : (log more : List LogRecord) (t : TxId) → AllByRecursion IsUndo more → committed_in (log ++ more) t ≡ committed_in log t

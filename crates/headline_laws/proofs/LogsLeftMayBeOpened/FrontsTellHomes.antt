@@ -5,7 +5,7 @@ use Rattle.std.specs.List.{list_any, list_all}
 use Rattle.std.proofs.lemmas.Bool.{both_ways, false_from_ne_true, not-true, and_parts, and_from, or_from}
 use Rattle.clv_base.specs.declared.names.TxId.{TxId}
 use Rattle.clv_base.specs.declared.logs.LogRecord.{LogRecord}
-use Rattle.clv_base.specs.declared.logs.LogRecord.TheVariants.{Update, Clr, Prepare, Commit, Abort, End, Restart}
+use Rattle.clv_base.specs.declared.logs.LogRecord.TheVariants.{Update, Clr, Prepare, Commit, Abort, End, Restart, Add, Unadd}
 use Rattle.clv_base.specs.Logs.{is_update_of, is_commit_of, is_prepare_of, is_abort_of, is_end_of, is_record_of, wrote_in, committed_in, prepared_in, aborted_in, prepare_of}
 use Rattle.clv_base.specs.LogRules.{may_follow, home_is}
 use Rattle.clv_base.proofs.SameNames.{tx_true}
@@ -42,6 +42,9 @@ record_step shard log (Commit tx parts) t w f m e = inr (push_right (is_commit_o
 record_step shard log (Abort tx) t w f m e = inl (push_left (is_update_of t) log (Abort tx) (abort_step shard log (Abort tx) t m e))
 record_step shard log (End tx) t w f m e = inr (ended_committed shard (log ++ End tx ∷ []) w t (push_right (is_end_of t) log (End tx) e))
 record_step shard log (Restart run epoch) t w f m e = absurd (both_ways false refl e)
+record_step shard log (Add tx key by) t w f m e = inl (push_right (is_update_of t) log (Add tx key by) e)
+record_step shard log (Unadd tx next key by) t w f m e =
+    inl (push_left (is_update_of t) log (Unadd tx next key by) (subst (λ z. wrote_in log z ≡ true) (sym (tx_true t tx e)) (aborted_wrote shard log f tx (last _ _ (front _ _ m)))))
 
 pub wrote_or_committed : (shard : ℕ) (log : List LogRecord) → Follows shard [] log → (t : TxId) → list_any (is_record_of t) log ≡ true → WroteOrCommitted log t
 wrote_or_committed shard log f =

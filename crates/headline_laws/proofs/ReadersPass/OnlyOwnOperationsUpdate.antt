@@ -1,9 +1,8 @@
 -- Nothing but its own operations gives a transaction an UPDATE.
-use Rattle.std.proofs.Common.{◌≡◌, ⊎_elim, refl, sym, ap, subst, ◌∙◌, ℕ, zero, suc, true, false, not, Bool, List, [], ◌∷◌, ◌++◌, Option, Some, None, take-append-drop}
+use Rattle.std.proofs.Common.{◌≡◌, ⊎_elim, refl, sym, ap, subst, ◌∙◌, ℕ, zero, suc, true, false, not, Bool, ◌||◌, List, [], ◌∷◌, ◌++◌, Option, Some, None, take-append-drop}
 use Rattle.std.specs.Prelude.{take, drop}
 use Rattle.std.specs.List.{AllByRecursion, filter}
 use Rattle.std.proofs.lemmas.Bool.{both_ways, or_cases, or_from}
-use Rattle.clv_base.specs.declared.values.Value.{Value as ValueType}
 use Rattle.clv_base.specs.declared.names.TxId.{TxId}
 use Rattle.clv_base.specs.declared.names.Birth.{Birth}
 use Rattle.clv_base.specs.declared.ops.Op.{Op}
@@ -11,19 +10,21 @@ use Rattle.clv_base.specs.declared.ops.Answer.{Answer}
 use Rattle.clv_base.specs.declared.causes.AbortCause.{AbortCause}
 use Rattle.clv_base.specs.declared.causes.Vote.TheVariants.{Yes, Read, No}
 use Rattle.clv_base.specs.declared.logs.LogRecord.{LogRecord}
-use Rattle.clv_base.specs.declared.logs.LogRecord.TheVariants.{Update, Commit, Abort, End, Restart}
+use Rattle.clv_base.specs.declared.logs.LogRecord.TheVariants.{Commit, Abort, End, Restart}
 use Rattle.clv_base.specs.declared.events.Event.{Event}
 use Rattle.clv_base.specs.declared.events.Event.TheVariants.{Op as OpEvent}
 use Rattle.clv_base.specs.declared.events.Outcome.{Outcome}
 use Rattle.clv_base.specs.declared.state.Ruling.TheVariants.{Commit as CommitVerdict, Acknowledge, Abort as AbortVerdict, End as EndVerdict}
 use Rattle.clv_base.specs.Orders.{tx_same}
+use Rattle.clv_base.specs.declared.changes.Change.{Change}
+use Rattle.clv_base.specs.declared.changes.Change.TheVariants.{Sets, Adds}
 use Rattle.clv_base.specs.Logs.{wrote_in, aborted_in, is_update_of, standing}
 use Rattle.clv_base.specs.State.{Shard, Local, is_present}
 use Rattle.clv_base.specs.Undo.{stage_of, aborts_of, clrs_of, doomed_here, roll_back}
 use Rattle.clv_base.specs.Facts.{undecided_of}
 use Rattle.clv_base.specs.Coordinator.{others}
 use Rattle.clv_base.specs.Needs.{writes_of, value_at, key_of}
-use Rattle.clv_base.specs.OneShard.{OpDies, OpAnswers, written, locked, rolled_back_if, drop_part, closing}
+use Rattle.clv_base.specs.OneShard.{OpDies, OpAnswers, update_of, written, locked, rolled_back_if, drop_part, closing}
 use Rattle.clv_base.specs.Events.{finish, is_alone, with_durable}
 use Rattle.clv_base.specs.Restarts.{losers, undo_records, restart_records, next_epoch, FailedRestarts, untouched, failed_first, Restarts}
 use Rattle.clv_base.specs.Journals.{up_to_restart}
@@ -56,7 +57,7 @@ plain_more xs ys a t h = ⊎_elim (λ x. x) (λ x. absurd (both_ways _ (unwritte
 rolled : (tx : TxId) (l : Local) → NoMoreUpdates l.log (roll_back tx l).log
 rolled tx l t h =
     plain_more l.log (aborts_of l.log (doomed_here l tx)) (all_map IsNoUpdate (λ u. Abort u) (filter (wrote_in l.log) (doomed_here l tx)) (λ u t. refl)) t
-    (plain_more (l.log ++ aborts_of l.log (doomed_here l tx)) (clrs_of (doomed_here l tx) (standing l.log)) (all_clrs IsNoUpdate (λ w n t. refl) (doomed_here l tx) (standing l.log)) t h)
+    (plain_more (l.log ++ aborts_of l.log (doomed_here l tx)) (clrs_of (doomed_here l tx) (standing l.log)) (all_clrs IsNoUpdate (λ t n k v u. refl) (λ t n k by u. refl) (doomed_here l tx) (standing l.log)) t h)
 
 rolled_if : (b : Bool) (tx : TxId) (l : Local) → NoMoreUpdates l.log (rolled_back_if b tx l).log
 rolled_if true tx l = rolled tx l
@@ -92,11 +93,18 @@ died_updates : (l m : Local) (u : TxId) (birth : Birth) (seen : Option ℕ) (op 
 died_updates l _ u birth seen op c dies = λ t h. h
 died_updates l _ u birth seen op c rolls = rolled u l
 
-written_updates : (u t : TxId) (w : Option (ℕ × Option ValueType × Option ValueType)) (l : Local) → (u ≡ t → ⊥) → wrote_in (written u w l).log t ≡ true → wrote_in l.log t ≡ true
+written_updates : (u t : TxId) (w : Option (ℕ × Change)) (l : Local) → (u ≡ t → ⊥) → wrote_in (written u w l).log t ≡ true → wrote_in l.log t ≡ true
 written_updates u t None l n h = h
-written_updates u t (Some w) l n h =
-    ⊎_elim (λ x. x) (λ x. absurd (⊎_elim (λ e. n (sym (tx_true t u e))) (λ e. both_ways false refl e) (or_cases (tx_same t u) false x)))
-    (or_cases (wrote_in l.log t) (wrote_in (Update u w.0 w.1 w.2 ∷ []) t) (sym (wrote_append l.log (Update u w.0 w.1 w.2 ∷ []) t) ∙ h))
+written_updates u t (Some (key, change)) l n h =
+    ⊎_elim (λ x. x) (λ x. absurd (n (own change x)))
+    (or_cases (wrote_in l.log t) (wrote_in (update_of u key change ∷ []) t) (sym (wrote_append l.log (update_of u key change ∷ []) t) ∙ h))
+  where
+    same : (tx_same t u || false) ≡ true → u ≡ t
+    same x = ⊎_elim (λ e. sym (tx_true t u e)) (λ e. absurd (both_ways false refl e)) (or_cases (tx_same t u) false x)
+
+    own : (c : Change) → wrote_in (update_of u key c ∷ []) t ≡ true → u ≡ t
+    own (Sets before after) x = same x
+    own (Adds by) x = same x
 
 answered_updates : (l m : Local) (u t : TxId) (birth : Birth) (seen : Option ℕ) (op : Op) (a : Answer) → OpIs l u birth seen op (OpAnswers a m) → (u ≡ t → ⊥) → wrote_in m.log t ≡ true → wrote_in l.log t ≡ true
 answered_updates l _ u t birth seen op _ (performs f e) n h = written_updates u t (writes_of op (value_at (key_of op) l.records)) (locked u birth op l) n h
@@ -119,7 +127,7 @@ step_updates s _ t _ n h = h
 restart_have : (shard : ℕ) (log : List LogRecord) (run epoch : ℕ) → AllByRecursion IsNoUpdate (restart_records shard log run epoch)
 restart_have shard log run epoch =
     all_append _ (undo_records shard log) (Restart run epoch ∷ [])
-    (all_append _ _ _ (all_map IsNoUpdate (λ u. Abort u) (filter (λ t. not (aborted_in log t)) (losers shard log)) (λ u t. refl)) (all_clrs IsNoUpdate (λ w n t. refl) (losers shard log) (standing log))) ((λ t. refl), tt)
+    (all_append _ _ _ (all_map IsNoUpdate (λ u. Abort u) (filter (λ t. not (aborted_in log t)) (losers shard log)) (λ u t. refl)) (all_clrs IsNoUpdate (λ t n k v u. refl) (λ t n k by u. refl) (losers shard log) (standing log))) ((λ t. refl), tt)
 
 take_have : (n : ℕ) (xs : List LogRecord) → AllByRecursion IsNoUpdate xs → AllByRecursion IsNoUpdate (take n xs)
 take_have zero xs a = tt

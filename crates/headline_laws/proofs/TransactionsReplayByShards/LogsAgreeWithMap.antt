@@ -5,8 +5,8 @@ use Rattle.std.proofs.lemmas.Bool.{both_ways, and_parts, false_from_ne_true}
 use Rattle.clv_base.specs.declared.values.Value.{Value as ValueType}
 use Rattle.clv_base.specs.declared.names.TxId.{TxId}
 use Rattle.clv_base.specs.declared.logs.LogRecord.{LogRecord}
-use Rattle.clv_base.specs.declared.logs.LogRecord.TheVariants.{Update, Clr, Prepare, Commit, Abort, End, Restart}
-use Rattle.clv_base.specs.Maps.{KeyMap, map_get, map_set}
+use Rattle.clv_base.specs.declared.logs.LogRecord.TheVariants.{Update, Clr, Prepare, Commit, Abort, End, Restart, Add, Unadd}
+use Rattle.clv_base.specs.Maps.{KeyMap, map_get, map_set, map_add, plus}
 use Rattle.clv_base.specs.Logs.{fold_updates, stands_from, stands, committed_somewhere}
 use Rattle.clv_base.specs.LogRules.{log_of, all_logs_from}
 use Rattle.clv_base.specs.FileRules.{passes_file_rules}
@@ -25,6 +25,14 @@ set_alike : (b : Bool) (key k : ℕ) (x : Option ValueType) (m n : KeyMap) → m
 set_alike true key k x m n e = get_set k key x m ∙ ap (λ o. cond (k == key) x o) e ∙ sym (get_set k key x n)
 set_alike false key k x m n e = e
 
+add_alike : (b : Bool) (key k by : ℕ) (m n : KeyMap) → map_get k m ≡ map_get k n → map_get k (cond b (map_add key by m) m) ≡ map_get k (cond b (map_add key by n) n)
+add_alike true key k by m n e = get_set k key (plus by (map_get key m)) m ∙ at (k == key) refl ∙ sym (get_set k key (plus by (map_get key n)) n)
+  where
+    at : (b : Bool) → (k == key) ≡ b → cond b (plus by (map_get key m)) (map_get k m) ≡ cond b (plus by (map_get key n)) (map_get k n)
+    at true q = ap (plus by) (ap (λ j. map_get j m) (sym (eq_true k key q)) ∙ e ∙ ap (λ j. map_get j n) (eq_true k key q))
+    at false q = e
+add_alike false key k by m n e = e
+
 fold_alike : (keep : TxId → Bool) (log : List LogRecord) (k : ℕ) (m n : KeyMap) → map_get k m ≡ map_get k n → map_get k (fold_updates keep log m) ≡ map_get k (fold_updates keep log n)
 fold_alike keep [] k m n e = e
 fold_alike keep (Update tx key before after ∷ rs) k m n e =
@@ -35,6 +43,9 @@ fold_alike keep (Commit tx ps ∷ rs) k m n e = fold_alike keep rs k m n e
 fold_alike keep (Abort tx ∷ rs) k m n e = fold_alike keep rs k m n e
 fold_alike keep (End tx ∷ rs) k m n e = fold_alike keep rs k m n e
 fold_alike keep (Restart run epoch ∷ rs) k m n e = fold_alike keep rs k m n e
+fold_alike keep (Add tx key by ∷ rs) k m n e =
+    fold_alike keep rs k (cond (keep tx) (map_add key by m) m) (cond (keep tx) (map_add key by n) n) (add_alike (keep tx) key k by m n e)
+fold_alike keep (Unadd tx undo_next key by ∷ rs) k m n e = fold_alike keep rs k m n e
 
 -- a log leaves the keys that aren't its shard's
 set_away : (b : Bool) (key k : ℕ) (x : Option ValueType) (m : KeyMap) → (k == key) ≡ false → map_get k (cond b (map_set key x m) m) ≡ map_get k m
@@ -53,6 +64,11 @@ fold_away splits i keep (Commit tx ps ∷ rs) k m p e = fold_away splits i keep 
 fold_away splits i keep (Abort tx ∷ rs) k m p e = fold_away splits i keep rs k m p e
 fold_away splits i keep (End tx ∷ rs) k m p e = fold_away splits i keep rs k m p e
 fold_away splits i keep (Restart run epoch ∷ rs) k m p e = fold_away splits i keep rs k m p e
+fold_away splits i keep (Add tx key by ∷ rs) k m p e =
+    let q = and_parts (in_span splits i key) (list_all (passes_file_rules splits i) rs) p in
+    fold_away splits i keep rs k (cond (keep tx) (map_add key by m) m) q.1 e
+    ∙ set_away (keep tx) key k (plus by (map_get key m)) m (false_from_ne_true (k == key) (λ h. both_ways (in_span splits i key) (subst (λ z. in_span splits i z ≡ false) (eq_true k key h) e) q.0))
+fold_away splits i keep (Unadd tx undo_next key by ∷ rs) k m p e = fold_away splits i keep rs k m (and_parts (in_span splits i key) _ p).1 e
 
 -- ---- all logs
 

@@ -1,11 +1,11 @@
 -- A map and the maps of the shards that agree with it, through operations.
 use Rattle.std.proofs.Common.{◌≡◌, ℕ, ◌<◌, Bool, true, false, cond, List, Option, Some, None, ◌==◌, refl, sym, ap, subst, ◌∙◌}
-use Rattle.std.proofs.lemmas.Bool.{both_ways, and_parts, eq-eqb, false_from_ne_true}
+use Rattle.std.proofs.lemmas.Bool.{both_ways, and_parts, eqb-true, eq-eqb, false_from_ne_true}
 use Rattle.clv_base.specs.declared.values.Value.{Value as ValueType}
 use Rattle.clv_base.specs.declared.ops.Op.{Op}
-use Rattle.clv_base.specs.declared.ops.Op.TheVariants.{Get, Put, Del, Scan}
-use Rattle.clv_base.specs.declared.ops.Answer.TheVariants.{Value, Pairs}
-use Rattle.clv_base.specs.Maps.{KeyMap, map_get, map_set, map_between, lies_between, op_answer, op_after}
+use Rattle.clv_base.specs.declared.ops.Op.TheVariants.{Get, Put, Del, Scan, Add}
+use Rattle.clv_base.specs.declared.ops.Answer.TheVariants.{Value, Pairs, Added}
+use Rattle.clv_base.specs.Maps.{KeyMap, map_get, map_set, map_add, plus, is_number, map_between, lies_between, op_answer, op_after}
 use Rattle.clv_base.specs.Shards.{shard_count, are_splits, span, in_span}
 use Rattle.clv_base.specs.Sessions.{lies_in}
 use Rattle.clv_base.specs.Folding.{IsRising}
@@ -42,6 +42,7 @@ pub answer_alike : (splits : List ℕ) (m : KeyMap) (f : ℕ → KeyMap) (n : �
 answer_alike splits m f n (Get k) a l e = ap Value (a.values n k l e)
 answer_alike splits m f n (Put k v) a l e = ap Value (a.values n k l e)
 answer_alike splits m f n (Del k) a l e = ap Value (a.values n k l e)
+answer_alike splits m f n (Add k by) a l e = ap (λ o. Added (is_number o)) (a.values n k l e)
 answer_alike splits m f n (Scan lo hi) a l e = let p = and_parts (in_span splits n lo) (in_span splits n hi) e in ap Pairs (between_alike splits m f n lo hi a l p.0 p.1)
 
 -- ---- a write
@@ -74,6 +75,15 @@ agrees_set splits m f n k x s a l e = record {
   nowhere = λ q none. get_other q k x m (elsewhere splits n k q l e none) ∙ a.nowhere q none;
 }
 
+agrees_add : (splits : List ℕ) (m : KeyMap) (f : ℕ → KeyMap) (n k by : ℕ) → are_splits splits ≡ true → Agrees splits m f → n < shard_count splits → in_span splits n k ≡ true → Agrees splits (map_add k by m) (with_share f n (map_add k by))
+agrees_add splits m f n k by s a l e =
+    agrees_alike splits (map_add k by m) (with_share f n (map_set k (plus by (map_get k m)))) (with_share f n (map_add k by)) (λ j. same j (n == j) refl)
+    (agrees_set splits m f n k (plus by (map_get k m)) s a l e)
+  where
+    same : (j : ℕ) (b : Bool) → (n == j) ≡ b → cond b (map_set k (plus by (map_get k m)) (f j)) (f j) ≡ cond b (map_add k by (f j)) (f j)
+    same j true q = ap (λ o. map_set k (plus by o) (f j)) (a.values n k l e ∙ ap (λ i. map_get k (f i)) (eqb-true n j q))
+    same j false q = refl
+
 unchanged : (f : ℕ → KeyMap) (n j : ℕ) (b : Bool) → f j ≡ cond b (f j) (f j)
 unchanged f n j true = refl
 unchanged f n j false = refl
@@ -83,3 +93,4 @@ agrees_after splits m f n (Get k) s a l e = agrees_alike splits m f (with_share 
 agrees_after splits m f n (Scan lo hi) s a l e = agrees_alike splits m f (with_share f n (op_after (Scan lo hi))) (λ j. unchanged f n j (n == j)) a
 agrees_after splits m f n (Put k v) s a l e = agrees_set splits m f n k (Some v) s a l e
 agrees_after splits m f n (Del k) s a l e = agrees_set splits m f n k None s a l e
+agrees_after splits m f n (Add k by) s a l e = agrees_add splits m f n k by s a l e

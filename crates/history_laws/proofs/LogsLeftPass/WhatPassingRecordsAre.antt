@@ -4,12 +4,16 @@ use Rattle.std.specs.Prelude.{take}
 use Rattle.std.specs.List.{AllByRecursion, filter, list_all}
 use Rattle.std.proofs.lemmas.Bool.{and_parts, and_from, lt-ltb}
 use Rattle.clv_base.specs.declared.values.Value.{Value as ValueType}
+use Rattle.clv_base.specs.declared.values.Value.TheVariants.{Num, Bytes}
 use Rattle.clv_base.specs.declared.names.TxId.{TxId}
 use Rattle.clv_base.specs.declared.names.Birth.{Birth}
 use Rattle.clv_base.specs.declared.ops.Op.{Op}
+use Rattle.clv_base.specs.declared.ops.Op.TheVariants as ops
 use Rattle.clv_base.specs.declared.ops.Op.TheVariants.{Get, Put, Del, Scan}
 use Rattle.clv_base.specs.declared.logs.LogRecord.{LogRecord}
-use Rattle.clv_base.specs.declared.logs.LogRecord.TheVariants.{Update, Clr, Prepare, Commit, Abort, End, Restart}
+use Rattle.clv_base.specs.declared.logs.LogRecord.TheVariants.{Update, Clr, Prepare, Commit, Abort, End, Restart, Add, Unadd}
+use Rattle.clv_base.specs.declared.changes.Change.{Change}
+use Rattle.clv_base.specs.declared.changes.Change.TheVariants.{Sets, Adds}
 use Rattle.clv_base.specs.declared.modes.Decision.{Decision}
 use Rattle.clv_base.specs.declared.modes.Decision.TheVariants.{Grant, Wait, Die}
 use Rattle.clv_base.specs.declared.state.Stage.{Stage}
@@ -21,7 +25,7 @@ use Rattle.clv_base.specs.Shards.{shard_count, in_span}
 use Rattle.clv_base.specs.Sessions.{lies_in}
 use Rattle.clv_base.specs.FileRules.{passes_file_rules}
 use Rattle.clv_base.specs.State.{Shard, Local, is_present}
-use Rattle.clv_base.specs.Undo.{stage_of, aborts_of, clrs_of, newest_lsn, doomed_here, roll_back}
+use Rattle.clv_base.specs.Undo.{stage_of, aborts_of, clrs_of, newest_lsn, doomed_here, roll_back, compensation}
 use Rattle.clv_base.specs.Needs.{needs_of, writes_of, value_at, key_of}
 use Rattle.clv_base.specs.OneShard.{OpReply, OpWaits, OpCrowded, OpDies, OpAnswers, written, locked, rolled_back_if, op_granted, op_decided, op_by_stage, op_seen, op_reply, closing, drop_part, seen_fits}
 use Rattle.clv_base.specs.Restarts.{undo_records, restart_records, log_after_restart, next_epoch, losers, FailedRestarts, untouched, failed_first, Restarts}
@@ -71,6 +75,8 @@ standing_lie splits n k (Commit tx ps ∷ rs) ws p a = standing_lie splits n (su
 standing_lie splits n k (Abort tx ∷ rs) ws p a = standing_lie splits n (suc k) rs ws p.1 a
 standing_lie splits n k (End tx ∷ rs) ws p a = standing_lie splits n (suc k) rs ws p.1 a
 standing_lie splits n k (Restart run epoch ∷ rs) ws p a = standing_lie splits n (suc k) rs ws p.1 a
+standing_lie splits n k (Add tx key by ∷ rs) ws p a = standing_lie splits n (suc k) rs _ p.1 (p.0, a)
+standing_lie splits n k (Unadd tx u key by ∷ rs) ws p a = standing_lie splits n (suc k) rs _ p.1 (without_lie splits n tx ws a)
 
 aborts_pass : (splits : List ℕ) (n : ℕ) (ts : List TxId) → Passes splits n (map (λ t. Abort t) ts)
 aborts_pass splits n [] = tt
@@ -78,11 +84,12 @@ aborts_pass splits n (t ∷ ts) = (refl, aborts_pass splits n ts)
 
 clrs_pass : (splits : List ℕ) (n : ℕ) (set : List TxId) (ws : List StandingUpdate) → KeysLie splits n ws → Passes splits n (clrs_of set ws)
 clrs_pass splits n set [] a = tt
-clrs_pass splits n set (w ∷ ws) a = at (tx_in w.tx set) (clrs_pass splits n set ws a.1)
+clrs_pass splits n set (w ∷ ws) a = at (tx_in w.tx set) w.change (clrs_pass splits n set ws a.1)
   where
-    at : (b : Bool) → Passes splits n (clrs_of set ws) → Passes splits n (cond b (Clr w.tx (newest_lsn w.tx ws) w.key w.before ∷ clrs_of set ws) (clrs_of set ws))
-    at true k = (a.0, k)
-    at false k = k
+    at : (b : Bool) (c : Change) → Passes splits n (clrs_of set ws) → Passes splits n (cond b (compensation w.tx (newest_lsn w.tx ws) w.key c ∷ clrs_of set ws) (clrs_of set ws))
+    at true (Sets before after) k = (a.0, k)
+    at true (Adds by) k = (a.0, k)
+    at false c k = k
 
 pub rolled_pass : (splits : List ℕ) (n : ℕ) (tx : TxId) (l : Local) → Passes splits n l.log → Passes splits n (roll_back tx l).log
 rolled_pass splits n tx l p =
@@ -105,6 +112,9 @@ writes_pass splits n tx (Scan lo hi) v l e p = p
 writes_pass splits n tx (Put k x) v l e p = passes_more splits n l.log (Update tx k v (Some x) ∷ []) p (e, tt)
 writes_pass splits n tx (Del k) None l e p = p
 writes_pass splits n tx (Del k) (Some w) l e p = passes_more splits n l.log (Update tx k (Some w) None ∷ []) p (e, tt)
+writes_pass splits n tx (ops.Add k by) None l e p = p
+writes_pass splits n tx (ops.Add k by) (Some (Num v)) l e p = passes_more splits n l.log (Add tx k by ∷ []) p (e, tt)
+writes_pass splits n tx (ops.Add k by) (Some (Bytes b)) l e p = p
 
 -- what it leaves passes, where the keys of what it answers are the shard's
 abbrev OpLeaves : List ℕ → ℕ → Op → Local → OpReply → Type 0

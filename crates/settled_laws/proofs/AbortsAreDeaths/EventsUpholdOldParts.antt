@@ -3,7 +3,7 @@ use Rattle.std.proofs.Common.{◌≡◌, ◌⊎◌, inl, inr, refl, sym, ap, sub
 use Rattle.std.specs.Prelude.{⊤}
 use Rattle.std.specs.List.{AllByRecursion, filter}
 use Rattle.std.proofs.lemmas.Bool.{both_ways, and_parts}
-use Rattle.clv_base.specs.declared.values.Value.{Value as ValueType}
+use Rattle.clv_base.specs.declared.changes.Change.{Change}
 use Rattle.clv_base.specs.declared.names.TxId.{TxId}
 use Rattle.clv_base.specs.declared.names.Birth.{Birth}
 use Rattle.clv_base.specs.declared.ops.Op.{Op}
@@ -118,7 +118,7 @@ closes W V O B s tx home one a p = upheld_as W V O B s (with_local (close_part t
     none t true q e = absurd (none_some Closed (sym (subst (λ z. stage_in (closed_in tx s.local.parts) z ≡ None) (sym (tx_true tx t q)) e) ∙ now))
     none t false q e = sym (closed_other s.local.parts tx t q) ∙ e
 
-written_epoch : (tx : TxId) (w : Option (ℕ × Option ValueType × Option ValueType)) (l : Local) → (written tx w l).epoch ≡ l.epoch
+written_epoch : (tx : TxId) (w : Option (ℕ × Change)) (l : Local) → (written tx w l).epoch ≡ l.epoch
 written_epoch tx None l = refl
 written_epoch tx (Some w) l = refl
 
