@@ -2,7 +2,6 @@
 use Rattle.std.proofs.Common.{◌≡◌, ◌≢◌, refl, sym, ap, subst, ◌∙◌, ℕ, true, false, cond, Bool, List, [], ◌∷◌, ◌++◌, map, Option, Some, None}
 use Rattle.std.specs.List.{AllByRecursion}
 use Rattle.std.proofs.lemmas.Bool.{both_ways, false_from_ne_true}
-use Rattle.clv_base.specs.declared.values.Value.{Value as ValueType}
 use Rattle.clv_base.specs.declared.names.TxId.{TxId}
 use Rattle.clv_base.specs.declared.names.Birth.{Birth}
 use Rattle.clv_base.specs.declared.ops.Op.{Op}
@@ -24,6 +23,7 @@ use Rattle.clv_base.specs.declared.state.Held.{Held}
 use Rattle.clv_base.specs.declared.modes.Decision.{Decision}
 use Rattle.clv_base.specs.declared.modes.Decision.TheVariants.{Grant, Wait, Die}
 use Rattle.clv_base.specs.Orders.{Table, tx_same, tx_in, tx_get}
+use Rattle.clv_base.specs.declared.changes.Change.{Change}
 use Rattle.clv_base.specs.Logs.{in_doubt}
 use Rattle.clv_base.specs.Locks.{decide}
 use Rattle.clv_base.specs.State.{Local, Shard, is_active_stage, is_present}
@@ -82,7 +82,7 @@ rows_marked u (p ∷ ps) q a = (at (tx_same u p.0) refl, rows_marked u ps q.1 a.
     at true e = λ h. q.0 e
     at false e = a.0
 
-rows_written : (u : TxId) (w : Option (ℕ × Option ValueType × Option ValueType)) (l : Local) → Rows l.parts → Rows (written u w l).parts
+rows_written : (u : TxId) (w : Option (ℕ × Change)) (l : Local) → Rows l.parts → Rows (written u w l).parts
 rows_written u None l a = a
 rows_written u (Some w) l a = a
 

@@ -2,7 +2,7 @@
 use Rattle.std.proofs.Common.{◌≡◌, refl, sym, ap, subst, ◌∙◌, ℕ, ◌==◌, true, false, not, cond, Bool, List, [], ◌∷◌, ◌++◌, map, Option, Some, None}
 use Rattle.std.specs.List.{AllByRecursion}
 use Rattle.std.proofs.lemmas.Bool.{both_ways, eq-eqb}
-use Rattle.clv_base.specs.declared.values.Value.{Value as ValueType}
+use Rattle.clv_base.specs.declared.changes.Change.{Change}
 use Rattle.clv_base.specs.declared.names.TxId.{TxId}
 use Rattle.clv_base.specs.declared.names.Birth.{Birth}
 use Rattle.clv_base.specs.declared.ops.Op.{Op}
@@ -51,7 +51,7 @@ use Rattle.law_base.proofs.Bools.{not_true}
 abbrev Has : ℕ → Local → Type 0
 Has n l = l.epoch ≡ n
 
-has_written : (n : ℕ) (u : TxId) (w : Option (ℕ × Option ValueType × Option ValueType)) (l : Local) → Has n l → Has n (written u w l)
+has_written : (n : ℕ) (u : TxId) (w : Option (ℕ × Change)) (l : Local) → Has n l → Has n (written u w l)
 has_written n u None l a = a
 has_written n u (Some w) l a = a
 

@@ -5,7 +5,7 @@ use Rattle.std.proofs.lemmas.Bool.{both_ways}
 use Rattle.clv_base.specs.declared.names.TxId.{TxId}
 use Rattle.clv_base.specs.declared.names.Birth.{Birth}
 use Rattle.clv_base.specs.declared.ops.Op.{Op}
-use Rattle.clv_base.specs.declared.ops.Op.TheVariants.{Get, Put, Del, Scan}
+use Rattle.clv_base.specs.declared.ops.Op.TheVariants.{Get, Put, Del, Scan, Add}
 use Rattle.clv_base.specs.declared.causes.Vote.{Vote}
 use Rattle.clv_base.specs.declared.causes.AbortCause.TheVariants.{Restarted}
 use Rattle.clv_base.specs.declared.messages.Message.{Message}
@@ -63,6 +63,7 @@ answers_fit : (op : Op) (rs : Records) → may_answer op (answer_of op rs) ≡ t
 answers_fit (Get k) rs = refl
 answers_fit (Put k v) rs = refl
 answers_fit (Del k) rs = refl
+answers_fit (Add k by) rs = refl
 answers_fit (Scan lo hi) rs = refl
 
 abbrev AnswerFits : Op → OpReply → Type 0

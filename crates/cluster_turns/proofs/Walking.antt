@@ -35,7 +35,6 @@ use Rattle.machine_laws.proofs.Laws.{own_entries_go_on, walkers_go_on, entries_a
 use Rattle.machine_laws.specs.Notes.{plain}
 use Rattle.cluster_turns.specs.Turns.{Turned, EventTold}
 use Rattle.cluster_turns.specs.Walkers.{IsPassAt, ArePassesOf, own_of, own_lists, kept, IsWalkerOf, Walked, GoesOn}
-use Rattle.law_base.proofs.Options.{value_or as the}
 
 -- what a turn adds to what a walker with this clock keeps: nothing, or one entry that comes after all
 pub data Adds (splits : List ℕ) (run w n clock clock' : ℕ) (es : History) : List Entry → Type 0 where

@@ -10,7 +10,7 @@ use Rattle.std.proofs.lemmas.Bool.{both_ways, and_parts, ltb-true, ltb-false}
 use Rattle.clv_base.specs.declared.names.TxId.{TxId}
 use Rattle.clv_base.specs.declared.names.Birth.{Birth}
 use Rattle.clv_base.specs.declared.ops.Op.{Op as Operation}
-use Rattle.clv_base.specs.declared.ops.Op.TheVariants.{Get, Put, Del, Scan}
+use Rattle.clv_base.specs.declared.ops.Op.TheVariants.{Get, Put, Del, Scan, Add}
 use Rattle.clv_base.specs.declared.events.Event.{Event}
 use Rattle.clv_base.specs.declared.events.Event.TheVariants.{Op, Request, Look, Drop, Send, Deliver, Remind, FlushOut, FlushIn, Stop, Restart}
 use Rattle.clv_base.specs.declared.events.Outcome.{Outcome}
@@ -37,6 +37,7 @@ within_op : (splits : List ℕ) (n : ℕ) (op : Operation) → lies_in splits n 
 within_op splits n (Get k) h = within_span splits n k h
 within_op splits n (Put k v) h = within_span splits n k h
 within_op splits n (Del k) h = within_span splits n k h
+within_op splits n (Add k by) h = within_span splits n k h
 within_op splits n (Scan lo hi) h = within_span splits n lo (and_parts _ _ h).0
 
 -- ---- the states

@@ -2,9 +2,9 @@
 use Rattle.std.specs.Prelude.{◌≡◌, ℕ, ◌≤◌, ◌^◌, ◌-◌, Bool, true, false, not, List, ◌++◌, Option, is_some, Result, Ok, Err, IfOk, slice_index_or, Some}
 use Rattle.std.specs.List.{AllByRecursion, filter}
 use Rattle.clv_base.specs.declared.ops.Op.{Op}
-use Rattle.clv_base.specs.declared.ops.Op.TheVariants.{Get, Put, Del, Scan}
+use Rattle.clv_base.specs.declared.ops.Op.TheVariants.{Get, Put, Del, Scan, Add}
 use Rattle.clv_base.specs.declared.ops.Answer.{Answer}
-use Rattle.clv_base.specs.declared.ops.Answer.TheVariants.{Value, Pairs}
+use Rattle.clv_base.specs.declared.ops.Answer.TheVariants.{Value, Pairs, Added}
 use Rattle.clv_base.specs.declared.events.Event.{Event}
 use Rattle.clv_base.specs.declared.events.Event.TheVariants.{Op as OpEvent, Request, Look, Drop, Send, Deliver, Remind, FlushOut, FlushIn, Stop, Restart}
 use Rattle.clv_base.specs.declared.events.Outcome.{Outcome}
@@ -44,16 +44,28 @@ HasItsEntry t = is_some t.made ≡ is_kept t.answer
 
 -- ---- what an event may come to
 
--- an operation at a key is answered a value, a part scan pairs
+-- an operation at a key is answered a value, a part scan pairs, an addition whether there was a number
 abbrev pub is_value : Answer → Bool
 is_value (Value value) = true
 is_value (Pairs pairs) = false
+is_value (Added found) = false
+
+abbrev pub are_pairs : Answer → Bool
+are_pairs (Value value) = false
+are_pairs (Pairs pairs) = true
+are_pairs (Added found) = false
+
+abbrev pub is_told : Answer → Bool
+is_told (Value value) = false
+is_told (Pairs pairs) = false
+is_told (Added found) = true
 
 abbrev pub may_answer : Op → Answer → Bool
 may_answer (Get k) answer = is_value answer
 may_answer (Put k v) answer = is_value answer
 may_answer (Del k) answer = is_value answer
-may_answer (Scan lo hi) answer = not (is_value answer)
+may_answer (Scan lo hi) answer = are_pairs answer
+may_answer (Add k by) answer = is_told answer
 
 abbrev pub ends_op : Op → Outcome → Bool
 ends_op op (Answered answer epoch) = may_answer op answer

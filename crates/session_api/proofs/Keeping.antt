@@ -1,8 +1,8 @@
 -- What a session's calls leave.
-use Rattle.std.proofs.Common.{◌≡◌, refl, sym, ap, subst, ℕ, Bool, true, false, List, ◌++◌, length, Option, None, Result, Ok, Err, inl, inr}
-use Rattle.clv_base.specs.declared.values.Value.{Value as ValueType}
+use Rattle.std.proofs.Common.{◌≡◌, refl, sym, subst, ℕ, Bool, true, false, List, ◌++◌, length, None, Result, Ok, Err, inl, inr}
 use Rattle.clv_base.specs.declared.names.Point.{Point}
 use Rattle.clv_base.specs.declared.ops.Op.{Op}
+use Rattle.clv_base.specs.declared.ops.Answer.{Answer}
 use Rattle.clv_base.specs.Sessions.{SessionState, Phase, Touching, Ended as HasEnded, Standing, Told, Refused}
 use Rattle.cluster_turns.specs.declared.shards.Shards.{Shards}
 use Rattle.cluster_turns.specs.declared.shards.Walker.{Walker}
@@ -56,9 +56,10 @@ module _ {M S G : Type 0} (sh : Shards M S G) where
   op_stands v q true h = ended_are_retriable M S G sh v q h
   op_stands v q false h = h
 
-  pub point_session : (w v : Walker M S G) (p q : SessionState) (op : Op) (key : ℕ) (r : Result (Option ValueType) Failure) → IsSession sh w (Active p) → IsSameWalker w v → PointTold sh w p op key r v q → StandsUnless (has_died r) sh v q
-      → IsSession sh v (after_op q (has_died r))
-  point_session w v p q op key r h same told stands =
+  pub point_session :
+      {A : Type 0} (tells : Result Answer Failure → Result A Failure) (w v : Walker M S G) (p q : SessionState) (op : Op) (key : ℕ) (r : Result A Failure) → IsSession sh w (Active p) → IsSameWalker w v → PointTold tells sh w p op key r v q
+      → StandsUnless (has_died r) sh v q → IsSession sh v (after_op q (has_died r))
+  point_session tells w v p q op key r h same told stands =
       let b = h.stands.born in
       let t = told.turns b.birth b.is in
       record { stands = op_stands v q (has_died r) stands; landed = landed_after w v _ same t.took h.landed }

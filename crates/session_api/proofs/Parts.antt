@@ -7,7 +7,7 @@ use native.Mathlib.Decide.{ℕ_discrete}
 use Rattle.clv_base.specs.declared.names.TxId.{TxId}
 use Rattle.clv_base.specs.declared.names.Birth.{Birth}
 use Rattle.clv_base.specs.declared.ops.Op.{Op}
-use Rattle.clv_base.specs.declared.ops.Op.TheVariants.{Get, Put, Del, Scan}
+use Rattle.clv_base.specs.declared.ops.Op.TheVariants.{Scan, Add}
 use Rattle.clv_base.specs.Shards.{shard_of, shard_count, span, lies_within, are_splits}
 use Rattle.clv_base.proofs.Spans.{span_keys}
 use Rattle.script_runs.specs.Operations.{scan_within, part_at, scan_parts, parts_of, no_part, IsBegun}
@@ -46,10 +46,19 @@ scan_has_part splits lo hi rise falls small =
     let m = meets_first splits lo hi rise falls small in
     some_part splits lo hi (shard_of splits lo) 0 (shard_count splits) m.0 m.1 (omega arith) (let l = is_shard splits lo in omega arith)
 
-pub point_has_part : (splits : List ℕ) (key : ℕ) (op : Op) → IsAt key op → HasPart (parts_of splits op)
-point_has_part splits key _ gets = ((shard_of splits key, Get key), [], refl)
-point_has_part splits key _ (puts value) = ((shard_of splits key, Put key value), [], refl)
-point_has_part splits key _ dels = ((shard_of splits key, Del key), [], refl)
+-- an operation at this key, whatever it answers
+pub data HasKey (key : ℕ) : Op → Type 0 where
+  of_value : {op : Op} → IsAt key op → HasKey key op
+  adds : (by : ℕ) → HasKey key (Add key by)
+
+pub at_part : (splits : List ℕ) (key : ℕ) (op : Op) → HasKey key op → parts_of splits op ≡ (shard_of splits key, op) ∷ []
+at_part splits key _ (of_value gets) = refl
+at_part splits key _ (of_value (puts value)) = refl
+at_part splits key _ (of_value dels) = refl
+at_part splits key _ (adds by) = refl
+
+pub point_has_part : (splits : List ℕ) (key : ℕ) (op : Op) → HasKey key op → HasPart (parts_of splits op)
+point_has_part splits key op is = ((shard_of splits key, op), [], at_part splits key op is)
 
 -- nothing of it was done so far
 pub begun_with_none : (splits : List ℕ) (tx : TxId) (birth : Birth) (nth : ℕ) (op : Op) → HasPart (parts_of splits op) → IsBegun splits tx birth nth op []

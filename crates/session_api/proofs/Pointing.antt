@@ -1,6 +1,6 @@
 -- The entries of an operation at a key.
 use Rattle.std.proofs.Common.{◌≡◌, ◌∙◌, refl, sym, ap, subst, ℕ, suc, ◌+◌, Bool, true, false, cond, ◌||◌, ◌==◌, List, [], ◌∷◌, ◌++◌, append-nil, length, Option, Some, None, Result, Ok, Err, inl, inr, arith, eqb-true, eq-eqb}
-use Rattle.std.specs.Prelude.{◌⊎◌, is_some, not, IfOk}
+use Rattle.std.specs.Prelude.{◌⊎◌, ⊤, is_some, not, IfOk}
 use Rattle.std.specs.List.{AllByRecursion}
 use Rattle.std.specs.Map.{lookup}
 use Rattle.std.specs.BTreeMap.{insert_entry}
@@ -9,13 +9,13 @@ use Rattle.clv_base.proofs.SameNames.{nat_cmp_true}
 use Rattle.std.specs.declared.cmp.Ordering.{Ordering}
 use Rattle.std.specs.declared.cmp.Ordering.TheVariants.{Less, Equal, Greater}
 use Rattle.std.proofs.lemmas.Bool.{both_ways, and_parts}
-use Rattle.clv_base.specs.declared.values.Value.{Value as ValueType}
 use Rattle.clv_base.specs.declared.names.TxId.{TxId}
 use Rattle.clv_base.specs.declared.names.Birth.{Birth}
 use Rattle.clv_base.specs.declared.names.Point.{Point}
 use Rattle.clv_base.specs.declared.ops.Op.{Op as Operation}
+use Rattle.clv_base.specs.declared.ops.Op.TheVariants.{Add}
 use Rattle.clv_base.specs.declared.ops.Answer.{Answer}
-use Rattle.clv_base.specs.declared.ops.Answer.TheVariants.{Value, Pairs}
+use Rattle.clv_base.specs.declared.ops.Answer.TheVariants.{Value, Pairs, Added}
 use Rattle.clv_base.specs.declared.events.Event.{Event}
 use Rattle.clv_base.specs.declared.events.Event.TheVariants.{Op, Drop}
 use Rattle.clv_base.specs.declared.events.Outcome.{Outcome}
@@ -36,13 +36,16 @@ use Rattle.session_ops.specs.declared.operating.OpError.TheVariants as op
 use Rattle.session_ops.specs.Standing.{IsActive}
 use Rattle.session_ops.specs.Operated.{PlacedBy, answered_in}
 use Rattle.session_ops.specs.Dropped.{Drops, is_excepted}
-use Rattle.session_ops.specs.Parts.{has_died, value_in, LeftBy, Performing, StandsUnless}
-use Rattle.script_runs.specs.Operations.{IsBegun, IsPart, ArePartsAnswered, parts_of, answer_of, first_answer, no_part, part}
+use Rattle.session_ops.specs.Parts.{has_died, value_in, added_in, LeftBy, Performing, PointTold, StandsUnless}
+use Rattle.session_ops.proofs.Laws.{value_died, added_died}
+use Rattle.script_runs.specs.declared.ends.TryEnd.{TryEnd}
+use Rattle.script_runs.specs.Operations.{IsBegun, IsPart, ArePartsAnswered, answer_of, first_answer, no_part, part}
 use Rattle.script_runs.specs.Tries.{is_touched}
 use Rattle.script_runs.specs.Seen.{Standing, Idle, Active, Grows}
 use Rattle.script_runs.specs.Told.{IsDropOf, AreDropsOf, TouchesBy, TouchesJust, OperateTold}
-use Rattle.session_api.specs.Seeing.{seen_as, touched_in, is_active, unless_dead, value_end}
-use Rattle.session_api.specs.ToldLaws.{IsAt, gets, puts, dels, PointsTell}
+use Rattle.session_api.specs.Seeing.{seen_as, touched_in, is_active, unless_dead, op_end, value_end, added_end}
+use Rattle.session_api.specs.ToldLaws.{IsAt, gets, puts, dels, PointsTell, AddsTell}
+use Rattle.session_api.proofs.Parts.{HasKey, of_value, adds, at_part}
 use Rattle.session_api.proofs.Following.{IsPlain, are_plain, all_before, all_behind, made_in, made_in_more, made_of, between, turns_lead}
 use Rattle.session_api.proofs.ToldOperating.{IsLastOn, EntriesBy, GoesUnless, entries_by}
 use Rattle.session_api.proofs.Stamping.{made_stamped}
@@ -255,30 +258,69 @@ module _ {M S G : Type 0} (sh : Shards M S G) (w v : Walker M S G) where
 
 -- ---- at a key
 
-at_part : (splits : List ℕ) (key : ℕ) (o : Operation) → IsAt key o → parts_of splits o ≡ (shard_of splits key, o) ∷ []
-at_part splits key _ gets = refl
-at_part splits key _ (puts value) = refl
-at_part splits key _ dels = refl
+at_answer : (key : ℕ) (o : Operation) (answers : List Answer) → HasKey key o → answer_of o answers ≡ first_answer answers
+at_answer key _ answers (of_value gets) = refl
+at_answer key _ answers (of_value (puts value)) = refl
+at_answer key _ answers (of_value dels) = refl
+at_answer key _ answers (adds by) = refl
 
-at_answer : (key : ℕ) (o : Operation) (answers : List Answer) → IsAt key o → answer_of o answers ≡ first_answer answers
-at_answer key _ answers gets = refl
-at_answer key _ answers (puts value) = refl
-at_answer key _ answers dels = refl
+at_last : (splits : List ℕ) (key : ℕ) (o : Operation) → HasKey key o → (n : ℕ) → lies_in splits n o ≡ true → IsLastOn splits n o
+at_last splits key _ (of_value gets) n l m k = refl
+at_last splits key _ (of_value (puts value)) n l m k = refl
+at_last splits key _ (of_value dels) n l m k = refl
+at_last splits key _ (adds by) n l m k = refl
 
-at_last : (splits : List ℕ) (key : ℕ) (o : Operation) → IsAt key o → (n : ℕ) → lies_in splits n o ≡ true → IsLastOn splits n o
-at_last splits key _ gets n l m k = refl
-at_last splits key _ (puts value) n l m k = refl
-at_last splits key _ dels n l m k = refl
+-- a whole answer, as a try takes it
+abbrev pub whole_end : Result Answer OpError → Result Answer TryEnd
+whole_end (Ok answer) = Ok answer
+whole_end (Err e) = Err (op_end e)
 
-no_pairs : {X : Type 0} (key : ℕ) (o : Operation) (pairs : List (ℕ × ValueType)) → IsAt key o → may_answer o (Pairs pairs) ≡ true → X
-no_pairs key _ pairs gets h = absurd (both_ways false refl h)
-no_pairs key _ pairs (puts value) h = absurd (both_ways false refl h)
-no_pairs key _ pairs dels h = absurd (both_ways false refl h)
+-- an answer is one that the operation may have
+abbrev pub MayHave : Operation → Result Answer OpError → Type 0
+MayHave o (Ok answer) = may_answer o answer ≡ true
+MayHave o (Err e) = ⊤
 
-module _ {M S G : Type 0} (sh : Shards M S G) (w v : Walker M S G) (asked : Point) (p q : SessionState) (birth : Birth) (key : ℕ) (o : Operation) (is_at : IsAt key o) (has : p.birth ≡ Some birth) (same : IsSameWalker w v) where
+may_have : (n nth : ℕ) (tx : TxId) (birth : Birth) (seen : Option ℕ) (o : Operation) (r : Result Answer OpError) (es : History) → EntriesBy n (Op tx birth nth seen o) r es → MayHave o r
+may_have n nth tx birth seen o (Ok answer) es (x, epoch, is, event, outcome, fits) = fits
+may_have n nth tx birth seen o (Err e) es h = tt
+
+-- what is told of an operation's answer, and what a try takes of that, come to the answer
+pub record Takes {A : Type 0} (key : ℕ) (o : Operation) (tells : Result Answer OpError → Result A OpError) (ends : Result A OpError → Result Answer TryEnd) : Type 0 where
+  pub at : HasKey key o
+  pub died : (r : Result Answer OpError) → has_died (tells r) ≡ has_died r
+  pub whole : (r : Result Answer OpError) → MayHave o r → ends (tells r) ≡ whole_end r
+  pub fails : (e : OpError) → ends (Err e) ≡ Err (op_end e)
+
+value_whole : (key : ℕ) (o : Operation) → IsAt key o → (r : Result Answer OpError) → MayHave o r → value_end (value_in r) ≡ whole_end r
+value_whole key o is (Ok (Value value)) h = refl
+value_whole key _ gets (Ok (Pairs pairs)) h = absurd (both_ways false refl h)
+value_whole key _ (puts value) (Ok (Pairs pairs)) h = absurd (both_ways false refl h)
+value_whole key _ dels (Ok (Pairs pairs)) h = absurd (both_ways false refl h)
+value_whole key _ gets (Ok (Added found)) h = absurd (both_ways false refl h)
+value_whole key _ (puts value) (Ok (Added found)) h = absurd (both_ways false refl h)
+value_whole key _ dels (Ok (Added found)) h = absurd (both_ways false refl h)
+value_whole key o is (Err e) h = refl
+
+added_whole : (key by : ℕ) (r : Result Answer OpError) → MayHave (Add key by) r → added_end (added_in r) ≡ whole_end r
+added_whole key by (Ok (Value value)) h = absurd (both_ways false refl h)
+added_whole key by (Ok (Pairs pairs)) h = absurd (both_ways false refl h)
+added_whole key by (Ok (Added found)) h = refl
+added_whole key by (Err e) h = refl
+
+pub takes_value : (key : ℕ) (o : Operation) → IsAt key o → Takes key o value_in value_end
+takes_value key o is = record { at = of_value is; died = value_died; whole = value_whole key o is; fails = λ e. refl }
+
+pub takes_added : (key by : ℕ) → Takes key (Add key by) added_in added_end
+takes_added key by = record { at = adds by; died = added_died; whole = added_whole key by; fails = λ e. refl }
+
+module _ {M S G : Type 0} (sh : Shards M S G) (w v : Walker M S G) (p : SessionState) (birth : Birth) (key : ℕ) (o : Operation) where
   abbrev Performs : Result Answer OpError → Type 0
   Performs r = Performing (length sh.locks.items) w.number w.clock w.passes.items (shard_of sh.splits key) p (Op p.tx birth (p.nth + 1) (lookup (◌==◌ (shard_of sh.splits key)) p.touched) o) r v.clock v.passes.items
 
+  abbrev Entered : (r : Result Answer OpError) → Performs r → Type 0
+  Entered r h = EntriesBy (shard_of sh.splits key) (Op p.tx birth (p.nth + 1) (lookup (◌==◌ (shard_of sh.splits key)) p.touched) o) r (made_in h.asking)
+
+module _ {M S G : Type 0} (sh : Shards M S G) (w v : Walker M S G) (asked : Point) (p q : SessionState) (birth : Birth) (key : ℕ) (o : Operation) (is_at : HasKey key o) (has : p.birth ≡ Some birth) (same : IsSameWalker w v) where
   next : p.nth + 1 ≡ suc p.nth
   next = omega arith
 
@@ -293,25 +335,23 @@ module _ {M S G : Type 0} (sh : Shards M S G) (w v : Walker M S G) (asked : Poin
   begun : IsBegun sh.splits p.tx birth (suc p.nth) o []
   begun = record { done = []; next = (shard_of sh.splits key, o); left = []; parts = at_part sh.splits key o is_at; answers = []; answered = no_part }
 
-  point : (r : Result Answer OpError) (h : Performs r) → PlacedBy (shard_of sh.splits key) (p.nth + 1) o p (answered_in r) q
-      → EntriesBy (shard_of sh.splits key) (Op p.tx birth (p.nth + 1) (lookup (◌==◌ (shard_of sh.splits key)) p.touched) o) r (made_in h.asking)
-      → OperateTold p.tx birth p.nth (touched_in p.touched) o (value_end (value_in r)) (seen_as sh w asked (is_active p birth)) (seen_as sh v asked (unless_dead q birth (has_died (value_in r))))
-  point (Ok (Value value)) h (epoch', place) (x, epoch, is, event, outcome, fits) = (
+  point : (r : Result Answer OpError) (h : Performs sh w v p birth key o r) → PlacedBy (shard_of sh.splits key) (p.nth + 1) o p (answered_in r) q → Entered sh w v p birth key o r h
+      → OperateTold p.tx birth p.nth (touched_in p.touched) o (whole_end r) (seen_as sh w asked (is_active p birth)) (seen_as sh v asked (unless_dead q birth (has_died r)))
+  point (Ok answer) h (epoch', place) (x, epoch, is, event, outcome, fits) = (
     (shard_of sh.splits key, x) ∷ [],
     touched_in q.touched,
     record {
-      answers = Value value ∷ [];
+      answers = answer ∷ [];
       parts =
-          subst (λ ps. ArePartsAnswered p.tx birth (suc p.nth) ps (Value value ∷ []) ((shard_of sh.splits key, x) ∷ [])) (sym (at_part sh.splits key o is_at))
-          (part (shard_of sh.splits key, o) (Value value) epoch (shard_of sh.splits key, x) [] [] [] (as_part x (Answered (Value value) epoch) event outcome) no_part);
-      whole = sym (at_answer key o (Value value ∷ []) is_at);
+          subst (λ ps. ArePartsAnswered p.tx birth (suc p.nth) ps (answer ∷ []) ((shard_of sh.splits key, x) ∷ [])) (sym (at_part sh.splits key o is_at))
+          (part (shard_of sh.splits key, o) answer epoch (shard_of sh.splits key, x) [] [] [] (as_part x (Answered answer epoch) event outcome) no_part);
+      whole = sym (at_answer key o (answer ∷ []) is_at);
     },
     touches_just_one (shard_of sh.splits key) epoch' p.touched q.touched x (ap (λ z. z.touched) place),
     grows_by sh w v asked asked (is_active p birth) (is_active q birth) (h.asking ++ h.leaving) ((shard_of sh.splits key, x) ∷ []) same h.took
-        (made_asking sh w v (length sh.locks.items) (shard_of sh.splits key) p (Op p.tx birth (p.nth + 1) (lookup (◌==◌ (shard_of sh.splits key)) p.touched) o) (Ok (Value value)) h refl ∙ is),
+        (made_asking sh w v (length sh.locks.items) (shard_of sh.splits key) p (Op p.tx birth (p.nth + 1) (lookup (◌==◌ (shard_of sh.splits key)) p.touched) o) (Ok answer) h refl ∙ is),
     ap (λ t. Active t birth q.nth (touched_in q.touched)) (ap (λ z. z.tx) place) ∙ ap (λ k. Active p.tx birth k (touched_in q.touched)) (ap (λ z. z.nth) place ∙ next),
   )
-  point (Ok (Pairs pairs)) h place (x, epoch, is, event, outcome, fits) = no_pairs key o pairs is_at fits
   point (Err (op.Aborted cause)) h place (x, is, event, outcome) = (
     (shard_of sh.splits key, x) ∷ [],
     made_in h.leaving,
@@ -363,18 +403,27 @@ module _ {M S G : Type 0} (sh : Shards M S G) (w v : Walker M S G) (asked : Poin
     (p.nth, ap (λ z. is_active z birth) place),
   )
 
-died_same : (r : Result Answer OpError) → has_died (value_in r) ≡ has_died r
-died_same (Ok (Value value)) = refl
-died_same (Ok (Pairs pairs)) = refl
-died_same (Err (op.Aborted cause)) = refl
-died_same (Err (op.Down m)) = refl
-died_same (Err (op.Worn at)) = refl
-died_same (Err op.Memory) = refl
+-- ---- as it is told
+
+module _ {M S G A : Type 0} (tells : Result Answer OpError → Result A OpError) (ends : Result A OpError → Result Answer TryEnd) (sh : Shards M S G) (w v : Walker M S G) (p q : SessionState) (birth : Birth) (key : ℕ) (o : Operation) (r : Result A OpError)
+    (takes : Takes key o tells ends) (active : IsActive sh w p) (has : p.birth ≡ Some birth) (same : IsSameWalker w v) (told : PointTold tells sh w p o key r v q) (stands : StandsUnless (has_died r) sh v q) where
+  entered : Entered sh w v p birth key o told.answer (told.turns birth has)
+  entered =
+      asked_entries sh w v (shard_of sh.splits key) (p.nth + 1) birth o p q told.answer active has same.0 (at_last sh.splits key o takes.at) (told.turns birth has) told.place
+      (subst (λ b. StandsUnless b sh v q) (ap has_died told.is ∙ takes.died told.answer) stands)
+
+  -- the try takes the whole answer
+  pub takes_whole : ends r ≡ whole_end told.answer
+  takes_whole = ap ends told.is ∙ takes.whole told.answer (may_have (shard_of sh.splits key) (p.nth + 1) p.tx birth (lookup (◌==◌ (shard_of sh.splits key)) p.touched) o told.answer (made_in (told.turns birth has).asking) entered)
+
+  pub point_told : (asked : Point) → OperateTold p.tx birth p.nth (touched_in p.touched) o (ends r) (seen_as sh w asked (is_active p birth)) (seen_as sh v asked (unless_dead q birth (has_died r)))
+  point_told asked =
+      subst (λ z. OperateTold p.tx birth p.nth (touched_in p.touched) o z (seen_as sh w asked (is_active p birth)) (seen_as sh v asked (unless_dead q birth (has_died r)))) (sym takes_whole)
+      (subst (λ b. OperateTold p.tx birth p.nth (touched_in p.touched) o (whole_end told.answer) (seen_as sh w asked (is_active p birth)) (seen_as sh v asked (unless_dead q birth b))) (sym (ap has_died told.is ∙ takes.died told.answer))
+      (point sh w v asked p q birth key o takes.at has same told.answer (told.turns birth has) told.place entered))
 
 pub points_tell : (M S G : Type 0) → PointsTell M S G
-points_tell M S G sh w v asked p q birth key o r is_at active has same told stands =
-    let h = told.turns birth has in
-    let ends = subst (λ b. StandsUnless b sh v q) (ap has_died told.is ∙ died_same told.answer) stands in
-    subst (λ z. OperateTold p.tx birth p.nth (touched_in p.touched) o (value_end z) (seen_as sh w asked (is_active p birth)) (seen_as sh v asked (unless_dead q birth (has_died z)))) (sym told.is)
-    (point sh w v asked p q birth key o is_at has same told.answer h told.place
-    (asked_entries sh w v (shard_of sh.splits key) (p.nth + 1) birth o p q told.answer active has same.0 (at_last sh.splits key o is_at) h told.place ends))
+points_tell M S G sh w v asked p q birth key o r is_at active has same told stands = point_told value_in value_end sh w v p q birth key o r (takes_value key o is_at) active has same told stands asked
+
+pub adds_tell : (M S G : Type 0) → AddsTell M S G
+adds_tell M S G sh w v asked p q birth key by r active has same told stands = point_told added_in added_end sh w v p q birth key (Add key by) r (takes_added key by) active has same told stands asked

@@ -11,7 +11,7 @@ use Rattle.clv_base.specs.declared.names.Point.{Point}
 use Rattle.clv_base.specs.declared.ops.Op.{Op as Operation}
 use Rattle.clv_base.specs.declared.ops.Op.TheVariants.{Scan}
 use Rattle.clv_base.specs.declared.ops.Answer.{Answer}
-use Rattle.clv_base.specs.declared.ops.Answer.TheVariants.{Value, Pairs}
+use Rattle.clv_base.specs.declared.ops.Answer.TheVariants.{Value, Pairs, Added}
 use Rattle.clv_base.specs.declared.events.Event.TheVariants.{Op}
 use Rattle.clv_base.specs.declared.events.Outcome.{Outcome}
 use Rattle.clv_base.specs.declared.events.Outcome.TheVariants.{Answered, Dead}
@@ -106,6 +106,7 @@ pairs_are : (answers : List Answer) → all_pairs answers ≡ pairs_of answers
 pairs_are [] = refl
 pairs_are (Value v ∷ answers) = pairs_are answers
 pairs_are (Pairs ps ∷ answers) = ap (λ l. ps ++ l) (pairs_are answers)
+pairs_are (Added found ∷ answers) = pairs_are answers
 
 -- ---- a range meets a shard, and each of its parts no other
 

@@ -8,7 +8,6 @@ use Rattle.clv_base.specs.declared.names.Point.{Point}
 use Rattle.clv_base.specs.declared.ops.Op.{Op}
 use Rattle.clv_base.specs.declared.ops.Op.TheVariants.{Scan}
 use Rattle.clv_base.specs.declared.ops.Answer.{Answer}
-use Rattle.clv_base.specs.declared.ops.Answer.TheVariants.{Value, Pairs}
 use Rattle.clv_base.specs.declared.events.Event.{Event}
 use Rattle.clv_base.specs.Sessions.{SessionState}
 use Rattle.cluster_turns.specs.declared.shards.Shards.{Shards}
@@ -18,7 +17,7 @@ use Rattle.cluster_turns.proofs.Laws.{worn_is_last}
 use Rattle.session_ops.specs.declared.operating.OpError.{OpError as Failure}
 use Rattle.session_ops.specs.declared.operating.OpError.TheVariants as failed
 use Rattle.session_ops.specs.Operated.{PlacedBy, answered_in}
-use Rattle.session_ops.specs.Parts.{has_died, Performing, value_in}
+use Rattle.session_ops.specs.Parts.{has_died, Performing}
 use Rattle.session_ops.specs.Scanned.{Range, Scanning}
 use Rattle.script_runs.specs.declared.ends.TryEnd.{TryEnd}
 use Rattle.script_runs.specs.declared.ends.TryEnd.TheVariants.{Stopped}
@@ -32,9 +31,8 @@ use Rattle.session_api.specs.declared.progress.Progress.TheVariants as progress
 use Rattle.session_api.specs.declared.operating.OpError.{OpError}
 use Rattle.session_api.specs.Progresses.{active_tx, answer_told, after_op}
 use Rattle.session_api.specs.Sessions.{IsSession, PointMade, PointCalled, ScanMade, RangeCalled, RangeBeside, ScanCalled}
-use Rattle.session_api.specs.Seeing.{seen_as, touched_in, is_active, unless_dead, value_end, pairs_end}
-use Rattle.session_api.specs.ToldLaws.{IsAt}
-use Rattle.session_api.proofs.Pointing.{points_tell, touches_just_none}
+use Rattle.session_api.specs.Seeing.{seen_as, touched_in, is_active, unless_dead, pairs_end}
+use Rattle.session_api.proofs.Pointing.{Takes, whole_end, takes_whole, point_told, touches_just_none}
 use Rattle.session_api.proofs.Scanning.{scans_tell}
 use Rattle.session_api.specs.Standing.{Holds, active_as, standing_of, seen_in}
 use Rattle.session_api.specs.Grounds.{Grounds}
@@ -94,43 +92,46 @@ module _ {M S G : Type 0} (sh : Shards M S G) (last : Point) where
 
   -- ---- at a key
 
-  abbrev pub PointDone : Walker M S G → Progress → Op → Result (Option ValueType) OpError → Walker M S G → Progress → Type 0
-  PointDone w s op r v t = (e : Result (Option ValueType) Failure) × (r ≡ answer_told e) × Done w s op (value_end e) sh v t
+  abbrev pub PointDone : {A : Type 0} → (Result A Failure → Result Answer TryEnd) → Walker M S G → Progress → Op → Result A OpError → Walker M S G → Progress → Type 0
+  PointDone {A} ends w s op r v t = (e : Result A Failure) × (r ≡ answer_told e) × Done w s op (ends e) sh v t
 
   point_grounds : (w v : Walker M S G) (n : ℕ) (p : SessionState) (e : Event) (answer : Result Answer Failure) → Performing (length sh.locks.items) w.number w.clock w.passes.items n p e answer v.clock v.passes.items
-      → OnRefusal (Grounds v) (value_end (value_in answer))
-  point_grounds w v n p e (Ok (Value value)) k = tt
-  point_grounds w v n p e (Ok (Pairs pairs)) k = tt
+      → OnRefusal (Grounds v) (whole_end answer)
+  point_grounds w v n p e (Ok answer) k = tt
   point_grounds w v n p e (Err (failed.Aborted cause)) k = tt
   point_grounds w v n p e (Err (failed.Down m)) k = found_down m w.number w.clock v.clock w.passes.items v.passes.items _ k.took (any_before (FindsDown m) k.asking k.leaving (k.told).0)
   point_grounds w v n p e (Err (failed.Worn at)) k = worn_is_last at w.number w.clock v.clock w.passes.items v.passes.items _ k.took (any_before (FindsWorn at) k.asking k.leaving k.told)
   point_grounds w v n p e (Err failed.Memory) k = tt
 
-  point_made : (w v : Walker M S G) (p : SessionState) (t : Progress) (key : ℕ) (op : Op) (r : Result (Option ValueType) OpError) → Holds sh w (progress.Active p) → IsSession sh v t → IsAt key op → PointMade sh w p op key r v t
-      → PointDone w (progress.Active p) op r v t
-  point_made w v p t key op r h session is_at m =
-      let b = ((h.session).stands).born in
-      let k = (m.told).turns b.birth b.is in (
-        m.answer,
-        m.is,
-        record {
-          holds = held_after sh w v (progress.Active p) t _ h session m.walker k.took;
-          told = λ tx birth nth touched st. (
-              let of = read_active p p.birth tx birth nth touched st in
-              told_so w v (progress.Active p) t p (is_active p birth) (unless_dead m.place birth (has_died m.answer)) op (value_end m.answer) tx birth nth touched of (ap (active_as p) of.birth_is)
-              (ap standing_of m.then ∙ stands_after m.place birth (placed_birth _ _ op p m.place (m.told).answer (m.told).place ∙ of.birth_is) (has_died m.answer))
-              (points_tell M S G sh w v last p m.place birth key op m.answer is_at (h.session).stands of.birth_is m.walker m.told m.stands)
-              );
-          grounds = subst (λ x. OnRefusal (Grounds v) (value_end x)) (sym (m.told).is) (point_grounds w v _ p _ (m.told).answer k);
-        },
-      )
+  module _ {A : Type 0} (tells : Result Answer Failure → Result A Failure) (ends : Result A Failure → Result Answer TryEnd) (key : ℕ) (op : Op) (takes : Takes key op tells ends) where
+    point_made : (w v : Walker M S G) (p : SessionState) (t : Progress) (r : Result A OpError) → Holds sh w (progress.Active p) → IsSession sh v t → PointMade tells sh w p op key r v t → PointDone ends w (progress.Active p) op r v t
+    point_made w v p t r h session m =
+        let b = ((h.session).stands).born in
+        let k = (m.told).turns b.birth b.is in (
+          m.answer,
+          m.is,
+          record {
+            holds = held_after sh w v (progress.Active p) t _ h session m.walker k.took;
+            told = λ tx birth nth touched st. (
+                let of = read_active p p.birth tx birth nth touched st in
+                told_so w v (progress.Active p) t p (is_active p birth) (unless_dead m.place birth (has_died m.answer)) op (ends m.answer) tx birth nth touched of (ap (active_as p) of.birth_is)
+                (ap standing_of m.then ∙ stands_after m.place birth (placed_birth _ _ op p m.place (m.told).answer (m.told).place ∙ of.birth_is) (has_died m.answer))
+                (point_told tells ends sh w v p m.place birth key op m.answer takes (h.session).stands of.birth_is m.walker m.told m.stands last)
+                );
+            grounds = subst (λ x. OnRefusal (Grounds v) x) (sym (takes_whole tells ends sh w v p m.place b.birth key op m.answer takes (h.session).stands b.is m.walker m.told m.stands)) (point_grounds w v _ p _ (m.told).answer k);
+          },
+        )
 
-  pub point_done : (w v : Walker M S G) (s t : Progress) (key : ℕ) (op : Op) (r : Result (Option ValueType) OpError) → Holds sh w s → IsUnderWay s → IsAt key op → PointCalled sh w s op key r v t → IsSession sh v t → PointDone w s op r v t
-  point_done w v progress.Idle t key op r h way is_at c session = idle_active None way.0 way.1 way.2 way.3 way.4
-  point_done w v (progress.Active p) t key op r h way is_at c session = point_made w v p t key op r h session is_at c
-  point_done w v (progress.Worn p) t key op r h way is_at c session = (Err (failed.Worn (2 ^ 48)), c.0, worn_done w v p t op h session (point_has_part sh.splits key op is_at) c.1 c.2)
-  point_done w v (progress.Asked p home stamp) t key op r h way is_at c session = asked_active way.0 way.1 way.2 way.3 way.4
-  point_done w v (progress.Ended p) t key op r h way is_at c session = idle_active p.birth way.0 way.1 way.2 way.3 way.4
+    pub point_done : (w v : Walker M S G) (s t : Progress) (r : Result A OpError) → Holds sh w s → IsUnderWay s → PointCalled tells sh w s op key r v t → IsSession sh v t → PointDone ends w s op r v t
+    point_done w v progress.Idle t r h way c session = idle_active None way.0 way.1 way.2 way.3 way.4
+    point_done w v (progress.Active p) t r h way c session = point_made w v p t r h session c
+    point_done w v (progress.Worn p) t r h way c session = (
+      Err (failed.Worn (2 ^ 48)),
+      c.0,
+      subst (λ x. Done w (progress.Worn p) op x sh v t) (sym (takes.fails (failed.Worn (2 ^ 48)))) (worn_done w v p t op h session (point_has_part sh.splits key op takes.at) c.1 c.2),
+    )
+    point_done w v (progress.Asked p home stamp) t r h way c session = asked_active way.0 way.1 way.2 way.3 way.4
+    point_done w v (progress.Ended p) t r h way c session = idle_active p.birth way.0 way.1 way.2 way.3 way.4
 
   -- ---- scans
 
@@ -186,15 +187,15 @@ module _ {M S G : Type 0} (sh : Shards M S G) (last : Point) where
   -- ---- the calls, as the session makes them
 
   -- each answer is one of an operation that was made
-  pub point_answers : (after : Shards M S G) (w v : Walker M S G) (s t : Progress) (key : ℕ) (op : Op) (r : Result (Option ValueType) OpError) → after ≡ sh → Holds sh w s → IsUnderWay s → IsAt key op → PointCalled sh w s op key r v t → IsSession after v t
-      → (e : Result (Option ValueType) Failure) × (r ≡ answer_told e)
-  point_answers after w v s t key op r same h way is_at c session = let k = point_done w v s t key op r h way is_at c (subst (λ x. IsSession x v t) same session) in (k.0, k.1)
+  module _ {A : Type 0} (tells : Result Answer Failure → Result A Failure) (ends : Result A Failure → Result Answer TryEnd) (key : ℕ) (op : Op) (takes : Takes key op tells ends) where
+    pub point_answers : (after : Shards M S G) (w v : Walker M S G) (s t : Progress) (r : Result A OpError) → after ≡ sh → Holds sh w s → IsUnderWay s → PointCalled tells sh w s op key r v t → IsSession after v t → (e : Result A Failure) × (r ≡ answer_told e)
+    point_answers after w v s t r same h way c session = let k = point_done tells ends key op takes w v s t r h way c (subst (λ x. IsSession x v t) same session) in (k.0, k.1)
 
-  pub point_call : (after : Shards M S G) (w v : Walker M S G) (s t : Progress) (key : ℕ) (asked op : Op) (r : Result (Option ValueType) OpError) (result : Result Answer TryEnd) → after ≡ sh → asked ≡ op → Holds sh w s → IsUnderWay s → IsAt key op
-      → PointCalled sh w s op key r v t → IsSession after v t → ((e : Result (Option ValueType) Failure) → r ≡ answer_told e → result ≡ value_end e) → Done w s asked result after v t
-  point_call after w v s t key asked op r result same is h way is_at c session told =
-      let k = point_done w v s t key op r h way is_at c (subst (λ x. IsSession x v t) same session) in
-      subst (λ x. Done w s x result after v t) (sym is) (subst (λ x. Done w s op x after v t) (sym (told k.0 k.1)) (subst (λ x. Done w s op (value_end k.0) x v t) (sym same) k.2))
+    pub point_call : (after : Shards M S G) (w v : Walker M S G) (s t : Progress) (asked : Op) (r : Result A OpError) (result : Result Answer TryEnd) → after ≡ sh → asked ≡ op → Holds sh w s → IsUnderWay s → PointCalled tells sh w s op key r v t → IsSession after v t
+        → ((e : Result A Failure) → r ≡ answer_told e → result ≡ ends e) → Done w s asked result after v t
+    point_call after w v s t asked r result same is h way c session told =
+        let k = point_done tells ends key op takes w v s t r h way c (subst (λ x. IsSession x v t) same session) in
+        subst (λ x. Done w s x result after v t) (sym is) (subst (λ x. Done w s op x after v t) (sym (told k.0 k.1)) (subst (λ x. Done w s op (ends k.0) x v t) (sym same) k.2))
 
   -- of a scan up to hi, which is small
   scan_so : (after : Shards M S G) (w v : Walker M S G) (s t : Progress) (lo hi upto : ℕ) (asked : Op) (r : Result (List (ℕ × ValueType)) OpError) → after ≡ sh → asked ≡ Scan lo hi → upto ≡ hi → Holds sh w s → IsUnderWay s → has_range asked ≡ true → hi < 2 ^ 64

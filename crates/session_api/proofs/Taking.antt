@@ -22,7 +22,7 @@ use Rattle.session_api.specs.declared.progress.Progress.{Progress}
 use Rattle.session_api.specs.Sessions.{IsSession}
 use Rattle.session_api.specs.Standing.{Holds}
 use Rattle.script_runs.specs.Seen.{Keeps}
-use Rattle.session_api.specs.Grounds.{HasSeenDown, WasDown, Grounds, Leads, further, HasMissedBy, HasMissed}
+use Rattle.session_api.specs.Grounds.{HasSeenDown, WasDown, Grounds, further, HasMissedBy, HasMissed}
 
 -- ---- a shard that was seen down
 

@@ -1,6 +1,9 @@
 -- How a session's last transaction stands after an answer, and which calls that refuses.
 use Rattle.std.specs.Prelude.{ℕ, ◌^◌, Bool, true, false, Option, Some, None, Result, Ok, Err}
 use Rattle.clv_base.specs.declared.names.TxId.{TxId}
+use Rattle.clv_base.specs.declared.values.Value.{Value as ValueType}
+use Rattle.clv_base.specs.declared.ops.Answer.{Answer}
+use Rattle.clv_base.specs.declared.ops.Answer.TheVariants.{Value, Pairs, Added}
 use Rattle.clv_base.specs.declared.names.Point.{Point}
 use Rattle.clv_base.specs.Sessions.{SessionState, Phase, Touching, Ended as HasEnded, Standing, Told, Refused}
 use Rattle.cluster_turns.specs.declared.shards.WornClock.{WornClock}
@@ -52,6 +55,19 @@ failure_told failed.Memory = op.Memory
 abbrev pub answer_told : {A : Type 0} → Result A Failure → Result A OpError
 answer_told (Ok a) = Ok a
 answer_told (Err e) = Err (failure_told e)
+
+-- what is told of an answer at a key: the value before, or whether there was a number
+abbrev pub value_given : Result Answer OpError → Result (Option ValueType) OpError
+value_given (Ok (Value value)) = Ok value
+value_given (Ok (Pairs pairs)) = Ok None
+value_given (Ok (Added found)) = Ok None
+value_given (Err e) = Err e
+
+abbrev pub added_given : Result Answer OpError → Result Bool OpError
+added_given (Ok (Added found)) = Ok found
+added_given (Ok (Value value)) = Ok false
+added_given (Ok (Pairs pairs)) = Ok false
+added_given (Err e) = Err e
 
 -- without a transaction that may have operations
 abbrev pub refusal_of : Progress → OpError

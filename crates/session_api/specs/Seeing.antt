@@ -5,7 +5,7 @@ use Rattle.clv_base.specs.declared.values.Value.{Value as ValueType}
 use Rattle.clv_base.specs.declared.names.Birth.{Birth}
 use Rattle.clv_base.specs.declared.names.Point.{Point}
 use Rattle.clv_base.specs.declared.ops.Answer.{Answer}
-use Rattle.clv_base.specs.declared.ops.Answer.TheVariants.{Value, Pairs}
+use Rattle.clv_base.specs.declared.ops.Answer.TheVariants.{Value, Pairs, Added}
 use Rattle.clv_base.specs.Sessions.{SessionState, Phase, Touching, Ended, Standing as IsStanding, Told, Refused}
 use Rattle.cluster_turns.specs.declared.shards.Shards.{Shards}
 use Rattle.cluster_turns.specs.declared.shards.Walker.{Walker}
@@ -84,6 +84,10 @@ op_end op.Memory = Stopped Memory
 abbrev pub value_end : Result (Option ValueType) OpError → Result Answer TryEnd
 value_end (Ok value) = Ok (Value value)
 value_end (Err e) = Err (op_end e)
+
+abbrev pub added_end : Result Bool OpError → Result Answer TryEnd
+added_end (Ok found) = Ok (Added found)
+added_end (Err e) = Err (op_end e)
 
 abbrev pub pairs_end : Result (List (ℕ × ValueType)) OpError → Result Answer TryEnd
 pairs_end (Ok pairs) = Ok (Pairs pairs)

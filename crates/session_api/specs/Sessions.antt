@@ -5,6 +5,7 @@ use Rattle.clv_base.specs.declared.names.TxId.{TxId}
 use Rattle.clv_base.specs.declared.names.Birth.{Birth}
 use Rattle.clv_base.specs.declared.names.Point.{Point}
 use Rattle.clv_base.specs.declared.ops.Op.{Op}
+use Rattle.clv_base.specs.declared.ops.Answer.{Answer}
 use Rattle.clv_base.specs.Sessions.{SessionState}
 use Rattle.cluster_turns.specs.declared.shards.Shards.{Shards}
 use Rattle.cluster_turns.specs.declared.shards.Walker.{Walker}
@@ -101,21 +102,21 @@ module _ {M S G : Type 0} where
   OpRefused w s r v t = (r ≡ Err (refusal_of s)) × (v ≡ w) × (t ≡ s)
 
   -- one operation at a key, of the active transaction p: the walker keeps its number and its serial, and the place after it stands as it tells
-  pub record PointMade (sh : Shards M S G) (w : Walker M S G) (p : SessionState) (op : Op) (key : ℕ) (r : Result (Option ValueType) OpError) (v : Walker M S G) (t : Progress) : Type 0 where
-    pub answer : Result (Option ValueType) Failure
+  pub record PointMade {A : Type 0} (tells : Result Answer Failure → Result A Failure) (sh : Shards M S G) (w : Walker M S G) (p : SessionState) (op : Op) (key : ℕ) (r : Result A OpError) (v : Walker M S G) (t : Progress) : Type 0 where
+    pub answer : Result A Failure
     pub place : SessionState
-    pub told : PointTold sh w p op key answer v place
+    pub told : PointTold tells sh w p op key answer v place
     pub walker : IsSameWalker w v
     pub stands : StandsUnless (has_died answer) sh v place
     pub is : r ≡ answer_told answer
     pub then : t ≡ after_op place (has_died answer)
 
-  abbrev pub PointCalled : Shards M S G → Walker M S G → Progress → Op → ℕ → Result (Option ValueType) OpError → Walker M S G → Progress → Type 0
-  PointCalled sh w (Active p) op key r v t = PointMade sh w p op key r v t
-  PointCalled sh w Idle op key r v t = OpRefused w Idle r v t
-  PointCalled sh w (Worn p) op key r v t = OpRefused w (Worn p) r v t
-  PointCalled sh w (Asked p home stamp) op key r v t = OpRefused w (Asked p home stamp) r v t
-  PointCalled sh w (Ended p) op key r v t = OpRefused w (Ended p) r v t
+  abbrev pub PointCalled : {A : Type 0} → (Result Answer Failure → Result A Failure) → Shards M S G → Walker M S G → Progress → Op → ℕ → Result A OpError → Walker M S G → Progress → Type 0
+  PointCalled tells sh w (Active p) op key r v t = PointMade tells sh w p op key r v t
+  PointCalled tells sh w Idle op key r v t = OpRefused w Idle r v t
+  PointCalled tells sh w (Worn p) op key r v t = OpRefused w (Worn p) r v t
+  PointCalled tells sh w (Asked p home stamp) op key r v t = OpRefused w (Asked p home stamp) r v t
+  PointCalled tells sh w (Ended p) op key r v t = OpRefused w (Ended p) r v t
 
   -- a scan of the active transaction p
   pub record ScanMade (sh : Shards M S G) (w : Walker M S G) (p : SessionState) (lo hi : ℕ) (r : Result (List (ℕ × ValueType)) OpError) (v : Walker M S G) (t : Progress) : Type 0 where

@@ -1,12 +1,12 @@
 -- What the answers of a session's calls tell of its entries.
-use Rattle.std.specs.Prelude.{◌≡◌, ℕ, ◌+◌, ◌^◌, ◌<◌, ◌≤◌, IsTrue, List, length, Option, Some, None, Result}
+use Rattle.std.specs.Prelude.{◌≡◌, ℕ, ◌+◌, ◌^◌, ◌<◌, ◌≤◌, IsTrue, List, length, Option, Some, None, Result, Bool}
 use Rattle.clv_base.specs.declared.values.Value.{Value as ValueType}
 use Rattle.clv_base.specs.Shards.{are_splits}
 use Rattle.session_ops.specs.Stepped.{PartsTold}
 use Rattle.clv_base.specs.declared.names.Birth.{Birth}
 use Rattle.clv_base.specs.declared.names.Point.{Point}
 use Rattle.clv_base.specs.declared.ops.Op.{Op}
-use Rattle.clv_base.specs.declared.ops.Op.TheVariants.{Get, Put, Del, Scan}
+use Rattle.clv_base.specs.declared.ops.Op.TheVariants.{Get, Put, Del, Scan, Add}
 use Rattle.clv_base.specs.Sessions.{SessionState}
 use Rattle.cluster_turns.specs.declared.shards.Shards.{Shards}
 use Rattle.cluster_turns.specs.declared.shards.Walker.{Walker}
@@ -16,7 +16,7 @@ use Rattle.session_ops.specs.declared.operating.OpError.{OpError}
 use Rattle.session_ops.specs.Standing.{IsActive}
 use Rattle.session_ops.specs.Beginnings.{Begun}
 use Rattle.session_ops.specs.Retried.{Retried}
-use Rattle.session_ops.specs.Parts.{PointTold, StandsUnless, has_died}
+use Rattle.session_ops.specs.Parts.{PointTold, StandsUnless, has_died, value_in, added_in}
 use Rattle.session_ops.specs.Dropped.{Dropping}
 use Rattle.session_ops.specs.declared.committing.Settled.{Settled}
 use Rattle.session_ops.specs.declared.committing.CommitError.{CommitError}
@@ -25,7 +25,7 @@ use Rattle.session_ops.specs.Committed.{CommitTold as Commits}
 use Rattle.script_runs.specs.Seen.{Standing, Idle}
 use Rattle.script_runs.specs.Told.{Begins, OperateTold, CommitTold, AbortTold}
 use Rattle.session_api.specs.Grounds.{HasMissed}
-use Rattle.session_api.specs.Seeing.{seen_as, touched_in, is_active, unless_dead, after_commit, asked_after, after_abort, value_end, pairs_end, commit_end, abort_end}
+use Rattle.session_api.specs.Seeing.{seen_as, touched_in, is_active, unless_dead, after_commit, asked_after, after_abort, value_end, added_end, pairs_end, commit_end, abort_end}
 
 -- an operation at this key
 pub data IsAt (key : ℕ) : Op → Type 0 where
@@ -37,8 +37,15 @@ pub data IsAt (key : ℕ) : Op → Type 0 where
 abbrev pub PointsTell : (M S G : Type 0) → Type 0
 PointsTell M S G =
     (sh : Shards M S G) (w v : Walker M S G) (asked : Point) (p q : SessionState) (birth : Birth) (key : ℕ) (op : Op) (r : Result (Option ValueType) OpError) → IsAt key op → IsActive sh w p → p.birth ≡ Some birth → IsSameWalker w v
-    → PointTold sh w p op key r v q → StandsUnless (has_died r) sh v q
+    → PointTold value_in sh w p op key r v q → StandsUnless (has_died r) sh v q
     → OperateTold p.tx birth p.nth (touched_in p.touched) op (value_end r) (seen_as sh w asked (is_active p birth)) (seen_as sh v asked (unless_dead q birth (has_died r)))
+
+-- so is that of an addition
+abbrev pub AddsTell : (M S G : Type 0) → Type 0
+AddsTell M S G =
+    (sh : Shards M S G) (w v : Walker M S G) (asked : Point) (p q : SessionState) (birth : Birth) (key by : ℕ) (r : Result Bool OpError) → IsActive sh w p → p.birth ≡ Some birth → IsSameWalker w v
+    → PointTold added_in sh w p (Add key by) key r v q → StandsUnless (has_died r) sh v q
+    → OperateTold p.tx birth p.nth (touched_in p.touched) (Add key by) (added_end r) (seen_as sh w asked (is_active p birth)) (seen_as sh v asked (unless_dead q birth (has_died r)))
 
 -- a scan's entries are those of its parts, shards rising, up to one that wasn't answered; where it died of one, there are drops behind it
 abbrev pub ScansTell : (M S G : Type 0) → Type 0

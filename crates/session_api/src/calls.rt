@@ -3,7 +3,9 @@ ghost use Rattle.std.specs.Prelude.{◌≡◌, ◌<◌, ◌^◌};
 ghost use Rattle.session_api.specs.Standing.{Holds, seen_in};
 ghost use Rattle.session_api.specs.Grounds.{Grounds, HasMissed};
 
-use crate::ends::{aborted, begun, committed, last_asked, pairs_told, retried, value_told};
+use crate::ends::{
+    aborted, added_told, begun, committed, last_asked, pairs_told, retried, value_told,
+};
 use crate::script_session::ScriptSession;
 use crate::stages::{name_of, stage_of};
 use cluster_turns::Shards;
@@ -84,6 +86,7 @@ impl<'a, M: Flier, P: Pace, R: Wait> SessionCalls for ScriptSession<'a, M, P, R>
                 value_told(shards, walker, answer)
             }
             Op::Del(key) => value_told(shards, walker, self.session.del(alloc, *key)),
+            Op::Add(key, by) => added_told(shards, walker, self.session.add(alloc, *key, *by)),
             Op::Scan(lo, hi) => {
                 let answer = self.session.scan(alloc, *lo, bound(*hi));
                 pairs_told(shards, walker, answer)

@@ -1,5 +1,5 @@
 // What a session's answers are to a try.
-ghost use Rattle.std.specs.Prelude.{◌≡◌, ◌≢◌, ℕ, List, Option, Result, Err};
+ghost use Rattle.std.specs.Prelude.{◌≡◌, ◌≢◌, ℕ, Bool, List, Option, Result, Err};
 ghost use Rattle.clv_base.specs.declared.names.TxId.{TxId as TxIdIs};
 ghost use Rattle.clv_base.specs.declared.values.Value.{Value as ValueType};
 ghost use Rattle.cluster_turns.specs.declared.shards.WornClock.{WornClock};
@@ -7,7 +7,7 @@ ghost use Rattle.session_ops.specs.declared.operating.OpError.{OpError as Failur
 ghost use Rattle.session_ops.specs.declared.committing.Settled.{Settled as SettledIs};
 ghost use Rattle.session_ops.specs.declared.committing.CommitError.{CommitError as CommitFailure};
 ghost use Rattle.session_api.specs.Progresses.{failure_told, answer_told, commit_told, abort_told};
-ghost use Rattle.session_api.specs.Seeing.{asked_after, op_end, value_end, pairs_end, commit_end, abort_end};
+ghost use Rattle.session_api.specs.Seeing.{asked_after, op_end, value_end, added_end, pairs_end, commit_end, abort_end};
 ghost use Rattle.session_api.specs.Ends.{BeginEnds, RetryEnds};
 
 use crate::{AbortError, BeginError, CommitError, OpError, RetryError, Settled};
@@ -75,6 +75,21 @@ pub(crate) fn value_told<M: Machine>(
 {
     match answer {
         Ok(value) => Ok(Answer::Value(value)),
+        Err(error) => Err(failed(shards, walker, error)),
+    }
+}
+
+// An addition was made.
+pub(crate) fn added_told<M: Machine>(
+    shards: &Shards<M>,
+    walker: u32,
+    answer: Result<bool, OpError>,
+) -> Result<Answer, TryEnd>
+    requires made { (e : Result Bool Failure) × (answer ≡ answer_told e) }
+    ensures told { (e : Result Bool Failure) → answer ≡ answer_told e → result ≡ added_end e }
+{
+    match answer {
+        Ok(found) => Ok(Answer::Added(found)),
         Err(error) => Err(failed(shards, walker, error)),
     }
 }

@@ -1,11 +1,11 @@
 // Operations of the active transaction.
 ghost use Rattle.std.specs.Prelude.{◌≡◌};
-ghost use Rattle.clv_base.specs.declared.ops.Op.TheVariants.{Get, Put, Del};
+ghost use Rattle.clv_base.specs.declared.ops.Op.TheVariants.{Get, Put, Del, Add};
 ghost use Rattle.clv_base.specs.Sessions.{lies_in};
 ghost use Rattle.clv_base.specs.Shards.{in_span, shard_of};
-ghost use Rattle.session_ops.specs.Parts.{has_died};
+ghost use Rattle.session_ops.specs.Parts.{has_died, value_in, added_in, whole_in};
 ghost use Rattle.session_api.specs.declared.progress.Progress.TheVariants.{Active};
-ghost use Rattle.session_api.specs.Progresses.{refusal_of, failure_told, answer_told, after_op};
+ghost use Rattle.session_api.specs.Progresses.{refusal_of, failure_told, answer_told, value_given, added_given, after_op};
 ghost use Rattle.session_api.specs.Sessions.{IsSession, PointCalled, PointMade, ScanCalled, RangeCalled, ScanMade};
 
 use crate::progress::{Progress, after_operation};
@@ -13,7 +13,7 @@ use crate::session::Session;
 use cluster_turns::Place;
 use clv_base::causes::AbortCause;
 use clv_base::lists::Pairs;
-use clv_base::ops::Op;
+use clv_base::ops::{Answer, Op};
 use clv_base::values::Value;
 use io_model::{Pace, Step};
 use machine_calls::Flier;
@@ -70,6 +70,28 @@ fn is_dead<A>(answer: &Result<A, Failure>) -> bool
     }
 }
 
+// What an operation at a key tells: the value before, or whether there was a number.
+fn value_of(answer: Result<Answer, OpError>) -> Result<Option<Value>, OpError>
+    ensures { result ≡ value_given answer }
+{
+    match answer {
+        Ok(Answer::Value(value)) => Ok(value),
+        Ok(Answer::Pairs(_pairs)) => Ok(None),
+        Ok(Answer::Added(_found)) => Ok(None),
+        Err(error) => Err(error),
+    }
+}
+
+fn added_of(answer: Result<Answer, OpError>) -> Result<bool, OpError>
+    ensures { result ≡ added_given answer }
+{
+    match answer {
+        Ok(Answer::Added(found)) => Ok(found),
+        Ok(Answer::Value(_)) | Ok(Answer::Pairs(_)) => Ok(false),
+        Err(error) => Err(error),
+    }
+}
+
 // Only a dead transaction has ended.
 fn answered<A>(answer: Result<A, Failure>) -> Result<A, OpError>
     ensures { result ≡ answer_told answer }
@@ -97,12 +119,12 @@ impl<'a, M: Flier, P: Pace, R: Wait> Session<'a, M, P, R> {
         place: Place,
         key: u64,
         op: Op,
-    ) -> Result<Option<Value>, OpError>
+    ) -> Result<Answer, OpError>
         requires session { IsSession self.old.shards.now self.old.walker (Active place) }
         requires lies { lies_in self.old.shards.now.splits (shard_of self.old.shards.now.splits key) op ≡ in_span self.old.shards.now.splits (shard_of self.old.shards.now.splits key) key }
         ensures session { IsSession self.new.shards.now self.new.walker self.new.progress }
         ensures shards { self.new.shards ≡ self.old.shards }
-        ensures told { PointMade self.old.shards.now self.old.walker place op key result self.new.walker self.new.progress }
+        ensures told { PointMade whole_in self.old.shards.now self.old.walker place op key result self.new.walker self.new.progress }
     {
         let mut place = place;
         let answer = at_key(
@@ -121,12 +143,12 @@ impl<'a, M: Flier, P: Pace, R: Wait> Session<'a, M, P, R> {
     }
 
     // One operation at a key.
-    fn call_at_key(&mut self, alloc: Global, key: u64, op: Op) -> Result<Option<Value>, OpError>
+    fn call_at_key(&mut self, alloc: Global, key: u64, op: Op) -> Result<Answer, OpError>
         requires session { IsSession self.old.shards.now self.old.walker self.old.progress }
         requires lies { lies_in self.old.shards.now.splits (shard_of self.old.shards.now.splits key) op ≡ in_span self.old.shards.now.splits (shard_of self.old.shards.now.splits key) key }
         ensures session { IsSession self.new.shards.now self.new.walker self.new.progress }
         ensures shards { self.new.shards ≡ self.old.shards }
-        ensures told { PointCalled self.old.shards.now self.old.walker self.old.progress op key result self.new.walker self.new.progress }
+        ensures told { PointCalled whole_in self.old.shards.now self.old.walker self.old.progress op key result self.new.walker self.new.progress }
     {
         match mem::replace(&mut self.progress, Progress::Idle) {
             Progress::Active(place) => self.active_at_key(alloc, place, key, op),
@@ -144,9 +166,9 @@ impl<'a, M: Flier, P: Pace, R: Wait> Session<'a, M, P, R> {
         requires session { IsSession self.old.shards.now self.old.walker self.old.progress }
         ensures session { IsSession self.new.shards.now self.new.walker self.new.progress }
         ensures shards { self.new.shards ≡ self.old.shards }
-        ensures told { PointCalled self.old.shards.now self.old.walker self.old.progress (Get key) key result self.new.walker self.new.progress }
+        ensures told { PointCalled value_in self.old.shards.now self.old.walker self.old.progress (Get key) key result self.new.walker self.new.progress }
     {
-        self.call_at_key(alloc, key, Op::Get(key))
+        value_of(self.call_at_key(alloc, key, Op::Get(key)))
     }
 
     /// Puts a value at a key; answers the one before. `NoTx` comes exactly where no transaction is active; every other answer is told by
@@ -155,9 +177,9 @@ impl<'a, M: Flier, P: Pace, R: Wait> Session<'a, M, P, R> {
         requires session { IsSession self.old.shards.now self.old.walker self.old.progress }
         ensures session { IsSession self.new.shards.now self.new.walker self.new.progress }
         ensures shards { self.new.shards ≡ self.old.shards }
-        ensures told { PointCalled self.old.shards.now self.old.walker self.old.progress (Put key value) key result self.new.walker self.new.progress }
+        ensures told { PointCalled value_in self.old.shards.now self.old.walker self.old.progress (Put key value) key result self.new.walker self.new.progress }
     {
-        self.call_at_key(alloc, key, Op::Put(key, value))
+        value_of(self.call_at_key(alloc, key, Op::Put(key, value)))
     }
 
     /// Deletes a key; answers its value before. `NoTx` comes exactly where no transaction is active; every other answer is told by the
@@ -166,9 +188,21 @@ impl<'a, M: Flier, P: Pace, R: Wait> Session<'a, M, P, R> {
         requires session { IsSession self.old.shards.now self.old.walker self.old.progress }
         ensures session { IsSession self.new.shards.now self.new.walker self.new.progress }
         ensures shards { self.new.shards ≡ self.old.shards }
-        ensures told { PointCalled self.old.shards.now self.old.walker self.old.progress (Del key) key result self.new.walker self.new.progress }
+        ensures told { PointCalled value_in self.old.shards.now self.old.walker self.old.progress (Del key) key result self.new.walker self.new.progress }
     {
-        self.call_at_key(alloc, key, Op::Del(key))
+        value_of(self.call_at_key(alloc, key, Op::Del(key)))
+    }
+
+    /// Adds to the number at a key, modulo 2^64; answers whether there is one. Where there is none nothing is written. `NoTx` comes exactly
+    /// where no transaction is active; every other answer is told by the turns of the call. After `Aborted` the transaction has ended, after
+    /// every other answer it is active as before.
+    pub fn add(&mut self, alloc: Global, key: u64, by: u64) -> Result<bool, OpError>
+        requires session { IsSession self.old.shards.now self.old.walker self.old.progress }
+        ensures session { IsSession self.new.shards.now self.new.walker self.new.progress }
+        ensures shards { self.new.shards ≡ self.old.shards }
+        ensures told { PointCalled added_in self.old.shards.now self.old.walker self.old.progress (Add key by) key result self.new.walker self.new.progress }
+    {
+        added_of(self.call_at_key(alloc, key, Op::Add(key, by)))
     }
 
     // All pairs of a range, of the active transaction.

@@ -1,5 +1,5 @@
 // What the answers of a session's calls tell of its entries.
-ghost use Rattle.session_api.specs.ToldLaws.{PointsTell, ScansTell, CommitsTell, AbortsTell, BeginningsTell, RetriesTell};
+ghost use Rattle.session_api.specs.ToldLaws.{PointsTell, AddsTell, ScansTell, CommitsTell, AbortsTell, BeginningsTell, RetriesTell};
 
 /// A beginning makes no entry.
 pub fn beginnings_tell<M, S, G>()
@@ -15,6 +15,11 @@ pub fn retries_tell<M, S, G>()
 /// it.
 pub fn points_tell<M, S, G>()
     ensures { PointsTell M S G }
+{}
+
+/// So did an addition.
+pub fn adds_tell<M, S, G>()
+    ensures { AddsTell M S G }
 {}
 
 /// A scan made its parts, shards rising, up to one that wasn't answered.

@@ -1,3 +1,4 @@
+pub mod Telling
 pub mod Touched
 pub mod Offered
 pub mod Trying

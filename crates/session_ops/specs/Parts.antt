@@ -7,7 +7,7 @@ use Rattle.clv_base.specs.declared.names.TxId.{TxId}
 use Rattle.clv_base.specs.declared.names.Birth.{Birth}
 use Rattle.clv_base.specs.declared.ops.Op.{Op}
 use Rattle.clv_base.specs.declared.ops.Answer.{Answer}
-use Rattle.clv_base.specs.declared.ops.Answer.TheVariants.{Value, Pairs}
+use Rattle.clv_base.specs.declared.ops.Answer.TheVariants.{Value, Pairs, Added}
 use Rattle.clv_base.specs.declared.events.Event.{Event}
 use Rattle.clv_base.specs.declared.events.Event.TheVariants.{Op as OpEvent}
 use Rattle.clv_base.specs.Shards.{shard_of}
@@ -53,7 +53,18 @@ pub record Performing {T : Type 0} (count w clock : ℕ) (before : List (Option 
 abbrev pub value_in : Result Answer OpError → Result (Option ValueType) OpError
 value_in (Ok (Value value)) = Ok value
 value_in (Ok (Pairs pairs)) = Ok None
+value_in (Ok (Added found)) = Ok None
 value_in (Err e) = Err e
+
+-- an addition answers whether there was a number
+abbrev pub added_in : Result Answer OpError → Result Bool OpError
+added_in (Ok (Added found)) = Ok found
+added_in (Ok (Value value)) = Ok false
+added_in (Ok (Pairs pairs)) = Ok false
+added_in (Err e) = Err e
+
+abbrev pub whole_in : Result Answer OpError → Result Answer OpError
+whole_in answer = answer
 
 module _ {M S G : Type 0} where
   -- over, without a part, where the transaction died, else active
@@ -61,9 +72,9 @@ module _ {M S G : Type 0} where
   StandsUnless true sh w p = IsEnded sh w p
   StandsUnless false sh w p = IsActive sh w p
 
-  -- the operation's next number, on the shard of its key
-  pub record PointTold (sh : Shards M S G) (w : Walker M S G) (p : SessionState) (op : Op) (key : ℕ) (r : Result (Option ValueType) OpError) (v : Walker M S G) (q : SessionState) : Type 0 where
+  -- the operation's next number, on the shard of its key; a caller is told of the answer by tells
+  pub record PointTold {A : Type 0} (tells : Result Answer OpError → Result A OpError) (sh : Shards M S G) (w : Walker M S G) (p : SessionState) (op : Op) (key : ℕ) (r : Result A OpError) (v : Walker M S G) (q : SessionState) : Type 0 where
     pub answer : Result Answer OpError
-    pub is : r ≡ value_in answer
+    pub is : r ≡ tells answer
     pub turns : (birth : Birth) → p.birth ≡ Some birth → Performing (length sh.locks.items) w.number w.clock w.passes.items (shard_of sh.splits key) p (OpEvent p.tx birth (p.nth + 1) (lookup (◌==◌ (shard_of sh.splits key)) p.touched) op) answer v.clock v.passes.items
     pub place : PlacedBy (shard_of sh.splits key) (p.nth + 1) op p (answered_in answer) q

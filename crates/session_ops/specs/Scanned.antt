@@ -7,7 +7,7 @@ use Rattle.clv_base.specs.declared.names.Birth.{Birth}
 use Rattle.clv_base.specs.declared.causes.AbortCause.{AbortCause}
 use Rattle.clv_base.specs.declared.ops.Op.TheVariants.{Scan}
 use Rattle.clv_base.specs.declared.ops.Answer.{Answer}
-use Rattle.clv_base.specs.declared.ops.Answer.TheVariants.{Value, Pairs}
+use Rattle.clv_base.specs.declared.ops.Answer.TheVariants.{Value, Pairs, Added}
 use Rattle.clv_base.specs.declared.events.Event.TheVariants.{Op as OpEvent, Drop}
 use Rattle.clv_base.specs.declared.events.Outcome.TheVariants.{Answered, Dead, Wait, Crowded}
 use Rattle.clv_base.specs.Shards.{span}
@@ -53,6 +53,7 @@ pub record IsScanWait (splits : List ℕ) (x : Range) (t : Turn) : Type 0 where
 abbrev pub pairs_in : Answer → List (ℕ × ValueType)
 pairs_in (Pairs pairs) = pairs
 pairs_in (Value value) = []
+pairs_in (Added found) = []
 
 pub record GivesPairs (splits : List ℕ) (x : Range) (n : ℕ) (rs : List (ℕ × ValueType)) (t : Turn) : Type 0 where
   pub shard : t.shard ≡ n

@@ -42,7 +42,7 @@ pub use leaving::drop_parts;
 pub use looking::look;
 pub use operating::{OpError, operate};
 pub use parts::RoundError;
-pub use points::{at_key, del, get, put};
+pub use points::{add, at_key, del, get, put};
 pub use requesting::request;
 pub use retrying::retry;
 pub use rounds::round;

@@ -42,7 +42,7 @@ fn take(pairs: &mut Vec<(u64, Value)>, answer: Result<Answer, OpError>) -> Resul
             Ok(()) => Ok(()),
             Err(_) => Err(OpError::Memory),
         },
-        Ok(Answer::Value(_)) => Ok(()),
+        Ok(Answer::Value(_)) | Ok(Answer::Added(_)) => Ok(()),
         Err(error) => Err(error),
     }
 }
