@@ -4,9 +4,9 @@ use Rattle.serde_json.specs.View.{items_of}
 use Rattle.serde_json.specs.Written.{has_float, items_have_float}
 use Rattle.clv_base.specs.declared.values.Value.{Value as ValueType}
 use Rattle.clv_base.specs.declared.values.Value.TheVariants.{Num, Bytes}
-use Rattle.clv_base.specs.declared.ops.Op.TheVariants.{Get, Put, Del, Scan}
+use Rattle.clv_base.specs.declared.ops.Op.TheVariants.{Get, Put, Del, Scan, Add}
 use Rattle.clv_base.specs.declared.ops.Answer.{Answer}
-use Rattle.clv_base.specs.declared.ops.Answer.TheVariants.{Value, Pairs}
+use Rattle.clv_base.specs.declared.ops.Answer.TheVariants.{Value, Pairs, Added}
 use Rattle.clv_base.specs.declared.causes.AbortCause.TheVariants as cause
 use Rattle.clv_base.specs.declared.causes.NoWhy.TheVariants.{Doomed, Restarted}
 use Rattle.live_lines.specs.declared.calls.Reply.{Reply}
@@ -25,6 +25,7 @@ in_answer : (a : Answer) → has_float (answer a) ≡ false
 in_answer (Value None) = refl
 in_answer (Value (Some v)) = in_value v
 in_answer (Pairs ps) = in_pairs ps
+in_answer (Added found) = refl
 
 pub in_reply : (session : ℕ) (reply : Reply) → has_float (list (told session reply)) ≡ false
 in_reply session (Begun n) = refl
@@ -32,6 +33,7 @@ in_reply session (Answered (Get k) a) = ap (λ b. b || false) (in_answer a)
 in_reply session (Answered (Put k v) a) = ap₂ (λ b c. b || (c || false)) (in_value v) (in_answer a)
 in_reply session (Answered (Del k) a) = ap (λ b. b || false) (in_answer a)
 in_reply session (Answered (Scan lo hi) a) = ap (λ b. b || false) (in_answer a)
+in_reply session (Answered (Add k by) a) = ap (λ b. b || false) (in_answer a)
 in_reply session (Committed n) = refl
 in_reply session (Empty n) = refl
 in_reply session (Aborted cause.Asked) = refl

@@ -1,6 +1,6 @@
 -- The line of a reply.
 use Rattle.std.specs.Prelude.{ℕ, List, [], ◌∷◌, ◌++◌, map, codes, Option, Some, None}
-use Rattle.serde_json.specs.Data.{Data, null, number, unsigned, string, array}
+use Rattle.serde_json.specs.Data.{Data, null, boolean, number, unsigned, string, array}
 use Rattle.serde_json.specs.View.{items_of}
 use Rattle.serde_json.specs.Written.{compact_text}
 use Rattle.hex.specs.Hex.{encode_lower}
@@ -8,9 +8,9 @@ use Rattle.clv_base.specs.declared.names.TxId.{TxId}
 use Rattle.clv_base.specs.declared.values.Value.{Value as ValueType}
 use Rattle.clv_base.specs.declared.values.Value.TheVariants.{Num, Bytes}
 use Rattle.clv_base.specs.declared.ops.Op.{Op}
-use Rattle.clv_base.specs.declared.ops.Op.TheVariants.{Get, Put, Del, Scan}
+use Rattle.clv_base.specs.declared.ops.Op.TheVariants.{Get, Put, Del, Scan, Add}
 use Rattle.clv_base.specs.declared.ops.Answer.{Answer}
-use Rattle.clv_base.specs.declared.ops.Answer.TheVariants.{Value, Pairs}
+use Rattle.clv_base.specs.declared.ops.Answer.TheVariants.{Value, Pairs, Added}
 use Rattle.clv_base.specs.declared.causes.AbortCause.{AbortCause}
 use Rattle.clv_base.specs.declared.causes.AbortCause.TheVariants as cause
 use Rattle.clv_base.specs.declared.causes.NoWhy.{NoWhy}
@@ -51,6 +51,7 @@ pair p = list (num p.0 ∷ value_data p.1 ∷ [])
 abbrev pub answer : Answer → Data
 answer (Value v) = optional v
 answer (Pairs ps) = list (map pair ps)
+answer (Added found) = boolean found
 
 -- the run, the session and the serial of a transaction
 abbrev pub name : TxId → Data
@@ -62,6 +63,7 @@ operation session (Get k) = row session (codes "get") (k ∷ [])
 operation session (Put k v) = row session (codes "put") (k ∷ []) ++ value_data v ∷ []
 operation session (Del k) = row session (codes "del") (k ∷ [])
 operation session (Scan lo hi) = row session (codes "scan") (lo ∷ hi ∷ [])
+operation session (Add k by) = row session (codes "add") (k ∷ by ∷ [])
 
 -- why a part votes no
 abbrev pub why : NoWhy → List Data

@@ -102,6 +102,7 @@ fn answer_value(alloc: Global, answer: &Answer) -> Result<Value, Memory>
             add_pairs(alloc, &mut values, pairs.as_slice())?;
             Ok(Value::Array(values))
         }
+        Answer::Added(found) => Ok(Value::Bool(*found)),
     }
 }
 
@@ -129,6 +130,7 @@ fn operation(alloc: Global, session: u64, op: &Op) -> Result<Vec<Value>, Memory>
         Op::Put(key, value) => put_row(alloc, session, *key, value),
         Op::Del(key) => row(alloc, session, "del", &[*key]),
         Op::Scan(low, high) => row(alloc, session, "scan", &[*low, *high]),
+        Op::Add(key, by) => row(alloc, session, "add", &[*key, *by]),
     }
 }
 

@@ -6,9 +6,9 @@ use Rattle.clv_base.specs.declared.values.Value.{Value as ValueType}
 use Rattle.clv_base.specs.declared.values.Value.TheVariants.{Num, Bytes}
 use Rattle.clv_base.specs.declared.names.TxId.{TxId}
 use Rattle.clv_base.specs.declared.ops.Op.{Op}
-use Rattle.clv_base.specs.declared.ops.Op.TheVariants.{Get, Put, Del, Scan}
+use Rattle.clv_base.specs.declared.ops.Op.TheVariants.{Get, Put, Del, Scan, Add}
 use Rattle.clv_base.specs.declared.ops.Answer.{Answer}
-use Rattle.clv_base.specs.declared.ops.Answer.TheVariants.{Value, Pairs}
+use Rattle.clv_base.specs.declared.ops.Answer.TheVariants.{Value, Pairs, Added}
 use Rattle.session_books.specs.Parts.{pairs_of}
 use Rattle.report_text.specs.Lines.{value_data, pair, answer, operation, operations, transaction}
 
@@ -24,12 +24,14 @@ in_answer : (a : Answer) → has_float (answer a) ≡ false
 in_answer (Value None) = refl
 in_answer (Value (Some v)) = in_value v
 in_answer (Pairs ps) = in_pairs ps
+in_answer (Added found) = refl
 
 in_operation : (op : Op) (a : Answer) → has_float (operation op a) ≡ false
 in_operation (Get k) a = ap (λ b. b || false) (in_answer a)
 in_operation (Put k v) a = ap₂ (λ b c. b || (c || false)) (in_value v) (in_answer a)
 in_operation (Del k) a = ap (λ b. b || false) (in_answer a)
 in_operation (Scan lo hi) a = ap (λ b. b || false) (in_pairs (pairs_of a))
+in_operation (Add k by) a = ap (λ b. b || false) (in_answer a)
 
 in_operations : (ops : List (Op × Answer)) → items_have_float (items_of (operations ops)) ≡ false
 in_operations [] = refl

@@ -1,6 +1,6 @@
 -- The line of a transaction.
 use Rattle.std.specs.Prelude.{ℕ, List, [], ◌∷◌, ◌++◌, map, codes, Option, Some, None}
-use Rattle.serde_json.specs.Data.{Data, null, number, unsigned, string, array, object, member, no_members}
+use Rattle.serde_json.specs.Data.{Data, null, boolean, number, unsigned, string, array, object, member, no_members}
 use Rattle.serde_json.specs.View.{items_of}
 use Rattle.serde_json.specs.Written.{compact_text}
 use Rattle.hex.specs.Hex.{encode_lower}
@@ -8,9 +8,9 @@ use Rattle.clv_base.specs.declared.names.TxId.{TxId}
 use Rattle.clv_base.specs.declared.values.Value.{Value as ValueType}
 use Rattle.clv_base.specs.declared.values.Value.TheVariants.{Num, Bytes}
 use Rattle.clv_base.specs.declared.ops.Op.{Op}
-use Rattle.clv_base.specs.declared.ops.Op.TheVariants.{Get, Put, Del, Scan}
+use Rattle.clv_base.specs.declared.ops.Op.TheVariants.{Get, Put, Del, Scan, Add}
 use Rattle.clv_base.specs.declared.ops.Answer.{Answer}
-use Rattle.clv_base.specs.declared.ops.Answer.TheVariants.{Value, Pairs}
+use Rattle.clv_base.specs.declared.ops.Answer.TheVariants.{Value, Pairs, Added}
 use Rattle.session_books.specs.Parts.{pairs_of}
 
 -- a value as compact JSON, with a line feed
@@ -44,6 +44,7 @@ pair p = list (num p.0 ∷ value_data p.1 ∷ [])
 abbrev pub answer : Answer → Data
 answer (Value v) = optional v
 answer (Pairs ps) = list (map pair ps)
+answer (Added found) = boolean found
 
 -- an operation with its answer
 abbrev pub operation : Op → Answer → Data
@@ -51,6 +52,7 @@ operation (Get k) a = list (string (codes "get") ∷ num k ∷ answer a ∷ [])
 operation (Put k v) a = list (string (codes "put") ∷ num k ∷ value_data v ∷ answer a ∷ [])
 operation (Del k) a = list (string (codes "del") ∷ num k ∷ answer a ∷ [])
 operation (Scan lo hi) a = list (string (codes "scan") ∷ num lo ∷ num hi ∷ list (map pair (pairs_of a)) ∷ [])
+operation (Add k by) a = list (string (codes "add") ∷ num k ∷ num by ∷ answer a ∷ [])
 
 abbrev pub operations : List (Op × Answer) → List Data
 operations ops = map (λ p. operation p.0 p.1) ops

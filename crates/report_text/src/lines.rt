@@ -81,7 +81,7 @@ fn pairs_of(answer: &Answer) -> &[(u64, Stored)]
     ensures { result.now ≡ pairs_in answer.now }
 {
     match answer {
-        Answer::Value(_) => &[],
+        Answer::Value(_) | Answer::Added(_) => &[],
         Answer::Pairs(pairs) => pairs.as_slice(),
     }
 }
@@ -96,6 +96,7 @@ fn answer_value(alloc: Global, answer: &Answer) -> Result<Value, Memory>
             add_pairs(alloc, &mut values, pairs.as_slice())?;
             Ok(Value::Array(values))
         }
+        Answer::Added(found) => Ok(Value::Bool(*found)),
     }
 }
 
@@ -167,6 +168,7 @@ fn operation(alloc: Global, op: &Op, answer: &Answer) -> Result<Value, Memory>
         Op::Put(key, value) => put_row(alloc, *key, value, answer),
         Op::Del(key) => answered_row(alloc, "del", &[*key], answer),
         Op::Scan(low, high) => scan_row(alloc, *low, *high, answer),
+        Op::Add(key, by) => answered_row(alloc, "add", &[*key, *by], answer),
     }
 }
 

@@ -1,7 +1,7 @@
 -- A line has one meaning.
 use Rattle.std.proofs.Common.{◌≡◌, ◌≢◌, ◌⊎◌, inl, inr, ℕ, ◌+◌, ◌<◌, ◌≤◌, List, [], slice_index, codes, ap, refl, ◌∙◌, arith}
 use Rattle.clv_base.specs.declared.values.Value.TheVariants.{Num, Bytes}
-use Rattle.clv_base.specs.declared.ops.Op.TheVariants.{Get, Put, Del, Scan}
+use Rattle.clv_base.specs.declared.ops.Op.TheVariants.{Get, Put, Del, Scan, Add}
 use Rattle.script_lang.specs.Bodies.{Action, Ending}
 use Rattle.script_lang.specs.Grammar.{Line, Blank, Session, Begin, Act, End, Do, Move, Commit, Abort, IsLine, IsComment, IsEnding, IsAction}
 use Rattle.script_lang.proofs.Verbs.{one_action}
@@ -16,6 +16,7 @@ kind (Act (Do (Put k (Num v)))) = 229
 kind (Act (Do (Put k (Bytes v)))) = 219
 kind (Act (Do (Del k))) = 201
 kind (Act (Do (Scan lo hi))) = 214
+kind (Act (Do (Add k by))) = 197
 kind (Act (Move from to amount)) = 220
 kind (End Commit) = 210
 kind (End Abort) = 195
@@ -44,6 +45,7 @@ begins_with bytes (Act (Do (Put k (Num v)))) (words, is, numbers) = shows_word b
 begins_with bytes (Act (Do (Put k (Bytes v)))) (words, is, numbers) = shows_word bytes _ 219 is refl (omega arith)
 begins_with bytes (Act (Do (Del k))) (words, is, number) = shows_word bytes _ 201 is refl (omega arith)
 begins_with bytes (Act (Do (Scan lo hi))) (words, is, numbers) = shows_word bytes _ 214 is refl (omega arith)
+begins_with bytes (Act (Do (Add k by))) (words, is, numbers) = shows_word bytes _ 197 is refl (omega arith)
 begins_with bytes (Act (Move from to amount)) (words, is, numbers) = shows_word bytes _ 220 is refl (omega arith)
 begins_with bytes (End Commit) is = shows_word bytes _ 210 is refl (omega arith)
 begins_with bytes (End Abort) is = shows_word bytes _ 195 is refl (omega arith)
@@ -74,6 +76,7 @@ same_of_kind bytes Blank (Act (Do (Put m (Num n)))) e isa isb = absurd (let no :
 same_of_kind bytes Blank (Act (Do (Put m (Bytes n)))) e isa isb = absurd (let no : ⊥ = omega arith in no)
 same_of_kind bytes Blank (Act (Do (Del m))) e isa isb = absurd (let no : ⊥ = omega arith in no)
 same_of_kind bytes Blank (Act (Do (Scan m n))) e isa isb = absurd (let no : ⊥ = omega arith in no)
+same_of_kind bytes Blank (Act (Do (Add m n))) e isa isb = absurd (let no : ⊥ = omega arith in no)
 same_of_kind bytes Blank (Act (Move l m n)) e isa isb = absurd (let no : ⊥ = omega arith in no)
 same_of_kind bytes Blank (End Commit) e isa isb = absurd (let no : ⊥ = omega arith in no)
 same_of_kind bytes Blank (End Abort) e isa isb = absurd (let no : ⊥ = omega arith in no)
@@ -84,6 +87,7 @@ same_of_kind bytes Session (Act (Do (Put m (Num n)))) e isa isb = absurd (let no
 same_of_kind bytes Session (Act (Do (Put m (Bytes n)))) e isa isb = absurd (let no : ⊥ = omega arith in no)
 same_of_kind bytes Session (Act (Do (Del m))) e isa isb = absurd (let no : ⊥ = omega arith in no)
 same_of_kind bytes Session (Act (Do (Scan m n))) e isa isb = absurd (let no : ⊥ = omega arith in no)
+same_of_kind bytes Session (Act (Do (Add m n))) e isa isb = absurd (let no : ⊥ = omega arith in no)
 same_of_kind bytes Session (Act (Move l m n)) e isa isb = absurd (let no : ⊥ = omega arith in no)
 same_of_kind bytes Session (End Commit) e isa isb = absurd (let no : ⊥ = omega arith in no)
 same_of_kind bytes Session (End Abort) e isa isb = absurd (let no : ⊥ = omega arith in no)
@@ -94,6 +98,7 @@ same_of_kind bytes Begin (Act (Do (Put m (Num n)))) e isa isb = absurd (let no :
 same_of_kind bytes Begin (Act (Do (Put m (Bytes n)))) e isa isb = absurd (let no : ⊥ = omega arith in no)
 same_of_kind bytes Begin (Act (Do (Del m))) e isa isb = absurd (let no : ⊥ = omega arith in no)
 same_of_kind bytes Begin (Act (Do (Scan m n))) e isa isb = absurd (let no : ⊥ = omega arith in no)
+same_of_kind bytes Begin (Act (Do (Add m n))) e isa isb = absurd (let no : ⊥ = omega arith in no)
 same_of_kind bytes Begin (Act (Move l m n)) e isa isb = absurd (let no : ⊥ = omega arith in no)
 same_of_kind bytes Begin (End Commit) e isa isb = absurd (let no : ⊥ = omega arith in no)
 same_of_kind bytes Begin (End Abort) e isa isb = absurd (let no : ⊥ = omega arith in no)
@@ -122,6 +127,11 @@ same_of_kind bytes (Act (Do (Scan k v))) Session e isa isb = absurd (let no : �
 same_of_kind bytes (Act (Do (Scan k v))) Begin e isa isb = absurd (let no : ⊥ = omega arith in no)
 same_of_kind bytes (Act (Do (Scan k v))) (End Commit) e isa isb = absurd (let no : ⊥ = omega arith in no)
 same_of_kind bytes (Act (Do (Scan k v))) (End Abort) e isa isb = absurd (let no : ⊥ = omega arith in no)
+same_of_kind bytes (Act (Do (Add k v))) Blank e isa isb = absurd (let no : ⊥ = omega arith in no)
+same_of_kind bytes (Act (Do (Add k v))) Session e isa isb = absurd (let no : ⊥ = omega arith in no)
+same_of_kind bytes (Act (Do (Add k v))) Begin e isa isb = absurd (let no : ⊥ = omega arith in no)
+same_of_kind bytes (Act (Do (Add k v))) (End Commit) e isa isb = absurd (let no : ⊥ = omega arith in no)
+same_of_kind bytes (Act (Do (Add k v))) (End Abort) e isa isb = absurd (let no : ⊥ = omega arith in no)
 same_of_kind bytes (Act (Move i j k)) Blank e isa isb = absurd (let no : ⊥ = omega arith in no)
 same_of_kind bytes (Act (Move i j k)) Session e isa isb = absurd (let no : ⊥ = omega arith in no)
 same_of_kind bytes (Act (Move i j k)) Begin e isa isb = absurd (let no : ⊥ = omega arith in no)
@@ -135,6 +145,7 @@ same_of_kind bytes (End Commit) (Act (Do (Put m (Num n)))) e isa isb = absurd (l
 same_of_kind bytes (End Commit) (Act (Do (Put m (Bytes n)))) e isa isb = absurd (let no : ⊥ = omega arith in no)
 same_of_kind bytes (End Commit) (Act (Do (Del m))) e isa isb = absurd (let no : ⊥ = omega arith in no)
 same_of_kind bytes (End Commit) (Act (Do (Scan m n))) e isa isb = absurd (let no : ⊥ = omega arith in no)
+same_of_kind bytes (End Commit) (Act (Do (Add m n))) e isa isb = absurd (let no : ⊥ = omega arith in no)
 same_of_kind bytes (End Commit) (Act (Move l m n)) e isa isb = absurd (let no : ⊥ = omega arith in no)
 same_of_kind bytes (End Commit) (End Abort) e isa isb = absurd (let no : ⊥ = omega arith in no)
 same_of_kind bytes (End Abort) Blank e isa isb = absurd (let no : ⊥ = omega arith in no)
@@ -145,6 +156,7 @@ same_of_kind bytes (End Abort) (Act (Do (Put m (Num n)))) e isa isb = absurd (le
 same_of_kind bytes (End Abort) (Act (Do (Put m (Bytes n)))) e isa isb = absurd (let no : ⊥ = omega arith in no)
 same_of_kind bytes (End Abort) (Act (Do (Del m))) e isa isb = absurd (let no : ⊥ = omega arith in no)
 same_of_kind bytes (End Abort) (Act (Do (Scan m n))) e isa isb = absurd (let no : ⊥ = omega arith in no)
+same_of_kind bytes (End Abort) (Act (Do (Add m n))) e isa isb = absurd (let no : ⊥ = omega arith in no)
 same_of_kind bytes (End Abort) (Act (Move l m n)) e isa isb = absurd (let no : ⊥ = omega arith in no)
 same_of_kind bytes (End Abort) (End Commit) e isa isb = absurd (let no : ⊥ = omega arith in no)
 

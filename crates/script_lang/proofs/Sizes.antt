@@ -6,7 +6,7 @@ use Rattle.std.proofs.lemmas.Bool.{ne_eqb}
 use Rattle.std.proofs.lemmas.Bool.Decides.{nat_tests}
 use Rattle.clv_base.specs.declared.values.Value.TheVariants.{Num, Bytes}
 use Rattle.clv_base.specs.Values.{fits_value}
-use Rattle.clv_base.specs.declared.ops.Op.TheVariants.{Get, Put, Del, Scan}
+use Rattle.clv_base.specs.declared.ops.Op.TheVariants.{Get, Put, Del, Scan, Add}
 use Rattle.script_lang.specs.Bodies.{Action, Ending, Body}
 use Rattle.script_lang.specs.Grammar.{Line, Blank, Session, Begin, Act, End, Do, Move, IsNumber, IsText, IsAction, IsLine, Reading, reading, nothing_read, with_last, body, read_line, Leads, lines_of, before_line}
 use Rattle.script_lang.specs.Laws.{is_word, is_narrow, is_narrow_body, session_size, script_size, ScriptsAreNarrow, ScriptsAreShort, ScriptsHaveFewSessions}
@@ -38,6 +38,7 @@ action_narrow bytes (Do (Put k (Num v))) (words, is, (a, b, parts, m, n)) = and_
 action_narrow bytes (Do (Put k (Bytes v))) (words, is, (a, b, parts, m, n)) = and_true _ _ (word a k m) (text_fits b v n)
 action_narrow bytes (Do (Del k)) (words, is, n) = word words k n
 action_narrow bytes (Do (Scan lo hi)) (words, is, ((a, b, parts, m, n), rise)) = and_true _ _ (le_true lo hi rise) (word b hi n)
+action_narrow bytes (Do (Add k by)) (words, is, (a, b, parts, m, n)) = and_true _ _ (word a k m) (word b by n)
 action_narrow bytes (Move from to amount) (words, is, ((a, b, parts, l, (c, d, more, m, n)), differ)) =
     and_true _ _ (and_true _ _ (word a from l) (word c to m)) (and_true _ _ (word d amount n) (ap not (ne_eqb from to differ)))
 

@@ -1,7 +1,7 @@
 -- The word that an action begins with, and what follows it.
 use Rattle.std.proofs.Common.{◌≡◌, ◌≢◌, ℕ, zero, suc, ◌≤◌, List, [], ◌∷◌, ◌++◌, codes, subst, ap, refl, sym, ◌∙◌, arith, Option, Some, None, MatchOption}
 use Rattle.clv_base.specs.declared.values.Value.TheVariants.{Num, Bytes}
-use Rattle.clv_base.specs.declared.ops.Op.TheVariants.{Get, Put, Del, Scan}
+use Rattle.clv_base.specs.declared.ops.Op.TheVariants.{Get, Put, Del, Scan, Add}
 use Rattle.script_lang.specs.Bodies.{Action}
 use Rattle.script_lang.specs.Reading.{Lacks, verb_text}
 use Rattle.script_lang.specs.Grammar.{Do, Move, IsNumber, AreTwo, AreThree, AreKeyAndText, name_of, HasOperands, IsAction}
@@ -32,6 +32,7 @@ names_lack_space (Do (Put k (Num v))) = lacks_three 112 117 116 (omega arith) (o
 names_lack_space (Do (Put k (Bytes v))) = lacks_five 98 121 116 101 115 (omega arith) (omega arith) (omega arith) (omega arith) (omega arith)
 names_lack_space (Do (Del k)) = lacks_three 100 101 108 (omega arith) (omega arith) (omega arith)
 names_lack_space (Do (Scan lo hi)) = lacks_four 115 99 97 110 (omega arith) (omega arith) (omega arith) (omega arith)
+names_lack_space (Do (Add k by)) = lacks_three 97 100 100 (omega arith) (omega arith) (omega arith)
 names_lack_space (Move from to amount) = lacks_four 109 111 118 101 (omega arith) (omega arith) (omega arith) (omega arith)
 
 pub verb_for : (action : Action) → (verb : Verb) × (name_of action ≡ verb_text verb)
@@ -40,6 +41,7 @@ verb_for (Do (Put k (Num v))) = (verbs.Put, refl)
 verb_for (Do (Put k (Bytes v))) = (verbs.Bytes, refl)
 verb_for (Do (Del k)) = (verbs.Del, refl)
 verb_for (Do (Scan lo hi)) = (verbs.Scan, refl)
+verb_for (Do (Add k by)) = (verbs.Add, refl)
 verb_for (Move from to amount) = (verbs.Move, refl)
 
 -- an action's words, where the line is parted
@@ -56,6 +58,7 @@ get_operands words (Do (Put k (Num v))) e h = absurd (unequal (codes "put") (cod
 get_operands words (Do (Put k (Bytes v))) e h = absurd (unequal (codes "bytes") (codes "get") (omega arith) e)
 get_operands words (Do (Del k)) e h = absurd (unequal (codes "del") (codes "get") (omega arith) e)
 get_operands words (Do (Scan lo hi)) e h = absurd (unequal (codes "scan") (codes "get") (omega arith) e)
+get_operands words (Do (Add k by)) e h = absurd (unequal (codes "add") (codes "get") (omega arith) e)
 get_operands words (Move from to amount) e h = absurd (unequal (codes "move") (codes "get") (omega arith) e)
 
 pub put_operands : (words : List ℕ) (action : Action) → name_of action ≡ codes "put" → HasOperands words action → (k v : ℕ) × AreTwo words k v
@@ -64,6 +67,7 @@ put_operands words (Do (Put k (Num v))) e h = (k, v, h)
 put_operands words (Do (Put k (Bytes v))) e h = absurd (unequal (codes "bytes") (codes "put") (omega arith) e)
 put_operands words (Do (Del k)) e h = absurd (unequal (codes "del") (codes "put") (omega arith) e)
 put_operands words (Do (Scan lo hi)) e h = absurd (unequal (codes "scan") (codes "put") (omega arith) e)
+put_operands words (Do (Add k by)) e h = absurd (unequal (codes "add") (codes "put") (omega arith) e)
 put_operands words (Move from to amount) e h = absurd (unequal (codes "move") (codes "put") (omega arith) e)
 
 pub bytes_operands : (words : List ℕ) (action : Action) → name_of action ≡ codes "bytes" → HasOperands words action → (k : ℕ) × (text : List ℕ) × AreKeyAndText words k text
@@ -72,6 +76,7 @@ bytes_operands words (Do (Put k (Num v))) e h = absurd (unequal (codes "put") (c
 bytes_operands words (Do (Put k (Bytes v))) e h = (k, v, h)
 bytes_operands words (Do (Del k)) e h = absurd (unequal (codes "del") (codes "bytes") (omega arith) e)
 bytes_operands words (Do (Scan lo hi)) e h = absurd (unequal (codes "scan") (codes "bytes") (omega arith) e)
+bytes_operands words (Do (Add k by)) e h = absurd (unequal (codes "add") (codes "bytes") (omega arith) e)
 bytes_operands words (Move from to amount) e h = absurd (unequal (codes "move") (codes "bytes") (omega arith) e)
 
 pub del_operands : (words : List ℕ) (action : Action) → name_of action ≡ codes "del" → HasOperands words action → (k : ℕ) × IsNumber words k
@@ -80,6 +85,7 @@ del_operands words (Do (Put k (Num v))) e h = absurd (unequal (codes "put") (cod
 del_operands words (Do (Put k (Bytes v))) e h = absurd (unequal (codes "bytes") (codes "del") (omega arith) e)
 del_operands words (Do (Del k)) e h = (k, h)
 del_operands words (Do (Scan lo hi)) e h = absurd (unequal (codes "scan") (codes "del") (omega arith) e)
+del_operands words (Do (Add k by)) e h = absurd (unequal (codes "add") (codes "del") (omega arith) e)
 del_operands words (Move from to amount) e h = absurd (unequal (codes "move") (codes "del") (omega arith) e)
 
 pub scan_operands : (words : List ℕ) (action : Action) → name_of action ≡ codes "scan" → HasOperands words action → (lo hi : ℕ) × AreTwo words lo hi × (lo ≤ hi)
@@ -88,7 +94,17 @@ scan_operands words (Do (Put k (Num v))) e h = absurd (unequal (codes "put") (co
 scan_operands words (Do (Put k (Bytes v))) e h = absurd (unequal (codes "bytes") (codes "scan") (omega arith) e)
 scan_operands words (Do (Del k)) e h = absurd (unequal (codes "del") (codes "scan") (omega arith) e)
 scan_operands words (Do (Scan lo hi)) e h = (lo, hi, h.0, h.1)
+scan_operands words (Do (Add k by)) e h = absurd (unequal (codes "add") (codes "scan") (omega arith) e)
 scan_operands words (Move from to amount) e h = absurd (unequal (codes "move") (codes "scan") (omega arith) e)
+
+pub add_operands : (words : List ℕ) (action : Action) → name_of action ≡ codes "add" → HasOperands words action → (k v : ℕ) × AreTwo words k v
+add_operands words (Do (Get k)) e h = absurd (unequal (codes "get") (codes "add") (omega arith) e)
+add_operands words (Do (Put k (Num v))) e h = absurd (unequal (codes "put") (codes "add") (omega arith) e)
+add_operands words (Do (Put k (Bytes v))) e h = absurd (unequal (codes "bytes") (codes "add") (omega arith) e)
+add_operands words (Do (Del k)) e h = absurd (unequal (codes "del") (codes "add") (omega arith) e)
+add_operands words (Do (Scan lo hi)) e h = absurd (unequal (codes "scan") (codes "add") (omega arith) e)
+add_operands words (Do (Add k by)) e h = (k, by, h)
+add_operands words (Move from to amount) e h = absurd (unequal (codes "move") (codes "add") (omega arith) e)
 
 pub move_operands : (words : List ℕ) (action : Action) → name_of action ≡ codes "move" → HasOperands words action → (from to amount : ℕ) × AreThree words from to amount × (from ≢ to)
 move_operands words (Do (Get k)) e h = absurd (unequal (codes "get") (codes "move") (omega arith) e)
@@ -96,6 +112,7 @@ move_operands words (Do (Put k (Num v))) e h = absurd (unequal (codes "put") (co
 move_operands words (Do (Put k (Bytes v))) e h = absurd (unequal (codes "bytes") (codes "move") (omega arith) e)
 move_operands words (Do (Del k)) e h = absurd (unequal (codes "del") (codes "move") (omega arith) e)
 move_operands words (Do (Scan lo hi)) e h = absurd (unequal (codes "scan") (codes "move") (omega arith) e)
+move_operands words (Do (Add k by)) e h = absurd (unequal (codes "add") (codes "move") (omega arith) e)
 move_operands words (Move from to amount) e h = (from, to, amount, h.0, h.1)
 
 -- ---- an action has one meaning
@@ -106,6 +123,7 @@ same_get words k (Do (Put m (Num n))) e ha hb = absurd (unequal (codes "put") (c
 same_get words k (Do (Put m (Bytes n))) e ha hb = absurd (unequal (codes "bytes") (codes "get") (omega arith) e)
 same_get words k (Do (Del m)) e ha hb = absurd (unequal (codes "del") (codes "get") (omega arith) e)
 same_get words k (Do (Scan m n)) e ha hb = absurd (unequal (codes "scan") (codes "get") (omega arith) e)
+same_get words k (Do (Add m n)) e ha hb = absurd (unequal (codes "add") (codes "get") (omega arith) e)
 same_get words k (Move l m n) e ha hb = absurd (unequal (codes "move") (codes "get") (omega arith) e)
 
 same_put : (words : List ℕ) (k v : ℕ) (b : Action) → name_of b ≡ codes "put" → AreTwo words k v → HasOperands words b → Do (Put k (Num v)) ≡ b
@@ -114,6 +132,7 @@ same_put words k v (Do (Put m (Num n))) e ha hb = let same = two_once words k v 
 same_put words k v (Do (Put m (Bytes n))) e ha hb = absurd (unequal (codes "bytes") (codes "put") (omega arith) e)
 same_put words k v (Do (Del m)) e ha hb = absurd (unequal (codes "del") (codes "put") (omega arith) e)
 same_put words k v (Do (Scan m n)) e ha hb = absurd (unequal (codes "scan") (codes "put") (omega arith) e)
+same_put words k v (Do (Add m n)) e ha hb = absurd (unequal (codes "add") (codes "put") (omega arith) e)
 same_put words k v (Move l m n) e ha hb = absurd (unequal (codes "move") (codes "put") (omega arith) e)
 
 same_bytes : (words : List ℕ) (k : ℕ) (v : List ℕ) (b : Action) → name_of b ≡ codes "bytes" → AreKeyAndText words k v → HasOperands words b → Do (Put k (Bytes v)) ≡ b
@@ -122,6 +141,7 @@ same_bytes words k v (Do (Put m (Num n))) e ha hb = absurd (unequal (codes "put"
 same_bytes words k v (Do (Put m (Bytes n))) e ha hb = let same = text_once words k v m n ha hb in let one : k ≡ m = same.0 in let two : v ≡ n = same.1 in cc
 same_bytes words k v (Do (Del m)) e ha hb = absurd (unequal (codes "del") (codes "bytes") (omega arith) e)
 same_bytes words k v (Do (Scan m n)) e ha hb = absurd (unequal (codes "scan") (codes "bytes") (omega arith) e)
+same_bytes words k v (Do (Add m n)) e ha hb = absurd (unequal (codes "add") (codes "bytes") (omega arith) e)
 same_bytes words k v (Move l m n) e ha hb = absurd (unequal (codes "move") (codes "bytes") (omega arith) e)
 
 same_del : (words : List ℕ) (k : ℕ) (b : Action) → name_of b ≡ codes "del" → IsNumber words k → HasOperands words b → Do (Del k) ≡ b
@@ -130,6 +150,7 @@ same_del words k (Do (Put m (Num n))) e ha hb = absurd (unequal (codes "put") (c
 same_del words k (Do (Put m (Bytes n))) e ha hb = absurd (unequal (codes "bytes") (codes "del") (omega arith) e)
 same_del words k (Do (Del m)) e ha hb = ap (λ (x : ℕ). Do (Del x)) (number_once words k m ha hb)
 same_del words k (Do (Scan m n)) e ha hb = absurd (unequal (codes "scan") (codes "del") (omega arith) e)
+same_del words k (Do (Add m n)) e ha hb = absurd (unequal (codes "add") (codes "del") (omega arith) e)
 same_del words k (Move l m n) e ha hb = absurd (unequal (codes "move") (codes "del") (omega arith) e)
 
 same_scan : (words : List ℕ) (k v : ℕ) (b : Action) → name_of b ≡ codes "scan" → AreTwo words k v × (k ≤ v) → HasOperands words b → Do (Scan k v) ≡ b
@@ -138,7 +159,17 @@ same_scan words k v (Do (Put m (Num n))) e ha hb = absurd (unequal (codes "put")
 same_scan words k v (Do (Put m (Bytes n))) e ha hb = absurd (unequal (codes "bytes") (codes "scan") (omega arith) e)
 same_scan words k v (Do (Del m)) e ha hb = absurd (unequal (codes "del") (codes "scan") (omega arith) e)
 same_scan words k v (Do (Scan m n)) e ha hb = let same = two_once words k v m n ha.0 hb.0 in let one : k ≡ m = same.0 in let two : v ≡ n = same.1 in cc
+same_scan words k v (Do (Add m n)) e ha hb = absurd (unequal (codes "add") (codes "scan") (omega arith) e)
 same_scan words k v (Move l m n) e ha hb = absurd (unequal (codes "move") (codes "scan") (omega arith) e)
+
+same_add : (words : List ℕ) (k v : ℕ) (b : Action) → name_of b ≡ codes "add" → AreTwo words k v → HasOperands words b → Do (Add k v) ≡ b
+same_add words k v (Do (Get m)) e ha hb = absurd (unequal (codes "get") (codes "add") (omega arith) e)
+same_add words k v (Do (Put m (Num n))) e ha hb = absurd (unequal (codes "put") (codes "add") (omega arith) e)
+same_add words k v (Do (Put m (Bytes n))) e ha hb = absurd (unequal (codes "bytes") (codes "add") (omega arith) e)
+same_add words k v (Do (Del m)) e ha hb = absurd (unequal (codes "del") (codes "add") (omega arith) e)
+same_add words k v (Do (Scan m n)) e ha hb = absurd (unequal (codes "scan") (codes "add") (omega arith) e)
+same_add words k v (Do (Add m n)) e ha hb = let same = two_once words k v m n ha hb in let one : k ≡ m = same.0 in let two : v ≡ n = same.1 in cc
+same_add words k v (Move l m n) e ha hb = absurd (unequal (codes "move") (codes "add") (omega arith) e)
 
 same_move : (words : List ℕ) (i j k : ℕ) (b : Action) → name_of b ≡ codes "move" → AreThree words i j k × (i ≢ j) → HasOperands words b → Move i j k ≡ b
 same_move words i j k (Do (Get m)) e ha hb = absurd (unequal (codes "get") (codes "move") (omega arith) e)
@@ -146,6 +177,7 @@ same_move words i j k (Do (Put m (Num n))) e ha hb = absurd (unequal (codes "put
 same_move words i j k (Do (Put m (Bytes n))) e ha hb = absurd (unequal (codes "bytes") (codes "move") (omega arith) e)
 same_move words i j k (Do (Del m)) e ha hb = absurd (unequal (codes "del") (codes "move") (omega arith) e)
 same_move words i j k (Do (Scan m n)) e ha hb = absurd (unequal (codes "scan") (codes "move") (omega arith) e)
+same_move words i j k (Do (Add m n)) e ha hb = absurd (unequal (codes "add") (codes "move") (omega arith) e)
 same_move words i j k (Move l m n) e ha hb = let same = three_once words i j k l m n ha.0 hb.0 in let one : i ≡ l = same.0 in let two : j ≡ m = same.1 in let three : k ≡ n = same.2 in cc
 
 same_operands : (words : List ℕ) (a b : Action) → name_of a ≡ name_of b → HasOperands words a → HasOperands words b → a ≡ b
@@ -154,6 +186,7 @@ same_operands words (Do (Put k (Num v))) b e ha hb = same_put words k v b (sym e
 same_operands words (Do (Put k (Bytes v))) b e ha hb = same_bytes words k v b (sym e) ha hb
 same_operands words (Do (Del k)) b e ha hb = same_del words k b (sym e) ha hb
 same_operands words (Do (Scan lo hi)) b e ha hb = same_scan words lo hi b (sym e) ha hb
+same_operands words (Do (Add k by)) b e ha hb = same_add words k by b (sym e) ha hb
 same_operands words (Move from to amount) b e ha hb = same_move words from to amount b (sym e) ha hb
 
 pub one_action : (bytes : List ℕ) (a b : Action) → IsAction bytes a → IsAction bytes b → a ≡ b

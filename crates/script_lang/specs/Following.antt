@@ -5,7 +5,7 @@ use Rattle.clv_base.specs.declared.values.Value.TheVariants.{Num, Bytes}
 use Rattle.clv_base.specs.declared.ops.Op.{Op}
 use Rattle.clv_base.specs.declared.ops.Op.TheVariants.{Get, Put}
 use Rattle.clv_base.specs.declared.ops.Answer.{Answer}
-use Rattle.clv_base.specs.declared.ops.Answer.TheVariants.{Value, Pairs}
+use Rattle.clv_base.specs.declared.ops.Answer.TheVariants.{Value, Pairs, Added}
 use Rattle.script_lang.specs.Bodies.{Action}
 use Rattle.script_lang.specs.Grammar.{Do, Move}
 
@@ -13,6 +13,7 @@ use Rattle.script_lang.specs.Grammar.{Do, Move}
 abbrev pub value_of : Answer → Option ValueType
 value_of (Value v) = v
 value_of (Pairs ps) = None
+value_of (Added found) = None
 
 abbrev pub first_value : List Answer → Option ValueType
 first_value [] = None

@@ -4,7 +4,7 @@ use Rattle.std.specs.List.{list_all}
 use Rattle.std.specs.Str.Parse.{IsNumeral, digits_value}
 use Rattle.hex.specs.Hex.{decode_of}
 use Rattle.clv_base.specs.declared.values.Value.TheVariants.{Num, Bytes}
-use Rattle.clv_base.specs.declared.ops.Op.TheVariants.{Get, Put, Del, Scan}
+use Rattle.clv_base.specs.declared.ops.Op.TheVariants.{Get, Put, Del, Scan, Add}
 use Rattle.script_lang.specs.Bodies.{Action, Ending, Body}
 pub use Rattle.script_lang.specs.declared.actions.Action.TheVariants.{Do, Move}
 pub use Rattle.script_lang.specs.declared.actions.Ending.TheVariants.{Commit, Abort}
@@ -67,6 +67,7 @@ name_of (Do (Put k (Num v))) = codes "put"
 name_of (Do (Put k (Bytes bytes))) = codes "bytes"
 name_of (Do (Del k)) = codes "del"
 name_of (Do (Scan lo hi)) = codes "scan"
+name_of (Do (Add k by)) = codes "add"
 name_of (Move from to amount) = codes "move"
 
 -- the words that follow it: a scan's bounds don't fall, and a move's keys differ
@@ -76,6 +77,7 @@ HasOperands words (Do (Put k (Num v))) = AreTwo words k v
 HasOperands words (Do (Put k (Bytes bytes))) = AreKeyAndText words k bytes
 HasOperands words (Do (Del k)) = IsNumber words k
 HasOperands words (Do (Scan lo hi)) = AreTwo words lo hi × (lo ≤ hi)
+HasOperands words (Do (Add k by)) = AreTwo words k by
 HasOperands words (Move from to amount) = AreThree words from to amount × (from ≢ to)
 
 abbrev pub IsAction : List ℕ → Action → Type 0

@@ -3,7 +3,7 @@ use Rattle.std.specs.Prelude.{◌≡◌, ◌≤◌, ℕ, suc, ◌+◌, ◌^◌, 
 use Rattle.std.specs.List.{list_all}
 use Rattle.clv_base.specs.Values.{fits_value}
 use Rattle.clv_base.specs.declared.ops.Op.{Op}
-use Rattle.clv_base.specs.declared.ops.Op.TheVariants.{Get, Put, Del, Scan}
+use Rattle.clv_base.specs.declared.ops.Op.TheVariants.{Get, Put, Del, Scan, Add}
 use Rattle.script_lang.specs.Bodies.{Action, Body}
 use Rattle.script_lang.specs.Grammar.{Do, Move, IsScript, IsRefused}
 
@@ -31,6 +31,7 @@ is_narrow_op (Get k) = is_word k
 is_narrow_op (Put k v) = is_word k && fits_value v
 is_narrow_op (Del k) = is_word k
 is_narrow_op (Scan lo hi) = nat_le lo hi && is_word hi
+is_narrow_op (Add k by) = is_word k && is_word by
 
 abbrev pub is_narrow : Action → Bool
 is_narrow (Do op) = is_narrow_op op

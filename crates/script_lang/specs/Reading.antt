@@ -2,7 +2,7 @@
 use Rattle.std.specs.Prelude.{◌≡◌, ◌≢◌, ◌<◌, ℕ, length, slice_index, Bool, true, false, List, Option, Some, None, codes}
 use Rattle.script_lang.specs.Grammar.{Reading}
 use Rattle.script_lang.specs.declared.lines.Verb.{Verb}
-use Rattle.script_lang.specs.declared.lines.Verb.TheVariants.{Get, Put, Bytes, Del, Scan, Move}
+use Rattle.script_lang.specs.declared.lines.Verb.TheVariants.{Get, Put, Bytes, Del, Scan, Move, Add}
 
 -- the line was taken, and led to this; or it has no place
 abbrev pub Goes : Bool → Option Reading → Reading → Type 0
@@ -20,4 +20,5 @@ verb_text Put = codes "put"
 verb_text Bytes = codes "bytes"
 verb_text Del = codes "del"
 verb_text Scan = codes "scan"
+verb_text Add = codes "add"
 verb_text Move = codes "move"

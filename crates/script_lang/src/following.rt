@@ -42,7 +42,7 @@ fn value_of(answer: &Answer) -> Option<Value>
 {
     match answer {
         Answer::Value(value) => copy_of(value),
-        Answer::Pairs(_) => None,
+        Answer::Pairs(_) | Answer::Added(_) => None,
     }
 }
 

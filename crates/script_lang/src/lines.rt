@@ -42,6 +42,7 @@ pub enum Verb {
     Del,
     Scan,
     Move,
+    Add,
 }
 
 /// The number that a word is: decimal digits without a leading zero, below 2^64.
@@ -129,6 +130,9 @@ fn verb_of(word: &[u8]) -> Option<Verb>
     }
     if word == b"move".as_slice() {
         return Some(Verb::Move);
+    }
+    if word == b"add".as_slice() {
+        return Some(Verb::Add);
     }
     None
 }
@@ -246,6 +250,10 @@ fn with_numbers(verb: Verb, words: &[u8]) -> Option<Action>
             None => None,
         },
         Verb::Move => move_of(words),
+        Verb::Add => match two_numbers(words) {
+            Some((key, by)) => Some(Action::Do(KeptOp::new(Op::Add(key, by)))),
+            None => None,
+        },
         Verb::Bytes => unreachable!(),
     }
 }

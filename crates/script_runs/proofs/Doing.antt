@@ -12,7 +12,7 @@ use Rattle.clv_base.specs.declared.names.Birth.{Birth}
 use Rattle.clv_base.specs.declared.values.Value.{Value as ValueType}
 use Rattle.clv_base.specs.declared.values.Value.TheVariants.{Num, Bytes}
 use Rattle.clv_base.specs.declared.ops.Op.{Op}
-use Rattle.clv_base.specs.declared.ops.Op.TheVariants.{Get, Put, Del, Scan}
+use Rattle.clv_base.specs.declared.ops.Op.TheVariants.{Get, Put, Del, Scan, Add}
 use Rattle.clv_base.specs.declared.ops.Answer.{Answer}
 use Rattle.clv_base.specs.Journals.{History}
 use Rattle.clv_base.proofs.SameNames.{or_left, or_right}
@@ -171,6 +171,7 @@ range_narrow (Get k) h = refl
 range_narrow (Put k v) h = refl
 range_narrow (Del k) h = refl
 range_narrow (Scan lo hi) h = (and_parts (nat_le lo hi) _ h).0
+range_narrow (Add k by) h = refl
 
 get_have : (ops : List Op) (n : ℕ) (op : Op) → list_all has_range ops ≡ true → slice_get ops n ≡ Some op → has_range op ≡ true
 get_have [] n op h k = absurd cc

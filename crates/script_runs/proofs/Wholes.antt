@@ -5,9 +5,9 @@ use Rattle.std.proofs.lemmas.Bool.{and_parts, cases_lt, leb-true, leb-false, ltb
 use Rattle.clv_base.specs.declared.names.TxId.{TxId}
 use Rattle.clv_base.specs.declared.names.Birth.{Birth}
 use Rattle.clv_base.specs.declared.ops.Op.{Op}
-use Rattle.clv_base.specs.declared.ops.Op.TheVariants.{Get, Put, Del, Scan}
+use Rattle.clv_base.specs.declared.ops.Op.TheVariants.{Get, Put, Del, Scan, Add}
 use Rattle.clv_base.specs.declared.ops.Answer.{Answer}
-use Rattle.clv_base.specs.declared.ops.Answer.TheVariants.{Value, Pairs}
+use Rattle.clv_base.specs.declared.ops.Answer.TheVariants.{Value, Pairs, Added}
 use Rattle.clv_base.specs.declared.events.Event.TheVariants.{Op as OpEvent}
 use Rattle.clv_base.specs.declared.events.Outcome.TheVariants.{Answered}
 use Rattle.clv_base.specs.declared.events.Entry.{Entry}
@@ -162,10 +162,12 @@ pairs_told nth [] (a ∷ answers) h = absurd (let no : ⊥ = omega arith in no)
 pairs_told nth (p ∷ parts) [] h = absurd (let no : ⊥ = omega arith in no)
 pairs_told nth (p ∷ parts) (Value v ∷ answers) h = pairs_told nth parts answers (omega arith)
 pairs_told nth (p ∷ parts) (Pairs ps ∷ answers) h = ap (λ l. ps ++ l) (pairs_told nth parts answers (omega arith))
+pairs_told nth (p ∷ parts) (Added found ∷ answers) h = pairs_told nth parts answers (omega arith)
 
 first_pairs : (a : Answer) (answers : List Answer) → told.pairs_of a ++ pairs_of answers ≡ pairs_of (a ∷ answers)
 first_pairs (Value v) answers = refl
 first_pairs (Pairs ps) answers = refl
+first_pairs (Added found) answers = refl
 
 -- its bounds don't fall, and are keys
 abbrev pub has_bounds : Op → Bool
@@ -173,12 +175,14 @@ has_bounds (Get k) = true
 has_bounds (Put k v) = true
 has_bounds (Del k) = true
 has_bounds (Scan lo hi) = nat_le lo hi && nat_lt hi (2 ^ 64)
+has_bounds (Add k by) = true
 
 pub bounds_narrow : (op : Op) → is_narrow_op op ≡ true → has_bounds op ≡ true
 bounds_narrow (Get k) h = refl
 bounds_narrow (Put k v) h = refl
 bounds_narrow (Del k) h = refl
 bounds_narrow (Scan lo hi) h = h
+bounds_narrow (Add k by) h = refl
 
 scan_whole : (before : Option ℕ) (nth lo hi : ℕ) (parts : List (ℕ × Op)) (answers : List Answer) (ts : List Told) → Covers lo hi 0 parts → length answers ≡ length parts → told.goes_on before nth ≡ false → AllPast nth ts
     → whole_from before (tolds nth parts answers ++ ts) ≡ (Scan lo hi, Pairs (pairs_of answers)) ∷ whole_from (Some nth) ts
@@ -203,6 +207,7 @@ op_whole : (splits : List ℕ) (op : Op) (before : Option ℕ) (nth : ℕ) (answ
 op_whole splits (Get k) before nth answers ts s b same new later = one_whole before nth (shard_of splits k, Get k) answers ts (λ a. refl) same new later
 op_whole splits (Put k v) before nth answers ts s b same new later = one_whole before nth (shard_of splits k, Put k v) answers ts (λ a. refl) same new later
 op_whole splits (Del k) before nth answers ts s b same new later = one_whole before nth (shard_of splits k, Del k) answers ts (λ a. refl) same new later
+op_whole splits (Add k by) before nth answers ts s b same new later = one_whole before nth (shard_of splits k, Add k by) answers ts (λ a. refl) same new later
 op_whole splits (Scan lo hi) before nth answers ts s b same new later =
     let p = and_parts (nat_le lo hi) (nat_lt hi (2 ^ 64)) b in
     scan_whole before nth lo hi (scan_parts splits lo hi 0 (shard_count splits)) answers ts

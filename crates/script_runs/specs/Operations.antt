@@ -5,9 +5,9 @@ use Rattle.clv_base.specs.declared.names.TxId.{TxId}
 use Rattle.clv_base.specs.declared.names.Birth.{Birth}
 use Rattle.clv_base.specs.declared.causes.AbortCause.{AbortCause}
 use Rattle.clv_base.specs.declared.ops.Op.{Op}
-use Rattle.clv_base.specs.declared.ops.Op.TheVariants.{Get, Put, Del, Scan}
+use Rattle.clv_base.specs.declared.ops.Op.TheVariants.{Get, Put, Del, Scan, Add}
 use Rattle.clv_base.specs.declared.ops.Answer.{Answer}
-use Rattle.clv_base.specs.declared.ops.Answer.TheVariants.{Value, Pairs}
+use Rattle.clv_base.specs.declared.ops.Answer.TheVariants.{Value, Pairs, Added}
 use Rattle.clv_base.specs.declared.events.Event.TheVariants.{Op as OpEvent}
 use Rattle.clv_base.specs.declared.events.Outcome.{Outcome}
 use Rattle.clv_base.specs.declared.events.Outcome.TheVariants.{Answered, Dead}
@@ -37,6 +37,7 @@ parts_of splits (Get k) = (shard_of splits k, Get k) ∷ []
 parts_of splits (Put k v) = (shard_of splits k, Put k v) ∷ []
 parts_of splits (Del k) = (shard_of splits k, Del k) ∷ []
 parts_of splits (Scan lo hi) = scan_parts splits lo hi 0 (shard_count splits)
+parts_of splits (Add k by) = (shard_of splits k, Add k by) ∷ []
 
 -- ---- their answers, put together
 
@@ -45,6 +46,7 @@ abbrev pub pairs_of : List Answer → List (ℕ × ValueType)
 pairs_of [] = []
 pairs_of (Value v ∷ answers) = pairs_of answers
 pairs_of (Pairs ps ∷ answers) = ps ++ pairs_of answers
+pairs_of (Added found ∷ answers) = pairs_of answers
 
 abbrev pub first_answer : List Answer → Answer
 first_answer [] = Value None
@@ -56,6 +58,7 @@ answer_of (Get k) answers = first_answer answers
 answer_of (Put k v) answers = first_answer answers
 answer_of (Del k) answers = first_answer answers
 answer_of (Scan lo hi) answers = Pairs (pairs_of answers)
+answer_of (Add k by) answers = first_answer answers
 
 -- ---- entries
 

@@ -6,7 +6,7 @@ use Rattle.clv_base.specs.declared.names.Birth.{Birth}
 use Rattle.clv_base.specs.declared.names.Point.{Point}
 use Rattle.clv_base.specs.declared.causes.AbortCause.{AbortCause}
 use Rattle.clv_base.specs.declared.ops.Op.{Op}
-use Rattle.clv_base.specs.declared.ops.Op.TheVariants.{Get, Put, Del, Scan}
+use Rattle.clv_base.specs.declared.ops.Op.TheVariants.{Get, Put, Del, Scan, Add}
 use Rattle.clv_base.specs.declared.ops.Answer.{Answer}
 use Rattle.clv_base.specs.declared.events.Event.TheVariants.{Drop}
 use Rattle.clv_base.specs.declared.events.Outcome.TheVariants.{Dead, Asked as AskedOut, Acknowledged as AcknowledgedOut, Aborted as AbortedOut, Dropped}
@@ -83,6 +83,7 @@ has_range (Get k) = true
 has_range (Put k v) = true
 has_range (Del k) = true
 has_range (Scan lo hi) = nat_le lo hi
+has_range (Add k by) = true
 
 -- active still, with these shards touched
 abbrev pub StaysActive : TxId → Birth → (ℕ → Bool) → Seen → Type 0

@@ -2,7 +2,7 @@
 use Rattle.std.specs.Prelude.{◌≡◌, ℕ, Bool, cond, List, [], ◌∷◌, ◌++◌, Option, Some, None}
 use Rattle.clv_base.specs.declared.names.TxId.{TxId}
 use Rattle.clv_base.specs.declared.ops.Op.{Op}
-use Rattle.clv_base.specs.declared.ops.Op.TheVariants.{Get, Put, Del, Scan}
+use Rattle.clv_base.specs.declared.ops.Op.TheVariants.{Get, Put, Del, Scan, Add}
 use Rattle.clv_base.specs.declared.ops.Answer.{Answer}
 use Rattle.clv_base.specs.declared.ops.Answer.TheVariants.{Pairs}
 use Rattle.clv_base.specs.declared.events.Entry.{Entry}
@@ -21,6 +21,7 @@ whole (Get k) a parts = (Get k, a)
 whole (Put k v) a parts = (Put k v, a)
 whole (Del k) a parts = (Del k, a)
 whole (Scan lo hi) a parts = (Scan lo (upper_of hi parts), Pairs (pairs_of a ++ all_pairs parts))
+whole (Add k by) a parts = (Add k by, a)
 
 -- each operation once, with its parts
 abbrev pub whole_from : Option ℕ → List Told → List (Op × Answer)

@@ -4,13 +4,14 @@ use Rattle.clv_base.specs.declared.values.Value.{Value as ValueType}
 use Rattle.clv_base.specs.declared.ops.Op.{Op}
 use Rattle.clv_base.specs.declared.ops.Op.TheVariants.{Scan}
 use Rattle.clv_base.specs.declared.ops.Answer.{Answer}
-use Rattle.clv_base.specs.declared.ops.Answer.TheVariants.{Value, Pairs}
+use Rattle.clv_base.specs.declared.ops.Answer.TheVariants.{Value, Pairs, Added}
 use Rattle.session_books.specs.declared.told.Told.{Told}
 
 -- the pairs of an answer
 abbrev pub pairs_of : Answer → List (ℕ × ValueType)
 pairs_of (Value v) = []
 pairs_of (Pairs ps) = ps
+pairs_of (Added found) = []
 
 -- the part scans of one operation: those of its number that follow it
 abbrev pub parts_of : ℕ → List Told → List Told
