@@ -4,8 +4,8 @@ use Rattle.std.specs.List.{list_all}
 use Rattle.std.proofs.lemmas.List.Folds.{list_any-append}
 use Rattle.clv_base.specs.declared.names.TxId.{TxId}
 use Rattle.clv_base.specs.declared.logs.LogRecord.{LogRecord}
-use Rattle.clv_base.specs.declared.logs.LogRecord.TheVariants.{Update, Clr, Prepare, Commit, Abort, End, Restart}
-use Rattle.clv_base.specs.Maps.{KeyMap, map_set}
+use Rattle.clv_base.specs.declared.logs.LogRecord.TheVariants.{Update, Clr, Prepare, Commit, Abort, End, Restart, Add, Unadd}
+use Rattle.clv_base.specs.Maps.{KeyMap, map_set, map_add}
 use Rattle.clv_base.specs.Logs.{committed_in, is_commit_of, fold_updates, committed_somewhere, stands_from}
 use Rattle.cluster_runs.specs.Disks.{is_undo}
 use Rattle.cluster_runs.specs.PromiseLaws.{UndoStands}
@@ -19,6 +19,7 @@ pub fold_undo :
     → fold_updates keep (log ++ more) m ≡ fold_updates keep' log m
 fold_undo keep keep' same [] [] m all = refl
 fold_undo keep keep' same [] (Clr tx u k a ∷ more) m all = fold_undo keep keep' same [] more m all
+fold_undo keep keep' same [] (Unadd tx u k by ∷ more) m all = fold_undo keep keep' same [] more m all
 fold_undo keep keep' same [] (Abort tx ∷ more) m all = fold_undo keep keep' same [] more m all
 fold_undo keep keep' same [] (Restart run epoch ∷ more) m all = fold_undo keep keep' same [] more m all
 fold_undo keep keep' same [] (Update tx k b a ∷ more) m all = absurd cc
@@ -33,17 +34,23 @@ fold_undo keep keep' same (Commit tx ps ∷ log) more m all = fold_undo keep kee
 fold_undo keep keep' same (Abort tx ∷ log) more m all = fold_undo keep keep' same log more m all
 fold_undo keep keep' same (End tx ∷ log) more m all = fold_undo keep keep' same log more m all
 fold_undo keep keep' same (Restart run epoch ∷ log) more m all = fold_undo keep keep' same log more m all
+fold_undo keep keep' same [] (Add tx k by ∷ more) m all = absurd cc
+fold_undo keep keep' same (Add tx k by ∷ log) more m all =
+    ap (λ c. fold_updates keep (log ++ more) (cond c (map_add k by m) m)) (same tx) ∙ fold_undo keep keep' same log more (cond (keep' tx) (map_add k by m) m) all
+fold_undo keep keep' same (Unadd tx u k by ∷ log) more m all = fold_undo keep keep' same log more m all
 
 -- none of them is a COMMIT
 commits_none : (t : TxId) (more : List LogRecord) → list_all is_undo more ≡ true → committed_in more t ≡ false
 commits_none t [] all = refl
 commits_none t (Clr tx u k a ∷ more) all = commits_none t more all
+commits_none t (Unadd tx u k by ∷ more) all = commits_none t more all
 commits_none t (Abort tx ∷ more) all = commits_none t more all
 commits_none t (Restart run epoch ∷ more) all = commits_none t more all
 commits_none t (Update tx k b a ∷ more) all = absurd cc
 commits_none t (Prepare tx home ps ∷ more) all = absurd cc
 commits_none t (Commit tx ps ∷ more) all = absurd cc
 commits_none t (End tx ∷ more) all = absurd cc
+commits_none t (Add tx k by ∷ more) all = absurd cc
 
 -- each transaction is committed in these logs as without them
 same_commits : (front behind : List (List LogRecord)) (log more : List LogRecord) → list_all is_undo more ≡ true → (t : TxId)

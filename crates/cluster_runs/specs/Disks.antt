@@ -1,7 +1,7 @@
 -- What the shards' disks hold when a run ends, where they tell it.
 use Rattle.std.specs.Prelude.{◌≡◌, ◌⊎◌, ℕ, ◌<◌, Bool, true, false, List, [], ◌∷◌, Option, None, IfSome}
 use Rattle.clv_base.specs.declared.logs.LogRecord.{LogRecord}
-use Rattle.clv_base.specs.declared.logs.LogRecord.TheVariants.{Update, Clr, Prepare, Commit, Abort, End, Restart}
+use Rattle.clv_base.specs.declared.logs.LogRecord.TheVariants.{Update, Clr, Prepare, Commit, Abort, End, Restart, Add, Unadd}
 use Rattle.clv_base.specs.declared.events.Event.{Event}
 use Rattle.clv_base.specs.declared.events.Event.TheVariants.{FlushIn}
 use Rattle.clv_base.specs.declared.events.Outcome.{Outcome}
@@ -57,8 +57,10 @@ UntoldAreDurable splits found h left now =
 abbrev pub is_undo : LogRecord → Bool
 is_undo (Abort tx) = true
 is_undo (Clr tx undo_next key after) = true
+is_undo (Unadd tx undo_next key by) = true
 is_undo (Restart run epoch) = true
 is_undo (Update tx key before after) = false
 is_undo (Prepare tx home predecessors) = false
 is_undo (Commit tx parts) = false
 is_undo (End tx) = false
+is_undo (Add tx key by) = false

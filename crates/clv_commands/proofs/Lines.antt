@@ -5,7 +5,7 @@ use Rattle.std.proofs.lemmas.List.{map-append}
 use Rattle.clv_base.specs.declared.values.Value.{Value as ValueType}
 use Rattle.clv_base.specs.declared.values.Value.TheVariants.{Num, Bytes}
 use Rattle.clv_base.specs.declared.ops.Op.{Op}
-use Rattle.clv_base.specs.declared.ops.Op.TheVariants.{Get, Put, Del, Scan}
+use Rattle.clv_base.specs.declared.ops.Op.TheVariants.{Get, Put, Del, Scan, Add}
 use Rattle.clv_base.specs.declared.ops.Answer.{Answer}
 use Rattle.clv_base.specs.Shards.{shard_of}
 use Rattle.law_base.proofs.Lists.{all_append}
@@ -56,6 +56,7 @@ IsOfKey (Get k) = Unit {0}
 IsOfKey (Put k v) = Unit {0}
 IsOfKey (Del k) = Unit {0}
 IsOfKey (Scan lo hi) = ⊥
+IsOfKey (Add k by) = Unit {0}
 
 fill_of_keys : (k n : ℕ) (answers : List Answer) → AllByRecursion IsOfKey (all_ops (fill k n) answers)
 fill_of_keys k zero answers = tt
@@ -99,6 +100,9 @@ one_part splits (Put k v) answer (p ∷ q ∷ ps) key ops is = absurd cc
 one_part splits (Del k) answer [] key ops is = absurd cc
 one_part splits (Del k) answer (p ∷ []) key ops is = record { ops = ops; answers = ap (λ a. a ∷ []) (sym is) }
 one_part splits (Del k) answer (p ∷ q ∷ ps) key ops is = absurd cc
+one_part splits (Add k by) answer [] key ops is = absurd cc
+one_part splits (Add k by) answer (p ∷ []) key ops is = record { ops = ops; answers = ap (λ a. a ∷ []) (sym is) }
+one_part splits (Add k by) answer (p ∷ q ∷ ps) key ops is = absurd cc
 
 pub record AreWhole (ops : List Op) (answers : List Answer) (told : List (Op × Answer)) : Type 0 where
   pub ops_are : map (λ p. p.0) told ≡ ops
@@ -119,6 +123,7 @@ one_op splits (Get k) key = refl
 one_op splits (Put k v) key = refl
 one_op splits (Del k) key = refl
 one_op splits (Scan lo hi) key = absurd key
+one_op splits (Add k by) key = refl
 
 pub parts_alone : (splits : List ℕ) (ops : List Op) → AllByRecursion IsOfKey ops → all_parts splits ops ≡ ops
 parts_alone splits [] keys = refl
