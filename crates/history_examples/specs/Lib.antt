@@ -11,6 +11,7 @@ pub mod Scans
 pub mod Histories
 pub mod Soundness
 pub mod LogRows
+pub mod Adding
 pub mod Noted
 pub mod Committed
 pub mod Reopened

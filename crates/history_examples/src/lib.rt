@@ -1,11 +1,12 @@
 //! Worked histories, so that no law speaks of nothing: lists of events and what they come to, legal histories over one and two shards for
 //! which the premises of the laws are computed (commits over both shards, crashes, restarts, openings with a transaction in doubt, a
-//! reader, waits, deaths and drops), a cut that is no moment, and a part of a history that is no cut. Each fact is the clause of a
+//! reader, waits, deaths, drops and additions), a cut that is no moment, and a part of a history that is no cut. Each fact is the clause of a
 //! function with an empty body. An example with several transactions says all that was answered, the records of each log and the live
 //! pairs of each shard. No crate stands on this one.
 #![tactic(auto)]
 
 pub mod aborted;
+pub mod adding;
 pub mod cascades;
 pub mod committed;
 pub mod crashes;

@@ -1,5 +1,5 @@
 -- The place at which an entry is put.
-use Rattle.std.proofs.Common.{◌≡◌, sym, ap, subst, ◌∙◌, ℕ, suc, ◌+◌, ◌<◌, true, false, cond, [], ◌∷◌, length, drop, get_or, drop-cons, arith}
+use Rattle.std.proofs.Common.{◌≡◌, sym, ap, subst, ◌∙◌, ℕ, suc, ◌+◌, ◌<◌, true, false, cond, ◌∷◌, length, drop, get_or, drop-cons, arith}
 use Rattle.std.specs.List.{insert}
 use Rattle.clv_base.specs.declared.events.Entry.{Entry}
 use Rattle.clv_base.specs.Core.{put_entry}

@@ -34,7 +34,9 @@ fn lies_in(splits: &Splits, shard: u32, op: &Op) -> bool
     ensures { result ≡ lies splits.now shard op.now }
 {
     match op {
-        Op::Get(key) | Op::Put(key, _) | Op::Del(key) => in_span(splits, shard, *key),
+        Op::Get(key) | Op::Put(key, _) | Op::Del(key) | Op::Add(key, _) => {
+            in_span(splits, shard, *key)
+        }
         Op::Scan(low, high) => in_span(splits, shard, *low) && in_span(splits, shard, *high),
     }
 }

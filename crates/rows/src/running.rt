@@ -69,6 +69,20 @@ const ROWS: &[Row] = &[
         ..ROW
     },
     Row {
+        shows: "additions: beyond the last number, to no value, to a text, and two that an abort takes away",
+        disks: &[(0, Given::Bytes(EMPTY))],
+        words: &["run"],
+        script: b"session\nbegin\nput 5 18446744073709551615\nadd 5 3\nget 5\nadd 9 1\ncommit\nbegin\nbytes 7 00ff\nadd 7 1\ncommit\nbegin\nadd 5 5\nadd 5 6\nabort\nbegin\nadd 5 0\nget 5\ncommit\n",
+        text: b"{\"ops\":[[\"put\",5,18446744073709551615,null],[\"add\",5,3,true],[\"get\",5,2],[\"add\",9,1,false]],\"serial\":1,\"session\":1}\n{\"ops\":[[\"put\",7,\"00ff\",null],[\"add\",7,1,false]],\"serial\":2,\"session\":1}\n{\"ops\":[[\"add\",5,0,true],[\"get\",5,2]],\"serial\":4,\"session\":1}\n{\"aborted\":1,\"acknowledged\":3,\"unsettled\":0}\n",
+        ..ROW
+    },
+    Row {
+        shows: "the sum, and the text",
+        words: &["show"],
+        text: b"[5,2]\n[7,\"00ff\"]\n",
+        ..ROW
+    },
+    Row {
         shows: "the second of two sessions",
         disks: &[(0, Given::Bytes(EMPTY))],
         words: &["run"],

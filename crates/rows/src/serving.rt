@@ -38,6 +38,21 @@ const ROWS: &[Row] = &[
         ..ROW
     },
     Row {
+        shows: "two sessions that add to one number",
+        disks: &[(0, Given::Bytes(ONE_PUT))],
+        words: &["serve", "--sessions", "2"],
+        script: b"1 begin\n2 begin\n1 add 5 3\n2 add 5 4\n1 commit\n2 commit\n",
+        text: b"[1,\"begin\",1]\n[1,\"add\",5,3,true]\n[1,\"committed\",1]\n[2,\"begin\",1]\n[2,\"add\",5,4,true]\n[2,\"committed\",1]\n",
+        meeting: b"12",
+        ..ROW
+    },
+    Row {
+        shows: "the sum of both",
+        words: &["show"],
+        text: b"[5,17]\n",
+        ..ROW
+    },
+    Row {
         shows: "two sessions, and a line of a third",
         disks: &[(0, Given::Bytes(FIRST)), (1, Given::Bytes(SECOND))],
         words: &["serve", "--sessions", "2"],

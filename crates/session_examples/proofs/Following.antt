@@ -3,6 +3,7 @@ use Rattle.std.proofs.Common.{◌≡◌, ◌∙◌, sym, ap, subst, ℕ, Bool, t
 use Rattle.clv_base.specs.declared.values.Value.{Value as ValueType}
 use Rattle.clv_base.specs.declared.names.TxId.{TxId}
 use Rattle.clv_base.specs.declared.ops.Op.{Op}
+use Rattle.clv_base.specs.declared.ops.Answer.{Answer}
 use Rattle.cluster_turns.specs.declared.shards.Shards.{Shards}
 use Rattle.cluster_turns.specs.declared.shards.Walker.{Walker}
 use Rattle.cluster_turns.specs.Walkers.{kept}
@@ -10,6 +11,7 @@ use Rattle.cluster_closing.specs.Held.{HoldsNone, FetchedNone}
 use Rattle.cluster_closing.proofs.Laws.{turns_hold_none, turns_fetch_none}
 use Rattle.cluster_turns.specs.CallTurns.{Turn, Took, entries_made}
 use Rattle.cluster_turns.proofs.Laws.{kept_grows}
+use Rattle.session_ops.specs.declared.operating.OpError.{OpError as OpFailure}
 use Rattle.session_ops.specs.declared.committing.Settled.{Settled}
 use Rattle.session_ops.specs.declared.committing.CommitError.{CommitError as CommitFailure}
 use Rattle.session_ops.specs.Committed.{CommitTold}
@@ -89,12 +91,12 @@ module _ {M S G : Type 0} (sh : Shards M S G) where
 
   -- ---- operations
 
-  pub point_later : (w v : Walker M S G) (s t : Progress) (op : Op) (key : ℕ) (r : Result (Option ValueType) OpError) → IsSession sh w s → PointCalled sh w s op key r v t → IsLater w v
-  point_later w v Idle t op key r h c = same_later w v c.1
-  point_later w v (Active p) t op key r h c = let b = h.stands.born in let k = c.told.turns b.birth b.is in turns_later w v w.clock v.clock (k.asking ++ k.leaving) c.walker.0 k.took
-  point_later w v (Worn p) t op key r h c = same_later w v c.1
-  point_later w v (Asked p home stamp) t op key r h c = same_later w v c.1
-  point_later w v (Ended p) t op key r h c = same_later w v c.1
+  pub point_later : {A : Type 0} (tells : Result Answer OpFailure → Result A OpFailure) (w v : Walker M S G) (s t : Progress) (op : Op) (key : ℕ) (r : Result A OpError) → IsSession sh w s → PointCalled tells sh w s op key r v t → IsLater w v
+  point_later tells w v Idle t op key r h c = same_later w v c.1
+  point_later tells w v (Active p) t op key r h c = let b = h.stands.born in let k = c.told.turns b.birth b.is in turns_later w v w.clock v.clock (k.asking ++ k.leaving) c.walker.0 k.took
+  point_later tells w v (Worn p) t op key r h c = same_later w v c.1
+  point_later tells w v (Asked p home stamp) t op key r h c = same_later w v c.1
+  point_later tells w v (Ended p) t op key r h c = same_later w v c.1
 
   range_later : (w v : Walker M S G) (s t : Progress) (lo hi : ℕ) (r : Result (List (ℕ × ValueType)) OpError) → IsSession sh w s → RangeCalled sh w s lo hi r v t → IsLater w v
   range_later w v Idle t lo hi r h c = same_later w v c.1

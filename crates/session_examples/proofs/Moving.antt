@@ -17,7 +17,7 @@ use Rattle.cluster_turns.specs.declared.shards.Walker.{Walker}
 use Rattle.cluster_turns.specs.Walkers.{kept}
 use Rattle.session_ops.specs.declared.operating.OpError.{OpError as OpFailure}
 use Rattle.session_ops.specs.Standing.{IsActive}
-use Rattle.session_ops.specs.Parts.{has_died}
+use Rattle.session_ops.specs.Parts.{has_died, value_in}
 use Rattle.session_ops.specs.declared.committing.Settled.{Settled}
 use Rattle.session_ops.specs.declared.committing.Settled.TheVariants.{Committed, Empty}
 use Rattle.session_ops.specs.declared.committing.CommitError.{CommitError as CommitFailure}
@@ -57,7 +57,7 @@ module _ {M S G : Type 0} (sh : Shards M S G) where
   active_is : (w : Walker M S G) (s : Progress) (p : SessionState) → IsSession sh w s → s ≡ Active p → IsActive sh w p
   active_is w s p h is = subst (StandsIn sh w) is h.stands
 
-  op_made : (w u v : Walker M S G) (s t : Progress) (op : Op) (key : ℕ) (r : Result (Option ValueType) OpError) (value : Option ValueType) (ops : List Op) (answers : List Answer) → IsSession sh u s → IsAt key op → (d : Doing sh w u s ops answers) → (m : PointMade sh u d.place op key r v t)
+  op_made : (w u v : Walker M S G) (s t : Progress) (op : Op) (key : ℕ) (r : Result (Option ValueType) OpError) (value : Option ValueType) (ops : List Op) (answers : List Answer) → IsSession sh u s → IsAt key op → (d : Doing sh w u s ops answers) → (m : PointMade value_in sh u d.place op key r v t)
       → m.answer ≡ Ok value → Doing sh w v t (ops ++ op ∷ []) (answers ++ Value value ∷ [])
   op_made w u v s t op key r value ops answers h is_at d m is =
       let p = d.place in
@@ -84,30 +84,30 @@ module _ {M S G : Type 0} (sh : Shards M S G) where
       }
 
   -- of the active transaction that the call found
-  at_place : (w u v : Walker M S G) (s t : Progress) (op : Op) (key : ℕ) (r : Result (Option ValueType) OpError) (ops : List Op) (answers : List Answer) (d : Doing sh w u s ops answers) → PointCalled sh u s op key r v t → PointMade sh u d.place op key r v t
-  at_place w u v s t op key r ops answers d c = subst (λ x. PointCalled sh u x op key r v t) d.is c
+  at_place : (w u v : Walker M S G) (s t : Progress) (op : Op) (key : ℕ) (r : Result (Option ValueType) OpError) (ops : List Op) (answers : List Answer) (d : Doing sh w u s ops answers) → PointCalled value_in sh u s op key r v t → PointMade value_in sh u d.place op key r v t
+  at_place w u v s t op key r ops answers d c = subst (λ x. PointCalled value_in sh u x op key r v t) d.is c
 
   -- a key that was read
-  value_by : (w u v : Walker M S G) (s t : Progress) (key : ℕ) (r : Result (Option ValueType) OpError) (ops : List Op) (answers : List Answer) → IsSession sh u s → (d : Doing sh w u s ops answers) → (m : PointMade sh u d.place (Get key) key r v t)
+  value_by : (w u v : Walker M S G) (s t : Progress) (key : ℕ) (r : Result (Option ValueType) OpError) (ops : List Op) (answers : List Answer) → IsSession sh u s → (d : Doing sh w u s ops answers) → (m : PointMade value_in sh u d.place (Get key) key r v t)
       → (e : Result (Option ValueType) OpFailure) → m.answer ≡ e → IfOk (value_end key e) (λ value. Doing sh w v t (ops ++ Get key ∷ []) (answers ++ Value (Some (Num value)) ∷ []))
   value_by w u v s t key r ops answers h d m (Ok (Some (Num n))) is = op_made w u v s t (Get key) key r (Some (Num n)) ops answers h gets d m is
   value_by w u v s t key r ops answers h d m (Ok (Some (Bytes bytes))) is = tt
   value_by w u v s t key r ops answers h d m (Ok None) is = tt
   value_by w u v s t key r ops answers h d m (Err e) is = tt
 
-  pub value_done : (w u v : Walker M S G) (s t : Progress) (key : ℕ) (r : Result (Option ValueType) OpError) (x : Result ℕ Failure) (ops : List Op) (answers : List Answer) → IsSession sh u s → PointCalled sh u s (Get key) key r v t
+  pub value_done : (w u v : Walker M S G) (s t : Progress) (key : ℕ) (r : Result (Option ValueType) OpError) (x : Result ℕ Failure) (ops : List Op) (answers : List Answer) → IsSession sh u s → PointCalled value_in sh u s (Get key) key r v t
       → ((e : Result (Option ValueType) OpFailure) → r ≡ answer_told e → x ≡ value_end key e) → Doing sh w u s ops answers → IfOk x (λ value. Doing sh w v t (ops ++ Get key ∷ []) (answers ++ Value (Some (Num value)) ∷ []))
   value_done w u v s t key r x ops answers h c told d =
       let m = at_place w u v s t (Get key) key r ops answers d c in
       subst (λ y. IfOk y (λ value. Doing sh w v t (ops ++ Get key ∷ []) (answers ++ Value (Some (Num value)) ∷ []))) (sym (told m.answer m.is)) (value_by w u v s t key r ops answers h d m m.answer refl)
 
   -- one that was written
-  written_by : (w u v : Walker M S G) (s t : Progress) (key : ℕ) (value : ValueType) (r : Result (Option ValueType) OpError) (ops : List Op) (answers : List Answer) → IsSession sh u s → (d : Doing sh w u s ops answers) → (m : PointMade sh u d.place (Put key value) key r v t)
+  written_by : (w u v : Walker M S G) (s t : Progress) (key : ℕ) (value : ValueType) (r : Result (Option ValueType) OpError) (ops : List Op) (answers : List Answer) → IsSession sh u s → (d : Doing sh w u s ops answers) → (m : PointMade value_in sh u d.place (Put key value) key r v t)
       → (e : Result (Option ValueType) OpFailure) → m.answer ≡ e → IfOk (written_end e) (λ u. (before : Option ValueType) × Doing sh w v t (ops ++ Put key value ∷ []) (answers ++ Value before ∷ []))
   written_by w u v s t key value r ops answers h d m (Ok before) is = (before, op_made w u v s t (Put key value) key r before ops answers h (puts value) d m is)
   written_by w u v s t key value r ops answers h d m (Err e) is = tt
 
-  pub written_done : (w u v : Walker M S G) (s t : Progress) (key : ℕ) (value : ValueType) (r : Result (Option ValueType) OpError) (x : Result Unit Failure) (ops : List Op) (answers : List Answer) → IsSession sh u s → PointCalled sh u s (Put key value) key r v t
+  pub written_done : (w u v : Walker M S G) (s t : Progress) (key : ℕ) (value : ValueType) (r : Result (Option ValueType) OpError) (x : Result Unit Failure) (ops : List Op) (answers : List Answer) → IsSession sh u s → PointCalled value_in sh u s (Put key value) key r v t
       → ((e : Result (Option ValueType) OpFailure) → r ≡ answer_told e → x ≡ written_end e) → Doing sh w u s ops answers → IfOk x (λ u. (before : Option ValueType) × Doing sh w v t (ops ++ Put key value ∷ []) (answers ++ Value before ∷ []))
   written_done w u v s t key value r x ops answers h c told d =
       let m = at_place w u v s t (Put key value) key r ops answers d c in

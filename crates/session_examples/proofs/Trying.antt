@@ -20,7 +20,7 @@ use Rattle.machine_calls.specs.declared.machine.StepError.TheVariants as step
 use Rattle.cluster_turns.specs.CallTurns.{Turn}
 use Rattle.session_ops.specs.declared.operating.OpError.{OpError as OpFailure}
 use Rattle.session_ops.specs.declared.operating.OpError.TheVariants as op
-use Rattle.session_ops.specs.Parts.{has_died}
+use Rattle.session_ops.specs.Parts.{has_died, value_in}
 use Rattle.session_ops.specs.declared.settled_looking.SettleError.{SettleError}
 use Rattle.session_ops.specs.declared.settled_looking.SettleError.TheVariants as settle
 use Rattle.session_ops.specs.declared.committing.Settled.{Settled}
@@ -148,28 +148,28 @@ module _ {M S G : Type 0} (sh : Shards M S G) where
 
   -- ---- the active transaction
 
-  point_is : (w v : Walker M S G) (s t : Progress) (o : Op) (key : ℕ) (r : Result (Option ValueType) OpError) → is_open s ≡ true → PointCalled sh w s o key r v t → (p : SessionState) × (s ≡ Active p) × PointMade sh w p o key r v t
+  point_is : (w v : Walker M S G) (s t : Progress) (o : Op) (key : ℕ) (r : Result (Option ValueType) OpError) → is_open s ≡ true → PointCalled value_in sh w s o key r v t → (p : SessionState) × (s ≡ Active p) × PointMade value_in sh w p o key r v t
   point_is w v Idle t o key r h c = absurd (both_ways false refl h)
   point_is w v (Active p) t o key r h c = (p, refl, c)
   point_is w v (Worn p) t o key r h c = absurd (both_ways false refl h)
   point_is w v (Asked p home stamp) t o key r h c = absurd (both_ways false refl h)
   point_is w v (Ended p) t o key r h c = absurd (both_ways false refl h)
 
-  pub look_goes : (w v : Walker M S G) (s t : Progress) (key : ℕ) (r : Result (Option ValueType) OpError) (x : Result ℕ Failure) → is_open s ≡ true → PointCalled sh w s (Get key) key r v t
+  pub look_goes : (w v : Walker M S G) (s t : Progress) (key : ℕ) (r : Result (Option ValueType) OpError) (x : Result ℕ Failure) → is_open s ≡ true → PointCalled value_in sh w s (Get key) key r v t
       → ((e : Result (Option ValueType) OpFailure) → r ≡ answer_told e → x ≡ value_end key e) → GoesOnAs x t
   look_goes w v s t key r x h c told =
       let k = point_is w v s t (Get key) key r h c in
       let m = k.2 in
       subst (λ y. GoesOnAs y t) (sym (told m.answer m.is)) (subst (GoesOnAs (value_end key m.answer)) (sym m.then) (value_goes key m.place m.answer))
 
-  pub write_goes : (w v : Walker M S G) (s t : Progress) (key : ℕ) (value : ValueType) (r : Result (Option ValueType) OpError) (x : Result Unit Failure) → is_open s ≡ true → PointCalled sh w s (Put key value) key r v t
+  pub write_goes : (w v : Walker M S G) (s t : Progress) (key : ℕ) (value : ValueType) (r : Result (Option ValueType) OpError) (x : Result Unit Failure) → is_open s ≡ true → PointCalled value_in sh w s (Put key value) key r v t
       → ((e : Result (Option ValueType) OpFailure) → r ≡ answer_told e → x ≡ written_end e) → GoesOnAs x t
   write_goes w v s t key value r x h c told =
       let k = point_is w v s t (Put key value) key r h c in
       let m = k.2 in
       subst (λ y. GoesOnAs y t) (sym (told m.answer m.is)) (subst (GoesOnAs (written_end m.answer)) (sym m.then) (written_goes m.place m.answer))
 
-  pub point_told : (w v : Walker M S G) (s t : Progress) (o : Op) (key : ℕ) (r : Result (Option ValueType) OpError) → is_open s ≡ true → PointCalled sh w s o key r v t → (e : Result (Option ValueType) OpFailure) × (r ≡ answer_told e)
+  pub point_told : (w v : Walker M S G) (s t : Progress) (o : Op) (key : ℕ) (r : Result (Option ValueType) OpError) → is_open s ≡ true → PointCalled value_in sh w s o key r v t → (e : Result (Option ValueType) OpFailure) × (r ≡ answer_told e)
   point_told w v s t o key r h c = let k = point_is w v s t o key r h c in let m = k.2 in (m.answer, m.is)
 
   commit_is : (w v : Walker M S G) (s t : Progress) (r : Result Settled CommitError) → is_open s ≡ true → CommitCalled sh w s r v t → (p : SessionState) × (s ≡ Active p) × CommitMade sh w p r v t

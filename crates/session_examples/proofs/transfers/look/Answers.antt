@@ -1,4 +1,5 @@
 use Rattle.clv_base.specs.declared.ops.Op.TheVariants.{Get}
+use Rattle.session_ops.specs.Parts.{value_in}
 use Rattle.session_examples.proofs.Following.{point_later}
 use Rattle.session_examples.proofs.Trying.{point_told, look_goes}
 use Rattle.session_examples.proofs.Moving.{value_done}
@@ -10,7 +11,7 @@ value_at-requires g c = let s = c.args.session.now in let z = c.get-answer.new.s
 
 pub returns-clause-later : goal.returns-clause-later
 returns-clause-later g c = let s = c.args.session.now in let z = c.get-answer.new.self in
-    point_later s.shards.now s.walker z.walker s.progress z.progress (Get c.args.key) c.args.key c.get-answer.result c.requires.session c.get-answer.ensures.told
+    point_later s.shards.now value_in s.walker z.walker s.progress z.progress (Get c.args.key) c.args.key c.get-answer.result c.requires.session c.get-answer.ensures.told
 
 pub returns-clause-goes : goal.returns-clause-goes
 returns-clause-goes g c = let s = c.args.session.now in let z = c.get-answer.new.self in
