@@ -73,6 +73,26 @@ put 1 8
 put 12 8
 abort
 """
+# Sessions that add beside each other on two shards, and end in each way.
+ADDITIONS = b"""session
+begin
+add 2 1
+add 14 1
+commit
+begin
+add 2 10
+put 3 1
+abort
+session
+begin
+add 14 2
+add 2 2
+commit
+begin
+add 14 20
+add 5 20
+commit
+"""
 # Sessions that meet on one shard, and end in each way.
 ONE_SHARD = b"""session
 begin
@@ -107,6 +127,7 @@ SCRIPTS = [
     ("one shard", (), b"", ONE_SHARD),
     ("two shards", (10,), FILLING, TWO_SHARDS),
     ("three shards", (10, 20), b"", THREE_SHARDS),
+    ("additions", (10,), FILLING, ADDITIONS),
 ]
 
 # What ONE_PUT reports where its Nth call of a kind fails, and what may stand then.
@@ -151,7 +172,7 @@ class Reported:
     def lost(self, files, run):
         """Acknowledged transactions that wrote, and aren't committed in these logs."""
         there = {it for facts in logs.opened(files)[1] for it in facts.committed}
-        writing = [it for it in self.lines if any(op[0] == "put" or (op[0] == "del" and op[-1] is not None) for op in it["ops"])]
+        writing = [it for it in self.lines if any(op[0] == "put" or (op[0] == "del" and op[-1] is not None) or (op[0] == "add" and op[-1]) for op in it["ops"])]
         return [it for it in writing if (run, it["session"], it["serial"]) not in there]
 
 
@@ -401,7 +422,7 @@ def crowd(numbers):
             for key in numbers.sample(range(30), numbers.randrange(1, 4)):
                 value += 1
                 put = f"put {key} {value}"
-                lines.append(numbers.choice((put, put, f"get {key}", f"scan {key} {key + 5}")))
+                lines.append(numbers.choice((put, put, f"add {key} {value}", f"get {key}", f"scan {key} {key + 5}")))
             lines.append(numbers.choice(("commit", "commit", "commit", "abort")))
     return reports.script_of(lines)
 

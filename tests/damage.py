@@ -40,13 +40,13 @@ def hexadecimal(files):
 
 
 def undone(facts):
-    """What an opening adds to a log up to its RESTART: ABORTs of the losers, rising, and their CLRs, the last UPDATE first."""
+    """What an opening adds to a log up to its RESTART: ABORTs of the losers, rising, and their CLRs and UNADDs, the last record first."""
     losers = facts.losers()
     yield from (("ABORT", it) for it in losers if it not in facts.aborted)
     for lsn in sorted((lsn for it in losers for lsn in facts.open[it]), reverse=True):
-        _, transaction, key, before, _ = facts.records[lsn]
+        kind, transaction, key, was = facts.records[lsn][:4]
         earlier = [it for it in facts.open[transaction] if it < lsn]
-        yield ("CLR", transaction, earlier[-1] if earlier else None, key, before)
+        yield ("CLR" if kind == "UPDATE" else "UNADD", transaction, earlier[-1] if earlier else None, key, was)
 
 
 def wrong_in_growth(old, new, run):
@@ -56,7 +56,7 @@ def wrong_in_growth(old, new, run):
     added, decided = new.records[count : count + len(restart)], new.records[count + len(restart) :]
     if new.records[:count] != old.records or added != restart:
         return f"an opening adds {restart}, and this one added {added}"
-    if any(it[0] not in ("COMMIT", "ABORT", "CLR", "END") for it in decided):
+    if any(it[0] not in ("COMMIT", "ABORT", "CLR", "UNADD", "END") for it in decided):
         return f"behind it stand {decided}"
     if any(new.is_in_doubt(it) for it in new.prepared):
         return "something is in doubt yet"
@@ -124,6 +124,47 @@ def undoes_doubt_over_a_loser(checks, folder):
     checks.check("in doubt over a loser: records", found == want, found)
 
 
+def takes_sums_apart(checks, folder):
+    """Losers that added below others' ADDs, in a log with one put; and records that break the rules of ADDs."""
+    third = (1, 1, 3)
+    start = [RESTART, update(FIRST, 5, None, 100), ("COMMIT", FIRST, ())]
+    records = [*start, ("ADD", SECOND, 5, 7), ("ADD", third, 5, logs.BEYOND - 1), ("ADD", SECOND, 5, 2), ("COMMIT", third, ())]
+    folder.put([logs.log(0, [], [records])])
+    got = folder.run("show")
+    checks.check("losers that added: show", got.is_fine() and got.out == "[5,99]\n", got)
+    found = logs.opened(folder.logs())[1][0].records[len(records) :]
+    want = [("ABORT", SECOND), ("UNADD", SECOND, 3, 5, 2), ("UNADD", SECOND, None, 5, 7), ("RESTART", 2, 0)]
+    checks.check("losers that added: records", found == want, found)
+    prepared = [*start, ("ADD", SECOND, 5, 7), ("PREPARE", SECOND, 0, ())]
+    under = [RESTART, update(FIRST, 5, None, 1), ("PREPARE", FIRST, 0, ())]
+    wrong = {
+        "an ADD of no value": [RESTART, ("ADD", FIRST, 5, 1)],
+        "an ADD of a text": [RESTART, update(FIRST, 5, None, b"a"), ("ADD", FIRST, 5, 1)],
+        "an ADD over an open UPDATE": [RESTART, update(FIRST, 5, None, 1), ("ADD", SECOND, 5, 1)],
+        "an UPDATE over an open ADD": [*start, ("ADD", SECOND, 5, 7), update(third, 5, 107, 1)],
+        "an UPDATE with a value before that leaves an ADD out": [*prepared, update(third, 5, 100, 1)],
+        "an UNADD of another number": [*start, ("ADD", SECOND, 5, 7), ("ABORT", SECOND), ("UNADD", SECOND, None, 5, 6)],
+        "an UNADD without an ABORT": [*start, ("ADD", SECOND, 5, 7), ("UNADD", SECOND, None, 5, 7)],
+        "an UNADD below an UPDATE": [*prepared, update(third, 5, 107, 1), ("ABORT", SECOND), ("UNADD", SECOND, None, 5, 7)],
+        "a CLR of an ADD": [*start, ("ADD", SECOND, 5, 7), ("ABORT", SECOND), ("CLR", SECOND, None, 5, 100)],
+        "a CLR below an ADD": [*under, ("ADD", SECOND, 5, 1), ("ABORT", FIRST), ("CLR", FIRST, None, 5, None)],
+        "a COMMIT over an ADD without one": [*prepared, update(third, 5, 107, 1), ("COMMIT", third, ())],
+        "a PREPARE that leaves an ADD out": [*prepared, update(third, 5, 107, 1), ("PREPARE", third, 0, ())],
+    }
+    for name, records in wrong.items():
+        judge(checks, folder, name, [logs.log(0, [], [records])])
+        checks.check(f"{name}: by logs.py", expected([logs.log(0, [], [records])])[0] is not None)
+    right = {
+        "ADDs beside each other": [*start, ("ADD", SECOND, 5, 7), ("ADD", third, 5, 8), ("COMMIT", third, ()), ("COMMIT", SECOND, ())],
+        "an UNADD below an ADD": [*start, ("ADD", SECOND, 5, 7), ("ADD", third, 5, 8), ("ABORT", SECOND), ("UNADD", SECOND, None, 5, 7)],
+        "an UPDATE over a listed ADD": [*prepared, update(third, 5, 107, 1), ("PREPARE", third, 0, (SECOND,))],
+        "an own UPDATE over an own ADD": [*start, ("ADD", SECOND, 5, 7), update(SECOND, 5, 107, 1), ("COMMIT", SECOND, ())],
+    }
+    for name, records in right.items():
+        judge(checks, folder, name, [logs.log(0, [], [records])])
+        checks.check(f"{name}: by logs.py", expected([logs.log(0, [], [records])])[0] is None)
+
+
 def commits_what_its_home_committed(checks, folder):
     """In doubt here, and committed at home: the opening learns it, and writes COMMIT here and END there."""
     home = [RESTART, update(FIRST, 1, None, 7), ("PREPARE", FIRST, 0, ()), ("COMMIT", FIRST, (1,))]
@@ -179,7 +220,7 @@ def misses_a_file(checks, folder):
 
 
 def rows(checks, program):
-    for row in (undoes_doubt_over_a_loser, commits_what_its_home_committed, refuses_counts, reads_the_longest_batch, misses_a_file):
+    for row in (undoes_doubt_over_a_loser, takes_sums_apart, commits_what_its_home_committed, refuses_counts, reads_the_longest_batch, misses_a_file):
         with Folder(program) as folder:
             row(checks, folder)
 
@@ -291,7 +332,7 @@ def record_at(numbers, facts, shards, names, keys):
     """A record that may be allowed next."""
     name, key, run = numbers.choice(names), numbers.choice(keys), facts.restarts[-1][0]
     mine = facts.open.get(name, [])
-    last = facts.records[mine[-1]] if mine else None
+    last, undo_next = facts.records[mine[-1]] if mine else None, mine[-2] if len(mine) > 1 else None
     below = facts.below(name)
     undecided = sorted(it for it in facts.prepared if it != name and not facts.is_decided(it))
     listed = tuple(it for it in undecided if it in below or numbers.random() < 0.2)
@@ -306,7 +347,10 @@ def record_at(numbers, facts, shards, names, keys):
         ("COMMIT", name, parts),
         ("ABORT", name),
         ("END", name),
-        ("CLR", name, mine[-2] if len(mine) > 1 else None, last[2] if last else key, last[3] if last else None),
+        ("CLR", name, undo_next, last[2] if last else key, last[3] if last and last[0] == "UPDATE" else None),
+        ("UNADD", name, undo_next, last[2] if last else key, last[3] if last and last[0] == "ADD" else 0),
+        ("ADD", latest, key, numbers.choice((1, 2, logs.BEYOND - 1))),
+        ("ADD", latest, key, numbers.choice((1, 2, logs.BEYOND - 1))),
         ("RESTART", run + numbers.randrange(2), numbers.randrange(3)),
     ]
     return numbers.choice(kinds)
@@ -374,7 +418,8 @@ def script_at(numbers, keys):
             for _ in range(numbers.randrange(1, 6)):
                 key = numbers.choice(keys)
                 put = f"put {key} {numbers.randrange(9)}"
-                lines.append(numbers.choice((put, put, f"del {key}", f"get {key}", f"scan {min(keys)} {max(keys)}")))
+                add = f"add {key} {numbers.randrange(9)}"
+                lines.append(numbers.choice((put, put, add, add, f"del {key}", f"get {key}", f"scan {min(keys)} {max(keys)}")))
             lines.append(numbers.choice(("commit", "commit", "commit", "abort")))
     return reports.script_of(lines)
 

@@ -6,9 +6,10 @@ these pairs, with values of this round alone; now and then a run ends, most are 
 random. What must hold after each round:
 
 - the logs may be opened, and `show`, which now and then is killed first, ends with status 0 and tells what they stand for;
-- transfers between accounts, all over the shards, leave their sum;
+- transfers between accounts, all over the shards, by moves and by additions, leave their sum;
 - pairs of keys on two shards, which each transaction writes alike, are alike;
 - of the keys that a session writes one transaction after another, those with a value of this round are the first ones;
+- two counts, to which each of these transactions adds one, have grown by one for each such key;
 - what a round has left under a key that is its own stays there in all later ones;
 - a run that ended has reported a serial run from what stood before, and what it led to stands until the next round.
 """
@@ -50,6 +51,10 @@ class Places:
         """The key that a session's transaction of this number writes."""
         return self.key(200 + TRANSACTIONS * session + number)
 
+    def counts(self):
+        """Two keys, on two shards where there are two, to which each transaction of a chain adds one."""
+        return self.key(300), self.key(301)
+
     def mark(self, value):
         """The key that the round of this value writes alone, at its end."""
         return self.key(400 + value)
@@ -58,7 +63,7 @@ class Places:
 def filling(places):
     """A script that puts all pairs there."""
     keys = [places.account(it) for it in range(ACCOUNTS)]
-    lines = [f"put {it} {BALANCE}" for it in keys] + [f"put {places.mark(it)} 0" for it in range(1, ROUNDS + 1)]
+    lines = [f"put {it} {BALANCE}" for it in keys] + [f"put {places.mark(it)} 0" for it in range(1, ROUNDS + 1)] + [f"put {it} 0" for it in places.counts()]
     for session in range(SESSIONS):
         zeros = [*places.twins(session), *(places.chain(session, it) for it in range(TRANSACTIONS))]
         lines += [f"put {it} 0" for it in zeros]
@@ -66,13 +71,14 @@ def filling(places):
 
 
 def transfers(numbers, places, session, number, value):
-    """A transfer with the session's twins, which others may make die, and then a link of its chain, which nobody meets."""
-    source, target = numbers.sample(range(ACCOUNTS), 2)
+    """A transfer with the session's twins, which others may make die, and then a link of its chain, which nobody meets, but beside others at the counts."""
+    source, target = map(places.account, numbers.sample(range(ACCOUNTS), 2))
+    amount = numbers.randrange(1, 40)
     yield "begin"
-    yield f"move {places.account(source)} {places.account(target)} {numbers.randrange(1, 40)}"
+    yield from numbers.choice(([f"move {source} {target} {amount}"], [f"add {source} {logs.BEYOND - amount}", f"add {target} {amount}"]))
     yield from (f"put {it} {value}" for it in places.twins(session))
     yield numbers.choice(("commit", "commit", "commit", "abort"))
-    yield from ("begin", f"put {places.chain(session, number)} {value}", "commit")
+    yield from ("begin", f"put {places.chain(session, number)} {value}", *(f"add {it} 1" for it in places.counts()), "commit")
 
 
 def round_at(numbers, places, value):
@@ -104,7 +110,7 @@ def killed(folder, words, script, growth):
 
 def wrong_in(pairs, places, value):
     """What isn't as whole transactions leave it, after a round of this value; None where all is well."""
-    total = sum(pairs[places.account(it)] for it in range(ACCOUNTS))
+    total = sum(pairs[places.account(it)] for it in range(ACCOUNTS)) % logs.BEYOND
     if total != ACCOUNTS * BALANCE:
         return f"the accounts hold {total}"
     for session in range(SESSIONS):
@@ -120,6 +126,12 @@ def wrong_in(pairs, places, value):
 def marks(pairs, places, value):
     """What stands under the keys of the rounds up to this one."""
     return [pairs[places.mark(it)] for it in range(1, value + 1)]
+
+
+def counted(before, after, places, value):
+    """Whether each count has grown by the links of all chains that were written in the round of this value."""
+    links = sum(after[places.chain(session, it)] == value for session in range(SESSIONS) for it in range(TRANSACTIONS))
+    return [after[it] for it in places.counts()] == [before[it] + links for it in places.counts()]
 
 
 def judges(checks, name, case, folder, places, value, script):
@@ -170,6 +182,7 @@ def rounds(checks, case, numbers, program):
                 break
             kept = marks(after, places, value - 1)
             checks.check(f"{name}: what earlier rounds left", kept == marks(pairs, places, value - 1), kept, script, case)
+            checks.check(f"{name}: the counts", counted(pairs, after, places, value), (pairs, after), script, case)
             if got.status == 0:
                 ended(checks, name, case, got, script, pairs, after)
             pairs = after

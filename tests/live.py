@@ -150,6 +150,28 @@ TRANSCRIPT = [
     ("7 scan 8 20", [7, "scan", 8, 20, [[9, "0d0a"], [11, 6], [13, ""]]]),
     ("7 del 13", [7, "del", 13, ""]),
     ("7 commit", [7, "committed", 1]),
+    # Those that add to a number don't wait for each other, and one that is aborted takes its own away; who reads the sum may not.
+    ("8 add 14 1", refused(8, "no transaction is active")),
+    ("8 begin", [8, "begin", 1]),
+    ("8 add 14 1", [8, "add", 14, 1, False]),
+    ("8 put 14 18446744073709551615", [8, "put", 14, 18446744073709551615, None]),
+    ("8 add 14", refused(8, "no request")),
+    ("8 add 14 -1", refused(8, "no request")),
+    ("8 add 14 18446744073709551616", refused(8, "no request")),
+    ("8 commit", [8, "committed", 1]),
+    ("8 begin", [8, "begin", 2]),
+    ("9 begin", [9, "begin", 1]),
+    ("8 add 14 3", [8, "add", 14, 3, True]),
+    ("9 add 14 5", [9, "add", 14, 5, True]),
+    ("8 get 14", [8, "aborted", "died", [1, 9, 1]]),
+    ("8 retry", [8, "begin", 3]),
+    ("8 add 14 6", [8, "add", 14, 6, True]),
+    ("8 commit", [8, "committed", 3]),
+    ("9 add 9 1", [9, "add", 9, 1, False]),
+    ("9 abort", [9, "aborted", "asked"]),
+    ("9 begin", [9, "begin", 2]),
+    ("9 get 14", [9, "get", 14, 5]),
+    ("9 commit", [9, "committed", 2]),
 ]
 
 
@@ -173,7 +195,7 @@ def transcript(checks, program):
         status, left, err = live.end()
         checks.check("end of input", (status, left, err) == (0, [], ""), (status, left, err))
         shown = folder.run("show")
-        checks.check("what stands", shown.out == "[1,100]\n[5,2]\n[8,1]\n[9,\"0d0a\"]\n[11,6]\n", shown)
+        checks.check("what stands", shown.out == "[1,100]\n[5,2]\n[8,1]\n[9,\"0d0a\"]\n[11,6]\n[14,5]\n", shown)
 
 
 def whole_input(checks, program):
@@ -384,11 +406,25 @@ def sends_ahead_and_leaves(checks, program):
 # Clients at random.
 
 
-class Client:
-    """A client's transactions: what it was answered, and whether it was told that they are committed. Each value that is put is another one."""
+class Powers:
+    """The powers of two below 2^64, each given once, to whichever thread asks for it."""
 
-    def __init__(self, number):
-        self.number, self.value = number, 0
+    def __init__(self):
+        self.lock, self.left = threading.Lock(), [1 << it for it in range(64)]
+
+    def __next__(self):
+        with self.lock:
+            if not self.left:
+                raise StopIteration
+            return self.left.pop()
+
+
+class Client:
+    """A client's transactions: what it was answered, and whether it was told that they are committed. Each value that is put is another one. What is added to a counter
+    is another power of two each time, so that a sum tells who has added."""
+
+    def __init__(self, number, powers):
+        self.number, self.value, self.powers = number, 0, powers
         self.committed, self.unknown = [], []
 
     def fresh(self):
@@ -400,6 +436,10 @@ class Client:
     def one(self, session, numbers, keys):
         """One transaction, tried until it is committed; its operations with their answers."""
         plan = [(numbers.choice(("get", "put", "put", "scan")), numbers.choice(keys), numbers.choice(keys)) for _ in range(numbers.randrange(1, 6))]
+        for _ in range(numbers.choice((0, 1, 1, 2))):
+            counter = numbers.choice(list(self.powers))
+            power = next(self.powers[counter], None)
+            plan.insert(numbers.randrange(len(plan) + 1), ("add", counter, power) if power else ("get", counter, None))
         done = []
 
         def work(t):
@@ -410,13 +450,17 @@ class Client:
                 elif word == "put":
                     value = self.fresh()
                     done.append(("put", key, value, t.put(key, value)))
+                elif word == "add":
+                    done.append(("add", key, other, t.add(key, other)))
                 else:
                     low, high = min(key, other), max(key, other)
                     done.append(("scan", low, high, t.scan(low, high)))
 
         if numbers.random() < 0.1:
             # It is left, and nothing of it is done.
-            session.run(lambda t: (t.put(keys[0], self.fresh()), t.abort()))
+            counter = next(iter(self.powers))
+            power = next(self.powers[counter], 0)
+            session.run(lambda t: (t.add(counter, power), t.put(keys[0], self.fresh()), t.abort()))
         session.run(work)
         self.committed.append(list(done))
 
@@ -449,10 +493,34 @@ def versions(transactions):
     return chains, makers
 
 
-def reads(done):
-    """What a transaction found that it didn't put itself: keys and values."""
+def sums(done, counters):
+    """What a transaction found at counters beside what it added itself."""
+    own, all_own = dict.fromkeys(counters, 0), dict.fromkeys(counters, 0)
+    for op in done:
+        if op[0] == "add":
+            all_own[op[1]] += op[2]
+    for op in done:
+        if op[0] == "add":
+            own[op[1]] += op[2]
+            if not op[3]:
+                raise Wrong(f"{op}, and there is a number")
+            continue
+        found = {op[1]: op[2]} if op[0] == "get" else dict(op[3]) if op[0] == "scan" else {}
+        for key in counters:
+            if op[0] == "scan" and op[1] <= key <= op[2] and key not in found:
+                raise Wrong(f"{op} without the counter {key}")
+            if key in found:
+                if found[key] & all_own[key] != own[key]:
+                    raise Wrong(f"{op} behind its own {own[key]} at {key}")
+                yield key, found[key] - own[key]
+
+
+def reads(done, counters):
+    """What a transaction found that it didn't put itself, but at counters: keys and values."""
     own = {}
     for op in done:
+        if op[0] == "add" or (op[0] == "get" and op[1] in counters):
+            continue
         if op[0] == "put":
             _, key, value, before = op
             if key not in own:
@@ -466,7 +534,7 @@ def reads(done):
             elif own[op[1]] != op[2]:
                 raise Wrong(f"{op} behind its own {own[op[1]]}")
         else:
-            found = dict(op[3])
+            found = {key: value for key, value in op[3] if key not in counters}
             for key in (*found, *(it for it in own if op[1] <= it <= op[2])):
                 if key in own and found.get(key) != own[key]:
                     raise Wrong(f"{op} behind its own {own[key]} at {key}")
@@ -474,7 +542,7 @@ def reads(done):
                     yield key, found[key]
 
 
-def order(transactions, sessions, keys):
+def order(transactions, sessions, keys, counters):
     """Whether some order of them gives each answer: edges from who comes first, and none leads back. Gives the map at its end."""
     chains, makers = versions(transactions)
     later = {number: set() for number in range(len(transactions))}
@@ -485,7 +553,7 @@ def order(transactions, sessions, keys):
 
     places = {(key, value): at for key, chain in chains.items() for at, value in enumerate(chain)}
     for number, done in enumerate(transactions):
-        found = list(reads(done))
+        found = list(reads(done, counters))
         for op in done:
             if op[0] == "scan":
                 there = {it for it, _ in op[3]}
@@ -502,6 +570,13 @@ def order(transactions, sessions, keys):
                 nth += 1
             if nth < len(chain):
                 edge(number, makers[chain[nth]])
+    adders = {counter: {op[2]: number for number, done in enumerate(transactions) for op in done if op[:2] == ("add", counter)} for counter in counters}
+    for number, done in enumerate(transactions):
+        for key, value in sums(done, counters):
+            if value & ~sum(adders[key]):
+                raise Wrong(f"{value} at {key}, of which some was never added")
+            for power, adder in adders[key].items():
+                edge(*((adder, number) if value & power else (number, adder)))
     for chain in chains.values():
         for one, other in zip(chain, chain[1:]):
             edge(makers[one], makers[other])
@@ -522,17 +597,20 @@ def order(transactions, sessions, keys):
                 ready.append(it)
     if passed != len(transactions):
         raise Wrong(f"no order of {len(transactions) - passed} of {len(transactions)} transactions gives their answers")
-    return {key: logs.told(chain[-1]) for key, chain in chains.items()}
+    return {key: logs.told(chain[-1]) for key, chain in chains.items()} | {key: sum(powers) for key, powers in adders.items()}
 
 
 def meets(checks, case, numbers, program):
-    """Clients that meet on a few keys."""
+    """Clients that meet on a few keys, and at one or two counters."""
     splits = sorted(numbers.sample(range(1, 20), numbers.randrange(4)))
-    keys = numbers.sample(range(20), numbers.randrange(3, 10))
-    clients = [Client(it + 1) for it in range(numbers.randrange(2, 9))]
+    keys = numbers.sample(range(20), numbers.randrange(4, 12))
+    counters = [keys.pop() for _ in range(numbers.randrange(1, 3))]
+    powers = {it: Powers() for it in counters}
+    clients = [Client(it + 1, powers) for it in range(numbers.randrange(2, 9))]
     each = numbers.randrange(5, 40)
     with Folder(program) as folder:
         folder.run("make", *map(str, splits))
+        folder.run("serve", script="\n".join(["1 begin", *(f"1 put {it} 0" for it in counters), "1 commit\n"]).encode())
         store = clv.Store(os.path.abspath(program), folder.path, len(clients), stderr=subprocess.PIPE)
         wrong = []
 
@@ -561,7 +639,7 @@ def meets(checks, case, numbers, program):
             sessions.append(list(range(len(transactions), len(transactions) + len(client.committed))))
             transactions += client.committed
         try:
-            after = order(transactions, sessions, keys)
+            after = order(transactions, sessions, keys, counters)
         except Wrong as why:
             checks.check(f"case {case}: an order", False, why, None, case)
             return
@@ -616,7 +694,8 @@ def goes_away(checks, case, numbers, program):
 
 
 def twins(t, client, nth, source, target):
-    """Two keys of the client's own, on shards of their own, get the number; and an account of all gives another one something."""
+    """Two keys of the client's own, on shards of their own, get the number, all count together, and an account of all gives another one something."""
+    t.add(COUNTER, 1)
     t.put(1000 + client, nth)
     t.put(3000 + client, nth)
     one = t.get(source)
@@ -626,6 +705,7 @@ def twins(t, client, nth, source, target):
 
 
 ACCOUNTS = [10, 11, 2010, 2011]
+COUNTER = 20
 
 
 def kills(checks, case, numbers, program):
@@ -634,7 +714,7 @@ def kills(checks, case, numbers, program):
     told, tried = [0] * count, [0] * count
     with Folder(program) as folder:
         folder.run("make", "2000", "2500")
-        lines = ["1 begin", *(f"1 put {it} 100" for it in ACCOUNTS), *(f"1 put {place + it} 0" for it in range(count) for place in (1000, 3000)), "1 commit"]
+        lines = ["1 begin", f"1 put {COUNTER} 0", *(f"1 put {it} 100" for it in ACCOUNTS), *(f"1 put {place + it} 0" for it in range(count) for place in (1000, 3000)), "1 commit"]
         folder.run("serve", script="\n".join(lines).encode())
         for round_ in range(1, 5):
             store = clv.Store(os.path.abspath(program), folder.path, count)
@@ -666,6 +746,7 @@ def kills(checks, case, numbers, program):
                 is_right = one == other and one in (told[client], tried[client])
                 checks.check(f"{name}: client {client}", is_right, (one, other, told[client], tried[client]), None, case)
                 told[client] = one or 0
+            checks.check(f"{name}: the counter", pairs.get(COUNTER) == sum(told), (pairs.get(COUNTER), told), None, case)
     return sum(told)
 
 

@@ -1,7 +1,7 @@
 #!/usr/bin/env python3
 """Live sessions where disks, streams, memory and surroundings fail: `serve` with the same lines, over and over.
 
-Three sessions, none of which meets another one, write on two shards. Each call on a log fails in its turn, alone and with all later ones, and the program is stopped
+Three sessions, none of which meets another one, write on two shards, and add beside each other to a counter of each. Each call on a log fails in its turn, alone and with all later ones, and the program is stopped
 at each; calls of the standard streams fail, and threads; the Nth allocation is refused, alone and with all later ones; memory, stacks and files are bounded.
 
 What must hold after each run:
@@ -33,29 +33,35 @@ SESSIONS = 3
 PLANS = [[(1,), (51,), (1, 51), (2, 52)], [(11, 61), (11,), (61, 62)], [(21,), (22, 72), (71,)]]
 
 
+# A counter on each shard: what a transaction adds there is a bit of its own, those of a session among eight.
+COUNTERS, BITS = (30, 80), 8
+
+
 def transactions():
-    """What the transactions of each session write."""
-    return [[{key: 100 * (session + 1) + nth for key in keys} for nth, keys in enumerate(plan)] for session, plan in enumerate(PLANS)]
+    """What the transactions of each session write: the values that they set, and the counters to which they add, which lie where they set some."""
+    plans = [[{key: 100 * (session + 1) + nth for key in keys} for nth, keys in enumerate(plan)] for session, plan in enumerate(PLANS)]
+    return [[(wrote, sorted({COUNTERS[key >= 50] for key in wrote})) for wrote in plan] for plan in plans]
 
 
-def lines_of(session, wrote):
-    return [f"{session} begin", *(f"{session} put {key} {value}" for key, value in wrote.items()), f"{session} commit"]
+def lines_of(session, nth, wrote, added):
+    by = 1 << BITS * (session - 1) + nth
+    return [f"{session} begin", *(f"{session} put {key} {value}" for key, value in wrote.items()), *(f"{session} add {key} {by}" for key in added), f"{session} commit"]
 
 
 def lines():
     """The lines of each session, and all of them: those of a transaction together, a transaction of each session in its turn."""
-    own = {number + 1: [it for wrote in plan for it in lines_of(number + 1, wrote)] for number, plan in enumerate(transactions())}
+    own = {number + 1: [it for nth, made in enumerate(plan) for it in lines_of(number + 1, nth, *made)] for number, plan in enumerate(transactions())}
     longest = max(len(it) for it in PLANS)
-    rounds = [(number + 1, plan[nth]) for nth in range(longest) for number, plan in enumerate(transactions()) if nth < len(plan)]
-    return own, "".join(f"{it}\n" for number, wrote in rounds for it in lines_of(number, wrote)).encode()
+    rounds = [(number + 1, nth, *plan[nth]) for nth in range(longest) for number, plan in enumerate(transactions()) if nth < len(plan)]
+    return own, "".join(f"{it}\n" for made in rounds for it in lines_of(*made)).encode()
 
 
 LINES, INPUT = lines()
 # Each key has a value before, so that no session meets another one in a gap.
-FILLED = {key: 1 for plan in PLANS for keys in plan for key in keys}
+FILLED = {key: 1 for plan in PLANS for keys in plan for key in keys} | dict.fromkeys(COUNTERS, 0)
 FILLING = "\n".join(["session", "begin", *(f"put {key} {value}" for key, value in FILLED.items()), "commit", ""]).encode()
 SERVE = ("serve", "--sessions", str(SESSIONS))
-WORDS = {"begin": {"begin"}, "put": {"put"}, "commit": {"committed"}}
+WORDS = {"begin": {"begin"}, "put": {"put"}, "add": {"add"}, "commit": {"committed"}}
 MEMORY, ENDED = '[1,"memory"]', '[1,"refused","the session has ended"]'
 CAUSES = {"aborted", "down", "unsettled", "worn", "memory", "refused"}
 
@@ -93,18 +99,20 @@ class Told:
         return fates
 
     def maps(self):
-        """What the logs may stand for, session by session."""
+        """What the logs may stand for, session by session; of the counters its own bits."""
         for number, plan in enumerate(transactions()):
-            may = [{key: value for key, value in FILLED.items() if is_of(number, key)}]
+            may = [part_of(number, FILLED)]
             fates = self.fates[number + 1]
-            for wrote, fate in zip(plan, fates + [None] * (len(plan) - len(fates))):
-                with_it = [{**it, **wrote} for it in may]
+            for nth, ((wrote, added), fate) in enumerate(zip(plan, fates + [None] * (len(plan) - len(fates)))):
+                with_it = [{**it, **wrote, **{key: it[key] + (1 << nth) for key in added}} for it in may]
                 may = with_it if fate else may if fate is False else may + with_it
             yield number, may
 
 
-def is_of(number, key):
-    return any(key in keys for keys in PLANS[number])
+def part_of(number, pairs):
+    """What these pairs have of a session's."""
+    own = {key: value for key, value in pairs.items() if any(key in keys for keys in PLANS[number])}
+    return own | {key: pairs[key] >> BITS * number & (1 << BITS) - 1 for key in COUNTERS}
 
 
 class Trial:
@@ -161,7 +169,7 @@ class Trial:
             self.checks.check(name, False, fault.text)
             return
         for number, may in told.maps():
-            own = {key: value for key, value in pairs.items() if is_of(number, key)}
+            own = part_of(number, pairs)
             self.checks.check(f"{name}: session {number + 1}", own in may, (own, may, told.fates))
         self.goes_on(name, files, pairs)
 

@@ -13,7 +13,7 @@ LONGEST_TEXT = 200
 MOST_SHARDS, MOST_PARTS, MOST_PREDECESSORS, MOST_SESSIONS = 16, 15, 1024, 64
 LAST_RUN = (1 << 32) - 1
 NO_UNDO = BEYOND - 1
-KINDS = ("UPDATE", "CLR", "PREPARE", "COMMIT", "ABORT", "END", "RESTART")
+KINDS = ("UPDATE", "CLR", "PREPARE", "COMMIT", "ABORT", "END", "RESTART", "ADD", "UNADD")
 
 
 class Fault(Exception):
@@ -54,6 +54,11 @@ def spell_fields(kind, fields):
     if kind == "CLR":
         undo_next, key, after = fields
         return struct.pack("<QQ", NO_UNDO if undo_next is None else undo_next, key) + spell_value(after)
+    if kind == "ADD":
+        return struct.pack("<QQ", *fields)
+    if kind == "UNADD":
+        undo_next, key, by = fields
+        return struct.pack("<QQQ", NO_UNDO if undo_next is None else undo_next, key, by)
     if kind == "PREPARE":
         home, predecessors = fields
         return struct.pack("<II", home, len(predecessors)) + b"".join(map(spell_transaction, predecessors))
@@ -153,9 +158,12 @@ class Cursor:
     def fields(self, kind):
         if kind == "UPDATE":
             return self.number(8), self.value(), self.value()
-        if kind == "CLR":
+        if kind in ("CLR", "UNADD"):
             undo_next = self.number(8)
-            return None if undo_next == NO_UNDO else undo_next, self.number(8), self.value()
+            rest = self.number(8), self.value() if kind == "CLR" else self.number(8)
+            return (None if undo_next == NO_UNDO else undo_next, *rest)
+        if kind == "ADD":
+            return self.number(8), self.number(8)
         if kind == "PREPARE":
             return self.shard(), self.rising(MOST_PREDECESSORS, self.transaction)
         if kind == "COMMIT":
@@ -171,11 +179,19 @@ def span(shard, splits):
 
 
 def key_of(record):
-    return {"UPDATE": record[2:3], "CLR": record[3:4]}.get(record[0], ())
+    return {"UPDATE": record[2:3], "ADD": record[2:3], "CLR": record[3:4], "UNADD": record[3:4]}.get(record[0], ())
 
 
 def shards_of(record):
     return {"PREPARE": record[2:3], "COMMIT": record[2] if record[0] == "COMMIT" else ()}.get(record[0], ())
+
+
+def written(pairs, record):
+    """Pairs become those after an UPDATE or ADD; other records leave them."""
+    if record[0] == "UPDATE":
+        pairs[record[2]] = record[4]
+    elif record[0] == "ADD":
+        pairs[record[2]] = (pairs[record[2]] + record[3]) % BEYOND
 
 
 def number_at(data, shard, place, size):
@@ -241,9 +257,9 @@ class Facts:
     def __init__(self, shard, records):
         self.shard, self.records = shard, []
         self.named = set()  # the transactions that have records
-        self.wrote = {}  # transaction: the LSNs of all its UPDATEs
-        self.open = {}  # transaction: those of its UPDATEs that stand
-        self.keys = {}  # key: the LSNs of its UPDATEs that stand
+        self.wrote = {}  # transaction: the LSNs of all its UPDATEs and ADDs
+        self.open = {}  # transaction: those of them that stand
+        self.keys = {}  # key: the LSNs of its UPDATEs and ADDs that stand
         self.prepared, self.committed, self.aborted, self.ended = {}, {}, set(), set()
         self.restarts, self.last_restart = [], None
         for lsn, record in enumerate(records):
@@ -255,8 +271,14 @@ class Facts:
         return self.records[lsn][1]
 
     def value(self, key):
-        stands = self.keys.get(key)
-        return self.records[stands[-1]][4] if stands else None
+        """The fold of the key's records that stand."""
+        pairs = {}
+        for lsn in self.keys.get(key, ()):
+            written(pairs, self.records[lsn])
+        return pairs.get(key)
+
+    def sets(self, lsn):
+        return self.records[lsn][0] == "UPDATE"
 
     def is_in_doubt(self, transaction):
         """Prepared for another home, neither committed nor aborted; and each that it lists is so too, or committed."""
@@ -271,10 +293,11 @@ class Facts:
         return True
 
     def below(self, transaction):
-        """The other transactions with a standing UPDATE below one of its own."""
+        """The other transactions with a standing UPDATE or ADD below one of its own. An ADD doesn't lie below an ADD."""
         found = set()
         for lsn in self.open.get(transaction, ()):
-            found |= {self.writer(it) for it in self.keys[self.records[lsn][2]] if it < lsn}
+            earlier = [it for it in self.keys[self.records[lsn][2]] if it < lsn]
+            found |= {self.writer(it) for it in earlier if self.sets(it) or self.sets(lsn)}
         return found - {transaction}
 
     def losers(self):
@@ -291,26 +314,51 @@ class Facts:
         if not self.restarts:
             return False
         rule = {"UPDATE": self.allows_update, "CLR": self.allows_clr, "PREPARE": self.allows_prepare}
+        rule |= {"ADD": self.allows_add, "UNADD": self.allows_unadd}
         rule |= {"COMMIT": self.allows_commit, "ABORT": self.allows_abort, "END": self.allows_end}
         return rule[kind](*record[1:])
 
-    def allows_update(self, transaction, key, before, after):
+    def may_write(self, transaction):
         wrote = self.wrote.get(transaction)
         is_new = transaction[0] == self.restarts[-1][0] and not self.is_decided(transaction) and transaction not in self.prepared
-        if not is_new or (wrote and wrote[0] < self.last_restart):
+        return is_new and not (wrote and wrote[0] < self.last_restart)
+
+    def may_cover(self, transaction, lsns):
+        """Whether those who wrote these are the transaction itself, or have a PREPARE or COMMIT and no ABORT."""
+        others = {self.writer(it) for it in lsns} - {transaction}
+        return all((it in self.prepared or it in self.committed) and it not in self.aborted for it in others)
+
+    def allows_update(self, transaction, key, before, after):
+        if not self.may_write(transaction) or before != self.value(key) or before is None is after:
             return False
-        if before != self.value(key) or before is None is after:
+        return self.may_cover(transaction, self.keys.get(key, ()))
+
+    def allows_add(self, transaction, key, _by):
+        if not self.may_write(transaction) or not isinstance(self.value(key), int):
             return False
-        over = self.writer(self.keys[key][-1]) if self.keys.get(key) else transaction
-        return over == transaction or ((over in self.prepared or over in self.committed) and over not in self.aborted)
+        return self.may_cover(transaction, filter(self.sets, self.keys.get(key, ())))
+
+    def undone_by(self, transaction, kind):
+        """The last record of an aborted transaction that stands, with what is undone next; None where it is of another kind."""
+        mine = self.open.get(transaction, [])
+        if transaction not in self.aborted or not mine or self.records[mine[-1]][0] != kind:
+            return None
+        return mine[-1], mine[-2] if len(mine) > 1 else None
 
     def allows_clr(self, transaction, undo_next, key, after):
-        mine = self.open.get(transaction, [])
-        if transaction not in self.aborted or not mine:
+        found = self.undone_by(transaction, "UPDATE")
+        if found is None:
             return False
-        undone = self.records[mine[-1]]
-        is_last = self.keys[undone[2]][-1] == mine[-1]
-        return is_last and (undo_next, key, after) == (mine[-2] if len(mine) > 1 else None, undone[2], undone[3])
+        undone = self.records[found[0]]
+        return self.keys[undone[2]][-1] == found[0] and (undo_next, key, after) == (found[1], undone[2], undone[3])
+
+    def allows_unadd(self, transaction, undo_next, key, by):
+        found = self.undone_by(transaction, "ADD")
+        if found is None:
+            return False
+        undone = self.records[found[0]]
+        is_under = any(it > found[0] and self.sets(it) for it in self.keys[undone[2]])
+        return not is_under and (undo_next, key, by) == (found[1], undone[2], undone[3])
 
     def allows_prepare(self, transaction, _home, predecessors):
         wrote = self.wrote.get(transaction)
@@ -344,11 +392,12 @@ class Facts:
             return
         transaction = record[1]
         self.named.add(transaction)
-        if kind == "UPDATE":
+        if kind in ("UPDATE", "ADD"):
             for lists, name in ((self.wrote, transaction), (self.open, transaction), (self.keys, record[2])):
                 lists.setdefault(name, []).append(lsn)
-        elif kind == "CLR":
-            self.keys[self.records[self.open[transaction].pop()][2]].pop()
+        elif kind in ("CLR", "UNADD"):
+            undone = self.open[transaction].pop()
+            self.keys[self.records[undone][2]].remove(undone)
         elif kind == "PREPARE":
             self.prepared[transaction] = record[2:]
         elif kind == "COMMIT":
@@ -415,8 +464,8 @@ def stands(logs):
     done, pairs = {it for facts in logs for it in facts.committed}, {}
     for facts in logs:
         for record in facts.records:
-            if record[0] == "UPDATE" and record[1] in done:
-                pairs[record[2]] = record[4]
+            if record[1] in done:
+                written(pairs, record)
     return {key: told(value) for key, value in pairs.items() if value is not None}
 
 

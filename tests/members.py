@@ -4,9 +4,26 @@ import logs
 import reports
 
 
+def with_sum(found, key, by):
+    """Adds to what was written at a key: to its number, or to what was added to one of others, a sum alone."""
+    value = found.get(key, (0,))
+    if isinstance(value, tuple):
+        found[key] = ((value[0] + by) % logs.BEYOND,)
+    elif value is not None:
+        found[key] = (value + by) % logs.BEYOND
+
+
 def writes_alone(transaction):
-    """The last value of each key that it writes, None for none."""
-    return {line[1]: line[2] if line[0] == "put" else None for line in transaction.lines if line[0] in ("put", "del")}
+    """The last value of each key that it writes, None for none; where it only adds the sum, as a tuple."""
+    found = {}
+    for line in transaction.lines:
+        if line[0] == "put":
+            found[line[1]] = line[2]
+        elif line[0] == "del":
+            found[line[1]] = None
+        elif line[0] == "add":
+            with_sum(found, line[1], line[2])
+    return found
 
 
 def writes_of(script):
@@ -22,17 +39,24 @@ def members(opened, run):
         for record in facts.records:
             if record[0] == "UPDATE" and record[1] in found:
                 found[record[1]][record[2]] = logs.told(record[4])
+            elif record[0] == "ADD" and record[1] in found:
+                with_sum(found[record[1]], *record[2:])
     return found
 
 
+def may_be_nothing(value):
+    """Whether such a write may have written nothing: to take away what isn't there, or to add where no number is."""
+    return value is None or isinstance(value, tuple)
+
+
 def is_of(wrote, wanted):
-    """Whether this is what a transaction wrote that leaves these values. To take away what isn't there writes nothing."""
-    return wrote == {key: value for key, value in wanted.items() if value is not None or key in wrote}
+    """Whether this is what a transaction wrote that leaves these values."""
+    return wrote == {key: value for key, value in wanted.items() if not may_be_nothing(value) or key in wrote}
 
 
 def is_passed_over(wanted, may_miss):
-    """Whether a later one of its session may stand where this one doesn't: it only takes away, and so may have written nothing, or was given up."""
-    return may_miss or all(value is None for value in wanted.values())
+    """Whether a later one of its session may stand where this one doesn't: it may have written nothing, or was given up."""
+    return may_miss or all(map(may_be_nothing, wanted.values()))
 
 
 def wrong_in_session(wanted, done, may_miss):

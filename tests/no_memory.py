@@ -48,6 +48,22 @@ commit
 """
 # Texts over a number and under one, the longest and the shortest.
 TEXTS = b"session\nbegin\nput 1 7\nbytes 1 -\nbytes 11 " + 200 * b"5a" + b"\ncommit\nbegin\nput 11 3\nabort\n"
+# Additions beside each other, beyond the last number, and where no number is.
+ADDITIONS = b"""session
+begin
+add 0 5
+add 20 18446744073709551615
+commit
+session
+begin
+add 20 1
+add 5 1
+add 18446744073709551615 18446744073709551613
+abort
+begin
+add 0 2
+commit
+"""
 LOAD = "load --seed 7 --sessions 3 --accounts 4 --transfers 2".split()
 # Splits, a script that ran before, the words, the script.
 COMMANDS = [
@@ -58,6 +74,7 @@ COMMANDS = [
     ("three sessions on one shard", (), b"", RUN, ONE_SHARD),
     ("three sessions", (10, 20), SPREAD, RUN, DYING),
     ("texts", (), TEXTS, RUN, TEXTS),
+    ("additions", (10, 20), SPREAD, RUN, ADDITIONS),
     ("show", (10, 20), SPREAD, ("show",), b""),
     ("load", (50,), b"", LOAD, b""),
     ("make", None, b"", ("make", "10"), b""),

@@ -42,6 +42,14 @@ def put(pairs, key, value):
     return ["put", key, value, before]
 
 
+def add(pairs, key, by):
+    """Adds to a number, modulo 2^64; leaves what else is there."""
+    before = pairs.get(key)
+    if isinstance(before, int):
+        pairs[key] = (before + by) % BEYOND
+    return ["add", key, by, isinstance(before, int)]
+
+
 def move(pairs, source, target, amount):
     """Reads both, and moves the amount where both are numbers, the source has it and the target has room for it."""
     low, high = pairs.get(source), pairs.get(target)
@@ -61,6 +69,8 @@ def operate(pairs, word, *numbers):
         return [["del", *numbers, pairs.pop(*numbers, None)]]
     if word == "get":
         return [["get", *numbers, pairs.get(*numbers)]]
+    if word == "add":
+        return [add(pairs, *numbers)]
     low, high = numbers
     return [["scan", low, high, [[key, pairs[key]] for key in sorted(pairs) if low <= key <= high]]]
 
@@ -130,7 +140,7 @@ def replay(script, report, pairs):
 
 def meets(transaction, line):
     """Whether a transaction writes where this line of a report has been."""
-    written = {it[1] for it in transaction.lines if it[0] in ("put", "del")}
+    written = {it[1] for it in transaction.lines if it[0] in ("put", "del", "add")}
     return any(op[1] in written or (op[0] == "scan" and any(op[1] <= key <= op[2] for key in written)) for op in json.loads(line)["ops"])
 
 

@@ -14,7 +14,7 @@ from program import Checks, Folder, arguments, cases, seeded
 LAST = (1 << 64) - 1
 TRIES = (1, 2, 10, 100, 1000, 1000)
 # What a line may be, as often as it stands here.
-WORDS = ("get", "get", "put", "put", "put", "del", "scan", "move", "move")
+WORDS = ("get", "get", "put", "put", "put", "del", "scan", "move", "move", "add", "add")
 # How a transaction may end.
 ENDS = ("commit",) * 9 + ("abort",)
 
@@ -51,8 +51,8 @@ def line_at(numbers, keys):
         return f"{word} {key}"
     if word == "put" and numbers.random() < 0.2:
         return f"bytes {key} {text_at(numbers)}"
-    if word == "put":
-        return f"put {key} {value_at(numbers)}"
+    if word in ("put", "add"):
+        return f"{word} {key} {value_at(numbers)}"
     other = numbers.choice(keys)
     if word == "scan":
         return f"scan {min(key, other)} {max(key, other)}"

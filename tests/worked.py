@@ -127,6 +127,16 @@ REPORTS = [
         + counts(4, 1),
     ),
     (
+        "additions: beyond the last number, to no value, to a text, and an abort that takes one away",
+        (10,),
+        b"session\nbegin\nput 5 18446744073709551615\nadd 5 3\nget 5\nadd 9 1\ncommit\nbegin\nbytes 7 00ff\nget 7\nadd 7 1\ncommit\n"
+        b"begin\nadd 5 5\nadd 5 6\ndel 5\nadd 5 1\nput 11 1\nadd 11 4\nabort\nbegin\nadd 5 0\nscan 0 99\ndel 5\nadd 5 1\ncommit\n",
+        line_of('["put",5,18446744073709551615,null],["add",5,3,true],["get",5,2],["add",9,1,false]')
+        + line_of('["put",7,"00ff",null],["get",7,"00ff"],["add",7,1,false]', 2)
+        + line_of('["add",5,0,true],["scan",0,99,[[5,2],[7,"00ff"]]],["del",5,2],["add",5,1,false]', 4)
+        + counts(3, 1),
+    ),
+    (
         "empty lines and remarks",
         (),
         b"# one\n\nsession\n#\nbegin\n\nput 5 10\n# two\ncommit\n\n",
