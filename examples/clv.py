@@ -82,6 +82,11 @@ class Transaction:
         words = f"bytes {key} {value.hex() or '-'}" if isinstance(value, bytes) else f"put {key} {value}"
         return value_of(self.session.ask(words)[-1])
 
+    def add(self, key, number):
+        """Adds a whole number from 0, below 2^64, to the number at a key, modulo 2^64; gives whether there is one, and changes nothing where there isn't.
+        Transactions that add to one key don't wait for each other."""
+        return self.session.ask(f"add {key} {number}")[-1]
+
     def delete(self, key):
         """Takes it away; gives the value before."""
         return value_of(self.session.ask(f"del {key}")[-1])
@@ -138,7 +143,7 @@ class Session:
             raise MemoryError(answer[2])
         if word == "refused":
             raise Refused(words, answer[2])
-        self.is_active = word in ("begin", "get", "put", "del", "scan")
+        self.is_active = word in ("begin", "get", "put", "add", "del", "scan")
         if word == "aborted":
             raise Aborted(answer[2:])
         if word == "down":
