@@ -44,8 +44,10 @@ def transactions():
 
 
 def lines_of(session, nth, wrote, added):
-    by = 1 << BITS * (session - 1) + nth
-    return [f"{session} begin", *(f"{session} put {key} {value}" for key, value in wrote.items()), *(f"{session} add {key} {by}" for key in added), f"{session} commit"]
+    """Behind its savepoint it writes something else, and goes back."""
+    by, last = 1 << BITS * (session - 1) + nth, max(wrote)
+    puts, adds = [f"put {key} {value}" for key, value in wrote.items()], [f"add {key} {by}" for key in added]
+    return [f"{session} {it}" for it in ("begin", *puts, "save", *adds, f"put {last} 0", "back 1", *adds, "commit")]
 
 
 def lines():
@@ -61,7 +63,7 @@ LINES, INPUT = lines()
 FILLED = {key: 1 for plan in PLANS for keys in plan for key in keys} | dict.fromkeys(COUNTERS, 0)
 FILLING = "\n".join(["session", "begin", *(f"put {key} {value}" for key, value in FILLED.items()), "commit", ""]).encode()
 SERVE = ("serve", "--sessions", str(SESSIONS))
-WORDS = {"begin": {"begin"}, "put": {"put"}, "add": {"add"}, "commit": {"committed"}}
+WORDS = {it: {it} for it in ("begin", "put", "add", "save", "back")} | {"commit": {"committed"}}
 MEMORY, ENDED = '[1,"memory"]', '[1,"refused","the session has ended"]'
 CAUSES = {"aborted", "down", "unsettled", "worn", "memory", "refused"}
 

@@ -60,7 +60,7 @@ module _ {M S G : Type 0} where
   walked_on sh clock k w v a b s t life end placed holds lives grounds =
       let u : Seen = seen_in sh w a s in
       let z : Seen = seen_in sh v b t in
-      let told = replies_tell_entries life.asked life.replies u lives.last z lives.course lives.served lives.closes in
+      let told = replies_tell_entries life.asked life.replies u lives.last z lives.course lives.over lives.served lives.closes in
       let g = told.grows in
       let r = sessions_rest M S G sh v t holds in
       let new = placed.new in
@@ -129,7 +129,7 @@ module _ {M S G : Type 0} (sh : Shards M S G) where
           serial_is = new.none_begun;
           standing_is = refl;
         };
-        lived = record { last = u; course = record { may_retry = false; ended = None }; served = none_taken u _ (refl, refl); closes = refl };
+        lived = record { last = u; course = record { may_retry = false; ended = None }; over = None; served = none_taken u _ None (refl, refl); closes = refl };
         entries_are = refl;
       })
 

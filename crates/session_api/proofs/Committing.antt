@@ -24,8 +24,8 @@ use Rattle.cluster_turns.specs.States.{after_from, session_of}
 use Rattle.cluster_turns.proofs.Laws.{touched_are_last, ok_same}
 use Rattle.cluster_turns.specs.CallTurns.{Turn, Took, no_turn, entry_on}
 use Rattle.cluster_turns.specs.Answers.{is_quiet, is_kept, turns_of_session}
-use Rattle.session_ops.specs.Standing.{IsActive}
-use Rattle.session_ops.specs.Requested.{IsTurnOf, HasStamp}
+use Rattle.session_ops.specs.Standing.{IsTurnOf, IsActive}
+use Rattle.session_ops.specs.Requested.{HasStamp}
 use Rattle.session_ops.specs.declared.settled_looking.SettleError.{SettleError}
 use Rattle.session_ops.specs.declared.settled_looking.SettleError.TheVariants as settle
 use Rattle.session_ops.specs.Settled.{IsLook as LooksSo, Acknowledges}

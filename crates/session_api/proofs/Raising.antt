@@ -61,6 +61,7 @@ module _ {M S G : Type 0} (sh : Shards M S G) (clock : ℕ) where
   stands_up w progress.Idle again h idle = (h.0, ready_up w h.0 h.1)
   stands_up w (progress.Active p) again h idle = let b = h.born in never_idle p p.birth b.birth again b.is idle
   stands_up w (progress.Worn p) again h idle = let b = unasked_born sh w p h.0 in never_idle p p.birth b.birth again b.is idle
+  stands_up w (progress.Undone p n upto) again h idle = let b = (h.0).born in never_idle p p.birth b.birth again b.is idle
   stands_up w (progress.Asked p home stamp) again h idle = asked_idle again idle
   stands_up w (progress.Ended p) again h idle = retriable_up w p h
 

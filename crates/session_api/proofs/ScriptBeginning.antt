@@ -36,6 +36,7 @@ module _ {M S G : Type 0} (sh : Shards M S G) (asked : Point) where
   begun_next w v progress.Idle t again r h idle c = c
   begun_next w v (progress.Active p) t again r h idle c = let b = ((h.session).stands).born in never_idle p p.birth b.birth again b.is idle
   begun_next w v (progress.Worn p) t again r h idle c = let b = unasked_born sh w p ((h.session).stands).0 in never_idle p p.birth b.birth again b.is idle
+  begun_next w v (progress.Undone p n upto) t again r h idle c = let b = (((h.session).stands).0).born in never_idle p p.birth b.birth again b.is idle
   begun_next w v (progress.Asked p home stamp) t again r h idle c = c
   begun_next w v (progress.Ended p) t again r h idle c = c
 
@@ -83,6 +84,7 @@ module _ {M S G : Type 0} (sh : Shards M S G) (asked : Point) where
   last_is w v progress.Idle t birth r h idle c = none_again birth idle
   last_is w v (progress.Active p) t birth r h idle c = let b = ((h.session).stands).born in never_idle p p.birth b.birth (Some birth) b.is idle
   last_is w v (progress.Worn p) t birth r h idle c = let b = unasked_born sh w p ((h.session).stands).0 in never_idle p p.birth b.birth (Some birth) b.is idle
+  last_is w v (progress.Undone p n upto) t birth r h idle c = let b = (((h.session).stands).0).born in never_idle p p.birth b.birth (Some birth) b.is idle
   last_is w v (progress.Asked p home stamp) t birth r h idle c = asked_idle (Some birth) idle
   last_is w v (progress.Ended p) t birth r h idle c = (p, refl, idle_again p.birth (Some birth) idle, c)
 

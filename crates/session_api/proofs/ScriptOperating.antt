@@ -35,7 +35,7 @@ use Rattle.session_api.specs.Seeing.{seen_as, touched_in, is_active, unless_dead
 use Rattle.session_api.proofs.Pointing.{Takes, whole_end, takes_whole, point_told, touches_just_none}
 use Rattle.session_api.proofs.Scanning.{scans_tell}
 use Rattle.session_api.specs.Standing.{Holds, active_as, standing_of, seen_in}
-use Rattle.session_api.specs.Grounds.{Grounds}
+use Rattle.session_api.specs.Grounds.{WasDown, Grounds}
 use Rattle.session_api.proofs.Standings.{IsOf, read_active, of_this, idle_active, asked_active, stays_grown, worn_still}
 use Rattle.session_api.proofs.Taking.{HoldsOn, found_down, held_after, held_so}
 use Rattle.session_api.proofs.Parts.{HasPart, scan_has_part, point_has_part, begun_with_none}
@@ -90,6 +90,23 @@ module _ {M S G : Type 0} (sh : Shards M S G) (last : Point) where
     grounds = (refl, worn_still w v is ((h.session).stands).1);
   }
 
+  -- ---- where a going back was left undone
+
+  undone_done : (w v : Walker M S G) (p : SessionState) (n upto : ℕ) (t : Progress) (op : Op) → Holds sh w (progress.Undone p n upto) → IsSession sh v t → HasPart (parts_of sh.splits op) → v ≡ w → t ≡ progress.Undone p n upto
+      → Done w (progress.Undone p n upto) op (Err (Stopped (Down n))) sh v t
+  undone_done w v p n upto t op h session part is same = record {
+    holds = held_so sh w v (progress.Undone p n upto) t h session (ap (λ z. z.number) is) (ap (λ z. z.passes.items) is);
+    told = λ tx birth nth touched st. (
+      [],
+      touched,
+      begun_with_none sh.splits tx birth (suc nth) op part,
+      touches_just_none touched,
+      stays_grown sh w v last (progress.Undone p n upto) t is same,
+      (nth, ap standing_of same ∙ st),
+    );
+    grounds = subst (λ z. WasDown n z.passes.items) (sym is) ((h.session).stands).2;
+  }
+
   -- ---- at a key
 
   abbrev pub PointDone : {A : Type 0} → (Result A Failure → Result Answer TryEnd) → Walker M S G → Progress → Op → Result A OpError → Walker M S G → Progress → Type 0
@@ -130,6 +147,11 @@ module _ {M S G : Type 0} (sh : Shards M S G) (last : Point) where
       c.0,
       subst (λ x. Done w (progress.Worn p) op x sh v t) (sym (takes.fails (failed.Worn (2 ^ 48)))) (worn_done w v p t op h session (point_has_part sh.splits key op takes.at) c.1 c.2),
     )
+    point_done w v (progress.Undone p n upto) t r h way c session = (
+      Err (failed.Down n),
+      c.0,
+      subst (λ x. Done w (progress.Undone p n upto) op x sh v t) (sym (takes.fails (failed.Down n))) (undone_done w v p n upto t op h session (point_has_part sh.splits key op takes.at) c.1 c.2),
+    )
     point_done w v (progress.Asked p home stamp) t r h way c session = asked_active way.0 way.1 way.2 way.3 way.4
     point_done w v (progress.Ended p) t r h way c session = idle_active p.birth way.0 way.1 way.2 way.3 way.4
 
@@ -169,6 +191,7 @@ module _ {M S G : Type 0} (sh : Shards M S G) (last : Point) where
   range_done w v progress.Idle t lo hi r h way falls small c session = idle_active None way.0 way.1 way.2 way.3 way.4
   range_done w v (progress.Active p) t lo hi r h way falls small c session = scan_made w v p t lo hi r h session falls small c
   range_done w v (progress.Worn p) t lo hi r h way falls small c session = (Err (failed.Worn (2 ^ 48)), c.0, worn_done w v p t (Scan lo hi) h session (scan_has_part sh.splits lo hi h.splits falls small) c.1 c.2)
+  range_done w v (progress.Undone p n upto) t lo hi r h way falls small c session = (Err (failed.Down n), c.0, undone_done w v p n upto t (Scan lo hi) h session (scan_has_part sh.splits lo hi h.splits falls small) c.1 c.2)
   range_done w v (progress.Asked p home stamp) t lo hi r h way falls small c session = asked_active way.0 way.1 way.2 way.3 way.4
   range_done w v (progress.Ended p) t lo hi r h way falls small c session = idle_active p.birth way.0 way.1 way.2 way.3 way.4
 

@@ -1,7 +1,7 @@
 -- A log that keeps the order rules, record by record, and what RESTARTs of it say.
 use Rattle.std.proofs.Common.{◌≡◌, refl, sym, ap, subst, ◌∙◌, ℕ, suc, ◌≤◌, ◌<◌, Bool, true, false, ◌&&◌, ◌||◌, List, [], ◌∷◌, ◌++◌, Option, Some, None, nat_lt, ◌==◌, cond, max, arith, append-nil, append_assoc, eq-eqb}
 use Rattle.std.specs.Prelude.{⊤, take, drop}
-use Rattle.std.proofs.lemmas.Bool.{both_ways, and_from, lt-ltb, ltb-false, or_right, or_left}
+use Rattle.std.proofs.lemmas.Bool.{and_from, lt-ltb, ltb-false, or_left}
 use Rattle.std.proofs.lemmas.List.{take-append-drop}
 use Rattle.std.proofs.Math.Bool.{or-false}
 use Rattle.clv_base.specs.declared.names.TxId.{TxId}
@@ -130,13 +130,6 @@ wrote_split t sf (End tx ∷ rs) = one_more t sf rs (End tx) ∙ wrote_split t (
 wrote_split t sf (Add tx k by ∷ rs) = one_more t sf rs (Add tx k by) ∙ wrote_split t (sf ++ Add tx k by ∷ []) rs
 wrote_split t sf (Unadd tx u k by ∷ rs) = one_more t sf rs (Unadd tx u k by) ∙ wrote_split t (sf ++ Unadd tx u k by ∷ []) rs
 
-or_first : (a b : Bool) → (a || b) ≡ true → a ≡ false → b ≡ true
-or_first true b e f = absurd (both_ways true f refl)
-or_first false b e f = e
-
-pub wrote_since : (log : List LogRecord) (t : TxId) → wrote_in log t ≡ true → wrote_in (before_restart [] log) t ≡ false → wrote_in (since_restart [] log) t ≡ true
-wrote_since log t w e = or_first _ _ (sym (wrote_split t [] log) ∙ w) e
-
 pub unwritten_before : (log : List LogRecord) (t : TxId) → wrote_in log t ≡ false → wrote_in (before_restart [] log) t ≡ false
 unwritten_before log t e = or_false_left _ _ (sym (wrote_split t [] log) ∙ e)
 
@@ -252,7 +245,3 @@ pub through : (P : List LogRecord → Type 0) (shard : ℕ) (before rs : List Lo
 through P shard before [] g f p step = subst P (sym (append-nil before)) p
 through P shard before (r ∷ rs) g f p step =
     subst P (append_assoc before (r ∷ []) rs) (through P shard (before ++ r ∷ []) rs (follows_append shard [] before (r ∷ []) g (f.0, tt)) f.1 (step before r g p f.0) step)
-
--- who wrote since the last RESTART wrote
-pub since_wrote : (log : List LogRecord) (t : TxId) → wrote_in (since_restart [] log) t ≡ true → wrote_in log t ≡ true
-since_wrote log t e = wrote_split t [] log ∙ or_right _ _ e

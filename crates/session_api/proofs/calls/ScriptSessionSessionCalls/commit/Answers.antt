@@ -6,21 +6,21 @@ use Rattle.session_api.proofs.calls.ScriptSessionSessionCalls.commit.Goals as go
 
 pub committed-requires : goal.committed-requires
 committed-requires g c = let s = c.args.self.now.session in let z = c.commit-answer.new.self in let e = c.commit-answer.ensures in
-    record { made = commit_answers s.shards.now c.args.self.now.asked z.shards.now s.walker z.walker s.progress z.progress c.commit-answer.result (ap (λ x. x.now) e.shards) c.requires.session c.requires.active e.told e.session }
+    record { made = commit_answers s.shards.now c.args.self.now.asked z.shards.now s.walker z.walker s.progress z.progress c.args.self.now.saves c.commit-answer.result (ap (λ x. x.now) e.shards) c.requires.session.holds c.requires.active c.requires.whole e.told e.session }
 
 pub returns-clause-session : goal.returns-clause-session
 returns-clause-session g c = let s = c.args.self.now.session in let z = c.commit-answer.new.self in let e = c.commit-answer.ensures in
-    (commit_call s.shards.now c.args.self.now.asked z.shards.now s.walker z.walker s.progress z.progress c.commit-answer.result c.committed.result (ap (λ x. x.now) e.shards) c.requires.session c.requires.active e.told e.session c.committed.ensures.told).holds.holds
+    (commit_call s.shards.now c.args.self.now.asked z.shards.now s.walker z.walker s.progress z.progress c.args.self.now.saves c.commit-answer.result c.committed.result (ap (λ x. x.now) e.shards) c.requires.session.holds c.requires.active c.requires.whole e.told e.session c.committed.ensures.told).holds.holds
 
 pub returns-clause-misses : goal.returns-clause-misses
 returns-clause-misses g c = let s = c.args.self.now.session in let z = c.commit-answer.new.self in let e = c.commit-answer.ensures in
-    (commit_call s.shards.now c.args.self.now.asked z.shards.now s.walker z.walker s.progress z.progress c.commit-answer.result c.committed.result (ap (λ x. x.now) e.shards) c.requires.session c.requires.active e.told e.session c.committed.ensures.told).holds.misses
+    (commit_call s.shards.now c.args.self.now.asked z.shards.now s.walker z.walker s.progress z.progress c.args.self.now.saves c.commit-answer.result c.committed.result (ap (λ x. x.now) e.shards) c.requires.session.holds c.requires.active c.requires.whole e.told e.session c.committed.ensures.told).holds.misses
 
 pub returns-clause-told : goal.returns-clause-told
 returns-clause-told g c tx birth nth touched st = let s = c.args.self.now.session in let z = c.commit-answer.new.self in let e = c.commit-answer.ensures in
     subst (λ x. CommitTold tx birth nth touched c.committed.result (seen_in s.shards.now s.walker c.args.self.now.asked s.progress) (seen_in z.shards.now z.walker x z.progress)) (sym c.last_asked-self.ensures)
-    ((commit_call s.shards.now c.args.self.now.asked z.shards.now s.walker z.walker s.progress z.progress c.commit-answer.result c.committed.result (ap (λ x. x.now) e.shards) c.requires.session c.requires.active e.told e.session c.committed.ensures.told).told tx birth nth touched st)
+    ((commit_call s.shards.now c.args.self.now.asked z.shards.now s.walker z.walker s.progress z.progress c.args.self.now.saves c.commit-answer.result c.committed.result (ap (λ x. x.now) e.shards) c.requires.session.holds c.requires.active c.requires.whole e.told e.session c.committed.ensures.told).told tx birth nth touched st)
 
 pub returns-clause-grounds : goal.returns-clause-grounds
 returns-clause-grounds g c = let s = c.args.self.now.session in let z = c.commit-answer.new.self in let e = c.commit-answer.ensures in
-    (commit_call s.shards.now c.args.self.now.asked z.shards.now s.walker z.walker s.progress z.progress c.commit-answer.result c.committed.result (ap (λ x. x.now) e.shards) c.requires.session c.requires.active e.told e.session c.committed.ensures.told).grounds
+    (commit_call s.shards.now c.args.self.now.asked z.shards.now s.walker z.walker s.progress z.progress c.args.self.now.saves c.commit-answer.result c.committed.result (ap (λ x. x.now) e.shards) c.requires.session.holds c.requires.active c.requires.whole e.told e.session c.committed.ensures.told).grounds

@@ -5,4 +5,4 @@ use Rattle.session_api.proofs.calls.ScriptSessionSessionCalls.raise.Goals as goa
 
 pub returns-clause-session : goal.returns-clause-session
 returns-clause-session g c = let s = c.args.self.now.session in
-    subst (λ k. Holds s.shards.now (record s.walker { clock = k }) s.progress) (sym c.max-self.ensures) (held_up s.shards.now c.args.clock s.walker s.progress c.requires.session c.requires.idle)
+    subst (λ k. Holds s.shards.now (record s.walker { clock = k }) s.progress) (sym c.max-self.ensures) (held_up s.shards.now c.args.clock s.walker s.progress c.requires.session.holds c.requires.idle)

@@ -11,15 +11,15 @@ use Rattle.session_api.proofs.calls.ScriptSessionSessionCalls.retry.Goals as goa
 
 pub returns-in-Some-clause-session : goal.returns-in-Some-clause-session
 returns-in-Some-clause-session g c = let s = c.args.self.now.session in let x = c.shard_down.new.self in let e = c.shard_down.ensures in
-    (round_done s.shards.now c.args.self.now.asked x.shards.now s.walker x.walker s.progress x.progress (found_in c.shard_down.result) (ap (λ z. z.now) e.shards) e.progress c.requires.session e.session e.walker e.round).holds_on.holds
+    (round_done s.shards.now c.args.self.now.asked x.shards.now s.walker x.walker s.progress x.progress (found_in c.shard_down.result) (ap (λ z. z.now) e.shards) e.progress c.requires.session.holds e.session e.walker e.round).holds_on.holds
 
 pub returns-in-Some-clause-misses : goal.returns-in-Some-clause-misses
 returns-in-Some-clause-misses g c = let s = c.args.self.now.session in let x = c.shard_down.new.self in let e = c.shard_down.ensures in
-    (round_done s.shards.now c.args.self.now.asked x.shards.now s.walker x.walker s.progress x.progress (found_in c.shard_down.result) (ap (λ z. z.now) e.shards) e.progress c.requires.session e.session e.walker e.round).holds_on.misses
+    (round_done s.shards.now c.args.self.now.asked x.shards.now s.walker x.walker s.progress x.progress (found_in c.shard_down.result) (ap (λ z. z.now) e.shards) e.progress c.requires.session.holds e.session e.walker e.round).holds_on.misses
 
 pub returns-in-Some-clause-told : goal.returns-in-Some-clause-told
 returns-in-Some-clause-told g c birth idle = let s = c.args.self.now.session in let x = c.shard_down.new.self in let e = c.shard_down.ensures in
-    (round_done s.shards.now c.args.self.now.asked x.shards.now s.walker x.walker s.progress x.progress (found_in c.shard_down.result) (ap (λ z. z.now) e.shards) e.progress c.requires.session e.session e.walker e.round).grows
+    (round_done s.shards.now c.args.self.now.asked x.shards.now s.walker x.walker s.progress x.progress (found_in c.shard_down.result) (ap (λ z. z.now) e.shards) e.progress c.requires.session.holds e.session e.walker e.round).grows
 
 pub returns-in-Some-clause-grounds : goal.returns-in-Some-clause-grounds
 returns-in-Some-clause-grounds g c = let s = c.args.self.now.session in let x = c.shard_down.new.self in
@@ -29,26 +29,26 @@ returns-in-Some-clause-grounds g c = let s = c.args.self.now.session in let x = 
 
 pub retried-requires : goal.retried-requires
 retried-requires g c = let s = c.args.self.now.session in let x = c.shard_down.new.self in let z = c.retry.new.self in let e = c.shard_down.ensures in
-    let done = round_done s.shards.now c.args.self.now.asked x.shards.now s.walker x.walker s.progress x.progress (found_in c.shard_down.result) (ap (λ y. y.now) e.shards) e.progress c.requires.session e.session e.walker e.round in
+    let done = round_done s.shards.now c.args.self.now.asked x.shards.now s.walker x.walker s.progress x.progress (found_in c.shard_down.result) (ap (λ y. y.now) e.shards) e.progress c.requires.session.holds e.session e.walker e.round in
     let k = retry_alone x.shards.now c.args.self.now.asked x.walker z.walker x.progress z.progress c.retry.result done.holds_on.holds (subst (λ y. (birth : Birth) × (standing_of y ≡ Idle (Some birth))) (sym e.progress) c.requires.ended) c.retry.ensures.told in
     record { idle = k.0; ended = k.1 }
 
 pub returns-in-None-clause-session : goal.returns-in-None-clause-session
 returns-in-None-clause-session g c = let s = c.args.self.now.session in let x = c.shard_down.new.self in let z = c.retry.new.self in let e = c.shard_down.ensures in let f = c.retry.ensures in
-    let done = round_done s.shards.now c.args.self.now.asked x.shards.now s.walker x.walker s.progress x.progress (found_in c.shard_down.result) (ap (λ y. y.now) e.shards) e.progress c.requires.session e.session e.walker e.round in
+    let done = round_done s.shards.now c.args.self.now.asked x.shards.now s.walker x.walker s.progress x.progress (found_in c.shard_down.result) (ap (λ y. y.now) e.shards) e.progress c.requires.session.holds e.session e.walker e.round in
     (retried_done s.shards.now c.args.self.now.asked x.shards.now z.shards.now s.walker x.walker z.walker s.progress x.progress z.progress c.retry.result c.retried.result done (ap (λ y. y.now) f.shards) e.progress c.requires.ended f.told f.session c.retried.ensures).0.holds
 
 pub returns-in-None-clause-misses : goal.returns-in-None-clause-misses
 returns-in-None-clause-misses g c = let s = c.args.self.now.session in let x = c.shard_down.new.self in let z = c.retry.new.self in let e = c.shard_down.ensures in let f = c.retry.ensures in
-    let done = round_done s.shards.now c.args.self.now.asked x.shards.now s.walker x.walker s.progress x.progress (found_in c.shard_down.result) (ap (λ y. y.now) e.shards) e.progress c.requires.session e.session e.walker e.round in
+    let done = round_done s.shards.now c.args.self.now.asked x.shards.now s.walker x.walker s.progress x.progress (found_in c.shard_down.result) (ap (λ y. y.now) e.shards) e.progress c.requires.session.holds e.session e.walker e.round in
     (retried_done s.shards.now c.args.self.now.asked x.shards.now z.shards.now s.walker x.walker z.walker s.progress x.progress z.progress c.retry.result c.retried.result done (ap (λ y. y.now) f.shards) e.progress c.requires.ended f.told f.session c.retried.ensures).0.misses
 
 pub returns-in-None-clause-told : goal.returns-in-None-clause-told
 returns-in-None-clause-told g c = let s = c.args.self.now.session in let x = c.shard_down.new.self in let z = c.retry.new.self in let e = c.shard_down.ensures in let f = c.retry.ensures in
-    let done = round_done s.shards.now c.args.self.now.asked x.shards.now s.walker x.walker s.progress x.progress (found_in c.shard_down.result) (ap (λ y. y.now) e.shards) e.progress c.requires.session e.session e.walker e.round in
+    let done = round_done s.shards.now c.args.self.now.asked x.shards.now s.walker x.walker s.progress x.progress (found_in c.shard_down.result) (ap (λ y. y.now) e.shards) e.progress c.requires.session.holds e.session e.walker e.round in
     (retried_done s.shards.now c.args.self.now.asked x.shards.now z.shards.now s.walker x.walker z.walker s.progress x.progress z.progress c.retry.result c.retried.result done (ap (λ y. y.now) f.shards) e.progress c.requires.ended f.told f.session c.retried.ensures).1
 
 pub returns-in-None-clause-grounds : goal.returns-in-None-clause-grounds
 returns-in-None-clause-grounds g c = let s = c.args.self.now.session in let x = c.shard_down.new.self in let z = c.retry.new.self in let e = c.shard_down.ensures in let f = c.retry.ensures in
-    let done = round_done s.shards.now c.args.self.now.asked x.shards.now s.walker x.walker s.progress x.progress (found_in c.shard_down.result) (ap (λ y. y.now) e.shards) e.progress c.requires.session e.session e.walker e.round in
+    let done = round_done s.shards.now c.args.self.now.asked x.shards.now s.walker x.walker s.progress x.progress (found_in c.shard_down.result) (ap (λ y. y.now) e.shards) e.progress c.requires.session.holds e.session e.walker e.round in
     (retried_done s.shards.now c.args.self.now.asked x.shards.now z.shards.now s.walker x.walker z.walker s.progress x.progress z.progress c.retry.result c.retried.result done (ap (λ y. y.now) f.shards) e.progress c.requires.ended f.told f.session c.retried.ensures).2

@@ -1,0 +1,13 @@
+use Rattle.std.proofs.Common.{sym, subst}
+use Rattle.session_api.specs.Sessions.{IsSession}
+use Rattle.session_api.proofs.GoingBack.{again_session}
+use Rattle.session_api.proofs.savepoints.Session.go_back_again.Goals as goal
+
+pub returns-clause-session : goal.returns-clause-session
+returns-clause-session g c = let sh = c.args.self.now.shards.now in let v = c.roll_again-error.new.walker in let e = c.roll_again-error.ensures in
+    subst (λ t. IsSession sh v t) (sym c.after_back-self.ensures)
+    (again_session sh c.args.self.now.walker v c.args.place c.roll_again-error.new.place c.args.shard c.args.upto c.roll_again-error.result c.requires.session e.walker e.told e.left e.stands)
+
+pub returns-clause-told : goal.returns-clause-told
+returns-clause-told g c = let e = c.roll_again-error.ensures in
+    record { place = c.roll_again-error.new.place; turns = e.told; left = e.left; walker = e.walker; stands = e.stands; then = c.after_back-self.ensures }
