@@ -4,6 +4,7 @@ pub mod Texts
 pub mod Values
 pub mod Maps
 pub mod Folding
+pub mod Backs
 pub mod Shards
 pub mod Logs
 pub mod LogRules

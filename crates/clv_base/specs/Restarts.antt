@@ -4,7 +4,7 @@ use Rattle.std.specs.List.{filter, common_prefix_len}
 use Rattle.clv_base.specs.declared.names.TxId.{TxId}
 use Rattle.clv_base.specs.declared.names.Birth.{Birth}
 use Rattle.clv_base.specs.declared.logs.LogRecord.{LogRecord}
-use Rattle.clv_base.specs.declared.logs.LogRecord.TheVariants.{Update, Commit, Abort, Restart, Add}
+use Rattle.clv_base.specs.declared.logs.LogRecord.TheVariants.{Commit, Abort, Restart}
 use Rattle.clv_base.specs.declared.events.Event.TheVariants.{Restart as RestartEvent}
 use Rattle.clv_base.specs.declared.events.Outcome.{Outcome}
 use Rattle.clv_base.specs.declared.events.Outcome.TheVariants.{Up, Nothing}
@@ -14,7 +14,7 @@ use Rattle.clv_base.specs.declared.modes.Part.TheVariants.{I, X}
 use Rattle.clv_base.specs.declared.modes.Anchor.TheVariants.{At}
 use Rattle.clv_base.specs.Orders.{Table, tx_in, tx_put}
 use Rattle.clv_base.specs.Maps.{KeyMap}
-use Rattle.clv_base.specs.Logs.{committed_in, aborted_in, place_from, ended_in, standing, writers, in_doubt, is_winner, fold_updates, prepare_of}
+use Rattle.clv_base.specs.Logs.{StandingUpdate, Change, Sets, Adds, committed_in, aborted_in, place_from, ended_in, standing, writers, in_doubt, is_winner, fold_updates, prepare_of}
 use Rattle.clv_base.specs.Values.{same_list}
 use Rattle.clv_base.specs.LogRules.{same_record}
 use Rattle.clv_base.specs.Modes.{on_key}
@@ -49,17 +49,15 @@ log_after_restart shard log run epoch = log ++ restart_records shard log run epo
 abbrev pub records_of : KeyMap → Records
 records_of m = map (λ e. (e.0, Some e.1)) m
 
--- with a ghost at each key that the transactions wrote and that has no value
+-- with a ghost at each key of the transactions' standing writes that has no value
 abbrev pub ghost_if_absent : ℕ → Records → Found → Records
 ghost_if_absent k rs Absent = record_set k None rs
 ghost_if_absent k rs Ghost = rs
 ghost_if_absent k rs (Live v) = rs
 
-abbrev pub with_ghosts : List TxId → List LogRecord → Records → Records
+abbrev pub with_ghosts : List TxId → List StandingUpdate → Records → Records
 with_ghosts txs [] rs = rs
-with_ghosts txs (Update tx key before after ∷ log) rs = with_ghosts txs log (cond (tx_in tx txs) (ghost_if_absent key rs (found_at key rs)) rs)
-with_ghosts txs (Add tx key by ∷ log) rs = with_ghosts txs log (cond (tx_in tx txs) (ghost_if_absent key rs (found_at key rs)) rs)
-with_ghosts txs (_ ∷ log) rs = with_ghosts txs log rs
+with_ghosts txs (w ∷ ws) rs = with_ghosts txs ws (cond (tx_in w.tx txs) (ghost_if_absent w.key rs (found_at w.key rs)) rs)
 
 -- the age of a restored part: no rule compares it, as it is never active
 abbrev pub old_birth : TxId → Birth
@@ -69,12 +67,14 @@ old_birth tx = record { stamp = 0; session = tx.session; serial = tx.serial }
 abbrev pub restored_lock : TxId → ℕ → Part → Locks → Locks
 restored_lock tx key part locks = take_one (At key) (record { tx = tx; birth = old_birth tx; mode = on_key part; closed = true }) locks
 
--- on the keys that the transactions wrote: key I where they only added, else key X
-abbrev pub restored_locks : List TxId → List LogRecord → Locks → Locks
+-- on the keys of their standing writes: key I where they only added, else key X
+abbrev pub part_of : Change → Part
+part_of (Sets before after) = X
+part_of (Adds by) = I
+
+abbrev pub restored_locks : List TxId → List StandingUpdate → Locks → Locks
 restored_locks txs [] locks = locks
-restored_locks txs (Update tx key before after ∷ log) locks = restored_locks txs log (cond (tx_in tx txs) (restored_lock tx key X locks) locks)
-restored_locks txs (Add tx key by ∷ log) locks = restored_locks txs log (cond (tx_in tx txs) (restored_lock tx key I locks) locks)
-restored_locks txs (_ ∷ log) locks = restored_locks txs log locks
+restored_locks txs (w ∷ ws) locks = restored_locks txs ws (cond (tx_in w.tx txs) (restored_lock w.tx w.key (part_of w.change) locks) locks)
 
 abbrev pub restored_part : TxId → Held
 restored_part tx = record { birth = old_birth tx; stage = Closed; is_restored = true; is_dropped = false }
@@ -113,8 +113,8 @@ unended_in log (_ ∷ rs) = unended_in log rs
 abbrev pub local_after : ℕ → ℕ → List LogRecord → Local
 local_after shard epoch log =
     record {
-      records = with_ghosts (in_doubt shard log) log (records_of (fold_updates (is_winner shard log) log []));
-      locks = restored_locks (in_doubt shard log) log [];
+      records = with_ghosts (in_doubt shard log) (standing log) (records_of (fold_updates (is_winner shard log) log []));
+      locks = restored_locks (in_doubt shard log) (standing log) [];
       parts = restored_parts (in_doubt shard log);
       pairs = restored_pairs log (in_doubt shard log);
       log = log;

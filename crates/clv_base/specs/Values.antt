@@ -1,5 +1,5 @@
 -- Values: numbers, and texts of at most 200 bytes.
-use Rattle.std.specs.Prelude.{ℕ, ◌^◌, Bool, true, false, ◌&&◌, ◌==◌, nat_lt, nat_le, List, [], ◌∷◌, length, Option, Some, None}
+use Rattle.std.specs.Prelude.{◌^◌, Bool, true, false, ◌&&◌, ◌==◌, nat_lt, nat_le, List, [], ◌∷◌, length, Option, Some, None}
 use Rattle.std.specs.List.{list_all}
 pub use Rattle.clv_base.specs.declared.values.Value.{Value}
 pub use Rattle.clv_base.specs.declared.values.Value.TheVariants.{Num, Bytes}

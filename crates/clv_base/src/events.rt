@@ -18,6 +18,14 @@ pub enum Event {
         seen: Option<u64>,
         op: KeptOp,
     },
+    /// A session goes back to where it was after its operations numbered up to `upto`: what later ones wrote here is taken away. It takes the
+    /// number `nth`; `seen` is as of an operation.
+    RollTo {
+        tx: TxId,
+        nth: u64,
+        seen: u64,
+        upto: u64,
+    },
     /// A session asks its home to commit; `parts` are the touched shards with their epochs, rising.
     Request {
         tx: TxId,
@@ -55,6 +63,8 @@ pub enum Event {
 pub enum Outcome {
     /// The operation was done; the shard has this epoch.
     Answered { answer: Answer, epoch: u64 },
+    /// What the later operations wrote here is taken away.
+    Rolled,
     /// The transaction is aborted.
     Dead(AbortCause),
     /// The request stands.

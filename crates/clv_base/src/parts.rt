@@ -24,6 +24,7 @@ pub struct PartFacts {
     pub doom: Option<TxId>,
     pub prepare: Option<u64>,
     pub commit: Option<u64>,
+    pub rolled: Option<u64>,
     pub undecided: usize,
     pub due_lsn: Option<u64>,
     pub durable: u64,

@@ -6,7 +6,6 @@ use Rattle.std.specs.declared.cmp.Ordering.TheVariants.{Less, Equal, Greater}
 use Rattle.std.specs.Ordering.{nat_cmp, match_ordering, is_lt}
 use Rattle.std.proofs.lemmas.Bool.{cases_Bool, both_ways, cond_both, cond-true, cond-false, ltb-true, ltb-false, lt-ltb, le-ltb, cases_lt, cases_eq, false_from_ne_true}
 use Rattle.clv_base.specs.declared.values.Value.{Value as ValueType}
-use Rattle.clv_base.specs.declared.names.TxId.{TxId}
 use Rattle.clv_base.specs.declared.modes.Anchor.{Anchor}
 use Rattle.clv_base.specs.declared.modes.Anchor.TheVariants.{Low, At}
 use Rattle.clv_base.specs.Logs.{StandingUpdate}
@@ -105,19 +104,19 @@ rising_filter p (r ∷ rs) h = cond_both (p r) (r ∷ filter p rs) (filter p rs)
     above_filter k [] a = tt
     above_filter k (q ∷ qs) a = cond_both (p q) (q ∷ filter p qs) (filter p qs) (AllAbove k) (λ e. (a.0, above_filter k qs a.1)) (λ e. above_filter k qs a.1)
 
-pub rising_undone : (set : List TxId) (ws : List StandingUpdate) (rs : Records) → Rising rs → Rising (records_without set ws rs)
-rising_undone set ws [] h = tt
-rising_undone set ws (r ∷ rs) h = (above r.0 rs h.0, rising_undone set ws rs h.1)
+pub rising_undone : (gone : StandingUpdate → Bool) (ws : List StandingUpdate) (rs : Records) → Rising rs → Rising (records_without gone ws rs)
+rising_undone gone ws [] h = tt
+rising_undone gone ws (r ∷ rs) h = (above r.0 rs h.0, rising_undone gone ws rs h.1)
   where
-    above : (k : ℕ) (qs : Records) → AllAbove k qs → AllAbove k (records_without set ws qs)
+    above : (k : ℕ) (qs : Records) → AllAbove k qs → AllAbove k (records_without gone ws qs)
     above k [] a = tt
     above k (q ∷ qs) a = (a.0, above k qs a.1)
 
 -- ---- the record below a key
 
-pub anchor_undone : (set : List TxId) (ws : List StandingUpdate) (k : ℕ) (a : Anchor) (rs : Records) → anchor_from k a (records_without set ws rs) ≡ anchor_from k a rs
-anchor_undone set ws k a [] = refl
-anchor_undone set ws k a (r ∷ rs) = anchor_undone set ws k (cond (nat_lt r.0 k) (At r.0) a) rs
+pub anchor_undone : (gone : StandingUpdate → Bool) (ws : List StandingUpdate) (k : ℕ) (a : Anchor) (rs : Records) → anchor_from k a (records_without gone ws rs) ≡ anchor_from k a rs
+anchor_undone gone ws k a [] = refl
+anchor_undone gone ws k a (r ∷ rs) = anchor_undone gone ws k (cond (nat_lt r.0 k) (At r.0) a) rs
 
 -- where all keys are from k on, none is below it
 none_below : (k : ℕ) (a : Anchor) (rs : Records) → AllByRecursion (λ q. k ≤ q.0) rs → anchor_from k a rs ≡ a

@@ -5,8 +5,10 @@ pub mod Restarts
 pub mod Cells
 pub mod Tables
 pub mod Commits
+pub mod Standing
 pub mod Running
 pub mod Undoing
+pub mod GoingBack
 pub mod Anchors
 pub mod Changed
 pub mod Rows
@@ -17,6 +19,7 @@ pub mod Successors
 pub mod Doubts
 pub mod Stages
 pub mod Names
+pub mod Acts
 pub mod Shards
 pub mod Numbers
 pub mod Logs

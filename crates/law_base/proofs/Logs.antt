@@ -1,34 +1,35 @@
 -- Lemmas of logs, by their records.
 use Rattle.std.proofs.Common.{◌≤◌, List, arith, [], ◌∷◌, ℕ, Option, Some, None, Result, Ok, Err, suc, ◌-◌, Bool, true, false, nat_lt, length, ◌≡◌, ◌+◌, ◌++◌, refl, sym, length-append, ◌<◌, ◌||◌, ap, ◌∙◌, ◌&&◌, subst, cond, map, zero, is_some, get_or, drop, take, ◌==◌, not, eq-eqb, ⊎_elim}
 use Rattle.clv_base.specs.declared.logs.LogRecord.{LogRecord}
-use Rattle.clv_base.specs.Restarts.{run_after, homes_of, pairs_of_listed, losers, undo_records, restart_records, restored_pairs, restored_locks, with_ghosts, ghost_if_absent}
+use Rattle.clv_base.specs.Restarts.{run_after, homes_of, pairs_of_listed, losers, undo_records, restart_records, restored_pairs, restored_locks, with_ghosts, ghost_if_absent, part_of}
 use Rattle.clv_base.specs.declared.changes.Change.{Change}
 use Rattle.clv_base.specs.declared.changes.Change.TheVariants.{Sets, Adds}
-use Rattle.clv_base.specs.Logs.{is_setting, record_size, fitting, committed_in, committed_somewhere, fold_updates, stands_from, place_from, prepared_in, prepare_of, standing, standing_after, aborted_in, StandingUpdate, standing_from, without_newest}
+use Rattle.clv_base.specs.Logs.{is_setting, record_size, fitting, committed_in, committed_somewhere, changed, fold_updates, fold_writes, with_change, stands_from, place_from, prepared_in, prepare_of, standing, aborted_in, StandingUpdate, standing_from, without_newest}
 use Rattle.std.specs.Prelude.{slice_get, ⊤, is_none}
 use Rattle.std.proofs.Math.Seq.{get_or-append_seam}
 use Rattle.std.proofs.lemmas.Option.{slice_get_read}
 use Rattle.clv_base.specs.declared.logs.LogRecord.TheVariants.{Clr, Abort, Restart, Prepare, Update, Commit, End, Add, Unadd}
 use Rattle.clv_base.specs.declared.names.TxId.{TxId}
 use Rattle.clv_base.specs.LogRules.{log_of, all_logs_from, disorder, may_follow, disorder_from, last_restart}
-use Rattle.clv_base.specs.Maps.{KeyMap, map_get, map_set, map_add, plus}
+use Rattle.clv_base.specs.Maps.{KeyMap, map_get}
 use Rattle.std.specs.List.{list_all, list_any, AllByRecursion, filter}
-use Rattle.std.proofs.lemmas.Bool.{and_parts, and_from, or_parts, both_ways, cond_both, or_cases}
+use Rattle.std.proofs.lemmas.Bool.{and_parts, and_from, or_parts, both_ways, cases_Bool, cond_both, cond-true, cond-false, or_cases}
 use Rattle.clv_base.specs.FileRules.{passes_file_rules, log_passes, has_spelling}
-use Rattle.clv_base.specs.Undo.{clrs_of, compensation, newest_lsn}
+use Rattle.clv_base.specs.Undo.{clrs_by, clrs_of, compensation, is_of, newest_lsn}
 use Rattle.law_base.proofs.Commits.{no_place_from}
 use Rattle.clv_base.specs.Journals.{History}
-use Rattle.clv_base.specs.History.{acknowledged_in, members, request_of, ops_in}
+use Rattle.clv_base.specs.History.{acknowledged_in, members, request_of, acts_in}
 use Rattle.std.proofs.Math.Path.{fun_ext}
 use Rattle.std.proofs.lemmas.List.Folds.{list_all-append, list_any-append, list_all_at}
-use Rattle.clv_base.proofs.SameNames.{or_left, or_right, tx_self}
+use Rattle.clv_base.proofs.SameNames.{or_left, or_right, tx_self, tx_true}
 use Rattle.clv_base.specs.Orders.{tx_same, tx_in}
-use Rattle.law_base.proofs.Undoing.{standing_append}
+pub use Rattle.law_base.proofs.Standing.{standing_push}
+use Rattle.law_base.proofs.Standing.{standing_append}
 use Rattle.clv_base.specs.Folding.{IsRising}
 use Rattle.clv_base.proofs.Folding.{rising_set}
 use Rattle.law_base.proofs.Shards.{FromHistory}
 use Rattle.law_base.proofs.Names.{listed_have, all_without, shut_lock, lock_case, IsThere, ghost_keeps, own_lock, own_ghost}
-use Rattle.law_base.proofs.Lists.{all_append}
+use Rattle.law_base.proofs.Lists.{all_append, all_mono}
 use Rattle.clv_base.specs.declared.modes.Part.TheVariants.{I, X}
 use Rattle.clv_base.specs.declared.modes.Anchor.TheVariants.{At}
 use Rattle.clv_base.specs.Locks.{Locks, take_one}
@@ -71,9 +72,14 @@ pub compensation_undoes : (tx : TxId) (next : Option ℕ) (key : ℕ) (change : 
 compensation_undoes tx next key (Sets before after) = tt
 compensation_undoes tx next key (Adds by) = tt
 
+pub clrs_undo_by : (gone : StandingUpdate → Bool) (ws : List StandingUpdate) → AllByRecursion IsUndo (clrs_by gone ws)
+clrs_undo_by gone [] = tt
+clrs_undo_by gone (w ∷ ws) =
+    cond_both (gone w) (compensation w.tx (newest_lsn w.tx ws) w.key w.change ∷ clrs_by gone ws) (clrs_by gone ws) (AllByRecursion IsUndo)
+    (λ i. (compensation_undoes w.tx (newest_lsn w.tx ws) w.key w.change, clrs_undo_by gone ws)) (λ i. clrs_undo_by gone ws)
+
 pub clrs_undo : (set : List TxId) (ws : List StandingUpdate) → AllByRecursion IsUndo (clrs_of set ws)
-clrs_undo set [] = tt
-clrs_undo set (w ∷ ws) = cond_both (tx_in w.tx set) (compensation w.tx (newest_lsn w.tx ws) w.key w.change ∷ clrs_of set ws) (clrs_of set ws) (AllByRecursion IsUndo) (λ i. (compensation_undoes w.tx (newest_lsn w.tx ws) w.key w.change, clrs_undo set ws)) (λ i. clrs_undo set ws)
+clrs_undo set ws = clrs_undo_by (is_of set) ws
 
 pub same_somewhere : (xs ys : List (List LogRecord)) (t : TxId) → length xs ≡ length ys → ((n : ℕ) → n < length ys → committed_in (log_of xs n) t ≡ committed_in (log_of ys n) t) → committed_somewhere xs t ≡ committed_somewhere ys t
 same_somewhere [] [] t e k = refl
@@ -159,9 +165,6 @@ last_restart_push [] run epoch = refl
 last_restart_push (Restart r e ∷ rs) run epoch = rw (last_restart_push rs run epoch) refl
 last_restart_push (_ ∷ rs) run epoch = last_restart_push rs run epoch
 
-pub standing_push : (log : List LogRecord) (r : LogRecord) → standing (log ++ r ∷ []) ≡ standing_after (length log) r (standing log)
-standing_push log r = standing_append 0 log (r ∷ []) [] ∙ ap (λ n. standing_after n r (standing log)) (omega arith)
-
 pub each_spelled : (rs : List LogRecord) (i : ℕ) (d : LogRecord) → list_all has_spelling rs ≡ true → i < length rs → has_spelling (get_or rs i d) ≡ true
 each_spelled rs i d h inside = by_test (has_spelling (get_or rs i d)) refl
   where
@@ -181,25 +184,16 @@ spelled_taken (suc n) (r ∷ rs) h =
     let parts = and_parts (has_spelling r) (list_all has_spelling rs) h in
     and_from (has_spelling r) (list_all has_spelling (take n rs)) parts.0 (spelled_taken n rs parts.1)
 
+pub writes_rise : (keep : TxId → Bool) (ws : List StandingUpdate) (m : KeyMap) → IsRising m → IsRising (fold_writes keep ws m)
+writes_rise keep [] m h = h
+writes_rise keep (w ∷ ws) m h = at (keep w.tx) (writes_rise keep ws m h)
+  where
+    at : (b : Bool) → IsRising (fold_writes keep ws m) → IsRising (cond b (with_change w.key w.change (fold_writes keep ws m)) (fold_writes keep ws m))
+    at true r = rising_set w.key (changed w.change (map_get w.key (fold_writes keep ws m))) (fold_writes keep ws m) r
+    at false r = r
+
 pub fold_rises : (keep : TxId → Bool) (log : List LogRecord) (m : KeyMap) → IsRising m → IsRising (fold_updates keep log m)
-fold_rises keep [] m h = h
-fold_rises keep (Update tx key before after ∷ rs) m h = fold_rises keep rs (cond (keep tx) (map_set key after m) m) (at (keep tx))
-  where
-    at : (b : Bool) → IsRising (cond b (map_set key after m) m)
-    at true = rising_set key after m h
-    at false = h
-fold_rises keep (Clr tx undo_next key after ∷ rs) m h = fold_rises keep rs m h
-fold_rises keep (Prepare tx home ps ∷ rs) m h = fold_rises keep rs m h
-fold_rises keep (Commit tx ps ∷ rs) m h = fold_rises keep rs m h
-fold_rises keep (Abort tx ∷ rs) m h = fold_rises keep rs m h
-fold_rises keep (End tx ∷ rs) m h = fold_rises keep rs m h
-fold_rises keep (Restart run epoch ∷ rs) m h = fold_rises keep rs m h
-fold_rises keep (Add tx key by ∷ rs) m h = fold_rises keep rs (cond (keep tx) (map_add key by m) m) (at (keep tx))
-  where
-    at : (b : Bool) → IsRising (cond b (map_add key by m) m)
-    at true = rising_set key (plus by (map_get key m)) m h
-    at false = h
-fold_rises keep (Unadd tx undo_next key by ∷ rs) m h = fold_rises keep rs m h
+fold_rises keep log m h = writes_rise keep (standing log) m h
 
 abbrev pub is_update_at : TxId → ℕ → LogRecord → Bool
 is_update_at t q (Update tx key before after) = tx_same t tx && (q == key)
@@ -222,39 +216,84 @@ pub undo_passes_none : (f : LogRecord → Bool) (rs : List LogRecord) → ((r : 
 undo_passes_none f [] k a = refl
 undo_passes_none f (r ∷ rs) k a = ap (λ b. b || list_any f rs) (k r a.0) ∙ undo_passes_none f rs k a.1
 
-pub same_fold : (f k : TxId → Bool) → ((t : TxId) → f t ≡ k t) → (log more : List LogRecord) (m : KeyMap) → AllByRecursion IsUndo more → fold_updates f (log ++ more) m ≡ fold_updates k log m
-same_fold f k e [] [] m a = refl
-same_fold f k e [] (Abort tx ∷ more) m a = same_fold f k e [] more m a.1
-same_fold f k e [] (Clr tx u q v ∷ more) m a = same_fold f k e [] more m a.1
-same_fold f k e [] (Unadd tx u q by ∷ more) m a = same_fold f k e [] more m a.1
-same_fold f k e [] (Restart run epoch ∷ more) m a = same_fold f k e [] more m a.1
-same_fold f k e [] (Update tx q b v ∷ more) m a = absurd a.0
-same_fold f k e [] (Prepare tx home ps ∷ more) m a = absurd a.0
-same_fold f k e [] (Commit tx ps ∷ more) m a = absurd a.0
-same_fold f k e [] (End tx ∷ more) m a = absurd a.0
-same_fold f k e (Update tx q b v ∷ log) more m a = ap (λ c. fold_updates f (log ++ more) (cond c (map_set q v m) m)) (e tx) ∙ same_fold f k e log more (cond (k tx) (map_set q v m) m) a
-same_fold f k e (Clr tx u q v ∷ log) more m a = same_fold f k e log more m a
-same_fold f k e (Prepare tx home ps ∷ log) more m a = same_fold f k e log more m a
-same_fold f k e (Commit tx ps ∷ log) more m a = same_fold f k e log more m a
-same_fold f k e (Abort tx ∷ log) more m a = same_fold f k e log more m a
-same_fold f k e (End tx ∷ log) more m a = same_fold f k e log more m a
-same_fold f k e (Restart run epoch ∷ log) more m a = same_fold f k e log more m a
-same_fold f k e [] (Add tx q by ∷ more) m a = absurd a.0
-same_fold f k e (Add tx q by ∷ log) more m a = ap (λ c. fold_updates f (log ++ more) (cond c (map_add q by m) m)) (e tx) ∙ same_fold f k e log more (cond (k tx) (map_add q by m) m) a
-same_fold f k e (Unadd tx u q by ∷ log) more m a = same_fold f k e log more m a
+-- undo records that take back no write of those that pass
+abbrev pub Spares : (TxId → Bool) → LogRecord → Type 0
+Spares keep (Abort tx) = ⊤
+Spares keep (Clr tx undo_next key after) = keep tx ≡ false
+Spares keep (Unadd tx undo_next key by) = keep tx ≡ false
+Spares keep (Restart run epoch) = ⊤
+Spares keep _ = ⊥
+
+fold_without : (keep : TxId → Bool) (t : TxId) (ws : List StandingUpdate) (m : KeyMap) → keep t ≡ false → fold_writes keep (without_newest t ws) m ≡ fold_writes keep ws m
+fold_without keep t [] m out = refl
+fold_without keep t (w ∷ ws) m out =
+    ⊎_elim
+    (λ e. ap (λ vs. fold_writes keep vs m) (cond-true (tx_same t w.tx) ws (w ∷ without_newest t ws) e) ∙ sym (cond-false (keep w.tx) _ (fold_writes keep ws m) (subst (λ u. keep u ≡ false) (tx_true t w.tx e) out)))
+    (λ e. ap (λ vs. fold_writes keep vs m) (cond-false (tx_same t w.tx) ws (w ∷ without_newest t ws) e) ∙ ap (λ n. cond (keep w.tx) (with_change w.key w.change n) n) (fold_without keep t ws m out))
+    (cases_Bool (tx_same t w.tx))
+
+fold_spared : (keep : TxId → Bool) (n : ℕ) (more : List LogRecord) (ws : List StandingUpdate) (m : KeyMap) → AllByRecursion (Spares keep) more → fold_writes keep (standing_from n more ws) m ≡ fold_writes keep ws m
+fold_spared keep n [] ws m a = refl
+fold_spared keep n (Abort tx ∷ more) ws m a = fold_spared keep (suc n) more ws m a.1
+fold_spared keep n (Restart run epoch ∷ more) ws m a = fold_spared keep (suc n) more ws m a.1
+fold_spared keep n (Clr tx u q v ∷ more) ws m a = fold_spared keep (suc n) more (without_newest tx ws) m a.1 ∙ fold_without keep tx ws m a.0
+fold_spared keep n (Unadd tx u q by ∷ more) ws m a = fold_spared keep (suc n) more (without_newest tx ws) m a.1 ∙ fold_without keep tx ws m a.0
+fold_spared keep n (Update tx q b v ∷ more) ws m a = absurd a.0
+fold_spared keep n (Add tx q by ∷ more) ws m a = absurd a.0
+fold_spared keep n (Prepare tx home ps ∷ more) ws m a = absurd a.0
+fold_spared keep n (Commit tx ps ∷ more) ws m a = absurd a.0
+fold_spared keep n (End tx ∷ more) ws m a = absurd a.0
+
+-- undo records of others leave the fold
+pub same_fold : (f k : TxId → Bool) → ((t : TxId) → f t ≡ k t) → (log more : List LogRecord) (m : KeyMap) → AllByRecursion (Spares k) more → fold_updates f (log ++ more) m ≡ fold_updates k log m
+same_fold f k e log more m a =
+    ap (λ (keep : TxId → Bool). fold_updates keep (log ++ more) m) (fun_ext e)
+    ∙ ap (λ ws. fold_writes k ws m) (standing_append 0 log more [])
+    ∙ fold_spared k (0 + length log) more (standing log) m a
+
+pub spares_undo : (keep : TxId → Bool) (r : LogRecord) → Spares keep r → IsUndo r
+spares_undo keep (Abort tx) a = tt
+spares_undo keep (Clr tx u q v) a = tt
+spares_undo keep (Unadd tx u q by) a = tt
+spares_undo keep (Restart run epoch) a = tt
+spares_undo keep (Update tx q b v) a = a
+spares_undo keep (Add tx q by) a = a
+spares_undo keep (Prepare tx home ps) a = a
+spares_undo keep (Commit tx ps) a = a
+spares_undo keep (End tx) a = a
+
+pub aborts_spare : (keep : TxId → Bool) (ts : List TxId) → AllByRecursion (Spares keep) (map (λ t. Abort t) ts)
+aborts_spare keep [] = tt
+aborts_spare keep (t ∷ ts) = (tt, aborts_spare keep ts)
+
+compensation_spares : (keep : TxId → Bool) (tx : TxId) (next : Option ℕ) (key : ℕ) (change : Change) → keep tx ≡ false → Spares keep (compensation tx next key change)
+compensation_spares keep tx next key (Sets before after) out = out
+compensation_spares keep tx next key (Adds by) out = out
+
+pub clrs_spare : (keep : TxId → Bool) (gone : StandingUpdate → Bool) (ws : List StandingUpdate) → ((w : StandingUpdate) → gone w ≡ true → keep w.tx ≡ false) → AllByRecursion (Spares keep) (clrs_by gone ws)
+clrs_spare keep gone [] out = tt
+clrs_spare keep gone (w ∷ ws) out =
+    cond_both (gone w) (compensation w.tx (newest_lsn w.tx ws) w.key w.change ∷ clrs_by gone ws) (clrs_by gone ws) (AllByRecursion (Spares keep))
+    (λ i. (compensation_spares keep w.tx (newest_lsn w.tx ws) w.key w.change (out w i), clrs_spare keep gone ws out)) (λ i. clrs_spare keep gone ws out)
+
+-- a restart takes back what losers wrote
+pub restart_spares : (keep : TxId → Bool) (shard : ℕ) (log : List LogRecord) (run epoch : ℕ) → ((t : TxId) → tx_in t (losers shard log) ≡ true → keep t ≡ false) → AllByRecursion (Spares keep) (restart_records shard log run epoch)
+restart_spares keep shard log run epoch out =
+    all_append (Spares keep) (undo_records shard log) (Restart run epoch ∷ [])
+    (all_append (Spares keep) _ _ (aborts_spare keep (filter (λ t. not (aborted_in log t)) (losers shard log))) (clrs_spare keep (is_of (losers shard log)) (standing log) (λ w i. out w.tx i))) (tt, tt)
 
 pub from_history : (logs : List (List LogRecord)) (h es : History) → FromHistory h (members logs h es)
 from_history logs h [] = tt
 from_history logs h (e ∷ es) = at (request_of (e.1).event (e.1).outcome) (from_history logs h es)
   where
     kept : (t : TxId) (b : Bool) → FromHistory h (members logs h es)
-        → FromHistory h (cond b (record { tx = t; point = record { stamp = (e.1).stamp; shard = e.0 }; ops = ops_in t h } ∷ members logs h es) (members logs h es))
+        → FromHistory h (cond b (record { tx = t; point = record { stamp = (e.1).stamp; shard = e.0 }; acts = acts_in t h } ∷ members logs h es) (members logs h es))
     kept t true k = (refl, k)
     kept t false k = k
 
     at : (o : Option TxId) → FromHistory h (members logs h es)
         → FromHistory h (elim o [
-          | Some t ↦ cond (committed_in (log_of logs e.0) t || acknowledged_in h t) (record { tx = t; point = record { stamp = (e.1).stamp; shard = e.0 }; ops = ops_in t h } ∷ members logs h es) (members logs h es)
+          | Some t ↦ cond (committed_in (log_of logs e.0) t || acknowledged_in h t) (record { tx = t; point = record { stamp = (e.1).stamp; shard = e.0 }; acts = acts_in t h } ∷ members logs h es) (members logs h es)
           | None ↦ members logs h es
         ])
     at None k = k
@@ -311,81 +350,72 @@ settings_all log n (Restart run epoch ∷ rs) ws h all = settings_all log (suc n
 settings_all log n (Add tx k by ∷ rs) ws h all = settings_all log (suc n) rs (record { lsn = n; tx = tx; key = k; change = Adds by } ∷ ws) h ((λ e. absurd (both_ways false refl e)), all)
 settings_all log n (Unadd tx u k by ∷ rs) ws h all = settings_all log (suc n) rs (without_newest tx ws) h (all_without _ tx ws all)
 
-pub locks_keep : (p : Part) (txs : List TxId) (log : List LogRecord) (locks : Locks) (t : TxId) (q : ℕ) → holds true p (At q) t locks ≡ true → holds true p (At q) t (restored_locks txs log locks) ≡ true
-locks_keep p txs [] locks t q h = h
-locks_keep p txs (Update tx key b a ∷ rs) locks t q h = locks_keep p txs rs (cond (tx_in tx txs) (take_one (At key) (shut_lock tx X) locks) locks) t q (lock_case X p txs tx key locks t q h)
-locks_keep p txs (Clr tx u k a ∷ rs) locks t q h = locks_keep p txs rs locks t q h
-locks_keep p txs (Prepare tx home ps ∷ rs) locks t q h = locks_keep p txs rs locks t q h
-locks_keep p txs (Commit tx ps ∷ rs) locks t q h = locks_keep p txs rs locks t q h
-locks_keep p txs (Abort tx ∷ rs) locks t q h = locks_keep p txs rs locks t q h
-locks_keep p txs (End tx ∷ rs) locks t q h = locks_keep p txs rs locks t q h
-locks_keep p txs (Restart run epoch ∷ rs) locks t q h = locks_keep p txs rs locks t q h
-locks_keep p txs (Add tx key by ∷ rs) locks t q h = locks_keep p txs rs (cond (tx_in tx txs) (take_one (At key) (shut_lock tx I) locks) locks) t q (lock_case I p txs tx key locks t q h)
-locks_keep p txs (Unadd tx u k by ∷ rs) locks t q h = locks_keep p txs rs locks t q h
-
-pub ghosts_keep : (txs : List TxId) (log : List LogRecord) (rs : Records) (q : ℕ) → IsThere q rs → IsThere q (with_ghosts txs log rs)
-ghosts_keep txs [] rs q h = h
-ghosts_keep txs (Update tx key b a ∷ log) rs q h =
-    ghosts_keep txs log (cond (tx_in tx txs) (ghost_if_absent key rs (found_at key rs)) rs) q (cond_both (tx_in tx txs) (ghost_if_absent key rs (found_at key rs)) rs (IsThere q) (λ e. ghost_keeps key q rs (found_at key rs) h) (λ e. h))
-ghosts_keep txs (Clr tx u k a ∷ log) rs q h = ghosts_keep txs log rs q h
-ghosts_keep txs (Prepare tx home ps ∷ log) rs q h = ghosts_keep txs log rs q h
-ghosts_keep txs (Commit tx ps ∷ log) rs q h = ghosts_keep txs log rs q h
-ghosts_keep txs (Abort tx ∷ log) rs q h = ghosts_keep txs log rs q h
-ghosts_keep txs (End tx ∷ log) rs q h = ghosts_keep txs log rs q h
-ghosts_keep txs (Restart run epoch ∷ log) rs q h = ghosts_keep txs log rs q h
-ghosts_keep txs (Add tx key by ∷ log) rs q h =
-    ghosts_keep txs log (cond (tx_in tx txs) (ghost_if_absent key rs (found_at key rs)) rs) q (cond_both (tx_in tx txs) (ghost_if_absent key rs (found_at key rs)) rs (IsThere q) (λ e. ghost_keeps key q rs (found_at key rs) h) (λ e. h))
-ghosts_keep txs (Unadd tx u k by ∷ log) rs q h = ghosts_keep txs log rs q h
-
 pub standing_updates : (log : List LogRecord) → AllByRecursion (λ w. has_update log w.tx w.key ≡ true) (standing log)
 standing_updates log = standing_all log 0 log [] (λ t q e. e) tt
 
 pub standing_settings : (log : List LogRecord) → AllByRecursion (λ w. is_setting w.change ≡ true → has_setting log w.tx w.key ≡ true) (standing log)
 standing_settings log = settings_all log 0 log [] (λ t q e. e) tt
 
--- who wrote at a key holds I of it at least, and who set its value X
-pub locks_hold : (txs : List TxId) (log : List LogRecord) (locks : Locks) (t : TxId) (q : ℕ) → tx_in t txs ≡ true → has_update log t q ≡ true → holds true I (At q) t (restored_locks txs log locks) ≡ true
+-- ---- what a restart restores of standing writes
+
+-- whether one of the writes is the transaction's at the key, and whether one sets its value
+abbrev pub has_write_at : List StandingUpdate → TxId → ℕ → Bool
+has_write_at ws t q = list_any (λ w. tx_same t w.tx && (q == w.key)) ws
+
+abbrev pub has_set_at : List StandingUpdate → TxId → ℕ → Bool
+has_set_at ws t q = list_any (λ w. (tx_same t w.tx && (q == w.key)) && is_setting w.change) ws
+
+own_at : (w : StandingUpdate) → (tx_same w.tx w.tx && (w.key == w.key)) ≡ true
+own_at w = and_from _ _ (tx_self w.tx) (eq-eqb w.key w.key refl)
+
+pub each_write_at : (ws : List StandingUpdate) → AllByRecursion (λ w. has_write_at ws w.tx w.key ≡ true) ws
+each_write_at [] = tt
+each_write_at (w ∷ ws) = (or_left _ _ (own_at w), all_mono _ _ (λ v h. or_right (tx_same v.tx w.tx && (v.key == w.key)) _ h) ws (each_write_at ws))
+
+pub each_set_at : (ws : List StandingUpdate) → AllByRecursion (λ w. is_setting w.change ≡ true → has_set_at ws w.tx w.key ≡ true) ws
+each_set_at [] = tt
+each_set_at (w ∷ ws) =
+    ((λ e. or_left _ _ (and_from _ _ (own_at w) e)), all_mono _ _ (λ v h e. or_right ((tx_same v.tx w.tx && (v.key == w.key)) && is_setting w.change) _ (h e)) ws (each_set_at ws))
+
+-- the locks after one more write, and the records
+abbrev with_lock : List TxId → StandingUpdate → Locks → Locks
+with_lock txs w locks = cond (tx_in w.tx txs) (take_one (At w.key) (shut_lock w.tx (part_of w.change)) locks) locks
+
+abbrev with_ghost : List TxId → StandingUpdate → Records → Records
+with_ghost txs w rs = cond (tx_in w.tx txs) (ghost_if_absent w.key rs (found_at w.key rs)) rs
+
+pub locks_keep : (p : Part) (txs : List TxId) (ws : List StandingUpdate) (locks : Locks) (t : TxId) (q : ℕ) → holds true p (At q) t locks ≡ true → holds true p (At q) t (restored_locks txs ws locks) ≡ true
+locks_keep p txs [] locks t q h = h
+locks_keep p txs (w ∷ ws) locks t q h = locks_keep p txs ws (with_lock txs w locks) t q (lock_case (part_of w.change) p txs w.tx w.key locks t q h)
+
+pub ghosts_keep : (txs : List TxId) (ws : List StandingUpdate) (rs : Records) (q : ℕ) → IsThere q rs → IsThere q (with_ghosts txs ws rs)
+ghosts_keep txs [] rs q h = h
+ghosts_keep txs (w ∷ ws) rs q h =
+    ghosts_keep txs ws (with_ghost txs w rs) q (cond_both (tx_in w.tx txs) (ghost_if_absent w.key rs (found_at w.key rs)) rs (IsThere q) (λ e. ghost_keeps w.key q rs (found_at w.key rs) h) (λ e. h))
+
+-- whose write stands at a key holds I of it at least, and who set its value X
+least_part : (c : Change) → least I (part_of c) ≡ true
+least_part (Sets before after) = refl
+least_part (Adds by) = refl
+
+set_part : (c : Change) → is_setting c ≡ true → least X (part_of c) ≡ true
+set_part (Sets before after) e = refl
+set_part (Adds by) e = absurd (both_ways false refl e)
+
+pub locks_hold : (txs : List TxId) (ws : List StandingUpdate) (locks : Locks) (t : TxId) (q : ℕ) → tx_in t txs ≡ true → has_write_at ws t q ≡ true → holds true I (At q) t (restored_locks txs ws locks) ≡ true
 locks_hold txs [] locks t q i e = absurd (both_ways false refl e)
-locks_hold txs (Update tx key b a ∷ rs) locks t q i e =
-    ⊎_elim (λ h. locks_keep I txs rs (cond (tx_in tx txs) (take_one (At key) (shut_lock tx X) locks) locks) t q (own_lock X I txs tx key locks t q refl i h))
-    (λ h. locks_hold txs rs (cond (tx_in tx txs) (take_one (At key) (shut_lock tx X) locks) locks) t q i h) (or_cases (tx_same t tx && (q == key)) (has_update rs t q) e)
-locks_hold txs (Clr tx u k a ∷ rs) locks t q i e = locks_hold txs rs locks t q i e
-locks_hold txs (Prepare tx home ps ∷ rs) locks t q i e = locks_hold txs rs locks t q i e
-locks_hold txs (Commit tx ps ∷ rs) locks t q i e = locks_hold txs rs locks t q i e
-locks_hold txs (Abort tx ∷ rs) locks t q i e = locks_hold txs rs locks t q i e
-locks_hold txs (End tx ∷ rs) locks t q i e = locks_hold txs rs locks t q i e
-locks_hold txs (Restart run epoch ∷ rs) locks t q i e = locks_hold txs rs locks t q i e
-locks_hold txs (Add tx key by ∷ rs) locks t q i e =
-    ⊎_elim (λ h. locks_keep I txs rs (cond (tx_in tx txs) (take_one (At key) (shut_lock tx I) locks) locks) t q (own_lock I I txs tx key locks t q refl i h))
-    (λ h. locks_hold txs rs (cond (tx_in tx txs) (take_one (At key) (shut_lock tx I) locks) locks) t q i h) (or_cases (tx_same t tx && (q == key)) (has_update rs t q) e)
-locks_hold txs (Unadd tx u k by ∷ rs) locks t q i e = locks_hold txs rs locks t q i e
+locks_hold txs (w ∷ ws) locks t q i e =
+    ⊎_elim (λ h. locks_keep I txs ws (with_lock txs w locks) t q (own_lock (part_of w.change) I txs w.tx w.key locks t q (least_part w.change) i h))
+    (λ h. locks_hold txs ws (with_lock txs w locks) t q i h) (or_cases (tx_same t w.tx && (q == w.key)) (has_write_at ws t q) e)
 
-pub locks_set : (txs : List TxId) (log : List LogRecord) (locks : Locks) (t : TxId) (q : ℕ) → tx_in t txs ≡ true → has_setting log t q ≡ true → holds true X (At q) t (restored_locks txs log locks) ≡ true
+pub locks_set : (txs : List TxId) (ws : List StandingUpdate) (locks : Locks) (t : TxId) (q : ℕ) → tx_in t txs ≡ true → has_set_at ws t q ≡ true → holds true X (At q) t (restored_locks txs ws locks) ≡ true
 locks_set txs [] locks t q i e = absurd (both_ways false refl e)
-locks_set txs (Update tx key b a ∷ rs) locks t q i e =
-    ⊎_elim (λ h. locks_keep X txs rs (cond (tx_in tx txs) (take_one (At key) (shut_lock tx X) locks) locks) t q (own_lock X X txs tx key locks t q refl i h))
-    (λ h. locks_set txs rs (cond (tx_in tx txs) (take_one (At key) (shut_lock tx X) locks) locks) t q i h) (or_cases (tx_same t tx && (q == key)) (has_setting rs t q) e)
-locks_set txs (Clr tx u k a ∷ rs) locks t q i e = locks_set txs rs locks t q i e
-locks_set txs (Prepare tx home ps ∷ rs) locks t q i e = locks_set txs rs locks t q i e
-locks_set txs (Commit tx ps ∷ rs) locks t q i e = locks_set txs rs locks t q i e
-locks_set txs (Abort tx ∷ rs) locks t q i e = locks_set txs rs locks t q i e
-locks_set txs (End tx ∷ rs) locks t q i e = locks_set txs rs locks t q i e
-locks_set txs (Restart run epoch ∷ rs) locks t q i e = locks_set txs rs locks t q i e
-locks_set txs (Add tx key by ∷ rs) locks t q i e = locks_set txs rs (cond (tx_in tx txs) (take_one (At key) (shut_lock tx I) locks) locks) t q i e
-locks_set txs (Unadd tx u k by ∷ rs) locks t q i e = locks_set txs rs locks t q i e
+locks_set txs (w ∷ ws) locks t q i e =
+    ⊎_elim (λ h. let s = and_parts (tx_same t w.tx && (q == w.key)) (is_setting w.change) h in locks_keep X txs ws (with_lock txs w locks) t q (own_lock (part_of w.change) X txs w.tx w.key locks t q (set_part w.change s.1) i s.0))
+    (λ h. locks_set txs ws (with_lock txs w locks) t q i h) (or_cases ((tx_same t w.tx && (q == w.key)) && is_setting w.change) (has_set_at ws t q) e)
 
-pub ghosts_there : (txs : List TxId) (log : List LogRecord) (rs : Records) (t : TxId) (q : ℕ) → tx_in t txs ≡ true → has_update log t q ≡ true → record_at q (with_ghosts txs log rs) ≡ None → ⊥
+pub ghosts_there : (txs : List TxId) (ws : List StandingUpdate) (rs : Records) (t : TxId) (q : ℕ) → tx_in t txs ≡ true → has_write_at ws t q ≡ true → record_at q (with_ghosts txs ws rs) ≡ None → ⊥
 ghosts_there txs [] rs t q i e = absurd (both_ways false refl e)
-ghosts_there txs (Update tx key b a ∷ log) rs t q i e =
-    ⊎_elim (λ h. ghosts_keep txs log (cond (tx_in tx txs) (ghost_if_absent key rs (found_at key rs)) rs) q (own_ghost txs tx key rs t q i h))
-    (λ h. ghosts_there txs log (cond (tx_in tx txs) (ghost_if_absent key rs (found_at key rs)) rs) t q i h) (or_cases (tx_same t tx && (q == key)) (has_update log t q) e)
-ghosts_there txs (Clr tx u k a ∷ log) rs t q i e = ghosts_there txs log rs t q i e
-ghosts_there txs (Prepare tx home ps ∷ log) rs t q i e = ghosts_there txs log rs t q i e
-ghosts_there txs (Commit tx ps ∷ log) rs t q i e = ghosts_there txs log rs t q i e
-ghosts_there txs (Abort tx ∷ log) rs t q i e = ghosts_there txs log rs t q i e
-ghosts_there txs (End tx ∷ log) rs t q i e = ghosts_there txs log rs t q i e
-ghosts_there txs (Restart run epoch ∷ log) rs t q i e = ghosts_there txs log rs t q i e
-ghosts_there txs (Add tx key by ∷ log) rs t q i e =
-    ⊎_elim (λ h. ghosts_keep txs log (cond (tx_in tx txs) (ghost_if_absent key rs (found_at key rs)) rs) q (own_ghost txs tx key rs t q i h))
-    (λ h. ghosts_there txs log (cond (tx_in tx txs) (ghost_if_absent key rs (found_at key rs)) rs) t q i h) (or_cases (tx_same t tx && (q == key)) (has_update log t q) e)
-ghosts_there txs (Unadd tx u k by ∷ log) rs t q i e = ghosts_there txs log rs t q i e
+ghosts_there txs (w ∷ ws) rs t q i e =
+    ⊎_elim (λ h. ghosts_keep txs ws (with_ghost txs w rs) q (own_ghost txs w.tx w.key rs t q i h))
+    (λ h. ghosts_there txs ws (with_ghost txs w rs) t q i h) (or_cases (tx_same t w.tx && (q == w.key)) (has_write_at ws t q) e)

@@ -1,5 +1,5 @@
 -- Lemmas of names, locks and parts.
-use Rattle.std.proofs.Common.{◌≡◌, Option, Some, List, ◌∷◌, None, [], ap, true, ℕ, map, ◌==◌, refl, ◌∙◌, eq-eqb, false, subst, ◌<◌, sym, cond, Bool, ◌⊎◌, ⊎_elim, ◌||◌, ◌++◌, not, ◌&&◌, length, ◌≤◌, arith, eqb-true}
+use Rattle.std.proofs.Common.{◌≡◌, Option, Some, List, ◌∷◌, None, [], ap, true, ℕ, map, ◌==◌, refl, ◌∙◌, eq-eqb, false, subst, sym, cond, Bool, ◌⊎◌, ⊎_elim, ◌||◌, ◌++◌, not, ◌&&◌, length, eqb-true}
 use Rattle.clv_base.specs.declared.values.Value.{Value as ValueType}
 use Rattle.clv_base.specs.declared.names.Birth.{Birth}
 use Rattle.clv_base.specs.declared.names.TxId.{TxId}
@@ -8,11 +8,11 @@ use Rattle.clv_base.specs.declared.ops.Op.{Op}
 use Rattle.clv_base.specs.declared.ops.Answer.{Answer}
 use Rattle.std.specs.List.{AllByRecursion, list_any, list_all}
 use Rattle.std.proofs.lemmas.Bool.{cond_both, both_ways, cond-true, false_from_ne_true, or_cases, and_from, and_parts}
-use Rattle.clv_base.specs.Logs.{StandingUpdate, without_newest}
 use Rattle.std.specs.declared.cmp.Ordering.TheVariants.{Less, Equal, Greater}
 use Rattle.std.specs.Ordering.{is_eq, match_ordering, nat_cmp, ordering_then}
 use Rattle.clv_base.proofs.SameNames.{tx_self, or_left, or_right, tx_true, tx_eq, in_insert, insert_keeps, insert_has, tx_flip}
 use Rattle.law_base.proofs.Lists.{all_mono}
+pub use Rattle.law_base.proofs.Standing.{all_without, Falls, falls_weaker, falls_without, falls_length}
 pub use Rattle.law_base.proofs.Sets.{Rise, one_rises, in_flipped}
 use Rattle.clv_base.specs.declared.messages.Message.{Message}
 use Rattle.clv_base.specs.declared.messages.Message.TheVariants.{Decide}
@@ -48,8 +48,6 @@ use Rattle.clv_base.specs.declared.modes.Anchor.{Anchor}
 use Rattle.clv_base.specs.declared.modes.Holder.{Holder}
 use Rattle.clv_base.specs.declared.modes.Part.{Part}
 use Rattle.clv_base.specs.Modes.{on_key}
-use Rattle.clv_base.specs.Journals.{History}
-use Rattle.clv_base.specs.History.{answered_op, ops_in}
 use Rattle.clv_base.specs.OneShard.{add_pairs}
 use Rattle.law_base.proofs.LockRows.{holds, least, take_keeps, take_gives}
 use Rattle.clv_base.specs.declared.modes.Found.{Found}
@@ -57,13 +55,6 @@ use Rattle.clv_base.specs.declared.modes.Found.TheVariants.{Live, Ghost, Absent}
 
 pub birth_same : (a b : Birth) → ◌≡◌ {A = Option Birth} (Some a) (Some b) → a ≡ b
 birth_same a b h = cc
-
-abbrev pub with_op : Option (Op × Answer) → List (Op × Answer) → List (Op × Answer)
-with_op o ps = elim o as (λ z. List (Op × Answer)) [ Some p ↦ p ∷ ps | None ↦ ps ]
-
-pub all_without : (P : StandingUpdate → Type 0) (t : TxId) (ws : List StandingUpdate) → AllByRecursion P ws → AllByRecursion P (without_newest t ws)
-all_without P t [] a = tt
-all_without P t (w ∷ ws) a = cond_both (tx_same t w.tx) ws (w ∷ without_newest t ws) (AllByRecursion P) (λ e. a.1) (λ e. (a.0, all_without P t ws a.1))
 
 pub not_less : (t : TxId) → tx_cmp t t ≡ Less → ⊥
 not_less t e = both_ways _ (ap is_eq e) (tx_self t)
@@ -84,10 +75,6 @@ set_has k v rs = ap (λ o. is_there (found_by o)) (record_at_set k k v rs ∙ co
 
 pub other_name : (set : List TxId) (t u : TxId) → tx_in t set ≡ true → tx_in u set ≡ false → tx_same t u ≡ false
 other_name set t u i o = false_from_ne_true _ (λ e. both_ways _ o (subst (λ x. tx_in x set ≡ true) (tx_true t u e) i))
-
-abbrev pub Falls : ℕ → List StandingUpdate → Type 0
-Falls n [] = Unit {0}
-Falls n (w ∷ ws) = (w.lsn < n) × Falls w.lsn ws
 
 pub has_key : {V : Type 0} (t : TxId) (v : V) (rs : Table V) → tx_get t rs ≡ Some v → tx_in t (keys_of rs) ≡ true
 has_key t v [] e = absurd (none_some v e)
@@ -213,15 +200,6 @@ shut_lock tx part = record { tx = tx; birth = old_birth tx; mode = on_key part; 
 abbrev pub Stays : Locks → Records → Type 0
 Stays locks rs = AllByRecursion (λ r. is_locked_or_live locks r ≡ true) rs
 
-pub ops_append : (t : TxId) (xs ys : History) → ops_in t (xs ++ ys) ≡ ops_in t xs ++ ops_in t ys
-ops_append t [] ys = refl
-ops_append t (x ∷ xs) ys = at (answered_op t (x.1).event (x.1).outcome) (ops_append t xs ys)
-  where
-    at : (o : Option (Op × Answer)) → ops_in t (xs ++ ys) ≡ ops_in t xs ++ ops_in t ys
-        → ◌≡◌ {A = List (Op × Answer)} (elim o [ Some p ↦ p ∷ ops_in t (xs ++ ys) | None ↦ ops_in t (xs ++ ys) ]) (elim o [ Some p ↦ p ∷ ops_in t xs | None ↦ ops_in t xs ] ++ ops_in t ys)
-    at None e = e
-    at (Some p) e = ap (λ l. p ∷ l) e
-
 pub birth_self : (b : Birth) → is_eq (birth_cmp b b) ≡ true
 birth_self b = at (nat_cmp b.stamp b.stamp) (nat_cmp b.session b.session) (nat_cmp b.serial b.serial) (one b.stamp) (one b.session) (one b.serial)
   where
@@ -266,19 +244,6 @@ set_some q k rs false o h e = h refl e
 pub not_above : {V : Type 0} (t : TxId) (rs : Table V) → AllAbove t (keys_of rs) → tx_get t rs ≡ None
 not_above t [] a = refl
 not_above t (p ∷ ps) a = ap (λ c. cond (is_eq c) (Some p.1) (tx_get t ps)) a.0 ∙ not_above t ps a.1
-
-pub falls_weaker : (n m : ℕ) (ws : List StandingUpdate) → n ≤ m → Falls n ws → Falls m ws
-falls_weaker n m [] le falls = tt
-falls_weaker n m (w ∷ ws) le falls = (omega arith, falls.1)
-
-pub falls_without : (tx : TxId) (n : ℕ) (ws : List StandingUpdate) → Falls n ws → Falls n (without_newest tx ws)
-falls_without tx n [] falls = tt
-falls_without tx n (w ∷ ws) falls =
-    cond_both (tx_same tx w.tx) ws (w ∷ without_newest tx ws) (Falls n) (λ e. falls_weaker w.lsn n ws (omega arith) falls.1) (λ e. (falls.0, falls_without tx w.lsn ws falls.1))
-
-pub falls_length : (n : ℕ) (ws : List StandingUpdate) → Falls n ws → length ws ≤ n
-falls_length n [] f = omega arith
-falls_length n (w ∷ ws) f = let l : w.lsn < n = f.0 in let m : length ws ≤ w.lsn = falls_length w.lsn ws f.1 in omega arith
 
 pub preds_add : (x tx : TxId) (qs : List TxId) (pairs : List (TxId × TxId)) → tx_same x tx ≡ false → predecessors_of (add_pairs tx qs pairs) x ≡ predecessors_of pairs x
 preds_add x tx [] pairs other = refl

@@ -1,5 +1,5 @@
 -- Items of which some are left out run as before, where no item that stays meets a key that one left out wrote.
-use Rattle.std.proofs.Common.{◌≡◌, ℕ, ◌⊎◌, inl, inr, ⊎_elim, Bool, true, false, cond, ◌&&◌, List, [], ◌∷◌, ◌++◌, Option, Some, None, ◌==◌, refl, sym, ap, subst, ◌∙◌, eqb-true, eq-eqb}
+use Rattle.std.proofs.Common.{◌≡◌, ℕ, ◌⊎◌, inl, inr, ⊎_elim, Bool, true, false, cond, ◌&&◌, List, [], ◌∷◌, ◌++◌, map, Option, Some, None, ◌==◌, refl, sym, ap, subst, ◌∙◌, eqb-true, eq-eqb}
 use Rattle.std.specs.List.{AllByRecursion, filter}
 use Rattle.std.proofs.lemmas.Bool.{cases_Bool, both_ways, cond_both}
 use Rattle.clv_base.specs.declared.values.Value.{Value as ValueType}
@@ -8,21 +8,17 @@ use Rattle.clv_base.specs.declared.ops.Op.{Op}
 use Rattle.clv_base.specs.declared.ops.Op.TheVariants.{Get, Put, Del, Scan, Add}
 use Rattle.clv_base.specs.declared.ops.Answer.{Answer}
 use Rattle.clv_base.specs.declared.ops.Answer.TheVariants.{Value, Pairs, Added}
-use Rattle.clv_base.specs.Maps.{KeyMap, map_get, map_set, map_add, plus, is_number, map_between, lies_between, op_answer, op_after, replay_map, ops_after, replay_answers, ops_answers}
+use Rattle.clv_base.specs.Maps.{KeyMap, map_get, map_set, map_add, plus, is_number, map_between, lies_between, op_answer, op_after, ops_after, ops_answers, replay_ops_map, replay_ops_answers, Acts, Operates, Trail, map_now, acts_after, acts_answers, replay_map, replay_answers}
 use Rattle.clv_base.specs.Needs.{writes_of}
 use Rattle.clv_base.specs.declared.changes.Change.{Change}
-use Rattle.clv_base.specs.declared.changes.Change.TheVariants.{Adds}
-use Rattle.clv_base.specs.Logs.{StandingUpdate, changed, fold_at, wrote_in, fold_updates}
+use Rattle.clv_base.specs.Logs.{StandingUpdate, changed, fold_at, with_change, fold_writes, wrote_in, has_standing, fold_updates, standing}
 use Rattle.clv_base.specs.Folding.{IsRising, meets_key, adds}
 use Rattle.clv_base.specs.declared.names.TxId.{TxId}
 use Rattle.clv_base.specs.declared.logs.LogRecord.{LogRecord}
-use Rattle.clv_base.specs.declared.logs.LogRecord.TheVariants.{Update, Clr, Prepare, Commit, Abort, End, Restart, Unadd}
-use Rattle.clv_base.specs.declared.logs.LogRecord.TheVariants as records
-use Rattle.clv_base.specs.Orders.{tx_same}
 use Rattle.clv_base.proofs.Folding.{plus_is_number, get_set, rising_after, rising_between, same_map, find_between}
-use Rattle.clv_base.proofs.SameNames.{or_left, or_right, tx_self}
 use Rattle.law_base.specs.Items.{Item, told, wrote, is_write_at, writes, meets, Runs, after, AllLater, Reaches, on_top, pile}
 use Rattle.law_base.proofs.Lists.{all_mono}
+use Rattle.law_base.proofs.Standing.{all_stand, standing_wrote}
 
 -- the value at a key after a write
 abbrev pub with_write : Option (ℕ × Change) → ℕ → Option ValueType → Option ValueType
@@ -262,25 +258,47 @@ pile_push (y ∷ ys) x ws = pile_push ys x (on_top y.tx y.lsn (wrote y) ws)
 
 -- ---- a replay in two parts
 
-pub replay_map_append : (m : KeyMap) (xs ys : List (List Op)) → replay_map m (xs ++ ys) ≡ replay_map (replay_map m xs) ys
+pub replay_map_append : (m : KeyMap) (xs ys : List Acts) → replay_map m (xs ++ ys) ≡ replay_map (replay_map m xs) ys
 replay_map_append m [] ys = refl
-replay_map_append m (x ∷ xs) ys = replay_map_append (ops_after x m) xs ys
+replay_map_append m (x ∷ xs) ys = replay_map_append (acts_after x m []) xs ys
 
-pub replay_answers_append : (m : KeyMap) (xs ys : List (List Op)) → replay_answers m (xs ++ ys) ≡ replay_answers m xs ++ replay_answers (replay_map m xs) ys
+pub replay_answers_append : (m : KeyMap) (xs ys : List Acts) → replay_answers m (xs ++ ys) ≡ replay_answers m xs ++ replay_answers (replay_map m xs) ys
 replay_answers_append m [] ys = refl
-replay_answers_append m (x ∷ xs) ys = ap (λ l. ops_answers x m ∷ l) (replay_answers_append (ops_after x m) xs ys)
+replay_answers_append m (x ∷ xs) ys = ap (λ l. acts_answers x m [] ∷ l) (replay_answers_append (acts_after x m []) xs ys)
 
--- of the records of a log the writers alone count
+-- the same of operations alone
+pub replay_ops_map_append : (m : KeyMap) (xs ys : List (List Op)) → replay_ops_map m (xs ++ ys) ≡ replay_ops_map (replay_ops_map m xs) ys
+replay_ops_map_append m [] ys = refl
+replay_ops_map_append m (x ∷ xs) ys = replay_ops_map_append (ops_after x m) xs ys
+
+pub replay_ops_answers_append : (m : KeyMap) (xs ys : List (List Op)) → replay_ops_answers m (xs ++ ys) ≡ replay_ops_answers m xs ++ replay_ops_answers (replay_ops_map m xs) ys
+replay_ops_answers_append m [] ys = refl
+replay_ops_answers_append m (x ∷ xs) ys = ap (λ l. ops_answers x m ∷ l) (replay_ops_answers_append (ops_after x m) xs ys)
+
+-- where nobody goes back, acts are operations, whatever their numbers
+abbrev pub operations : List (ℕ × Op) → Acts
+operations ps = map (λ p. (p.0, Operates p.1)) ps
+
+pub operations_after : (ps : List (ℕ × Op)) (m : KeyMap) (trail : Trail) → acts_after (operations ps) m trail ≡ ops_after (map (λ p. p.1) ps) (map_now m trail)
+operations_after [] m trail = refl
+operations_after (p ∷ ps) m trail = operations_after ps m ((p.0, op_after p.1 (map_now m trail)) ∷ trail)
+
+pub operations_answers : (ps : List (ℕ × Op)) (m : KeyMap) (trail : Trail) → acts_answers (operations ps) m trail ≡ ops_answers (map (λ p. p.1) ps) (map_now m trail)
+operations_answers [] m trail = refl
+operations_answers (p ∷ ps) m trail = ap (λ l. op_answer p.1 (map_now m trail) ∷ l) (operations_answers ps m ((p.0, op_after p.1 (map_now m trail)) ∷ trail))
+
+-- ---- the fold of writes
+
+-- it depends on the tests of those alone whose writes they are
+pub fold_same : (f k : TxId → Bool) (ws : List StandingUpdate) (m : KeyMap) → AllByRecursion (λ w. f w.tx ≡ k w.tx) ws → fold_writes f ws m ≡ fold_writes k ws m
+fold_same f k [] m e = refl
+fold_same f k (w ∷ ws) m e =
+    ap (λ c. cond c (with_change w.key w.change (fold_writes f ws m)) (fold_writes f ws m)) e.0
+    ∙ ap (λ n. cond (k w.tx) (with_change w.key w.change n) n) (fold_same f k ws m e.1)
+
+-- so on those alone of whom a write stands
+pub fold_standing : (f k : TxId → Bool) (log : List LogRecord) (m : KeyMap) → ((t : TxId) → has_standing log t ≡ true → f t ≡ k t) → fold_updates f log m ≡ fold_updates k log m
+fold_standing f k log m e = fold_same f k (standing log) m (all_mono _ _ (λ w h. e w.tx h) (standing log) (all_stand log))
+
 pub fold_writers : (f k : TxId → Bool) (log : List LogRecord) (m : KeyMap) → ((t : TxId) → wrote_in log t ≡ true → f t ≡ k t) → fold_updates f log m ≡ fold_updates k log m
-fold_writers f k [] m e = refl
-fold_writers f k (Update tx key b a ∷ rs) m e =
-    ap (λ c. fold_updates f rs (cond c (map_set key a m) m)) (e tx (or_left _ _ (tx_self tx))) ∙ fold_writers f k rs (cond (k tx) (map_set key a m) m) (λ t w. e t (or_right (tx_same t tx) _ w))
-fold_writers f k (Clr tx u key a ∷ rs) m e = fold_writers f k rs m e
-fold_writers f k (Prepare tx home ps ∷ rs) m e = fold_writers f k rs m e
-fold_writers f k (Commit tx ps ∷ rs) m e = fold_writers f k rs m e
-fold_writers f k (Abort tx ∷ rs) m e = fold_writers f k rs m e
-fold_writers f k (End tx ∷ rs) m e = fold_writers f k rs m e
-fold_writers f k (Restart run epoch ∷ rs) m e = fold_writers f k rs m e
-fold_writers f k (records.Add tx key by ∷ rs) m e =
-    ap (λ c. fold_updates f rs (cond c (map_add key by m) m)) (e tx (or_left _ _ (tx_self tx))) ∙ fold_writers f k rs (cond (k tx) (map_add key by m) m) (λ t w. e t (or_right (tx_same t tx) _ w))
-fold_writers f k (Unadd tx u key by ∷ rs) m e = fold_writers f k rs m e
+fold_writers f k log m e = fold_standing f k log m (λ t h. e t (standing_wrote log t h))

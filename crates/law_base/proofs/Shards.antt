@@ -3,12 +3,12 @@ use Rattle.clv_base.specs.declared.events.Outcome.{Outcome}
 use Rattle.clv_base.specs.Events.{Reply, QuietBeforeWorn, QuietAfterWorn, Does, Quiet, stamped, out_event, land_up, Enters, happen_up, taken}
 use Rattle.std.proofs.Common.{Bool, true, false, ◌≡◌, ℕ, zero, suc, Option, Some, None, refl, List, ap, ◌∙◌, cond, [], ◌∷◌, ◌==◌, ◌<◌, length, arith}
 use Rattle.clv_base.specs.State.{Shard}
-use Rattle.clv_base.specs.declared.events.Event.TheVariants.{FlushOut, Op, Request, Look, Drop, Send, Deliver, Remind, FlushIn, Stop, Restart}
-use Rattle.clv_base.specs.declared.events.Outcome.TheVariants.{Out, Acknowledged, Aborted, Down, Answered, Dead, Asked}
+use Rattle.clv_base.specs.declared.events.Event.TheVariants.{FlushOut, Op, RollTo, Request, Look, Drop, Send, Deliver, Remind, FlushIn, Stop, Restart}
+use Rattle.clv_base.specs.declared.events.Outcome.TheVariants.{Out, Acknowledged, Aborted, Down, Answered, Rolled, Dead, Asked}
 use Rattle.std.proofs.lemmas.Bool.{both_ways}
 use Rattle.std.specs.List.{AllByRecursion}
 use Rattle.clv_base.specs.Journals.{History, own}
-use Rattle.clv_base.specs.History.{Member, ops_in}
+use Rattle.clv_base.specs.History.{Member, acts_in}
 use Rattle.clv_base.specs.declared.names.TxId.{TxId}
 use Rattle.clv_base.specs.Logs.{committed_in, fitting}
 use Rattle.law_base.proofs.Tables.{is_pair}
@@ -46,7 +46,7 @@ not_down s clock w pushed o t true up h d = absurd (both_ways true d refl)
 not_down s clock w pushed o t false up h d = absurd cc
 
 abbrev pub FromHistory : History → List Member → Type 0
-FromHistory h ms = AllByRecursion (λ m. m.ops ≡ ops_in m.tx h) ms
+FromHistory h ms = AllByRecursion (λ m. m.acts ≡ acts_in m.tx h) ms
 
 abbrev pub rest_of : Option Shard → Option Shard → Option Shard
 rest_of o rest = elim o [ Some t ↦ Some t | None ↦ rest ]
@@ -66,6 +66,11 @@ fits_op (Answered answer epoch) = true
 fits_op (Dead cause) = true
 fits_op _ = false
 
+abbrev pub fits_back : Outcome → Bool
+fits_back Rolled = true
+fits_back (Dead cause) = true
+fits_back _ = false
+
 abbrev pub fits_request : Outcome → Bool
 fits_request Asked = true
 fits_request (Dead cause) = true
@@ -73,6 +78,7 @@ fits_request _ = false
 
 pub session_passes : (splits : List ℕ) (n : ℕ) (t : SessionState) (e : Event) (o : Outcome) → is_of_session e ≡ false → session_after splits n t e o ≡ Some t
 session_passes splits n t (Op tx birth nth seen op) o h = absurd (both_ways true h refl)
+session_passes splits n t (RollTo tx nth seen upto) o h = absurd (both_ways true h refl)
 session_passes splits n t (Request tx touched) o h = absurd (both_ways true h refl)
 session_passes splits n t (Look tx) o h = absurd (both_ways true h refl)
 session_passes splits n t (Drop tx) o h = absurd (both_ways true h refl)

@@ -7,6 +7,10 @@ use Rattle.clv_base.specs.Orders.{tx_in}
 use Rattle.clv_base.specs.Logs.{StandingUpdate, standing}
 use Rattle.clv_base.specs.Undo.{aborts_of, clrs_of}
 
+-- whether a write stays, by what is taken back
+abbrev pub stays_by : (StandingUpdate → Bool) → StandingUpdate → Bool
+stays_by gone w = not (gone w)
+
 -- whether a write is of none of the set
 abbrev pub stays_of : List TxId → StandingUpdate → Bool
 stays_of set w = not (tx_in w.tx set)

@@ -18,17 +18,17 @@ use Rattle.clv_base.specs.declared.changes.Change.{Change}
 use Rattle.clv_base.specs.declared.changes.Change.TheVariants.{Sets, Adds}
 use Rattle.clv_base.specs.Orders.{tx_in}
 use Rattle.clv_base.specs.FileRules.{has_spelling, tx_has_spelling, is_64_bits, is_value}
-use Rattle.clv_base.specs.Logs.{changed, wrote_in, standing, in_doubt, is_winner}
+use Rattle.clv_base.specs.Logs.{changed, has_standing, standing, in_doubt, is_winner}
 use Rattle.clv_base.specs.Locks.{violated, take_all}
 use Rattle.clv_base.specs.Needs.{found_at, key_of, needs_of, inserts, writes_of, value_at, is_locked_or_live}
 use Rattle.clv_base.specs.State.{Local, is_present}
 use Rattle.clv_base.specs.Facts.{undecided_of}
-use Rattle.clv_base.specs.Undo.{stage_of, doomed_here, aborts_of, clrs_of, undo}
-use Rattle.clv_base.specs.OneShard.{update_of, locked, written, closing, without_part, rolled_back_if, drop_part}
-use Rattle.protocol_laws.specs.Spelled.{IsSpelled, fits_op, OperationsKeep, ClosingsKeep, AbortsKeep, DropsKeep, EndsKeep, RecordsKeep, PurgesKeep, RestartsAreSpelled}
-use Rattle.protocol_laws.proofs.ChangesKeepSpelling.UndoIsSpelled.{change_fits, changed_fits, fit_standing, clrs_spelled, Named, aborts_spelled}
+use Rattle.clv_base.specs.Undo.{stage_of, doomed_here, is_of, aborts_of, clrs_by, clrs_of, newest_lsns, is_at, undo}
+use Rattle.clv_base.specs.OneShard.{update_of, violated_here, locked, written, closing, without_part, rolled_back_if, drop_part}
+use Rattle.protocol_laws.specs.Spelled.{IsSpelled, fits_op, OperationsKeep, ClosingsKeep, AbortsKeep, DropsKeep, RollsKeep, EndsKeep, RecordsKeep, PurgesKeep, RestartsAreSpelled}
+use Rattle.protocol_laws.proofs.ChangesKeepSpelling.UndoIsSpelled.{change_fits, changed_fits, fit_standing, clrs_spelled_by, clrs_spelled, Named, aborts_spelled}
 use Rattle.protocol_laws.proofs.ChangesKeepSpelling.RowsAreSpelled.{takes_named, inserts_named, close_named, release_named, violated_are_named, restored_named, add_seconds, set_value, value_fits, undone_values}
-use Rattle.protocol_laws.proofs.ChangesKeepSpelling.ListsAreSpelled.{wrote_named, undecided_spelled, restored_seconds, restored_values}
+use Rattle.protocol_laws.proofs.ChangesKeepSpelling.ListsAreSpelled.{stands_named, undecided_spelled, restored_seconds, restored_values}
 use Rattle.law_base.proofs.Lists.{all_kept as all_filter}
 use Rattle.law_base.proofs.Logs.{spelled_append as all_append}
 
@@ -54,7 +54,8 @@ locked_spelled tx birth op l n s = record {
   log = s.log;
   holders =
       inserts_named tx birth l.records (inserts op (found_at (key_of op) l.records)) (take_all tx birth (needs_of op l.records) l.locks) n (takes_named tx birth (needs_of op l.records) l.locks n s.holders);
-  predecessors = add_seconds tx (violated tx (needs_of op l.records) l.locks) l.pairs (violated_are_named tx (needs_of op l.records) l.locks s.holders) s.predecessors;
+  predecessors = add_seconds tx (violated_here l tx op) l.pairs
+      (all_filter (λ t. tx_has_spelling t ≡ true) (has_standing l.log) (violated tx (needs_of op l.records) l.locks) (violated_are_named tx (needs_of op l.records) l.locks s.holders)) s.predecessors;
   values = s.values;
 }
 
@@ -80,7 +81,7 @@ operations_keep tx birth op l n f s =
 
 pub closings_keep : ClosingsKeep
 closings_keep tx home one l h few s = record {
-  log = all_append l.log (closing (wrote_in l.log tx) one tx home (undecided_of l tx)) s.log (undecided_spelled l.log l.pairs tx home one s.log s.predecessors h few);
+  log = all_append l.log (closing (has_standing l.log tx) one tx home (undecided_of l tx)) s.log (undecided_spelled l.log l.pairs tx home one s.log s.predecessors h few);
   holders = close_named tx l.locks s.holders;
   predecessors = s.predecessors;
   values = s.values;
@@ -104,18 +105,19 @@ purges_keep l s = record { log = s.log; holders = s.holders; predecessors = s.pr
 
 -- ---- an abort
 
-writers_named : (log : List LogRecord) (ts : List TxId) → list_all has_spelling log ≡ true → Named (filter (wrote_in log) ts)
+writers_named : (log : List LogRecord) (ts : List TxId) → list_all has_spelling log ≡ true → Named (filter (has_standing log) ts)
 writers_named log [] h = tt
-writers_named log (t ∷ ts) h = cond_both (wrote_in log t) (t ∷ filter (wrote_in log) ts) (filter (wrote_in log) ts) Named (λ w. (wrote_named log t h w, writers_named log ts h)) (λ w. writers_named log ts h)
+writers_named log (t ∷ ts) h =
+    cond_both (has_standing log t) (t ∷ filter (has_standing log) ts) (filter (has_standing log) ts) Named (λ w. (stands_named log t h w, writers_named log ts h)) (λ w. writers_named log ts h)
 
 undone : (set : List TxId) (l : Local) → length l.log < 2 ^ 64 → IsSpelled l → IsSpelled (undo set l)
 undone set l few s = record {
   log =
-      all_append (l.log ++ aborts_of l.log set) (clrs_of set (standing l.log)) (all_append l.log (aborts_of l.log set) s.log (aborts_spelled (filter (wrote_in l.log) set) (writers_named l.log set s.log)))
+      all_append (l.log ++ aborts_of l.log set) (clrs_of set (standing l.log)) (all_append l.log (aborts_of l.log set) s.log (aborts_spelled (filter (has_standing l.log) set) (writers_named l.log set s.log)))
       (clrs_spelled (length l.log) set (standing l.log) (omega (arith, few)) (fit_standing l.log s.log));
   holders = s.holders;
   predecessors = s.predecessors;
-  values = undone_values set (length l.log) (standing l.log) l.records (fit_standing l.log s.log) s.values;
+  values = undone_values (is_of set) (length l.log) (standing l.log) l.records (fit_standing l.log s.log) s.values;
 }
 
 pub aborts_keep : AbortsKeep
@@ -136,12 +138,24 @@ marked l m s a b c d = record {
 pub drops_keep : DropsKeep
 drops_keep tx l few s = marked (without_part tx l) (drop_part tx l) (rolled_if (is_present (stage_of l tx)) tx l few s) refl refl refl refl
 
+-- ---- a going back
+
+pub rolls_keep : RollsKeep
+rolls_keep tx n l few s =
+    let gone = is_at (newest_lsns n tx (standing l.log)) in
+    record {
+      log = all_append l.log (clrs_by gone (standing l.log)) s.log (clrs_spelled_by (length l.log) gone (standing l.log) (omega (arith, few)) (fit_standing l.log s.log));
+      holders = s.holders;
+      predecessors = s.predecessors;
+      values = undone_values gone (length l.log) (standing l.log) l.records (fit_standing l.log s.log) s.values;
+    }
+
 -- ---- a restart
 
 pub restarts_are_spelled : RestartsAreSpelled
 restarts_are_spelled shard epoch log h = record {
   log = h;
-  holders = restored_named (in_doubt shard log) log [] h tt;
+  holders = restored_named (length log) (in_doubt shard log) (standing log) [] (fit_standing log h) tt;
   predecessors = restored_seconds log (in_doubt shard log) h;
   values = restored_values (in_doubt shard log) (is_winner shard log) log h;
 }

@@ -14,7 +14,7 @@ use Rattle.clv_base.specs.declared.causes.Vote.TheVariants.{Yes, Read, No}
 use Rattle.clv_base.specs.declared.messages.Message.{Message}
 use Rattle.clv_base.specs.declared.messages.Message.TheVariants.{Prepare, Vote as VoteMessage, Decide, Done, Ask}
 use Rattle.clv_base.specs.declared.events.Event.{Event}
-use Rattle.clv_base.specs.declared.events.Event.TheVariants.{Op as OpEvent, Request as RequestEvent, Look, Drop, Send, Deliver, Remind, FlushOut, FlushIn, Stop, Restart}
+use Rattle.clv_base.specs.declared.events.Event.TheVariants.{Op as OpEvent, RollTo, Request as RequestEvent, Look, Drop, Send, Deliver, Remind, FlushOut, FlushIn, Stop, Restart}
 use Rattle.clv_base.specs.declared.events.Outcome.TheVariants.{Nothing, Down}
 use Rattle.clv_base.specs.declared.state.Ruling.TheVariants.{Commit as CommitVerdict, Acknowledge, Abort as AbortVerdict, End as EndVerdict}
 use Rattle.clv_base.specs.Orders.{Table, pair_cmp, pair_insert, tx_cmp, tx_same, tx_in, tx_get, tx_put}
@@ -22,7 +22,7 @@ use Rattle.clv_base.specs.declared.changes.Change.{Change}
 use Rattle.clv_base.specs.Logs.{committed_in, in_doubt, fitting}
 use Rattle.clv_base.specs.declared.modes.Decision.{Decision}
 use Rattle.clv_base.specs.declared.modes.Decision.TheVariants.{Grant, Wait, Die}
-use Rattle.clv_base.specs.Locks.{decide, violated}
+use Rattle.clv_base.specs.Locks.{decide}
 use Rattle.clv_base.specs.Needs.{needs_of, writes_of, value_at, key_of}
 use Rattle.clv_base.specs.declared.state.Stage.{Stage}
 use Rattle.clv_base.specs.declared.state.Stage.TheVariants.{Active, Closed, Gone}
@@ -35,13 +35,14 @@ use Rattle.clv_base.specs.declared.state.Ruling.{Ruling}
 use Rattle.clv_base.specs.declared.state.Taken.{Taken as DecisionTaken}
 use Rattle.clv_base.specs.declared.state.Taken.TheVariants.{Done as IsDone, Waiting as IsAwaited, Stale as IsStale}
 use Rattle.clv_base.specs.State.{Local, Shard, with_local, is_present}
-use Rattle.clv_base.specs.Undo.{stage_of, pairs_without, release_parts, roll_back, doomed_here, undo}
+use Rattle.clv_base.specs.Undo.{stage_of, pairs_without, release_parts, roll_back, roll_to, doomed_here, undo}
+use Rattle.clv_base.specs.Backs.{standing_numbers, count_after}
 use Rattle.clv_base.specs.Facts.{facts_of, has_durable_commit}
 use Rattle.clv_base.specs.Participant.{taken_by}
 use Rattle.clv_base.specs.Coordinator.{others, takes_vote, takes_done}
-use Rattle.clv_base.specs.OneShard.{OpReply, OpWaits, OpCrowded, OpDies, OpAnswers, seen_fits, op_reply, op_seen, op_by_stage, op_active, op_decided, op_granted, written, locked, performed, active_part, new_part, add_pairs, rolled_back_if, without_part, close_part, drop_part}
+use Rattle.clv_base.specs.OneShard.{OpReply, OpWaits, OpCrowded, OpDies, OpAnswers, seen_fits, op_reply, op_seen, op_by_stage, op_active, op_decided, op_granted, written, locked, performed, active_part, new_part, add_pairs, violated_here, rolled_back_if, without_part, close_part, drop_part}
 use Rattle.clv_base.specs.Due.{due_of, do_due, work, finish_reader, with_vote, do_ruling, with_ruling}
-use Rattle.clv_base.specs.Events.{Reply, QuietBeforeWorn, QuietAfterWorn, Does, finish, op_event, is_alone, epoch_in, coordinate, request_by_stage, request_event, look_lost, look_state, look_known, request_epoch, drop_event, owe_vote, on_prepare, with_votes, on_vote, decided, on_decide, with_done, on_done, on_message, to_of, with_outbox, send_event, reminders, remind_with, with_durable, out_event, taken, landed, happen_up, happen, CallAnswer, Quiet, Worn, Enters, next_stamp, stamped, step, land_up, land}
+use Rattle.clv_base.specs.Events.{Reply, QuietBeforeWorn, QuietAfterWorn, Does, finish, op_event, roll_by_stage, roll_event, is_alone, epoch_in, coordinate, request_by_stage, request_event, look_lost, look_state, look_known, request_epoch, drop_event, owe_vote, on_prepare, with_votes, on_vote, decided, on_decide, with_done, on_done, on_message, to_of, with_outbox, send_event, reminders, remind_with, with_durable, out_event, taken, landed, happen_up, happen, CallAnswer, Quiet, Worn, Enters, next_stamp, stamped, step, land_up, land}
 use Rattle.clv_base.specs.Restarts.{restored_parts, log_left, next_epoch, log_after_restart, revived, revive_down, revive}
 use Rattle.clv_base.proofs.SameNames.{or_left, or_right, tx_true, tx_self, tx_eq}
 use Rattle.law_base.proofs.Lists.{all_mono, all_kept}
@@ -114,7 +115,7 @@ written_keeps tx (Some w) l d = d
 pub performed_keeps : (tx : TxId) (birth : Birth) (op : Op) (l : Local) → DependentsHaveParts l → DependentsHaveParts (performed tx birth op l)
 performed_keeps tx birth op l d =
     written_keeps tx (writes_of op (value_at (key_of op) l.records)) (locked tx birth op l)
-    (entered tx birth (violated tx (needs_of op l.records) l.locks) l.parts l.pairs (tx_get tx l.parts) refl d)
+    (entered tx birth (violated_here l tx op) l.parts l.pairs (tx_get tx l.parts) refl d)
 
 released_keeps : (set : List TxId) (doom : Option TxId) (l : Local) → DependentsHaveParts l → DependentsHaveParts (release_parts set doom l)
 released_keeps set doom l d = changed _ l.parts (pairs_without set l.pairs) (all_kept (λ p. HasPart l.parts p.0) (λ p. not (tx_in p.0 set)) l.pairs d)
@@ -212,6 +213,17 @@ op_keeps s (OpCrowded n) k = tt
 op_keeps s (OpDies c l) k = finish_keeps (record s { local = l }) k
 op_keeps s (OpAnswers a l) k = finish_keeps (record s { local = l }) k
 
+staged_keep : (s : Shard) (tx : TxId) (n : ℕ) (st : Option Stage) → DependentsHaveParts s.local → KeptBy (roll_by_stage s tx n st)
+staged_keep s tx n (Some (Gone (Some x))) d = finish_keeps s d
+staged_keep s tx n (Some (Gone None)) d = finish_keeps s d
+staged_keep s tx n (Some Closed) d = finish_keeps s d
+staged_keep s tx n (Some Active) d = finish_keeps (with_local (roll_to tx n) s) d
+staged_keep s tx n None d = finish_keeps s d
+
+rolls_keep : (s : Shard) (tx : TxId) (seen upto : ℕ) (b : Bool) → DependentsHaveParts s.local → KeptBy (roll_event s tx seen upto b)
+rolls_keep s tx seen upto false d = finish_keeps s d
+rolls_keep s tx seen upto true d = staged_keep s tx (count_after upto (standing_numbers tx s.journal)) (stage_of s.local tx) d
+
 asked_keeps : (s : Shard) (tx : TxId) (touched : List (ℕ × ℕ)) (st : Option Stage) → DependentsHaveParts s.local → KeptBy (request_by_stage s tx touched st)
 asked_keeps s tx touched (Some (Gone (Some x))) d = finish_keeps s d
 asked_keeps s tx touched (Some (Gone None)) d = finish_keeps s d
@@ -292,6 +304,7 @@ landed_keeps s n false d = d
 
 up_keeps : (s : Shard) (e : Event) → DependentsHaveParts s.local → KeptBy (happen_up s e)
 up_keeps s (OpEvent tx birth nth seen op) d = op_keeps s (op_reply s.shard s.local tx birth seen op) (seen_keeps s.shard s.local tx birth seen op (seen_fits s.local.epoch seen) d)
+up_keeps s (RollTo tx nth seen upto) d = rolls_keep s tx seen upto (seen == s.local.epoch) d
 up_keeps s (RequestEvent tx touched) d = request_event_keeps s tx touched (seen_fits s.local.epoch (epoch_in s.shard touched)) d
 up_keeps s (Look tx) d = kept_both (has_durable_commit (facts_of s tx)) _ _ (finish_keeps s d) (known_keeps s tx (tx_get tx s.requests) d)
 up_keeps s (Drop tx) d = drop_event_keeps s tx (stage_of s.local tx) d

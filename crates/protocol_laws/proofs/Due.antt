@@ -2,6 +2,7 @@
 pub mod DueByFacts
 pub mod LeastIsNext
 pub mod DoingGoesOn
+pub mod OthersLeaveWrites
 pub mod WhoseFactsChange
 pub mod WhatEventsTouch
 pub mod DueCaseByCase

@@ -1,5 +1,5 @@
 -- What the end of a flush makes due.
-use Rattle.std.proofs.Common.{◌≡◌, refl, sym, ap, subst, ◌∙◌, ℕ, zero, suc, ◌+◌, ◌-◌, ◌≤◌, ◌<◌, ⊎_elim, Bool, true, false, cond, ◌&&◌, ◌||◌, ◌==◌, nat_lt, List, [], ◌∷◌, take, drop, Option, Some, None, is_some, arith}
+use Rattle.std.proofs.Common.{◌≡◌, ◌⊎◌, inl, inr, refl, sym, ap, subst, ◌∙◌, ℕ, zero, suc, ◌+◌, ◌-◌, ◌≤◌, ◌<◌, ⊎_elim, Bool, true, false, cond, ◌&&◌, ◌||◌, ◌==◌, nat_lt, List, [], ◌∷◌, take, drop, Option, Some, None, is_some, arith}
 use Rattle.std.specs.List.{list_any, list_all}
 use Rattle.std.proofs.lemmas.Bool.{both_ways, or_cases, cases_Bool, ltb-true, ltb-false, lt-ltb}
 use Rattle.clv_base.specs.declared.names.TxId.{TxId}
@@ -15,17 +15,18 @@ use Rattle.clv_base.specs.declared.state.RequestState.{RequestState}
 use Rattle.clv_base.specs.declared.state.RequestState.TheVariants.{Undecided, Committed, Finished, Refused}
 use Rattle.clv_base.specs.declared.state.Ruling.TheVariants.{Acknowledge}
 use Rattle.clv_base.specs.Orders.{tx_same, tx_in, tx_get}
-use Rattle.clv_base.specs.Logs.{is_commit_of, is_prepare_of, committed_in, prepared_in, place_from, commit_lsn, prepare_lsn, is_below}
+use Rattle.clv_base.specs.Logs.{is_commit_of, is_prepare_of, is_undo_of, committed_in, prepared_in, place_from, last_place_from, commit_lsn, prepare_lsn, undone_lsn, is_below}
 use Rattle.clv_base.specs.State.{Shard, Local}
 use Rattle.clv_base.specs.declared.parts.PartFacts.{PartFacts}
-use Rattle.clv_base.specs.Facts.{predecessors_of, facts_in, is_closed_state, has_durable_commit, has_durable_prepare, has_durable_predecessors}
-use Rattle.clv_base.specs.Participant.{closed_vote, vote_in_state, first_vote, vote_owed}
+use Rattle.clv_base.specs.Facts.{predecessors_of, facts_in, is_closed_state, has_durable_commit, has_durable_prepare, is_due_at, has_durable_undo, has_durable_predecessors}
+use Rattle.clv_base.specs.Participant.{vote_by_writes, closed_vote, vote_in_state, first_vote, vote_owed}
 use Rattle.clv_base.specs.Coordinator.{is_agreed, agreed_ruling, undecided_ruling, ruling_in, yes_shards}
 use Rattle.clv_base.specs.Events.{with_durable}
 use Rattle.clv_base.proofs.SameNames.{or_left, or_right, tx_true, tx_self, tx_flip}
 use Rattle.law_base.proofs.Tables.{is_pair, in_pair}
 use Rattle.protocol_laws.proofs.PredecessorsByFacts.{predecessors_by_facts}
 use Rattle.protocol_laws.specs.Candidates.{is_vote_due, is_ruling_due, is_due}
+use Rattle.protocol_laws.specs.Order.{undone_in}
 use Rattle.protocol_laws.specs.Changes.{successors_of, landed_txs, landed_records, FlushesCover}
 use Rattle.protocol_laws.proofs.Due.DueByFacts.{due_by_facts, three}
 use Rattle.protocol_laws.proofs.Due.WhoseFactsChange.{successor_in}
@@ -59,6 +60,37 @@ placed (suc f) count n test (r ∷ rs) k e a b = at (test r) e (λ g. placed f c
 landed : (test : LogRecord → Bool) (log : List LogRecord) (from upto k : ℕ) → from ≤ upto → place_from 0 test log ≡ Some k → from ≤ k → k < upto → list_any test (landed_records log from upto) ≡ true
 landed test log from upto k h e a b = placed from (upto - from) 0 test log k e (omega arith) (omega arith)
 
+-- so is the last place
+last_least : (n : ℕ) (so_far : Option ℕ) (test : LogRecord → Bool) (log : List LogRecord) (k : ℕ) → last_place_from n so_far test log ≡ Some k → (so_far ≡ Some k) ⊎ (n ≤ k)
+last_least n so_far test [] k e = inl e
+last_least n so_far test (r ∷ rs) k e = ⊎_elim (λ h. at (test r) h) (λ h. inr (omega (arith, h))) (last_least (suc n) (cond (test r) (Some n) so_far) test rs k e)
+  where
+    at : (b : Bool) → cond b (Some n) so_far ≡ Some k → (so_far ≡ Some k) ⊎ (n ≤ k)
+    at true h = let s : n ≡ k = cc in inr (omega (arith, s))
+    at false h = inl h
+
+last_placed : (from count n : ℕ) (so_far : Option ℕ) (test : LogRecord → Bool) (log : List LogRecord) (k : ℕ) → last_place_from n so_far test log ≡ Some k → ((j : ℕ) → so_far ≡ Some j → j < n + from) → n + from ≤ k → k < n + (from + count)
+    → list_any test (take count (drop from log)) ≡ true
+last_placed from count n so_far test [] k e low a b = let l = low k e in absurd (omega (arith, l, a))
+last_placed zero zero n so_far test (r ∷ rs) k e low a b = absurd (omega (arith, a, b))
+last_placed zero (suc c) n so_far test (r ∷ rs) k e low a b = at (test r) refl e (λ f g. last_placed zero c (suc n) so_far test rs k f (λ j s. let l = low j s in omega (arith, l)) g (omega (arith, b)))
+  where
+    here : (so_far : Option ℕ) → last_place_from (suc n) so_far test rs ≡ Some k → ((j : ℕ) → so_far ≡ Some j → j < n + zero) → suc n + zero ≤ k
+    here o f l = ⊎_elim (λ s. let m = l k s in absurd (omega (arith, m, a))) (λ m. omega (arith, m)) (last_least (suc n) o test rs k f)
+
+    at : (d : Bool) → test r ≡ d → last_place_from (suc n) (cond d (Some n) so_far) test rs ≡ Some k → (last_place_from (suc n) so_far test rs ≡ Some k → suc n + zero ≤ k → list_any test (take c rs) ≡ true) → (d || list_any test (take c rs)) ≡ true
+    at true t f more = refl
+    at false t f more = more f (here so_far f low)
+last_placed (suc i) count n so_far test (r ∷ rs) k e low a b =
+    last_placed i count (suc n) (cond (test r) (Some n) so_far) test rs k e (at (test r)) (omega (arith, a)) (omega (arith, b))
+  where
+    at : (d : Bool) (j : ℕ) → cond d (Some n) so_far ≡ Some j → j < suc n + i
+    at true j s = let q : n ≡ j = cc in omega (arith, q)
+    at false j s = let l = low j s in omega (arith, l)
+
+last_landed : (test : LogRecord → Bool) (log : List LogRecord) (from upto k : ℕ) → from ≤ upto → last_place_from 0 None test log ≡ Some k → from ≤ k → k < upto → list_any test (landed_records log from upto) ≡ true
+last_landed test log from upto k h e a b = last_placed from (upto - from) 0 None test log k e (λ j s. absurd cc) (omega arith) (omega arith)
+
 -- ---- whose they are
 
 commit_in : (pairs : List (TxId × TxId)) (rs : List LogRecord) (p : TxId) → committed_in rs p ≡ true → tx_in p (landed_txs pairs rs) ≡ true
@@ -67,24 +99,36 @@ commit_in pairs (Commit tx parts ∷ rs) p e =
     ⊎_elim (λ h. or_left _ _ (tx_flip p tx h)) (λ h. or_right (tx_same tx p) _ (in_append p (successors_of pairs tx) (landed_txs pairs rs) ∙ or_right (tx_in p (successors_of pairs tx)) _ (commit_in pairs rs p h))) (or_cases (tx_same p tx) (committed_in rs p) e)
 commit_in pairs (Prepare tx home ps ∷ rs) p e = or_right (tx_same tx p) _ (commit_in pairs rs p e)
 commit_in pairs (Update tx k b a ∷ rs) p e = commit_in pairs rs p e
-commit_in pairs (Clr tx u k a ∷ rs) p e = commit_in pairs rs p e
+commit_in pairs (Clr tx u k a ∷ rs) p e = or_right (tx_same tx p) _ (commit_in pairs rs p e)
 commit_in pairs (Abort tx ∷ rs) p e = commit_in pairs rs p e
 commit_in pairs (End tx ∷ rs) p e = commit_in pairs rs p e
 commit_in pairs (Restart run epoch ∷ rs) p e = commit_in pairs rs p e
 commit_in pairs (Add tx k by ∷ rs) p e = commit_in pairs rs p e
-commit_in pairs (Unadd tx u k by ∷ rs) p e = commit_in pairs rs p e
+commit_in pairs (Unadd tx u k by ∷ rs) p e = or_right (tx_same tx p) _ (commit_in pairs rs p e)
 
 prepare_in : (pairs : List (TxId × TxId)) (rs : List LogRecord) (p : TxId) → prepared_in rs p ≡ true → tx_in p (landed_txs pairs rs) ≡ true
 prepare_in pairs [] p e = absurd (both_ways false refl e)
 prepare_in pairs (Commit tx parts ∷ rs) p e = or_right (tx_same tx p) _ (in_append p (successors_of pairs tx) (landed_txs pairs rs) ∙ or_right (tx_in p (successors_of pairs tx)) _ (prepare_in pairs rs p e))
 prepare_in pairs (Prepare tx home ps ∷ rs) p e = ⊎_elim (λ h. or_left _ _ (tx_flip p tx h)) (λ h. or_right (tx_same tx p) _ (prepare_in pairs rs p h)) (or_cases (tx_same p tx) (prepared_in rs p) e)
 prepare_in pairs (Update tx k b a ∷ rs) p e = prepare_in pairs rs p e
-prepare_in pairs (Clr tx u k a ∷ rs) p e = prepare_in pairs rs p e
+prepare_in pairs (Clr tx u k a ∷ rs) p e = or_right (tx_same tx p) _ (prepare_in pairs rs p e)
 prepare_in pairs (Abort tx ∷ rs) p e = prepare_in pairs rs p e
 prepare_in pairs (End tx ∷ rs) p e = prepare_in pairs rs p e
 prepare_in pairs (Restart run epoch ∷ rs) p e = prepare_in pairs rs p e
 prepare_in pairs (Add tx k by ∷ rs) p e = prepare_in pairs rs p e
-prepare_in pairs (Unadd tx u k by ∷ rs) p e = prepare_in pairs rs p e
+prepare_in pairs (Unadd tx u k by ∷ rs) p e = or_right (tx_same tx p) _ (prepare_in pairs rs p e)
+
+undo_in : (pairs : List (TxId × TxId)) (rs : List LogRecord) (p : TxId) → undone_in rs p ≡ true → tx_in p (landed_txs pairs rs) ≡ true
+undo_in pairs [] p e = absurd (both_ways false refl e)
+undo_in pairs (Commit tx parts ∷ rs) p e = or_right (tx_same tx p) _ (in_append p (successors_of pairs tx) (landed_txs pairs rs) ∙ or_right (tx_in p (successors_of pairs tx)) _ (undo_in pairs rs p e))
+undo_in pairs (Prepare tx home ps ∷ rs) p e = or_right (tx_same tx p) _ (undo_in pairs rs p e)
+undo_in pairs (Update tx k b a ∷ rs) p e = undo_in pairs rs p e
+undo_in pairs (Clr tx u k a ∷ rs) p e = ⊎_elim (λ h. or_left _ _ (tx_flip p tx h)) (λ h. or_right (tx_same tx p) _ (undo_in pairs rs p h)) (or_cases (tx_same p tx) (undone_in rs p) e)
+undo_in pairs (Abort tx ∷ rs) p e = undo_in pairs rs p e
+undo_in pairs (End tx ∷ rs) p e = undo_in pairs rs p e
+undo_in pairs (Restart run epoch ∷ rs) p e = undo_in pairs rs p e
+undo_in pairs (Add tx k by ∷ rs) p e = undo_in pairs rs p e
+undo_in pairs (Unadd tx u k by ∷ rs) p e = ⊎_elim (λ h. or_left _ _ (tx_flip p tx h)) (λ h. or_right (tx_same tx p) _ (undo_in pairs rs p h)) (or_cases (tx_same p tx) (undone_in rs p) e)
 
 follower_in : (pairs : List (TxId × TxId)) (rs : List LogRecord) (x p : TxId) → committed_in rs p ≡ true → is_pair pairs x p ≡ true → tx_in x (landed_txs pairs rs) ≡ true
 follower_in pairs [] x p e h = absurd (both_ways false refl e)
@@ -96,12 +140,12 @@ follower_in pairs (Commit tx parts ∷ rs) x p e h =
     (or_cases (tx_same p tx) (committed_in rs p) e))
 follower_in pairs (Prepare tx home ps ∷ rs) x p e h = or_right (tx_same tx x) _ (follower_in pairs rs x p e h)
 follower_in pairs (Update tx k b a ∷ rs) x p e h = follower_in pairs rs x p e h
-follower_in pairs (Clr tx u k a ∷ rs) x p e h = follower_in pairs rs x p e h
+follower_in pairs (Clr tx u k a ∷ rs) x p e h = or_right (tx_same tx x) _ (follower_in pairs rs x p e h)
 follower_in pairs (Abort tx ∷ rs) x p e h = follower_in pairs rs x p e h
 follower_in pairs (End tx ∷ rs) x p e h = follower_in pairs rs x p e h
 follower_in pairs (Restart run epoch ∷ rs) x p e h = follower_in pairs rs x p e h
 follower_in pairs (Add tx k by ∷ rs) x p e h = follower_in pairs rs x p e h
-follower_in pairs (Unadd tx u k by ∷ rs) x p e h = follower_in pairs rs x p e h
+follower_in pairs (Unadd tx u k by ∷ rs) x p e h = or_right (tx_same tx x) _ (follower_in pairs rs x p e h)
 
 -- ---- tests that stay
 
@@ -112,6 +156,10 @@ below_same (Some k) d n h apart =
     (λ e. let l = ltb-true k d e in lt-ltb k n (omega arith) ∙ sym e)
     (λ e. let l = ltb-false k d e in ⊎_elim (λ f. absurd (apart k refl l (ltb-true k n f))) (λ f. f ∙ sym e) (cases_Bool (nat_lt k n)))
     (cases_Bool (nat_lt k d))
+
+due_same : (o : Option ℕ) (d n : ℕ) → d ≤ n → ((k : ℕ) → o ≡ Some k → d ≤ k → k < n → ⊥) → is_due_at o n ≡ is_due_at o d
+due_same None d n h apart = refl
+due_same (Some k) d n h apart = below_same (Some k) d n h apart
 
 all_same : (f g : TxId → Bool) (ps : List TxId) → ((p : TxId) → tx_in p ps ≡ true → f p ≡ g p) → list_all f ps ≡ list_all g ps
 all_same f g [] h = refl
@@ -131,16 +179,21 @@ module _ (l : Local) (d n : ℕ) (h : d ≤ n) (x : TxId) (out : tx_in x (landed
       (λ p i. below_same (commit_lsn l.log p) d n h (λ k e a b. both_ways _ out (follower_in l.pairs (landed_records l.log d n) x p (landed (is_commit_of p) l.log d n k h e a b) (in_pair l.pairs x p i))))
       ∙ sym (predecessors_by_facts l d x)
 
+  undo_same : has_durable_undo (facts_in l n x) ≡ has_durable_undo (facts_in l d x)
+  undo_same = due_same (undone_lsn l.log x) d n h (λ k e a b. both_ways _ out (undo_in l.pairs (landed_records l.log d n) x (last_landed (is_undo_of x) l.log d n k h e a b)))
+
   abbrev before : PartFacts
   before = facts_in l d x
 
   abbrev after : PartFacts
   after = facts_in l n x
 
+  writes_same : (b : Bool) → vote_by_writes after b ≡ vote_by_writes before b
+  writes_same true = ap (λ b. cond b (Some Yes) None) prepare_same
+  writes_same false = ap (λ b. cond b (Some Read) None) undo_same
+
   closed_same : closed_vote after ≡ closed_vote before
-  closed_same =
-      ap (λ b. cond b (cond before.updates (cond (has_durable_prepare after) (Some Yes) None) (Some Read)) None) preds_same
-      ∙ ap (λ b. cond (has_durable_predecessors before) (cond before.updates (cond b (Some Yes) None) (Some Read)) None) prepare_same
+  closed_same = ap (λ b. cond b (vote_by_writes after before.updates) None) preds_same ∙ ap (λ v. cond (has_durable_predecessors before) v None) (writes_same before.updates)
 
   state_same : (seen : ℕ) (st : PartState) → vote_in_state after seen st ≡ vote_in_state before seen st
   state_same seen Unknown = refl

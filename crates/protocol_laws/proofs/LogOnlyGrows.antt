@@ -12,7 +12,7 @@ use Rattle.clv_base.specs.declared.causes.Vote.{Vote}
 use Rattle.clv_base.specs.declared.messages.Message.{Message}
 use Rattle.clv_base.specs.declared.messages.Message.TheVariants.{Prepare, Vote as VoteMessage, Decide, Done, Ask}
 use Rattle.clv_base.specs.declared.events.Event.{Event}
-use Rattle.clv_base.specs.declared.events.Event.TheVariants.{Op as OpEvent, Request as RequestEvent, Look, Drop, Send, Deliver, Remind, FlushOut, FlushIn, Stop, Restart}
+use Rattle.clv_base.specs.declared.events.Event.TheVariants.{Op as OpEvent, RollTo, Request as RequestEvent, Look, Drop, Send, Deliver, Remind, FlushOut, FlushIn, Stop, Restart}
 use Rattle.clv_base.specs.declared.events.Outcome.{Outcome}
 use Rattle.clv_base.specs.declared.events.Outcome.TheVariants.{Down, NotYet, Stale, Taken, Aborted, Acknowledged}
 use Rattle.clv_base.specs.Orders.{tx_get}
@@ -29,14 +29,15 @@ use Rattle.clv_base.specs.declared.state.Stage.TheVariants.{Active, Closed, Gone
 use Rattle.clv_base.specs.declared.state.Request.{Request}
 use Rattle.clv_base.specs.declared.state.RequestState.{RequestState}
 use Rattle.clv_base.specs.declared.state.RequestState.TheVariants.{Undecided, Committed, Finished, Refused}
-use Rattle.clv_base.specs.Undo.{stage_of, roll_back}
+use Rattle.clv_base.specs.Undo.{stage_of, roll_back, roll_to}
+use Rattle.clv_base.specs.Backs.{standing_numbers, count_after}
 use Rattle.clv_base.specs.Facts.{facts_of, has_durable_commit}
 use Rattle.clv_base.specs.Participant.{taken_by}
 use Rattle.clv_base.specs.Coordinator.{others, takes_vote, takes_done, ask_answer}
 use Rattle.clv_base.specs.OneShard.{OpReply, OpWaits, OpCrowded, OpDies, OpAnswers, written, locked, rolled_back_if, without_part, op_granted, op_decided, op_by_stage, op_seen, op_reply, seen_fits, close_part, drop_part}
 use Rattle.clv_base.specs.Due.{send}
 use Rattle.clv_base.specs.Needs.{needs_of, writes_of, value_at, key_of}
-use Rattle.clv_base.specs.Events.{Reply, QuietBeforeWorn, Does, finish, op_event, epoch_in, request_by_stage, request_event, look_lost, look_state, look_known, look_event, drop_event, on_prepare, on_vote, decided, on_decide, on_done, on_message, send_event, remind_with, reminders, out_event, happen_up, coordinate, is_alone, request_epoch, owe_vote, with_votes, with_done, with_outbox, with_flight, ask_messages, to_of}
+use Rattle.clv_base.specs.Events.{Reply, QuietBeforeWorn, Does, finish, op_event, roll_by_stage, roll_event, epoch_in, request_by_stage, request_event, look_lost, look_state, look_known, look_event, drop_event, on_prepare, on_vote, decided, on_decide, on_done, on_message, send_event, remind_with, reminders, out_event, happen_up, coordinate, is_alone, request_epoch, owe_vote, with_votes, with_done, with_outbox, with_flight, ask_messages, to_of}
 use Rattle.clv_base.specs.Events.{QuietAfterWorn, happen, landed, put_down, with_durable}
 use Rattle.clv_base.specs.declared.logs.LogRecord.{LogRecord}
 use Rattle.clv_base.specs.declared.events.Outcome.TheVariants.{Durable}
@@ -113,6 +114,17 @@ operation s (OpWaits y) g = late
 operation s (OpCrowded n) g = late
 operation s (OpDies c m) (dies g) = finished s (record s { local = m }) _ g
 operation s (OpAnswers a m) (answers g) = finished s (record s { local = m }) _ g
+
+rolls_by_stage : (s : Shard) (tx : TxId) (n : ℕ) (st : Option Stage) → ReplyGrows s (roll_by_stage s tx n st)
+rolls_by_stage s tx n None = unchanged s s _ refl
+rolls_by_stage s tx n (Some Active) = finished s (with_local (roll_to tx n) s) _ (more s.local.log _)
+rolls_by_stage s tx n (Some Closed) = unchanged s s _ refl
+rolls_by_stage s tx n (Some (Gone None)) = unchanged s s _ refl
+rolls_by_stage s tx n (Some (Gone (Some d))) = unchanged s s _ refl
+
+rolls : (s : Shard) (tx : TxId) (seen upto : ℕ) (b : Bool) → ReplyGrows s (roll_event s tx seen upto b)
+rolls s tx seen upto true = rolls_by_stage s tx (count_after upto (standing_numbers tx s.journal)) (stage_of s.local tx)
+rolls s tx seen upto false = unchanged s s _ refl
 
 asked : (s : Shard) (tx : TxId) (ts : List (ℕ × ℕ)) (st : Option Stage) → ReplyGrows s (request_by_stage s tx ts st)
 asked s tx ts None = finished s (coordinate tx ts s) _ (same s.local.log)
@@ -195,6 +207,7 @@ flushes s (Some n) (suc k) = early
 
 up : (s : Shard) (e : Event) → ReplyGrows s (happen_up s e)
 up s (OpEvent tx birth nth seen op) = operation s (op_reply s.shard s.local tx birth seen op) (by_seen s.shard s.local tx birth seen op (seen_fits s.local.epoch seen))
+up s (RollTo tx nth seen upto) = rolls s tx seen upto (seen == s.local.epoch)
 up s (RequestEvent tx ts) = request s tx ts (seen_fits s.local.epoch (epoch_in s.shard ts))
 up s (Look tx) = looked s tx
 up s (Drop tx) = dropped s tx (stage_of s.local tx)

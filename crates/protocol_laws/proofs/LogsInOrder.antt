@@ -2,24 +2,26 @@
 pub mod OneRecordMore
 pub mod RunsAreOfRestarts
 pub mod StandingUpdatesLie
-use Rattle.std.proofs.Common.{◌≡◌, ⊎_elim, refl, sym, ap, subst, ◌∙◌, ℕ, zero, suc, true, false, List, [], ◌∷◌, ◌++◌, length, Some, None, append-nil, append_assoc}
+pub mod UndoBeforeClosing
+use Rattle.std.proofs.Common.{◌≡◌, ⊎_elim, refl, sym, ap, subst, ◌∙◌, ℕ, zero, suc, true, false, not, ◌&&◌, List, [], ◌∷◌, ◌++◌, length, Some, None, append-nil, append_assoc}
 use Rattle.std.specs.Prelude.{⊤, take}
 use Rattle.std.specs.List.{AllByRecursion}
-use Rattle.std.proofs.lemmas.Bool.{both_ways, not-true, false_from_ne_true}
+use Rattle.std.proofs.lemmas.Bool.{both_ways, or_cases, not-true, false_from_ne_true}
 use Rattle.clv_base.specs.declared.names.TxId.{TxId}
 use Rattle.clv_base.specs.declared.logs.LogRecord.{LogRecord}
 use Rattle.clv_base.specs.declared.logs.LogRecord.TheVariants.{Update, Clr, Prepare, Commit, Abort, Add, Unadd}
 use Rattle.clv_base.specs.Orders.{nat_in}
-use Rattle.clv_base.specs.Logs.{standing, committed_in, aborted_in, is_commit_of, is_abort_of}
-use Rattle.clv_base.specs.LogRules.{may_follow, disorder_from, disorder}
+use Rattle.clv_base.specs.Logs.{standing, committed_in, prepared_in, aborted_in, is_commit_of, is_abort_of}
+use Rattle.clv_base.specs.LogRules.{may_undo, may_follow, disorder_from, disorder}
 use Rattle.clv_base.specs.Restarts.{greatest_run}
 use Rattle.clv_base.proofs.SameNames.{tx_true}
-use Rattle.protocol_laws.specs.Order.{is_clr_of, undone_in, moves, Open_at, Tidy, Unprepared, Sealed, RunFits, NothingAfterCommit, NothingAfterPrepare, UndoneAreUncommitted, CommittedLieOnCommitted, RunsAreThoseOfRestarts, FrontsKeepOrder}
+use Rattle.protocol_laws.specs.Order.{moves, Open_at, Tidy, Unprepared, Sealed, Undoable, RunFits, NothingAfterCommit, NothingAfterPrepare, UndoneAreOpen, AbortedAreUncommitted, CommittedLieOnCommitted, RunsAreThoseOfRestarts, FrontsKeepOrder}
 use Rattle.protocol_laws.proofs.LogsInOrder.OneRecordMore.{push_cases, push_false}
 use Rattle.protocol_laws.proofs.LogsInOrder.RunsAreOfRestarts.{runs_step}
 use Rattle.protocol_laws.proofs.LogsInOrder.StandingUpdatesLie.{Writes, writes_step}
+use Rattle.protocol_laws.proofs.LogsInOrder.UndoBeforeClosing.{undoable_push, may_undo_step}
 use Rattle.law_base.proofs.Bools.{and_first as front, and_second as last}
-use Rattle.law_base.proofs.Logs.{push_left, order_case, standing_push}
+use Rattle.law_base.proofs.Logs.{order_case, standing_push}
 
 -- a COMMIT does not name the shard itself as a part
 abbrev pub OtherParts : ℕ → LogRecord → Type 0
@@ -30,7 +32,7 @@ pub record Order (shard : ℕ) (log : List LogRecord) : Type 0 where
   pub tidy : Tidy [] log
   pub sealed : Sealed [] log
   pub apart : (t : TxId) → committed_in log t ≡ true → aborted_in log t ≡ false
-  pub undone : (t : TxId) → undone_in log t ≡ true → aborted_in log t ≡ true
+  pub undoable : Undoable [] log
   pub writes : Writes (committed_in log) (length log) (standing log)
   pub runs : AllByRecursion (RunFits (greatest_run log)) log
   pub parts : AllByRecursion (OtherParts shard) log
@@ -49,11 +51,16 @@ unprepared_step shard log (Add tx key by) m = not-true _ (last _ _ (front _ _ (f
 unprepared_step shard log (Prepare tx home ps) m = not-true _ (last _ _ (front _ _ (front _ _ (front _ _ (front _ _ m)))))
 unprepared_step shard log _ m = tt
 
+-- of whom a write may be undone is not committed
+uncommitted : (log : List LogRecord) (t : TxId) → (committed_in log t ≡ true → aborted_in log t ≡ false) → may_undo log t ≡ true → committed_in log t ≡ false
+uncommitted log t apart m =
+    ⊎_elim (λ a. false_from_ne_true _ (λ c. both_ways _ (apart c) a)) (λ o. not-true _ (last _ _ o)) (or_cases (aborted_in log t) (not (prepared_in log t) && not (committed_in log t)) m)
+
 open_step : (shard : ℕ) (log : List LogRecord) (r : LogRecord) → Order shard log → may_follow shard log r ≡ true → Open_at log (moves r)
 open_step shard log (Update tx key before after) h m = not-true _ (last _ _ (front _ _ (front _ _ (front _ _ (front _ _ (front _ _ m))))))
 open_step shard log (Add tx key by) h m = not-true _ (last _ _ (front _ _ (front _ _ (front _ _ (front _ _ m)))))
-open_step shard log (Clr tx next key after) h m = false_from_ne_true _ (λ c. both_ways _ (h.apart tx c) (last _ _ (front _ _ m)))
-open_step shard log (Unadd tx next key by) h m = false_from_ne_true _ (λ c. both_ways _ (h.apart tx c) (last _ _ (front _ _ m)))
+open_step shard log (Clr tx next key after) h m = uncommitted log tx (h.apart tx) (last _ _ (front _ _ m))
+open_step shard log (Unadd tx next key by) h m = uncommitted log tx (h.apart tx) (last _ _ (front _ _ m))
 open_step shard log _ h m = tt
 
 no_abort : (shard : ℕ) (log : List LogRecord) (r : LogRecord) (t : TxId) → may_follow shard log r ≡ true → committed_in log t ≡ true → is_abort_of t r ≡ false
@@ -64,11 +71,6 @@ commit_new : (shard : ℕ) (log : List LogRecord) (r : LogRecord) (t : TxId) →
 commit_new shard log (Commit tx parts) t m e =
     (subst (λ z. aborted_in log z ≡ false) (sym (tx_true t tx e)) (not-true _ (last _ _ (front _ _ (front _ _ (front _ _ (front _ _ (front _ _ m))))))), refl)
 commit_new shard log _ t m e = absurd (both_ways false refl e)
-
-clr_new : (shard : ℕ) (log : List LogRecord) (r : LogRecord) (t : TxId) → may_follow shard log r ≡ true → is_clr_of t r ≡ true → aborted_in log t ≡ true
-clr_new shard log (Clr tx next key after) t m e = subst (λ z. aborted_in log z ≡ true) (sym (tx_true t tx e)) (last _ _ (front _ _ m))
-clr_new shard log (Unadd tx next key by) t m e = subst (λ z. aborted_in log z ≡ true) (sym (tx_true t tx e)) (last _ _ (front _ _ m))
-clr_new shard log _ t m e = absurd (both_ways false refl e)
 
 parts_step : (shard : ℕ) (log : List LogRecord) (r : LogRecord) → may_follow shard log r ≡ true → OtherParts shard r
 parts_step shard log (Commit tx parts) m = not-true _ (last _ _ (front _ _ (front _ _ (front _ _ (front _ _ m)))))
@@ -89,7 +91,7 @@ order_push shard log r h m =
       sealed = sealed_push [] log r h.sealed (unprepared_step shard log r m);
       apart = λ t c. ⊎_elim (λ old. push_false (is_abort_of t) log r (h.apart t old) (no_abort shard log r t m old)) (λ new. let p = commit_new shard log r t m new in push_false (is_abort_of t) log r p.0 p.1)
           (push_cases (is_commit_of t) log r c);
-      undone = λ t u. push_left (is_abort_of t) log r (⊎_elim (λ old. h.undone t old) (λ new. clr_new shard log r t m new) (push_cases (is_clr_of t) log r u));
+      undoable = undoable_push [] log r h.undoable (may_undo_step shard log r m);
       writes = subst (λ n. Writes (committed_in (log ++ r ∷ [])) n (standing (log ++ r ∷ []))) (length_push log r)
           (subst (Writes (committed_in (log ++ r ∷ [])) (suc (length log))) (sym (standing_push log r)) (writes_step shard log r m h.writes));
       runs = runs_step shard log r h.runs m;
@@ -109,14 +111,11 @@ in_order shard log d =
       tidy = tt;
       sealed = tt;
       apart = λ t c. absurd (both_ways false refl c);
-      undone = λ t u. absurd (both_ways false refl u);
+      undoable = tt;
       writes = record { chain = tt; falls = tt; low = tt; lie = tt };
       runs = tt;
       parts = tt;
     })
-
-pub undone_open : (shard : ℕ) (log : List LogRecord) (t : TxId) → Order shard log → undone_in log t ≡ true → committed_in log t ≡ false
-undone_open shard log t h u = false_from_ne_true _ (λ c. both_ways _ (h.apart t c) (h.undone t u))
 
 pub tidy_in_order : NothingAfterCommit
 tidy_in_order shard log d = (in_order shard log d).tidy
@@ -124,8 +123,11 @@ tidy_in_order shard log d = (in_order shard log d).tidy
 pub sealed_in_order : NothingAfterPrepare
 sealed_in_order shard log d = (in_order shard log d).sealed
 
-pub undone_uncommitted : UndoneAreUncommitted
-undone_uncommitted shard log t d u = undone_open shard log t (in_order shard log d) u
+pub undoable_in_order : UndoneAreOpen
+undoable_in_order shard log d = (in_order shard log d).undoable
+
+pub aborted_uncommitted : AbortedAreUncommitted
+aborted_uncommitted shard log t d a = false_from_ne_true _ (λ c. both_ways _ ((in_order shard log d).apart t c) a)
 
 pub lie_in_order : CommittedLieOnCommitted
 lie_in_order shard log d = (in_order shard log d).writes.lie

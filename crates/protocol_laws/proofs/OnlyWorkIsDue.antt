@@ -23,7 +23,7 @@ use Rattle.clv_base.specs.declared.state.RequestState.TheVariants.{Undecided, Co
 use Rattle.clv_base.specs.declared.state.Ruling.{Ruling}
 use Rattle.clv_base.specs.declared.state.Ruling.TheVariants.{Commit as CommitVerdict, Acknowledge, Abort as AbortVerdict, End as EndVerdict}
 use Rattle.clv_base.specs.Orders.{tx_in, tx_get, nat_in}
-use Rattle.clv_base.specs.Logs.{StandingUpdate, standing, wrote_in}
+use Rattle.clv_base.specs.Logs.{StandingUpdate, has_standing, standing}
 use Rattle.clv_base.specs.State.{Shard}
 use Rattle.clv_base.specs.Undo.{stage_of, doomed_here, aborts_of, clrs_of, newest_lsn, compensation}
 use Rattle.clv_base.specs.Facts.{facts_of, state_by, is_closed_state, has_durable_commit, has_durable_predecessors}
@@ -207,7 +207,7 @@ writes_rule s tx q Acknowledge = omega arith
 writes_rule s tx q (AbortVerdict cause to) =
     let set = doomed_here s.local tx in let ws = standing s.local.log in
     let a = decisions-append (s.local.log ++ aborts_of s.local.log set) (clrs_of set ws) in let b = decisions-append s.local.log (aborts_of s.local.log set) in
-    let c = none_aborts (filter (wrote_in s.local.log) set) in let d = none_clrs set ws in omega (arith, a, b, c, d)
+    let c = none_aborts (filter (has_standing s.local.log) set) in let d = none_clrs set ws in omega (arith, a, b, c, d)
 writes_rule s tx q EndVerdict = let a = decisions-append s.local.log (End tx ∷ []) in let one : decisions (End tx ∷ []) ≤ 1 = omega arith in omega (arith, a, one)
 
 pub writes_first : (s : Shard) (txs : List TxId) → IfDue (Writes s) (first_due s txs)

@@ -20,7 +20,7 @@ use Rattle.clv_base.specs.Logs.{StandingUpdate, standing, standing_from}
 use Rattle.clv_base.specs.Locks.{Locks, release}
 use Rattle.clv_base.specs.Needs.{Records, is_locked_or_live, without_ghosts}
 use Rattle.clv_base.specs.State.{Shard, Local, with_local, is_present}
-use Rattle.clv_base.specs.Undo.{stage_of, undone_at, record_without, records_without, release_parts, doomed_by, doomed_here, roll_back}
+use Rattle.clv_base.specs.Undo.{stage_of, is_of, undone_at, record_without, records_without, release_parts, doomed_by, doomed_here, roll_back}
 use Rattle.clv_base.specs.Facts.{facts_of, has_durable_commit}
 use Rattle.clv_base.specs.Participant.{vote_by}
 use Rattle.clv_base.specs.Coordinator.{ruling_by}
@@ -100,31 +100,31 @@ none_written : (set : List TxId) (k : ℕ) (locks : Locks) (ws : List StandingUp
 none_written set k locks ws a free = all_mono _ _ (λ w h same. false_from_ne_true _ (λ i. both_ways _ (ap (λ j. is_held_at j locks) same ∙ free) (h i))) ws a
 
 -- a ghost without a lock is one after the undo
-gone_still : (set : List TxId) (locks : Locks) (ws : List StandingUpdate) → AreHeld set locks ws → (r : ℕ × Option ValueType) → is_locked_or_live locks r ≡ false → is_locked_or_live (release set locks) (record_without set ws r) ≡ false
+gone_still : (set : List TxId) (locks : Locks) (ws : List StandingUpdate) → AreHeld set locks ws → (r : ℕ × Option ValueType) → is_locked_or_live locks r ≡ false → is_locked_or_live (release set locks) (record_without (is_of set) ws r) ≡ false
 gone_still set locks ws a r h = at r.1 h
   where
-    at : (v : Option ValueType) → is_locked_or_live locks (r.0, v) ≡ false → is_locked_or_live (release set locks) (r.0, undone_at set r.0 ws v) ≡ false
+    at : (v : Option ValueType) → is_locked_or_live locks (r.0, v) ≡ false → is_locked_or_live (release set locks) (r.0, undone_at (is_of set) r.0 ws v) ≡ false
     at (Some v) h = absurd (both_ways _ h refl)
     at None h =
         let free : is_held_at r.0 locks ≡ false = sym (twice (is_held_at r.0 locks)) ∙ h in
-        ap (λ o. is_locked_or_live (release set locks) (r.0, o)) (unwritten set r.0 ws None (none_written set r.0 locks ws a free))
+        ap (λ o. is_locked_or_live (release set locks) (r.0, o)) (unwritten (is_of set) r.0 ws None (none_written set r.0 locks ws a free))
         ∙ false_from_ne_true _ (λ s. both_ways _ free (release_held set r.0 locks (sym (twice (is_held_at r.0 (release set locks))) ∙ s)))
 
 undo_purged : (set : List TxId) (locks : Locks) (ws : List StandingUpdate) → AreHeld set locks ws → (rs : Records)
-    → without_ghosts (release set locks) (records_without set ws (without_ghosts locks rs)) ≡ without_ghosts (release set locks) (records_without set ws rs)
+    → without_ghosts (release set locks) (records_without (is_of set) ws (without_ghosts locks rs)) ≡ without_ghosts (release set locks) (records_without (is_of set) ws rs)
 undo_purged set locks ws a [] = refl
 undo_purged set locks ws a (r ∷ rs) = at (is_locked_or_live locks r) refl (undo_purged set locks ws a rs)
   where
     few : Locks
     few = release set locks
 
-    at : (b : Bool) → is_locked_or_live locks r ≡ b → without_ghosts (release set locks) (records_without set ws (without_ghosts locks rs)) ≡ without_ghosts (release set locks) (records_without set ws rs)
-        → without_ghosts (release set locks) (records_without set ws (cond b (r ∷ without_ghosts locks rs) (without_ghosts locks rs))) ≡ without_ghosts (release set locks) (record_without set ws r ∷ records_without set ws rs)
-    at true e more = ap (λ l. cond (is_locked_or_live (release set locks) (record_without set ws r)) (record_without set ws r ∷ l) l) more
-    at false e more = more ∙ sym (cond-false (is_locked_or_live (release set locks) (record_without set ws r)) (record_without set ws r ∷ without_ghosts (release set locks) (records_without set ws rs)) (without_ghosts (release set locks) (records_without set ws rs)) (gone_still set locks ws a r e))
+    at : (b : Bool) → is_locked_or_live locks r ≡ b → without_ghosts (release set locks) (records_without (is_of set) ws (without_ghosts locks rs)) ≡ without_ghosts (release set locks) (records_without (is_of set) ws rs)
+        → without_ghosts (release set locks) (records_without (is_of set) ws (cond b (r ∷ without_ghosts locks rs) (without_ghosts locks rs))) ≡ without_ghosts (release set locks) (record_without (is_of set) ws r ∷ records_without (is_of set) ws rs)
+    at true e more = ap (λ l. cond (is_locked_or_live (release set locks) (record_without (is_of set) ws r)) (record_without (is_of set) ws r ∷ l) l) more
+    at false e more = more ∙ sym (cond-false (is_locked_or_live (release set locks) (record_without (is_of set) ws r)) (record_without (is_of set) ws r ∷ without_ghosts (release set locks) (records_without (is_of set) ws rs)) (without_ghosts (release set locks) (records_without (is_of set) ws rs)) (gone_still set locks ws a r e))
 
-alike_undone : (set : List TxId) (locks : Locks) (ws : List StandingUpdate) (rs qs : Records) → AreHeld set locks ws → Alike locks rs qs → Alike (release set locks) (records_without set ws rs) (records_without set ws qs)
-alike_undone set locks ws rs qs a h = sym (undo_purged set locks ws a rs) ∙ ap (λ l. without_ghosts (release set locks) (records_without set ws l)) h ∙ undo_purged set locks ws a qs
+alike_undone : (set : List TxId) (locks : Locks) (ws : List StandingUpdate) (rs qs : Records) → AreHeld set locks ws → Alike locks rs qs → Alike (release set locks) (records_without (is_of set) ws rs) (records_without (is_of set) ws qs)
+alike_undone set locks ws rs qs a h = sym (undo_purged set locks ws a rs) ∙ ap (λ l. without_ghosts (release set locks) (records_without (is_of set) ws l)) h ∙ undo_purged set locks ws a qs
 
 -- ---- writes stay locked
 
@@ -199,7 +199,7 @@ module _ (s : Shard) (rs : Records) (same : Alike s.local.locks rs s.local.recor
   both_rule tx q (Some (CommitVerdict parts)) = ((rs, refl, same), more_locked (Commit tx parts ∷ []) (λ n ws. refl))
   both_rule tx q (Some Acknowledge) = ((rs, refl, alike_released (tx ∷ []) s.local.locks rs s.local.records same), released_locked (tx ∷ []) None s.local locked)
   both_rule tx q (Some (AbortVerdict cause to)) =
-      ((records_without (doomed_here s.local tx) (standing s.local.log) rs, refl, alike_undone (doomed_here s.local tx) s.local.locks (standing s.local.log) rs s.local.records (doomed_held tx s.local locked) same), rolled_locked tx s.local locked)
+      ((records_without (is_of (doomed_here s.local tx)) (standing s.local.log) rs, refl, alike_undone (doomed_here s.local tx) s.local.locks (standing s.local.log) rs s.local.records (doomed_held tx s.local locked) same), rolled_locked tx s.local locked)
   both_rule tx q (Some EndVerdict) = ((rs, refl, same), more_locked (End tx ∷ []) (λ n ws. refl))
 
   both_request : (tx : TxId) (o : Option Request) → Both (request_due s tx o) (request_due (recs rs s) tx o)

@@ -12,7 +12,6 @@ use Rattle.clv_base.specs.declared.logs.LogRecord.TheVariants.{Update, Clr, Prep
 use Rattle.clv_base.specs.declared.modes.Anchor.{Anchor}
 use Rattle.clv_base.specs.declared.modes.Anchor.TheVariants.{Low, At}
 use Rattle.clv_base.specs.declared.modes.Holder.{Holder}
-use Rattle.clv_base.specs.declared.modes.Part.TheVariants.{I, X}
 use Rattle.clv_base.specs.declared.modes.Found.{Found}
 use Rattle.clv_base.specs.declared.modes.Found.TheVariants.{Live, Ghost, Absent}
 use Rattle.clv_base.specs.declared.state.Stage.TheVariants.{Closed}
@@ -20,7 +19,7 @@ use Rattle.clv_base.specs.declared.state.Held.{Held}
 use Rattle.clv_base.specs.declared.events.Entry.{Entry}
 use Rattle.clv_base.specs.Orders.{Table, tx_same, tx_in, tx_get, tx_insert, anchor_cmp, anchor_same}
 use Rattle.clv_base.specs.Maps.{KeyMap}
-use Rattle.clv_base.specs.Logs.{committed_in, aborted_in, is_commit_of, is_below, doubt_by, in_doubt_from, in_doubt, is_winner, fold_updates}
+use Rattle.clv_base.specs.Logs.{StandingUpdate, standing, committed_in, aborted_in, is_commit_of, is_below, doubt_by, in_doubt_from, in_doubt, is_winner, fold_updates}
 use Rattle.clv_base.specs.Locks.{Locks, row_cmp, with_mode, take_one}
 use Rattle.clv_base.specs.State.{Shard}
 use Rattle.clv_base.specs.Undo.{stage_of}
@@ -29,7 +28,7 @@ use Rattle.clv_base.specs.Coordinator.{restored_request, restored_requests}
 use Rattle.clv_base.specs.Needs.{Records, record_set, found_at, is_locked_or_live, without_ghosts}
 use Rattle.clv_base.specs.Facts.{facts_of, has_durable_commit}
 use Rattle.clv_base.specs.Due.{or_else, with_commit_done, commit_due, vote_due, request_due, due_of, first_due, known_txs}
-use Rattle.clv_base.specs.Restarts.{records_of, ghost_if_absent, with_ghosts, restored_locks, restored_part, restored_parts, homes_of, unended_in, state_after}
+use Rattle.clv_base.specs.Restarts.{records_of, ghost_if_absent, with_ghosts, part_of, restored_locks, restored_part, restored_parts, homes_of, unended_in, state_after}
 use Rattle.clv_base.proofs.SameNames.{nat_cmp_true, nat_cmp_self, tx_true, in_insert}
 use Rattle.law_base.proofs.Tables.{stage_by}
 use Rattle.law_base.proofs.Commits.{no_place_from}
@@ -169,47 +168,23 @@ take_has : (k : ℕ) (h : Holder) (locks : Locks) → held_at (At k) (take_one (
 take_has k h [] = or_left _ _ (nat_cmp_self k)
 take_has k h (r ∷ rs) = take_has_case (row_cmp (At k) h.tx r) k h r rs (take_one (At k) h rs) (take_has k h rs)
 
-locks_keep : (txs : List TxId) (log : List LogRecord) (locks : Locks) (x : Anchor) → held_at x locks ≡ true → held_at x (restored_locks txs log locks) ≡ true
+locks_keep : (txs : List TxId) (ws : List StandingUpdate) (locks : Locks) (x : Anchor) → held_at x locks ≡ true → held_at x (restored_locks txs ws locks) ≡ true
 locks_keep txs [] locks x e = e
-locks_keep txs (Update tx k b a ∷ log) locks x e =
-    locks_keep txs log (cond (tx_in tx txs) (take_one (At k) (doubt_holder tx X) locks) locks) x
-    (cond_both (tx_in tx txs) (take_one (At k) (doubt_holder tx X) locks) locks (λ l. held_at x l ≡ true) (λ i. take_keeps (At k) x (doubt_holder tx X) locks e) (λ i. e))
-locks_keep txs (Clr tx v k a ∷ log) locks x e = locks_keep txs log locks x e
-locks_keep txs (Prepare tx home ps ∷ log) locks x e = locks_keep txs log locks x e
-locks_keep txs (Commit tx ps ∷ log) locks x e = locks_keep txs log locks x e
-locks_keep txs (Abort tx ∷ log) locks x e = locks_keep txs log locks x e
-locks_keep txs (End tx ∷ log) locks x e = locks_keep txs log locks x e
-locks_keep txs (Restart run epoch ∷ log) locks x e = locks_keep txs log locks x e
-locks_keep txs (Add tx k by ∷ log) locks x e =
-    locks_keep txs log (cond (tx_in tx txs) (take_one (At k) (doubt_holder tx I) locks) locks) x
-    (cond_both (tx_in tx txs) (take_one (At k) (doubt_holder tx I) locks) locks (λ l. held_at x l ≡ true) (λ i. take_keeps (At k) x (doubt_holder tx I) locks e) (λ i. e))
-locks_keep txs (Unadd tx v k by ∷ log) locks x e = locks_keep txs log locks x e
+locks_keep txs (w ∷ ws) locks x e =
+    locks_keep txs ws (cond (tx_in w.tx txs) (take_one (At w.key) (doubt_holder w.tx (part_of w.change)) locks) locks) x
+    (cond_both (tx_in w.tx txs) (take_one (At w.key) (doubt_holder w.tx (part_of w.change)) locks) locks (λ l. held_at x l ≡ true) (λ i. take_keeps (At w.key) x (doubt_holder w.tx (part_of w.change)) locks e) (λ i. e))
 
 -- each key that those in doubt wrote is held
-abbrev HeldIn : Locks → List TxId → LogRecord → Type 0
-HeldIn held txs (Update tx k b a) = tx_in tx txs ≡ true → held_at (At k) held ≡ true
-HeldIn held txs (Add tx k by) = tx_in tx txs ≡ true → held_at (At k) held ≡ true
-HeldIn held txs _ = Unit {0}
+abbrev HeldIn : Locks → List TxId → StandingUpdate → Type 0
+HeldIn held txs w = tx_in w.tx txs ≡ true → held_at (At w.key) held ≡ true
 
-keys_held : (txs : List TxId) (log : List LogRecord) (locks : Locks) → AllByRecursion (HeldIn (restored_locks txs log locks) txs) log
+keys_held : (txs : List TxId) (ws : List StandingUpdate) (locks : Locks) → AllByRecursion (HeldIn (restored_locks txs ws locks) txs) ws
 keys_held txs [] locks = tt
-keys_held txs (Update tx k b a ∷ log) locks = (
-  λ i. locks_keep txs log (cond (tx_in tx txs) (take_one (At k) (doubt_holder tx X) locks) locks) (At k)
-      (cond_both (tx_in tx txs) (take_one (At k) (doubt_holder tx X) locks) locks (λ l. held_at (At k) l ≡ true) (λ j. take_has k (doubt_holder tx X) locks) (λ j. absurd (both_ways _ j i))),
-  keys_held txs log (cond (tx_in tx txs) (take_one (At k) (doubt_holder tx X) locks) locks),
+keys_held txs (w ∷ ws) locks = (
+  λ i. locks_keep txs ws (cond (tx_in w.tx txs) (take_one (At w.key) (doubt_holder w.tx (part_of w.change)) locks) locks) (At w.key)
+      (cond_both (tx_in w.tx txs) (take_one (At w.key) (doubt_holder w.tx (part_of w.change)) locks) locks (λ l. held_at (At w.key) l ≡ true) (λ j. take_has w.key (doubt_holder w.tx (part_of w.change)) locks) (λ j. absurd (both_ways _ j i))),
+  keys_held txs ws (cond (tx_in w.tx txs) (take_one (At w.key) (doubt_holder w.tx (part_of w.change)) locks) locks),
 )
-keys_held txs (Clr tx v k a ∷ log) locks = (tt, keys_held txs log locks)
-keys_held txs (Prepare tx home ps ∷ log) locks = (tt, keys_held txs log locks)
-keys_held txs (Commit tx ps ∷ log) locks = (tt, keys_held txs log locks)
-keys_held txs (Abort tx ∷ log) locks = (tt, keys_held txs log locks)
-keys_held txs (End tx ∷ log) locks = (tt, keys_held txs log locks)
-keys_held txs (Restart run epoch ∷ log) locks = (tt, keys_held txs log locks)
-keys_held txs (Add tx k by ∷ log) locks = (
-  λ i. locks_keep txs log (cond (tx_in tx txs) (take_one (At k) (doubt_holder tx I) locks) locks) (At k)
-      (cond_both (tx_in tx txs) (take_one (At k) (doubt_holder tx I) locks) locks (λ l. held_at (At k) l ≡ true) (λ j. take_has k (doubt_holder tx I) locks) (λ j. absurd (both_ways _ j i))),
-  keys_held txs log (cond (tx_in tx txs) (take_one (At k) (doubt_holder tx I) locks) locks),
-)
-keys_held txs (Unadd tx v k by ∷ log) locks = (tt, keys_held txs log locks)
 
 locked_ghost : (locks : Locks) (k : ℕ) → held_at (At k) locks ≡ true → is_locked_or_live locks (k, None) ≡ true
 locked_ghost locks k e = ap (λ b. not (not b)) e
@@ -229,21 +204,11 @@ ghost_stays locks k rs Absent e h = set_stays locks k rs e h
 ghost_stays locks k rs Ghost e h = h
 ghost_stays locks k rs (Live v) e h = h
 
-ghosts_stay : (locks : Locks) (txs : List TxId) (log : List LogRecord) (rs : Records) → AllByRecursion (HeldIn locks txs) log → Stays locks rs → Stays locks (with_ghosts txs log rs)
+ghosts_stay : (locks : Locks) (txs : List TxId) (ws : List StandingUpdate) (rs : Records) → AllByRecursion (HeldIn locks txs) ws → Stays locks rs → Stays locks (with_ghosts txs ws rs)
 ghosts_stay locks txs [] rs a h = h
-ghosts_stay locks txs (Update tx k b v ∷ log) rs a h =
-    ghosts_stay locks txs log (cond (tx_in tx txs) (ghost_if_absent k rs (found_at k rs)) rs) a.1
-    (cond_both (tx_in tx txs) (ghost_if_absent k rs (found_at k rs)) rs (Stays locks) (λ i. ghost_stays locks k rs (found_at k rs) (a.0 i) h) (λ i. h))
-ghosts_stay locks txs (Clr tx u k v ∷ log) rs a h = ghosts_stay locks txs log rs a.1 h
-ghosts_stay locks txs (Prepare tx home ps ∷ log) rs a h = ghosts_stay locks txs log rs a.1 h
-ghosts_stay locks txs (Commit tx ps ∷ log) rs a h = ghosts_stay locks txs log rs a.1 h
-ghosts_stay locks txs (Abort tx ∷ log) rs a h = ghosts_stay locks txs log rs a.1 h
-ghosts_stay locks txs (End tx ∷ log) rs a h = ghosts_stay locks txs log rs a.1 h
-ghosts_stay locks txs (Restart run epoch ∷ log) rs a h = ghosts_stay locks txs log rs a.1 h
-ghosts_stay locks txs (Add tx k by ∷ log) rs a h =
-    ghosts_stay locks txs log (cond (tx_in tx txs) (ghost_if_absent k rs (found_at k rs)) rs) a.1
-    (cond_both (tx_in tx txs) (ghost_if_absent k rs (found_at k rs)) rs (Stays locks) (λ i. ghost_stays locks k rs (found_at k rs) (a.0 i) h) (λ i. h))
-ghosts_stay locks txs (Unadd tx u k by ∷ log) rs a h = ghosts_stay locks txs log rs a.1 h
+ghosts_stay locks txs (w ∷ ws) rs a h =
+    ghosts_stay locks txs ws (cond (tx_in w.tx txs) (ghost_if_absent w.key rs (found_at w.key rs)) rs) a.1
+    (cond_both (tx_in w.tx txs) (ghost_if_absent w.key rs (found_at w.key rs)) rs (Stays locks) (λ i. ghost_stays locks w.key rs (found_at w.key rs) (a.0 i) h) (λ i. h))
 
 live_stay : (locks : Locks) (m : KeyMap) → Stays locks (records_of m)
 live_stay locks [] = tt
@@ -256,7 +221,7 @@ all_stay locks (r ∷ rs) h = ap (λ b. cond b (r ∷ without_ghosts locks rs) (
 pub restarts_end_at_rest : RestartsEndAtRest
 restarts_end_at_rest shard run epoch last log journal = (
   none_first (state_after shard run epoch log last journal) (none_due shard run epoch last log journal) (known_txs (state_after shard run epoch log last journal)),
-  all_stay (restored_locks (in_doubt shard log) log []) (with_ghosts (in_doubt shard log) log (records_of (fold_updates (is_winner shard log) log [])))
-      (ghosts_stay (restored_locks (in_doubt shard log) log []) (in_doubt shard log) log (records_of (fold_updates (is_winner shard log) log [])) (keys_held (in_doubt shard log) log [])
-      (live_stay (restored_locks (in_doubt shard log) log []) (fold_updates (is_winner shard log) log []))),
+  all_stay (restored_locks (in_doubt shard log) (standing log) []) (with_ghosts (in_doubt shard log) (standing log) (records_of (fold_updates (is_winner shard log) log [])))
+      (ghosts_stay (restored_locks (in_doubt shard log) (standing log) []) (in_doubt shard log) (standing log) (records_of (fold_updates (is_winner shard log) log [])) (keys_held (in_doubt shard log) (standing log) [])
+      (live_stay (restored_locks (in_doubt shard log) (standing log) []) (fold_updates (is_winner shard log) log []))),
 )

@@ -9,13 +9,14 @@ use Rattle.clv_base.specs.declared.ops.Op.{Op}
 use Rattle.clv_base.specs.declared.ops.Answer.{Answer}
 use Rattle.clv_base.specs.declared.causes.AbortCause.{AbortCause}
 use Rattle.clv_base.specs.declared.events.Event.{Event}
-use Rattle.clv_base.specs.declared.events.Event.TheVariants.{Op as OpEvent, Request, Look, Drop}
+use Rattle.clv_base.specs.declared.events.Event.TheVariants.{Op as OpEvent, RollTo, Request, Look, Drop}
 use Rattle.clv_base.specs.declared.events.Outcome.{Outcome}
-use Rattle.clv_base.specs.declared.events.Outcome.TheVariants.{Answered, Dead, Asked, Acknowledged, Aborted}
+use Rattle.clv_base.specs.declared.events.Outcome.TheVariants.{Answered, Rolled, Dead, Asked, Acknowledged, Aborted}
 use Rattle.clv_base.specs.declared.events.Entry.{Entry}
 use Rattle.clv_base.specs.Orders.{tx_same}
 use Rattle.clv_base.specs.LogRules.{same_option}
-use Rattle.clv_base.specs.Sessions.{SessionState, no_session, is_touching, may_drop, same_birth, follows_birth, goes_on, begins, begun, session_for, is_number, goes_on_scan, scan_shard, lies_in, op_answered, op_in_session, same_touched, is_lowest, requested, looked, stands_at, after_drop, session_after, makes_from}
+use Rattle.clv_base.specs.Backs.{stands_for_back}
+use Rattle.clv_base.specs.Sessions.{SessionState, no_session, is_touching, may_drop, same_birth, follows_birth, goes_on, begins, begun, session_for, is_number, goes_on_scan, scan_shard, lies_in, op_answered, op_in_session, same_touched, is_lowest, is_whole_now, numbered as numbered_as, goes_on_back, back_for, went_back, back_in_session, requested, looked, stands_at, after_drop, session_after, makes_from}
 use Rattle.clv_base.proofs.SameNames.{nat_cmp_true, then_eq}
 use Rattle.protocol_laws.specs.SessionLaws.{tx_of, works_on, ended_by, number_of, SerialsRise, NoneWorksOn, EndsStay, IsNext, AreNumbered, SessionsKeepOrder}
 use Rattle.law_base.proofs.Shards.{drop_ends}
@@ -46,6 +47,7 @@ data OpFrom (t : SessionState) (tx : TxId) (nth : ℕ) : Type 0 where
 -- entries of other kinds leave it as it is
 IsOther : Event → Type 0
 IsOther (OpEvent tx birth nth seen op) = ⊥
+IsOther (RollTo tx nth seen upto) = ⊥
 IsOther (Request tx touched) = ⊥
 IsOther (Look tx) = ⊥
 IsOther (Drop tx) = ⊥
@@ -60,6 +62,11 @@ data Moves (t : SessionState) : Event → Outcome → Option SessionState → Ty
   dies :
       {tx : TxId} {birth : Birth} {nth : ℕ} {seen : Option ℕ} {op : Op} {c : AbortCause} {u : SessionState} → OpFrom t tx nth → SameNames u.tx tx → u.nth ≡ nth
       → is_touching u.phase ≡ false → Moves t (OpEvent tx birth nth seen op) (Dead c) (Some u)
+  rolls :
+      {tx : TxId} {nth seen upto : ℕ} {u : SessionState} → OpFrom t tx nth → SameNames u.tx tx → u.nth ≡ nth → Moves t (RollTo tx nth seen upto) Rolled (Some u)
+  rolls_dead :
+      {tx : TxId} {nth seen upto : ℕ} {c : AbortCause} {u : SessionState} → OpFrom t tx nth → SameNames u.tx tx → u.nth ≡ nth
+      → is_touching u.phase ≡ false → Moves t (RollTo tx nth seen upto) (Dead c) (Some u)
   asks :
       {tx : TxId} {touched : List (ℕ × ℕ)} {o : Outcome} {u : SessionState} → SameNames tx t.tx → is_touching t.phase ≡ true → SameNames u.tx tx → u.nth ≡ t.nth
       → is_touching u.phase ≡ false → Moves t (Request tx touched) o (Some u)
@@ -131,16 +138,61 @@ op_moves : (splits : List ℕ) (t : SessionState) (tx : TxId) (birth : Birth) (n
 op_moves splits t tx birth n nth seen op o None f = refuses
 op_moves splits t tx birth n nth seen op o (Some v) f = op_test splits t v tx birth n nth seen op o _ refl f
 
+-- where a going back comes from, by its number
+data BackFrom (t : SessionState) (nth : ℕ) : Option SessionState → Type 0 where
+  no_back : BackFrom t nth None
+  found : {v : SessionState} → (nth ≡ suc t.nth) ⊎ (nth ≡ t.nth) → v.tx ≡ t.tx → v.nth ≡ nth → BackFrom t nth (Some v)
+
+back_new : (t v : SessionState) (nth : ℕ) (b : Bool) → nth ≡ suc t.nth → v.tx ≡ t.tx → v.nth ≡ nth → BackFrom t nth (cond b (Some v) None)
+back_new t v nth true e s m = found (inl e) s m
+back_new t v nth false e s m = no_back
+
+back_on : (t : SessionState) (nth : ℕ) (b : Bool) → (b ≡ true → nth ≡ t.nth) → BackFrom t nth (cond b (Some t) None)
+back_on t nth true e = found (inr (e refl)) refl (sym (e refl))
+back_on t nth false e = no_back
+
+back_by : (t v : SessionState) (nth : ℕ) (b c d : Bool) → (b ≡ true → nth ≡ suc t.nth) → (d ≡ true → nth ≡ t.nth) → v.tx ≡ t.tx → v.nth ≡ nth → BackFrom t nth (cond b (cond c (Some v) None) (cond d (Some t) None))
+back_by t v nth true c d e f s m = back_new t v nth c (e refl) s m
+back_by t v nth false c d e f s m = back_on t nth d f
+
+back_found : (t : SessionState) (n nth upto : ℕ) → BackFrom t nth (back_for t n nth upto)
+back_found t n nth upto =
+    back_by t (record (numbered_as nth t) { is_whole = is_whole_now t && stands_for_back nth upto t.backs; backs = (nth, upto) ∷ t.backs }) nth
+    (nth == suc t.nth) (nat_lt upto nth) ((nth == t.nth) && goes_on_back t.back n upto)
+    (λ e. eqb-true _ _ e) (λ e. eqb-true _ _ (and_parts (nth == t.nth) (goes_on_back t.back n upto) e).0) refl refl
+
+same_as : (t v : SessionState) (tx : TxId) → SameNames tx t.tx → v.tx ≡ t.tx → SameNames v.tx tx
+same_as t v tx s e = subst (λ z. SameNames z tx) (sym e) (turned tx t.tx s)
+
+back_out : (t v : SessionState) (tx : TxId) (n nth seen upto : ℕ) (o : Outcome) → SameNames tx t.tx → is_touching t.phase ≡ true → (nth ≡ suc t.nth) ⊎ (nth ≡ t.nth) → v.tx ≡ t.tx → v.nth ≡ nth
+    → Moves t (RollTo tx nth seen upto) o (went_back n upto v o)
+back_out t v tx n nth seen upto Rolled s h k e m = rolls (goes s h k) (same_as t v tx s e) m
+back_out t v tx n nth seen upto (Dead cause) s h k e m = rolls_dead (goes s h k) (same_as t v tx s e) m refl
+back_out t v tx n nth seen upto _ s h k e m = refuses
+
+back_moves : (t : SessionState) (tx : TxId) (n nth seen upto : ℕ) (o : Outcome) (v : Option SessionState) → SameNames tx t.tx → is_touching t.phase ≡ true → BackFrom t nth v
+    → Moves t (RollTo tx nth seen upto) o (back_in_session n upto o v)
+back_moves t tx n nth seen upto o None s h b = refuses
+back_moves t tx n nth seen upto o (Some v) s h (found k e m) = back_out t v tx n nth seen upto o s h k e m
+
+back_test : (t : SessionState) (tx : TxId) (n nth seen upto : ℕ) (o : Outcome) (b : Bool) → (tx_same tx t.tx && is_touching t.phase && same_option (Some seen) (lookup (◌==◌ n) t.touched)) ≡ b
+    → Moves t (RollTo tx nth seen upto) o (cond b (back_in_session n upto o (back_for t n nth upto)) None)
+back_test t tx n nth seen upto o true e =
+    let q = parts3 (tx_same tx t.tx) (is_touching t.phase) (same_option (Some seen) (lookup (◌==◌ n) t.touched)) e in
+    back_moves t tx n nth seen upto o (back_for t n nth upto) (names tx t.tx q.0) q.1 (back_found t n nth upto)
+back_test t tx n nth seen upto o false e = refuses
+
 request_out : (t : SessionState) (tx : TxId) (touched : List (ℕ × ℕ)) (n : ℕ) (o : Outcome) → SameNames tx t.tx → is_touching t.phase ≡ true → Moves t (Request tx touched) o (requested n t o)
 request_out t tx touched n Asked s h = asks s h (turned tx t.tx s) refl refl
 request_out t tx touched n (Dead cause) s h = asks s h (turned tx t.tx s) refl refl
 request_out t tx touched n _ s h = refuses
 
 request_test : (t : SessionState) (tx : TxId) (touched : List (ℕ × ℕ)) (n : ℕ) (o : Outcome) (b : Bool)
-    → (tx_same tx t.tx && is_touching t.phase && same_touched touched t.touched && is_lowest n touched) ≡ b → Moves t (Request tx touched) o (cond b (requested n t o) None)
+    → (tx_same tx t.tx && is_touching t.phase && is_whole_now t && same_touched touched t.touched && is_lowest n touched) ≡ b → Moves t (Request tx touched) o (cond b (requested n t o) None)
 request_test t tx touched n o true e =
-    let p = and_parts (tx_same tx t.tx && is_touching t.phase && same_touched touched t.touched) (is_lowest n touched) e in
-    let q = parts3 (tx_same tx t.tx) (is_touching t.phase) (same_touched touched t.touched) p.0 in
+    let p = and_parts (tx_same tx t.tx && is_touching t.phase && is_whole_now t && same_touched touched t.touched) (is_lowest n touched) e in
+    let r = and_parts (tx_same tx t.tx && is_touching t.phase && is_whole_now t) (same_touched touched t.touched) p.0 in
+    let q = parts3 (tx_same tx t.tx) (is_touching t.phase) (is_whole_now t) r.0 in
     request_out t tx touched n o (names tx t.tx q.0) q.1
 request_test t tx touched n o false e = refuses
 
@@ -163,6 +215,7 @@ drop_test t tx o false e = refuses
 moves : (splits : List ℕ) (n : ℕ) (t : SessionState) (e : Event) (o : Outcome) → Moves t e o (session_after splits n t e o)
 unfolding IsOther
 moves splits n t (OpEvent tx birth nth seen op) o = op_moves splits t tx birth n nth seen op o (session_for t tx birth) (for_by t tx birth (tx_same tx t.tx) refl)
+moves splits n t (RollTo tx nth seen upto) o = back_test t tx n nth seen upto o _ refl
 moves splits n t (Request tx touched) o = request_test t tx touched n o _ refl
 moves splits n t (Look tx) o = look_test t tx n o _ refl
 moves splits n t (Drop tx) o = drop_test t tx o _ refl
@@ -186,6 +239,7 @@ rise_stays : (ev : Event) (t : SessionState) (es : List (ℕ × Entry)) → IsOt
     → RisesAt (t.tx).run (t.tx).session (t.tx).serial es (tx_of ev)
 unfolding IsOther RisesAt
 rise_stays (OpEvent tx birth nth seen op) t es i h = absurd i
+rise_stays (RollTo tx nth seen upto) t es i h = absurd i
 rise_stays (Request tx touched) t es i h = absurd i
 rise_stays (Look tx) t es i h = absurd i
 rise_stays (Drop tx) t es i h = absurd i
@@ -207,6 +261,8 @@ rise_by splits t ev o v es refuses h k = absurd (both_ways false refl h)
 rise_by splits t ev o v es (stays i) h k = rise_stays ev t es i (k t h)
 rise_by splits t ev o v es (answers {tx = tx} {nth = nth} {u = u} f n m) h k = rise_same t u tx es (from_names t tx nth f) n (k u h)
 rise_by splits t ev o v es (dies {tx = tx} {nth = nth} {u = u} f n m d) h k = rise_same t u tx es (from_names t tx nth f) n (k u h)
+rise_by splits t ev o v es (rolls {tx = tx} {nth = nth} {u = u} f n m) h k = rise_same t u tx es (from_names t tx nth f) n (k u h)
+rise_by splits t ev o v es (rolls_dead {tx = tx} {nth = nth} {u = u} f n m d) h k = rise_same t u tx es (from_names t tx nth f) n (k u h)
 rise_by splits t ev o v es (asks {tx = tx} {u = u} s p n m d) h k = rise_same t u tx es (rise_names t tx s) n (k u h)
 rise_by splits t ev o v es (looks {tx = tx} {u = u} s n m d) h k = rise_same t u tx es (rise_names t tx s) n (k u h)
 rise_by splits t ev o v es (drops {tx = tx} {u = u} s n m d) h k = rise_same t u tx es (rise_names t tx s) n (k u h)
@@ -250,6 +306,7 @@ past_over serial t u tx (inr p) s n d = inr (n.serials ∙ s.serials ∙ p.0, d)
 other_works : (serial : ℕ) (ev : Event) → IsOther ev → works_on serial ev ≡ false
 unfolding IsOther
 other_works serial (OpEvent tx birth nth seen op) i = absurd i
+other_works serial (RollTo tx nth seen upto) i = absurd i
 other_works serial (Request tx touched) i = absurd i
 other_works serial (Look tx) i = absurd i
 other_works serial (Drop tx) i = absurd i
@@ -263,6 +320,10 @@ none_by splits serial t ev o v es (stays i) p h k = (other_works serial ev i, k 
 none_by splits serial t ev o v es (answers {tx = tx} {nth = nth} {u = u} f n m) p h k =
     let l = past_from serial t tx nth p f in (not_equal tx.serial serial _ refl l, k u (past_later serial u tx l n) h)
 none_by splits serial t ev o v es (dies {tx = tx} {nth = nth} {u = u} f n m d) p h k =
+    let l = past_from serial t tx nth p f in (not_equal tx.serial serial _ refl l, k u (past_later serial u tx l n) h)
+none_by splits serial t ev o v es (rolls {tx = tx} {nth = nth} {u = u} f n m) p h k =
+    let l = past_from serial t tx nth p f in (not_equal tx.serial serial _ refl l, k u (past_later serial u tx l n) h)
+none_by splits serial t ev o v es (rolls_dead {tx = tx} {nth = nth} {u = u} f n m d) p h k =
     let l = past_from serial t tx nth p f in (not_equal tx.serial serial _ refl l, k u (past_later serial u tx l n) h)
 none_by splits serial t ev o v es (asks {tx = tx} {u = u} s q n m d) p h k =
     let l0 = past_touching serial t p q in
@@ -282,6 +343,7 @@ EndsAt es o = elim o [ Some serial ↦ NoneWorksOn serial es × EndsStay es | No
 ends_other : (ev : Event) (o : Outcome) (es : List (ℕ × Entry)) → IsOther ev → EndsStay es → EndsAt es (ended_by ev o)
 unfolding IsOther EndsAt
 ends_other (OpEvent tx birth nth seen op) o es i h = absurd i
+ends_other (RollTo tx nth seen upto) o es i h = absurd i
 ends_other (Request tx touched) o es i h = absurd i
 ends_other (Look tx) o es i h = absurd i
 ends_other (Drop tx) o es i h = absurd i
@@ -298,6 +360,8 @@ ends_by splits t ev o v es refuses h k = absurd (both_ways false refl h)
 ends_by splits t ev o v es (stays i) h k = ends_other ev o es i (k t h)
 ends_by splits t ev o v es (answers {u = u} f n m) h k = k u h
 ends_by splits t ev o v es (dies {tx = tx} {u = u} f n m d) h k = (none splits tx.serial es u (over u tx n d) h, k u h)
+ends_by splits t ev o v es (rolls {u = u} f n m) h k = k u h
+ends_by splits t ev o v es (rolls_dead {tx = tx} {u = u} f n m d) h k = (none splits tx.serial es u (over u tx n d) h, k u h)
 ends_by splits t ev o v es (asks {tx = tx} {u = u} s q n m d) h k = (none splits tx.serial es u (over u tx n d) h, k u h)
 ends_by splits t ev o v es (looks {u = u} s n m d) h k = k u h
 ends_by splits t ev o v es (drops {tx = tx} {u = u} s n m d) h k = (none splits tx.serial es u (over u tx n d) h, k u h)
@@ -318,6 +382,7 @@ numbered_along a b c d es e f h = subst (λ x. AreNumbered c x es) f (subst (λ 
 numbered_other : (ev : Event) (serial nth : ℕ) (es : List (ℕ × Entry)) → IsOther ev → AreNumbered serial nth es → NumberedAt serial nth es (number_of ev)
 unfolding IsOther NumberedAt
 numbered_other (OpEvent tx birth n seen op) serial nth es i h = absurd i
+numbered_other (RollTo tx n seen upto) serial nth es i h = absurd i
 numbered_other (Request tx touched) serial nth es i h = absurd i
 numbered_other (Look tx) serial nth es i h = absurd i
 numbered_other (Drop tx) serial nth es i h = absurd i
@@ -334,6 +399,8 @@ numbered_by splits t ev o v es refuses h k = absurd (both_ways false refl h)
 numbered_by splits t ev o v es (stays i) h k = numbered_other ev (t.tx).serial t.nth es i (k t h)
 numbered_by splits t ev o v es (answers {tx = tx} {nth = nth} {u = u} f n m) h k = (is_next t tx nth f, numbered_along _ _ tx.serial nth es n.serials m (k u h))
 numbered_by splits t ev o v es (dies {tx = tx} {nth = nth} {u = u} f n m d) h k = (is_next t tx nth f, numbered_along _ _ tx.serial nth es n.serials m (k u h))
+numbered_by splits t ev o v es (rolls {tx = tx} {nth = nth} {u = u} f n m) h k = (is_next t tx nth f, numbered_along _ _ tx.serial nth es n.serials m (k u h))
+numbered_by splits t ev o v es (rolls_dead {tx = tx} {nth = nth} {u = u} f n m d) h k = (is_next t tx nth f, numbered_along _ _ tx.serial nth es n.serials m (k u h))
 numbered_by splits t ev o v es (asks {u = u} s q n m d) h k = numbered_along _ _ (t.tx).serial t.nth es (n.serials ∙ s.serials) m (k u h)
 numbered_by splits t ev o v es (looks {u = u} s n m d) h k = numbered_along _ _ (t.tx).serial t.nth es (n.serials ∙ s.serials) m (k u h)
 numbered_by splits t ev o v es (drops {u = u} s n m d) h k = numbered_along _ _ (t.tx).serial t.nth es (n.serials ∙ s.serials) m (k u h)

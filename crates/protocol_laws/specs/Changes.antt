@@ -5,11 +5,11 @@ use Rattle.clv_base.specs.declared.names.TxId.{TxId}
 use Rattle.clv_base.specs.declared.names.Birth.{Birth}
 use Rattle.clv_base.specs.declared.ops.Op.{Op}
 use Rattle.clv_base.specs.declared.logs.LogRecord.{LogRecord}
-use Rattle.clv_base.specs.declared.logs.LogRecord.TheVariants.{Prepare, Commit, End}
+use Rattle.clv_base.specs.declared.logs.LogRecord.TheVariants.{Clr, Prepare, Commit, End, Unadd}
 use Rattle.clv_base.specs.Orders.{tx_same, tx_in, tx_get}
 use Rattle.clv_base.specs.State.{Shard, Local}
 use Rattle.clv_base.specs.Facts.{facts_in, facts_of}
-use Rattle.clv_base.specs.Undo.{release_parts, roll_back, doomed_here}
+use Rattle.clv_base.specs.Undo.{release_parts, roll_back, roll_to, doomed_here}
 use Rattle.clv_base.specs.OneShard.{performed, close_part, mark_dropped, purge}
 use Rattle.clv_base.specs.Due.{append_log}
 use Rattle.clv_base.specs.Events.{with_durable}
@@ -60,6 +60,10 @@ ClosesChange = (l : Local) (tx : TxId) (home : ℕ) (one_shard : Bool) → Chang
 abbrev pub OperationsChange : Type 0
 OperationsChange = (l : Local) (tx : TxId) (birth : Birth) (op : Op) → ChangesOnly (tx ∷ []) l (performed tx birth op l)
 
+-- a going back: its own
+abbrev pub RollsChange : Type 0
+RollsChange = (l : Local) (tx : TxId) (n : ℕ) → ChangesOnly (tx ∷ []) l (roll_to tx n l)
+
 -- the mark of a drop, and ghosts that go: nobody's
 abbrev pub MarksChange : Type 0
 MarksChange = (l : Local) (tx : TxId) → ChangesOnly [] l (mark_dropped tx l)
@@ -69,11 +73,13 @@ PurgesChange = (l : Local) → ChangesOnly [] l (purge l)
 
 -- ---- a flush that ends
 
--- those whose COMMIT or PREPARE became durable, and the successors of the former
+-- those whose COMMIT, PREPARE, CLR or UNADD became durable, and the successors of those with a COMMIT
 abbrev pub landed_txs : List (TxId × TxId) → List LogRecord → List TxId
 landed_txs pairs [] = []
 landed_txs pairs (Commit tx parts ∷ rs) = tx ∷ successors_of pairs tx ++ landed_txs pairs rs
 landed_txs pairs (Prepare tx home predecessors ∷ rs) = tx ∷ landed_txs pairs rs
+landed_txs pairs (Clr tx undo_next key after ∷ rs) = tx ∷ landed_txs pairs rs
+landed_txs pairs (Unadd tx undo_next key by ∷ rs) = tx ∷ landed_txs pairs rs
 landed_txs pairs (_ ∷ rs) = landed_txs pairs rs
 
 abbrev pub landed_records : List LogRecord → ℕ → ℕ → List LogRecord

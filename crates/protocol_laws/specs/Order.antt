@@ -4,19 +4,13 @@ use Rattle.std.specs.List.{AllByRecursion, list_any}
 use Rattle.clv_base.specs.declared.names.TxId.{TxId}
 use Rattle.clv_base.specs.declared.logs.LogRecord.{LogRecord}
 use Rattle.clv_base.specs.declared.logs.LogRecord.TheVariants.{Update, Clr, Prepare, Add, Unadd}
-use Rattle.clv_base.specs.Orders.{tx_same}
-use Rattle.clv_base.specs.Logs.{StandingUpdate, is_setting, standing, committed_in, prepared_in, own_tx}
-use Rattle.clv_base.specs.LogRules.{disorder}
+use Rattle.clv_base.specs.Logs.{StandingUpdate, is_setting, is_undo_of, standing, committed_in, prepared_in, aborted_in, own_tx}
+use Rattle.clv_base.specs.LogRules.{may_undo, disorder}
 use Rattle.clv_base.specs.Restarts.{greatest_run}
 
--- whether a CLR or UNADD of the transaction stands in a log
-abbrev pub is_clr_of : TxId → LogRecord → Bool
-is_clr_of t (Clr tx undo_next key after) = tx_same t tx
-is_clr_of t (Unadd tx undo_next key by) = tx_same t tx
-is_clr_of t _ = false
-
+-- whether a CLR or UNADD of the transaction is in a log
 abbrev pub undone_in : List LogRecord → TxId → Bool
-undone_in log t = list_any (is_clr_of t) log
+undone_in log t = list_any (is_undo_of t) log
 
 -- whose write a record makes or undoes
 abbrev pub moves : LogRecord → Option TxId
@@ -47,6 +41,21 @@ abbrev pub Sealed : List LogRecord → List LogRecord → Type 0
 Sealed before [] = ⊤
 Sealed before (r ∷ rs) = Unprepared before r × Sealed (before ++ r ∷ []) rs
 
+-- whose write a record undoes
+abbrev pub undoes : LogRecord → Option TxId
+undoes (Clr tx undo_next key after) = Some tx
+undoes (Unadd tx undo_next key by) = Some tx
+undoes _ = None
+
+abbrev pub May_undo_at : List LogRecord → Option TxId → Type 0
+May_undo_at before None = ⊤
+May_undo_at before (Some t) = may_undo before t ≡ true
+
+-- behind the first records each CLR and UNADD is of a transaction that is aborted before it, or neither prepared nor committed before it
+abbrev pub Undoable : List LogRecord → List LogRecord → Type 0
+Undoable before [] = ⊤
+Undoable before (r ∷ rs) = May_undo_at before (undoes r) × Undoable (before ++ r ∷ []) rs
+
 -- in writes, the newest first: under a write of one of these, all of its key are of these, but that an ADD may stand over ADDs
 abbrev pub LieOnThese : (TxId → Bool) → List StandingUpdate → Type 0
 LieOnThese these [] = ⊤
@@ -68,8 +77,11 @@ NothingAfterCommit = (shard : ℕ) (log : List LogRecord) → disorder shard log
 abbrev pub NothingAfterPrepare : Type 0
 NothingAfterPrepare = (shard : ℕ) (log : List LogRecord) → disorder shard log ≡ None → Sealed [] log
 
-abbrev pub UndoneAreUncommitted : Type 0
-UndoneAreUncommitted = (shard : ℕ) (log : List LogRecord) (t : TxId) → disorder shard log ≡ None → undone_in log t ≡ true → committed_in log t ≡ false
+abbrev pub UndoneAreOpen : Type 0
+UndoneAreOpen = (shard : ℕ) (log : List LogRecord) → disorder shard log ≡ None → Undoable [] log
+
+abbrev pub AbortedAreUncommitted : Type 0
+AbortedAreUncommitted = (shard : ℕ) (log : List LogRecord) (t : TxId) → disorder shard log ≡ None → aborted_in log t ≡ true → committed_in log t ≡ false
 
 abbrev pub CommittedLieOnCommitted : Type 0
 CommittedLieOnCommitted = (shard : ℕ) (log : List LogRecord) → disorder shard log ≡ None → LieOnThese (committed_in log) (standing log)

@@ -9,7 +9,7 @@ use Rattle.clv_base.specs.declared.ops.Op.TheVariants.{Get, Put, Del, Scan, Add}
 use Rattle.clv_base.specs.declared.logs.LogRecord.{LogRecord}
 use Rattle.clv_base.specs.FileRules.{has_spelling, tx_has_spelling, is_64_bits, is_value}
 use Rattle.clv_base.specs.State.{Local}
-use Rattle.clv_base.specs.Undo.{roll_back, release_parts}
+use Rattle.clv_base.specs.Undo.{roll_back, roll_to, release_parts}
 use Rattle.clv_base.specs.Facts.{undecided_of}
 use Rattle.clv_base.specs.OneShard.{performed, close_part, purge, drop_part}
 use Rattle.clv_base.specs.Due.{append_log}
@@ -41,6 +41,9 @@ AbortsKeep = (tx : TxId) (l : Local) → length l.log < 2 ^ 64 → IsSpelled l �
 
 abbrev pub DropsKeep : Type 0
 DropsKeep = (tx : TxId) (l : Local) → length l.log < 2 ^ 64 → IsSpelled l → IsSpelled (drop_part tx l)
+
+abbrev pub RollsKeep : Type 0
+RollsKeep = (tx : TxId) (n : ℕ) (l : Local) → length l.log < 2 ^ 64 → IsSpelled l → IsSpelled (roll_to tx n l)
 
 abbrev pub EndsKeep : Type 0
 EndsKeep = (txs : List TxId) (doom : Option TxId) (l : Local) → IsSpelled l → IsSpelled (release_parts txs doom l)

@@ -10,7 +10,7 @@ use Rattle.clv_base.specs.declared.state.Request.{Request}
 use Rattle.clv_base.specs.declared.state.Ruling.{Ruling}
 use Rattle.clv_base.specs.declared.state.Ruling.TheVariants.{Commit as CommitVerdict, Acknowledge, Abort as AbortVerdict, End as EndVerdict}
 use Rattle.clv_base.specs.State.{Shard, Local, with_local}
-use Rattle.clv_base.specs.Undo.{doomed_here}
+use Rattle.clv_base.specs.Undo.{roll_to, doomed_here}
 use Rattle.clv_base.specs.OneShard.{performed, without_part, drop_part, close_part}
 use Rattle.clv_base.specs.Due.{send, with_commit_done, with_vote, finish_reader, with_ruling, do_ruling}
 use Rattle.clv_base.specs.Events.{coordinate, owe_vote, with_votes, decided, with_done, with_outbox, with_flight}
@@ -43,6 +43,10 @@ abbrev pub OperationsTouch : Type 0
 OperationsTouch =
     ((s : Shard) (tx : TxId) (birth : Birth) (op : Op) → ChangesDue (tx ∷ []) s (record s { local = performed tx birth op s.local }))
     × ((s : Shard) (tx : TxId) → ChangesDue (doomed_here s.local tx) s (record s { local = without_part tx s.local }))
+
+-- a going back: its own transaction
+abbrev pub RollsTouch : Type 0
+RollsTouch = (s : Shard) (tx : TxId) (n : ℕ) → ChangesDue (tx ∷ []) s (with_local (roll_to tx n) s)
 
 -- a request, which closes the part where that is active: its own, and its successors where it commits at once
 abbrev pub RequestsTouch : Type 0

@@ -1,7 +1,7 @@
 // Which transactions a change may make something due for.
 
 ghost use Rattle.protocol_laws.specs.Purging.{PurgesDontMatter};
-ghost use Rattle.protocol_laws.specs.Changes.{CoverGrows, ReleasesChange, RollBacksChange, CommitsChange, EndsChange, ClosesChange, OperationsChange, MarksChange, PurgesChange, FlushesCover};
+ghost use Rattle.protocol_laws.specs.Changes.{CoverGrows, ReleasesChange, RollBacksChange, CommitsChange, EndsChange, ClosesChange, OperationsChange, RollsChange, MarksChange, PurgesChange, FlushesCover};
 
 /// After a change those that it touched are candidates besides.
 pub fn cover_grows()
@@ -38,6 +38,11 @@ pub fn operations_change()
     ensures { OperationsChange }
 {}
 
+/// A going back changes its own transaction's.
+pub fn rolls_change()
+    ensures { RollsChange }
+{}
+
 /// The mark of a drop changes nobody's.
 pub fn marks_change()
     ensures { MarksChange }
@@ -48,7 +53,7 @@ pub fn purges_change()
     ensures { PurgesChange }
 {}
 
-/// The end of a flush makes candidates of those whose COMMIT or PREPARE it made durable, and of the successors of the former.
+/// The end of a flush makes candidates of those whose COMMIT, PREPARE, CLR or UNADD it made durable, and of the successors of those with a COMMIT.
 pub fn flushes_cover()
     ensures { FlushesCover }
 {}

@@ -1,5 +1,5 @@
 //! Laws of the protocol: what every event, restart, undo and session keeps to, whatever the state; what the order rules make of a log
-//! (nothing is written or undone behind a COMMIT, and what is undone is never committed); what becomes due of a shard's transactions, found
+//! (nothing is written or undone behind a COMMIT, and what is undone is open or aborted by then); what becomes due of a shard's transactions, found
 //! by candidates: the next thing that is due, for whom each change may make something due, and how much may still be done; and that each
 //! record of a log keeps a spelling, so that a batch of the log always has its bytes.
 //!

@@ -1,20 +1,25 @@
 // Laws of a log in order.
 
-ghost use Rattle.protocol_laws.specs.Order.{NothingAfterCommit, NothingAfterPrepare, UndoneAreUncommitted, CommittedLieOnCommitted, RunsAreThoseOfRestarts, FrontsKeepOrder};
+ghost use Rattle.protocol_laws.specs.Order.{NothingAfterCommit, NothingAfterPrepare, UndoneAreOpen, AbortedAreUncommitted, CommittedLieOnCommitted, RunsAreThoseOfRestarts, FrontsKeepOrder};
 
-/// In a log in order no UPDATE and no CLR of a transaction stands behind its COMMIT.
+/// In a log in order no UPDATE, ADD, CLR or UNADD of a transaction stands behind its COMMIT.
 pub fn nothing_after_commit()
     ensures { NothingAfterCommit }
 {}
 
-/// And no UPDATE and no second PREPARE stands behind its PREPARE.
+/// And no UPDATE, no ADD and no second PREPARE stands behind its PREPARE.
 pub fn nothing_after_prepare()
     ensures { NothingAfterPrepare }
 {}
 
-/// No transaction is undone and committed.
-pub fn undone_are_uncommitted()
-    ensures { UndoneAreUncommitted }
+/// Each CLR and UNADD is of a transaction that is aborted before it, or neither prepared nor committed before it.
+pub fn undone_are_open()
+    ensures { UndoneAreOpen }
+{}
+
+/// No transaction is aborted and committed.
+pub fn aborted_are_uncommitted()
+    ensures { AbortedAreUncommitted }
 {}
 
 /// Below a committed transaction's standing UPDATE those of its key are of committed ones.

@@ -1,5 +1,5 @@
 //! What each change keeps.
-ghost use Rattle.protocol_laws.specs.Spelled.{AbortsKeep, ClosingsKeep, DropsKeep, EndsKeep, OperationsKeep, PurgesKeep, RecordsKeep, RestartsAreSpelled};
+ghost use Rattle.protocol_laws.specs.Spelled.{AbortsKeep, ClosingsKeep, DropsKeep, EndsKeep, OperationsKeep, PurgesKeep, RecordsKeep, RestartsAreSpelled, RollsKeep};
 
 /// A granted operation of a transaction with a spelling, on keys and numbers of 64 bits and texts of at most 200 bytes.
 pub fn operations_keep()
@@ -11,10 +11,11 @@ pub fn closings_keep()
     ensures { ClosingsKeep }
 {}
 
-/// An abort, where the log has fewer than 2^64 records; and a Drop.
+/// An abort, where the log has fewer than 2^64 records; a Drop; and a going back.
 pub fn aborts_keep()
     ensures aborts { AbortsKeep }
     ensures drops { DropsKeep }
+    ensures rolls { RollsKeep }
 {}
 
 /// The end of parts, more records that have spellings, and ghosts that go.

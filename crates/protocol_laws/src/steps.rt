@@ -1,6 +1,6 @@
 // Whom each thing that is done, and each event, may make a candidate.
 
-ghost use Rattle.protocol_laws.specs.Steps.{CommitsTouch, VotesTouch, RulingsTouch, OperationsTouch, RequestsTouch, DropsTouch, PreparesTouch, AnswersTouch, DecisionsTouch, NobodyIsTouched};
+ghost use Rattle.protocol_laws.specs.Steps.{CommitsTouch, VotesTouch, RulingsTouch, OperationsTouch, RollsTouch, RequestsTouch, DropsTouch, PreparesTouch, AnswersTouch, DecisionsTouch, NobodyIsTouched};
 
 /// A COMMIT that became durable touches its own transaction.
 pub fn commits_touch()
@@ -20,6 +20,11 @@ pub fn rulings_touch()
 /// An operation touches its own transaction, or those that its death takes away.
 pub fn operations_touch()
     ensures { OperationsTouch }
+{}
+
+/// So does a going back.
+pub fn rolls_touch()
+    ensures { RollsTouch }
 {}
 
 /// A request touches its own, and its successors where it commits at once.

@@ -1,12 +1,12 @@
--- What a PREPARE lists, and the map that UPDATEs leave.
-use Rattle.std.proofs.Common.{◌≡◌, ◌≤◌, ◌<◌, refl, sym, ap, subst, ⊎_elim, ℕ, Bool, true, false, cond, not, ◌&&◌, ◌==◌, List, [], ◌∷◌, ◌++◌, map, length, Option, Some, None, nat_lt, nat_le, arith}
+-- What a PREPARE lists, and the map of what stands.
+use Rattle.std.proofs.Common.{◌≡◌, ◌≤◌, ◌<◌, refl, ap, ℕ, Bool, true, false, cond, not, ◌&&◌, ◌==◌, List, [], ◌∷◌, ◌++◌, map, length, Option, Some, None, nat_lt, nat_le, arith}
 use Rattle.std.specs.List.{AllByRecursion, filter, list_all}
 use Rattle.std.specs.List.Sorted.{IsStrictlySortedBy}
 use Rattle.std.specs.FinMap.{put}
 use Rattle.std.specs.declared.cmp.Ordering.{Ordering}
 use Rattle.std.specs.declared.cmp.Ordering.TheVariants.{Less, Equal, Greater}
 use Rattle.std.specs.Ordering.{nat_cmp, is_lt, match_ordering, eq_by_cmp}
-use Rattle.std.proofs.lemmas.Bool.{both_ways, cond_both, or_cases, and_parts, and_from}
+use Rattle.std.proofs.lemmas.Bool.{cond_both, and_parts, and_from}
 use Rattle.std.proofs.lemmas.Bool.Decides.{nat_tests}
 use Rattle.std.proofs.lemmas.List.Kept.{IsStrictlySortedBy-filter}
 use Rattle.clv_base.specs.Values.{fits_value}
@@ -17,39 +17,25 @@ use Rattle.clv_base.specs.declared.logs.LogRecord.TheVariants.{Update, Clr, Prep
 use Rattle.clv_base.specs.declared.modes.Found.{Found}
 use Rattle.clv_base.specs.declared.modes.Found.TheVariants.{Live, Ghost, Absent}
 use Rattle.clv_base.specs.Orders.{tx_cmp, tx_same, tx_in, tx_insert}
-use Rattle.clv_base.specs.Maps.{KeyMap, map_get, map_set, map_add, plus}
-use Rattle.clv_base.specs.FileRules.{has_spelling, tx_has_spelling, txs_rise, is_64_bits, is_value}
-use Rattle.clv_base.specs.Logs.{wrote_in, committed_in, prepare_of, fold_updates}
+use Rattle.clv_base.specs.Maps.{KeyMap, map_get, map_set}
+use Rattle.clv_base.specs.FileRules.{has_spelling, tx_has_spelling, txs_rise, is_value}
+use Rattle.clv_base.specs.Logs.{StandingUpdate, changed, standing, has_standing, committed_in, prepare_of, with_change, fold_writes, fold_updates}
 use Rattle.clv_base.specs.Facts.{predecessors_of}
 use Rattle.clv_base.specs.Needs.{Records, found_at}
 use Rattle.clv_base.specs.OneShard.{closing_record, closing}
 use Rattle.clv_base.specs.Restarts.{records_of, ghost_if_absent, with_ghosts, pairs_of_listed, restored_pairs}
-use Rattle.clv_base.proofs.SameNames.{tx_true}
 use Rattle.law_base.proofs.Sets.{predecessors_rise}
-use Rattle.protocol_laws.proofs.ChangesKeepSpelling.UndoIsSpelled.{Named, named_insert, plus_fits}
+use Rattle.protocol_laws.proofs.ChangesKeepSpelling.UndoIsSpelled.{change_fits, changed_fits, AreFit, fit_standing, Named, named_insert}
 use Rattle.protocol_laws.proofs.ChangesKeepSpelling.RowsAreSpelled.{Seconds, Values, set_value}
 use Rattle.law_base.proofs.Names.{Rise as Rises}
-use Rattle.law_base.proofs.Lists.{all_kept as all_filter}
+use Rattle.law_base.proofs.Lists.{all_mono, all_kept as all_filter}
+use Rattle.law_base.proofs.Standing.{of_writer}
+use Rattle.clv_base.specs.declared.changes.Change.{Change}
 
 -- ---- the record that closes a part
 
-pub wrote_named : (log : List LogRecord) (t : TxId) → list_all has_spelling log ≡ true → wrote_in log t ≡ true → tx_has_spelling t ≡ true
-wrote_named [] t h w = absurd (both_ways false refl w)
-wrote_named (Update tx k b a ∷ rs) t h w =
-    let two = and_parts (has_spelling (Update tx k b a)) (list_all has_spelling rs) h in
-    let named : tx_has_spelling tx ≡ true = (and_parts _ _ (and_parts _ _ (and_parts (tx_has_spelling tx && is_64_bits k && is_value b) (is_value a) two.0).0).0).0 in
-    ⊎_elim (λ s. subst (λ u. tx_has_spelling u ≡ true) (sym (tx_true t tx s)) named) (λ m. wrote_named rs t two.1 m) (or_cases (tx_same t tx) (wrote_in rs t) w)
-wrote_named (Clr tx u k a ∷ rs) t h w = wrote_named rs t (and_parts (has_spelling (Clr tx u k a)) (list_all has_spelling rs) h).1 w
-wrote_named (Prepare tx home ps ∷ rs) t h w = wrote_named rs t (and_parts (has_spelling (Prepare tx home ps)) (list_all has_spelling rs) h).1 w
-wrote_named (Commit tx ps ∷ rs) t h w = wrote_named rs t (and_parts (has_spelling (Commit tx ps)) (list_all has_spelling rs) h).1 w
-wrote_named (Abort tx ∷ rs) t h w = wrote_named rs t (and_parts (has_spelling (Abort tx)) (list_all has_spelling rs) h).1 w
-wrote_named (End tx ∷ rs) t h w = wrote_named rs t (and_parts (has_spelling (End tx)) (list_all has_spelling rs) h).1 w
-wrote_named (Restart run epoch ∷ rs) t h w = wrote_named rs t (and_parts (has_spelling (Restart run epoch)) (list_all has_spelling rs) h).1 w
-wrote_named (Add tx k by ∷ rs) t h w =
-    let two = and_parts (has_spelling (Add tx k by)) (list_all has_spelling rs) h in
-    let named : tx_has_spelling tx ≡ true = (and_parts _ _ (and_parts (tx_has_spelling tx && is_64_bits k) (is_64_bits by) two.0).0).0 in
-    ⊎_elim (λ s. subst (λ u. tx_has_spelling u ≡ true) (sym (tx_true t tx s)) named) (λ m. wrote_named rs t two.1 m) (or_cases (tx_same t tx) (wrote_in rs t) w)
-wrote_named (Unadd tx u k by ∷ rs) t h w = wrote_named rs t (and_parts (has_spelling (Unadd tx u k by)) (list_all has_spelling rs) h).1 w
+pub stands_named : (log : List LogRecord) (t : TxId) → list_all has_spelling log ≡ true → has_standing log t ≡ true → tx_has_spelling t ≡ true
+stands_named log t h e = of_writer (λ u. tx_has_spelling u ≡ true) (standing log) t (all_mono _ _ (λ w f. f.1) (standing log) (fit_standing log h)) e
 
 preds_named : (pairs : List (TxId × TxId)) (t : TxId) → Seconds pairs → Named (predecessors_of pairs t)
 preds_named [] t all = tt
@@ -90,9 +76,9 @@ closing_spelled false one tx home us n h few all s = refl
 
 pub undecided_spelled : (log : List LogRecord) (pairs : List (TxId × TxId)) (tx : TxId) (home : ℕ) (one : Bool) → list_all has_spelling log ≡ true → Seconds pairs → home < 16
     → length (filter (λ p. not (committed_in log p)) (predecessors_of pairs tx)) ≤ 1024
-    → list_all has_spelling (closing (wrote_in log tx) one tx home (filter (λ p. not (committed_in log p)) (predecessors_of pairs tx))) ≡ true
+    → list_all has_spelling (closing (has_standing log tx) one tx home (filter (λ p. not (committed_in log p)) (predecessors_of pairs tx))) ≡ true
 undecided_spelled log pairs tx home one spelled named h few =
-    closing_spelled (wrote_in log tx) one tx home (filter (λ p. not (committed_in log p)) (predecessors_of pairs tx)) (wrote_named log tx spelled) h few
+    closing_spelled (has_standing log tx) one tx home (filter (λ p. not (committed_in log p)) (predecessors_of pairs tx)) (stands_named log tx spelled) h few
     (all_filter (λ t. tx_has_spelling t ≡ true) (λ p. not (committed_in log p)) (predecessors_of pairs tx) (preds_named pairs tx named))
     (IsStrictlySortedBy-filter tx_cmp (λ p. not (committed_in log p)) (predecessors_of pairs tx) (predecessors_rise pairs tx))
 
@@ -161,23 +147,14 @@ found_fits : (k : ℕ) (m : KeyMap) → Fits m → is_value (map_get k m) ≡ tr
 found_fits k [] all = refl
 found_fits k (e ∷ es) all = cond_both (eq_by_cmp nat_cmp k e.0) (Some e.1) (map_get k es) (λ v. is_value v ≡ true) (λ s. all.0) (λ s. found_fits k es all.1)
 
-fold_fits : (keep : TxId → Bool) (log : List LogRecord) (m : KeyMap) → list_all has_spelling log ≡ true → Fits m → Fits (fold_updates keep log m)
-fold_fits keep [] m h all = all
-fold_fits keep (Update tx k b a ∷ log) m h all =
-    let two = and_parts (has_spelling (Update tx k b a)) (list_all has_spelling log) h in
-    let value : is_value a ≡ true = (and_parts (tx_has_spelling tx && is_64_bits k && is_value b) (is_value a) two.0).1 in
-    fold_fits keep log (cond (keep tx) (map_set k a m) m) two.1 (cond_both (keep tx) (map_set k a m) m Fits (λ e. set_fits k a m value all) (λ e. all))
-fold_fits keep (Clr tx u k a ∷ log) m h all = fold_fits keep log m (and_parts (has_spelling (Clr tx u k a)) (list_all has_spelling log) h).1 all
-fold_fits keep (Prepare tx home ps ∷ log) m h all = fold_fits keep log m (and_parts (has_spelling (Prepare tx home ps)) (list_all has_spelling log) h).1 all
-fold_fits keep (Commit tx ps ∷ log) m h all = fold_fits keep log m (and_parts (has_spelling (Commit tx ps)) (list_all has_spelling log) h).1 all
-fold_fits keep (Abort tx ∷ log) m h all = fold_fits keep log m (and_parts (has_spelling (Abort tx)) (list_all has_spelling log) h).1 all
-fold_fits keep (End tx ∷ log) m h all = fold_fits keep log m (and_parts (has_spelling (End tx)) (list_all has_spelling log) h).1 all
-fold_fits keep (Restart run epoch ∷ log) m h all = fold_fits keep log m (and_parts (has_spelling (Restart run epoch)) (list_all has_spelling log) h).1 all
-fold_fits keep (Add tx k by ∷ log) m h all =
-    let two = and_parts (has_spelling (Add tx k by)) (list_all has_spelling log) h in
-    let value : is_value (plus by (map_get k m)) ≡ true = plus_fits by (map_get k m) (found_fits k m all) in
-    fold_fits keep log (cond (keep tx) (map_add k by m) m) two.1 (cond_both (keep tx) (map_add k by m) m Fits (λ e. set_fits k (plus by (map_get k m)) m value all) (λ e. all))
-fold_fits keep (Unadd tx u k by ∷ log) m h all = fold_fits keep log m (and_parts (has_spelling (Unadd tx u k by)) (list_all has_spelling log) h).1 all
+with_fits : (k : ℕ) (change : Change) (m : KeyMap) → change_fits change ≡ true → Fits m → Fits (with_change k change m)
+with_fits k change m f all = set_fits k (changed change (map_get k m)) m (changed_fits change (map_get k m) f (found_fits k m all)) all
+
+fold_fits : (n : ℕ) (keep : TxId → Bool) (ws : List StandingUpdate) (m : KeyMap) → AreFit n ws → Fits m → Fits (fold_writes keep ws m)
+fold_fits n keep [] m f all = all
+fold_fits n keep (w ∷ ws) m f all =
+    let rest = fold_fits n keep ws m f.1 all in
+    cond_both (keep w.tx) (with_change w.key w.change (fold_writes keep ws m)) (fold_writes keep ws m) Fits (λ e. with_fits w.key w.change (fold_writes keep ws m) f.0.3 rest) (λ e. rest)
 
 map_values : (m : KeyMap) → Fits m → Values (records_of m)
 map_values [] all = tt
@@ -188,19 +165,11 @@ ghost_value k rs Absent all = set_value k None rs refl all
 ghost_value k rs Ghost all = all
 ghost_value k rs (Live v) all = all
 
-ghosts_values : (txs : List TxId) (log : List LogRecord) (rs : Records) → Values rs → Values (with_ghosts txs log rs)
+ghosts_values : (txs : List TxId) (ws : List StandingUpdate) (rs : Records) → Values rs → Values (with_ghosts txs ws rs)
 ghosts_values txs [] rs all = all
-ghosts_values txs (Update tx k b a ∷ log) rs all =
-    ghosts_values txs log (cond (tx_in tx txs) (ghost_if_absent k rs (found_at k rs)) rs) (cond_both (tx_in tx txs) (ghost_if_absent k rs (found_at k rs)) rs Values (λ e. ghost_value k rs (found_at k rs) all) (λ e. all))
-ghosts_values txs (Clr tx u k a ∷ log) rs all = ghosts_values txs log rs all
-ghosts_values txs (Prepare tx home ps ∷ log) rs all = ghosts_values txs log rs all
-ghosts_values txs (Commit tx ps ∷ log) rs all = ghosts_values txs log rs all
-ghosts_values txs (Abort tx ∷ log) rs all = ghosts_values txs log rs all
-ghosts_values txs (End tx ∷ log) rs all = ghosts_values txs log rs all
-ghosts_values txs (Restart run epoch ∷ log) rs all = ghosts_values txs log rs all
-ghosts_values txs (Add tx k by ∷ log) rs all =
-    ghosts_values txs log (cond (tx_in tx txs) (ghost_if_absent k rs (found_at k rs)) rs) (cond_both (tx_in tx txs) (ghost_if_absent k rs (found_at k rs)) rs Values (λ e. ghost_value k rs (found_at k rs) all) (λ e. all))
-ghosts_values txs (Unadd tx u k by ∷ log) rs all = ghosts_values txs log rs all
+ghosts_values txs (w ∷ ws) rs all =
+    ghosts_values txs ws (cond (tx_in w.tx txs) (ghost_if_absent w.key rs (found_at w.key rs)) rs)
+    (cond_both (tx_in w.tx txs) (ghost_if_absent w.key rs (found_at w.key rs)) rs Values (λ e. ghost_value w.key rs (found_at w.key rs) all) (λ e. all))
 
-pub restored_values : (txs : List TxId) (keep : TxId → Bool) (log : List LogRecord) → list_all has_spelling log ≡ true → Values (with_ghosts txs log (records_of (fold_updates keep log [])))
-restored_values txs keep log h = ghosts_values txs log (records_of (fold_updates keep log [])) (map_values (fold_updates keep log []) (fold_fits keep log [] h tt))
+pub restored_values : (txs : List TxId) (keep : TxId → Bool) (log : List LogRecord) → list_all has_spelling log ≡ true → Values (with_ghosts txs (standing log) (records_of (fold_updates keep log [])))
+restored_values txs keep log h = ghosts_values txs (standing log) (records_of (fold_updates keep log [])) (map_values (fold_updates keep log []) (fold_fits (length log) keep (standing log) [] (fit_standing log h) tt))

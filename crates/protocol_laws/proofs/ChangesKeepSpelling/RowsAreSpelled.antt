@@ -1,30 +1,28 @@
 -- Locks, pairs and records, row by row.
 use Rattle.std.proofs.Common.{◌≡◌, refl, ℕ, Bool, true, false, cond, not, ◌&&◌, ◌==◌, List, [], ◌∷◌, Option, Some, None}
-use Rattle.std.specs.List.{AllByRecursion, list_all}
+use Rattle.std.specs.List.{AllByRecursion}
 use Rattle.std.specs.Map.{lookup}
 use Rattle.std.specs.declared.cmp.Ordering.{Ordering}
 use Rattle.std.specs.declared.cmp.Ordering.TheVariants.{Less, Equal, Greater}
 use Rattle.std.specs.Ordering.{nat_cmp, match_ordering}
-use Rattle.std.proofs.lemmas.Bool.{cond_both, and_parts}
+use Rattle.std.proofs.lemmas.Bool.{cond_both}
 use Rattle.clv_base.specs.declared.values.Value.{Value as ValueType}
 use Rattle.clv_base.specs.declared.names.TxId.{TxId}
 use Rattle.clv_base.specs.declared.names.Birth.{Birth}
-use Rattle.clv_base.specs.declared.logs.LogRecord.{LogRecord}
-use Rattle.clv_base.specs.declared.logs.LogRecord.TheVariants.{Update, Clr, Prepare, Commit, Abort, End, Restart, Add, Unadd}
 use Rattle.clv_base.specs.declared.modes.Anchor.{Anchor}
 use Rattle.clv_base.specs.declared.modes.Anchor.TheVariants.{At}
 use Rattle.clv_base.specs.declared.modes.Need.{Need}
 use Rattle.clv_base.specs.declared.modes.Holder.{Holder}
-use Rattle.clv_base.specs.declared.modes.Part.TheVariants.{I, X}
+use Rattle.clv_base.specs.declared.modes.Part.TheVariants.{X}
 use Rattle.clv_base.specs.Orders.{tx_same, tx_in, tx_insert, pair_cmp, pair_insert}
 use Rattle.clv_base.specs.Modes.{on_key, writes}
-use Rattle.clv_base.specs.FileRules.{has_spelling, tx_has_spelling, is_64_bits, is_value}
+use Rattle.clv_base.specs.FileRules.{tx_has_spelling, is_value}
 use Rattle.clv_base.specs.Locks.{Locks, row_cmp, with_mode, take_one, holder_of, take_all, gap_alone, holds_gap, copy_gaps, split_gap, close_locks, release, meets, violated_by, violated}
 use Rattle.clv_base.specs.Logs.{StandingUpdate, unchanged}
 use Rattle.clv_base.specs.Needs.{Records, found_by, live_of, value_at, record_set, need, lower_anchor}
 use Rattle.clv_base.specs.Undo.{undone_at, records_without}
 use Rattle.clv_base.specs.OneShard.{add_pairs, inserted_locks}
-use Rattle.clv_base.specs.Restarts.{old_birth, restored_locks}
+use Rattle.clv_base.specs.Restarts.{old_birth, part_of, restored_locks}
 use Rattle.protocol_laws.proofs.ChangesKeepSpelling.UndoIsSpelled.{AreFit, Named, named_insert, unchanged_fits}
 use Rattle.law_base.proofs.Lists.{all_kept as all_filter}
 
@@ -74,25 +72,12 @@ violated_named tx needs (r ∷ rs) so_far all n =
 pub violated_are_named : (tx : TxId) (needs : List Need) (locks : Locks) → Holders locks → Named (violated tx needs locks)
 violated_are_named tx needs locks all = violated_named tx needs locks [] all tt
 
-pub restored_named : (txs : List TxId) (log : List LogRecord) (locks : Locks) → list_all has_spelling log ≡ true → Holders locks → Holders (restored_locks txs log locks)
-restored_named txs [] locks h all = all
-restored_named txs (Update tx k b a ∷ log) locks h all =
-    let two = and_parts (has_spelling (Update tx k b a)) (list_all has_spelling log) h in
-    let lock : Holder = record { tx = tx; birth = old_birth tx; mode = on_key X; closed = true } in
-    let named : tx_has_spelling tx ≡ true = (and_parts _ _ (and_parts _ _ (and_parts (tx_has_spelling tx && is_64_bits k && is_value b) (is_value a) two.0).0).0).0 in
-    restored_named txs log (cond (tx_in tx txs) (take_one (At k) lock locks) locks) two.1 (cond_both (tx_in tx txs) (take_one (At k) lock locks) locks Holders (λ e. take_named (At k) lock locks named all) (λ e. all))
-restored_named txs (Clr tx u k a ∷ log) locks h all = restored_named txs log locks (and_parts (has_spelling (Clr tx u k a)) (list_all has_spelling log) h).1 all
-restored_named txs (Prepare tx home ps ∷ log) locks h all = restored_named txs log locks (and_parts (has_spelling (Prepare tx home ps)) (list_all has_spelling log) h).1 all
-restored_named txs (Commit tx ps ∷ log) locks h all = restored_named txs log locks (and_parts (has_spelling (Commit tx ps)) (list_all has_spelling log) h).1 all
-restored_named txs (Abort tx ∷ log) locks h all = restored_named txs log locks (and_parts (has_spelling (Abort tx)) (list_all has_spelling log) h).1 all
-restored_named txs (End tx ∷ log) locks h all = restored_named txs log locks (and_parts (has_spelling (End tx)) (list_all has_spelling log) h).1 all
-restored_named txs (Restart run epoch ∷ log) locks h all = restored_named txs log locks (and_parts (has_spelling (Restart run epoch)) (list_all has_spelling log) h).1 all
-restored_named txs (Add tx k by ∷ log) locks h all =
-    let two = and_parts (has_spelling (Add tx k by)) (list_all has_spelling log) h in
-    let lock : Holder = record { tx = tx; birth = old_birth tx; mode = on_key I; closed = true } in
-    let named : tx_has_spelling tx ≡ true = (and_parts _ _ (and_parts (tx_has_spelling tx && is_64_bits k) (is_64_bits by) two.0).0).0 in
-    restored_named txs log (cond (tx_in tx txs) (take_one (At k) lock locks) locks) two.1 (cond_both (tx_in tx txs) (take_one (At k) lock locks) locks Holders (λ e. take_named (At k) lock locks named all) (λ e. all))
-restored_named txs (Unadd tx u k by ∷ log) locks h all = restored_named txs log locks (and_parts (has_spelling (Unadd tx u k by)) (list_all has_spelling log) h).1 all
+pub restored_named : (n : ℕ) (txs : List TxId) (ws : List StandingUpdate) (locks : Locks) → AreFit n ws → Holders locks → Holders (restored_locks txs ws locks)
+restored_named n txs [] locks f all = all
+restored_named n txs (w ∷ ws) locks f all =
+    let lock : Holder = record { tx = w.tx; birth = old_birth w.tx; mode = on_key (part_of w.change); closed = true } in
+    restored_named n txs ws (cond (tx_in w.tx txs) (take_one (At w.key) lock locks) locks) f.1
+    (cond_both (tx_in w.tx txs) (take_one (At w.key) lock locks) locks Holders (λ e. take_named (At w.key) lock locks f.0.1 all) (λ e. all))
 
 -- ---- pairs
 
@@ -141,12 +126,12 @@ found_value k (r ∷ rs) all = at (k == r.0) (found_value k rs all.1)
 pub value_fits : (k : ℕ) (rs : Records) → Values rs → is_value (value_at k rs) ≡ true
 value_fits k rs all = found_value k rs all
 
-undone_fits : (set : List TxId) (k n : ℕ) (ws : List StandingUpdate) (v : Option ValueType) → AreFit n ws → is_value v ≡ true → is_value (undone_at set k ws v) ≡ true
-undone_fits set k n [] v f h = h
-undone_fits set k n (w ∷ ws) v f h =
-    undone_fits set k n ws (cond (tx_in w.tx set && (k == w.key)) (unchanged w.change v) v) f.1
-    (cond_both (tx_in w.tx set && (k == w.key)) (unchanged w.change v) v (λ o. is_value o ≡ true) (λ e. unchanged_fits w.change v f.0.3 h) (λ e. h))
+undone_fits : (gone : StandingUpdate → Bool) (k n : ℕ) (ws : List StandingUpdate) (v : Option ValueType) → AreFit n ws → is_value v ≡ true → is_value (undone_at gone k ws v) ≡ true
+undone_fits gone k n [] v f h = h
+undone_fits gone k n (w ∷ ws) v f h =
+    undone_fits gone k n ws (cond (gone w && (k == w.key)) (unchanged w.change v) v) f.1
+    (cond_both (gone w && (k == w.key)) (unchanged w.change v) v (λ o. is_value o ≡ true) (λ e. unchanged_fits w.change v f.0.3 h) (λ e. h))
 
-pub undone_values : (set : List TxId) (n : ℕ) (ws : List StandingUpdate) (rs : Records) → AreFit n ws → Values rs → Values (records_without set ws rs)
-undone_values set n ws [] f all = tt
-undone_values set n ws (r ∷ rs) f all = (undone_fits set r.0 n ws r.1 f all.0, undone_values set n ws rs f all.1)
+pub undone_values : (gone : StandingUpdate → Bool) (n : ℕ) (ws : List StandingUpdate) (rs : Records) → AreFit n ws → Values rs → Values (records_without gone ws rs)
+undone_values gone n ws [] f all = tt
+undone_values gone n ws (r ∷ rs) f all = (undone_fits gone r.0 n ws r.1 f all.0, undone_values gone n ws rs f all.1)

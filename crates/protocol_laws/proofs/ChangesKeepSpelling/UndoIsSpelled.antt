@@ -1,4 +1,4 @@
--- What undoes a set's writes has spellings, where the log's records have.
+-- What undoes writes has spellings, where the log's records have.
 use Rattle.std.proofs.Common.{◌≡◌, refl, sym, subst, ℕ, suc, ◌+◌, ◌-◌, ◌^◌, ◌%◌, ◌≤◌, ◌<◌, nat_lt, Bool, true, false, cond, ◌&&◌, List, [], ◌∷◌, map, length, Option, Some, None, arith}
 use Rattle.std.proofs.lemmas.Bool.{and_parts, and_from, lt-ltb}
 use Rattle.std.proofs.lemmas.Nat.{mod_below}
@@ -10,7 +10,7 @@ use Rattle.std.specs.Ordering.{match_ordering}
 use Rattle.clv_base.specs.declared.names.TxId.{TxId}
 use Rattle.clv_base.specs.declared.logs.LogRecord.{LogRecord}
 use Rattle.clv_base.specs.declared.logs.LogRecord.TheVariants.{Update, Clr, Prepare, Commit, Abort, End, Restart, Add, Unadd}
-use Rattle.clv_base.specs.Orders.{tx_cmp, tx_same, tx_in, tx_insert}
+use Rattle.clv_base.specs.Orders.{tx_cmp, tx_same, tx_insert}
 use Rattle.clv_base.specs.declared.values.Value.{Value as ValueType}
 use Rattle.clv_base.specs.declared.values.Value.TheVariants.{Num, Bytes}
 use Rattle.clv_base.specs.declared.changes.Change.{Change}
@@ -19,7 +19,7 @@ use Rattle.clv_base.specs.Maps.{sum, plus, minus}
 use Rattle.clv_base.proofs.Sums.{small_sum}
 use Rattle.clv_base.specs.Logs.{StandingUpdate, changed, unchanged, standing_after, standing_from, standing, without_newest, newest_of, writers}
 use Rattle.clv_base.specs.FileRules.{has_spelling, tx_has_spelling, is_64_bits, is_value, is_undo_next}
-use Rattle.clv_base.specs.Undo.{clrs_of, compensation, newest_lsn}
+use Rattle.clv_base.specs.Undo.{is_of, clrs_by, clrs_of, compensation, newest_lsn}
 use Rattle.law_base.proofs.Lists.{all_mono}
 
 -- ---- lists
@@ -99,7 +99,7 @@ fit_from n (r ∷ rs) ws h f =
 pub fit_standing : (log : List LogRecord) → list_all has_spelling log ≡ true → AreFit (length log) (standing log)
 fit_standing log h = subst (λ (n : ℕ). AreFit n (standing log)) (omega arith) (fit_from 0 log [] h tt)
 
--- ---- the CLRs of a set's writes
+-- ---- the CLRs and UNADDs of some writes
 
 fits_newest : (n : ℕ) (t : TxId) (ws : List StandingUpdate) → n ≤ 2 ^ 64 - 1 → AreFit n ws → is_undo_next (newest_lsn t ws) ≡ true
 fits_newest n t [] few f = refl
@@ -111,12 +111,15 @@ undo_spelled : (tx : TxId) (next : Option ℕ) (key : ℕ) (change : Change) →
 undo_spelled tx next key (Sets before after) t n k f = and_from _ _ (and_from _ _ (and_from _ _ t n) k) (and_parts (is_value before) (is_value after) f).0
 undo_spelled tx next key (Adds by) t n k f = and_from _ _ (and_from _ _ (and_from _ _ t n) k) f
 
+pub clrs_spelled_by : (n : ℕ) (gone : StandingUpdate → Bool) (ws : List StandingUpdate) → n ≤ 2 ^ 64 - 1 → AreFit n ws → list_all has_spelling (clrs_by gone ws) ≡ true
+clrs_spelled_by n gone [] few f = refl
+clrs_spelled_by n gone (w ∷ ws) few f =
+    let rest = clrs_spelled_by n gone ws few f.1 in
+    both (λ (b : Bool). list_all has_spelling (cond b (compensation w.tx (newest_lsn w.tx ws) w.key w.change ∷ clrs_by gone ws) (clrs_by gone ws)) ≡ true)
+    (and_from _ _ (undo_spelled w.tx (newest_lsn w.tx ws) w.key w.change f.0.1 (fits_newest n w.tx ws few f.1) f.0.2 f.0.3) rest) rest (gone w)
+
 pub clrs_spelled : (n : ℕ) (set : List TxId) (ws : List StandingUpdate) → n ≤ 2 ^ 64 - 1 → AreFit n ws → list_all has_spelling (clrs_of set ws) ≡ true
-clrs_spelled n set [] few f = refl
-clrs_spelled n set (w ∷ ws) few f =
-    let rest = clrs_spelled n set ws few f.1 in
-    both (λ (b : Bool). list_all has_spelling (cond b (compensation w.tx (newest_lsn w.tx ws) w.key w.change ∷ clrs_of set ws) (clrs_of set ws)) ≡ true)
-    (and_from _ _ (undo_spelled w.tx (newest_lsn w.tx ws) w.key w.change f.0.1 (fits_newest n w.tx ws few f.1) f.0.2 f.0.3) rest) rest (tx_in w.tx set)
+clrs_spelled n set ws few f = clrs_spelled_by n (is_of set) ws few f
 
 -- ---- the ABORTs
 

@@ -14,8 +14,8 @@ use Rattle.clv_base.specs.OneShard.{rolled_back_if, without_part}
 use Rattle.clv_base.proofs.SameNames.{tx_true, tx_flip}
 use Rattle.law_base.proofs.Tables.{get_put}
 use Rattle.protocol_laws.specs.Changes.{ChangesOnly, successors_of}
-use Rattle.protocol_laws.specs.Steps.{CommitsTouch, VotesTouch, RulingsTouch, OperationsTouch, RequestsTouch, DropsTouch, PreparesTouch, AnswersTouch, DecisionsTouch, NobodyIsTouched}
-use Rattle.protocol_laws.proofs.Due.WhoseFactsChange.{releases_change, roll_backs_change, commits_change, ends_change, closes_change, operations_change, marks_change}
+use Rattle.protocol_laws.specs.Steps.{CommitsTouch, VotesTouch, RulingsTouch, OperationsTouch, RollsTouch, RequestsTouch, DropsTouch, PreparesTouch, AnswersTouch, DecisionsTouch, NobodyIsTouched}
+use Rattle.protocol_laws.proofs.Due.WhoseFactsChange.{releases_change, roll_backs_change, commits_change, ends_change, closes_change, operations_change, rolls_change, marks_change}
 
 -- ---- tables
 
@@ -93,6 +93,9 @@ operations_touch = (
   λ s tx birth op. record { shard = refl; facts = λ x out. operations_change s.local tx birth op x out s.durable; voters = λ x out. refl; requests = λ x out. refl },
   λ s tx. record { shard = refl; facts = λ x out. rolled_if (is_present (stage_of s.local tx)) s.local tx x out x out s.durable; voters = λ x out. refl; requests = λ x out. refl },
 )
+
+pub rolls_touch : RollsTouch
+rolls_touch s tx n = record { shard = refl; facts = λ x out. rolls_change s.local tx n x out s.durable; voters = λ x out. refl; requests = λ x out. refl }
 
 pub requests_touch : RequestsTouch
 requests_touch = (

@@ -8,7 +8,7 @@ use Rattle.clv_base.specs.declared.names.TxId.{TxId}
 use Rattle.clv_base.specs.declared.logs.LogRecord.{LogRecord}
 use Rattle.clv_base.specs.declared.logs.LogRecord.TheVariants.{Update, Clr, Prepare, Commit, Abort, End, Restart, Add, Unadd}
 use Rattle.clv_base.specs.Orders.{tx_same}
-use Rattle.clv_base.specs.Logs.{own_tx, is_update_of, is_commit_of, is_prepare_of, is_abort_of, committed_in, prepared_in, prepare_of, commit_parts}
+use Rattle.clv_base.specs.Logs.{own_tx, is_commit_of, is_prepare_of, committed_in, prepared_in, prepare_of, commit_parts}
 use Rattle.clv_base.proofs.SameNames.{or_left, or_right, tx_true}
 
 -- whether some record passes, with one more
@@ -37,11 +37,6 @@ pub push_same : (test : LogRecord → Bool) (log : List LogRecord) (r : LogRecor
 push_same test log r e = or_nothing (list_any test log) (test r) e ∙ sym (list_any-append test log (r ∷ []))
 
 -- whose record it is
-pub own_update : (t : TxId) (r : LogRecord) → is_update_of t r ≡ true → own_tx r ≡ Some t
-own_update t (Update tx key before after) e = ap (λ z. Some z) (sym (tx_true t tx e))
-own_update t (Add tx key by) e = ap (λ z. Some z) (sym (tx_true t tx e))
-own_update t _ e = absurd (both_ways false refl e)
-
 pub own_commit : (t : TxId) (r : LogRecord) → is_commit_of t r ≡ true → own_tx r ≡ Some t
 own_commit t (Commit tx parts) e = ap (λ z. Some z) (sym (tx_true t tx e))
 own_commit t _ e = absurd (both_ways false refl e)
@@ -49,10 +44,6 @@ own_commit t _ e = absurd (both_ways false refl e)
 pub own_prepare : (t : TxId) (r : LogRecord) → is_prepare_of t r ≡ true → own_tx r ≡ Some t
 own_prepare t (Prepare tx home ps) e = ap (λ z. Some z) (sym (tx_true t tx e))
 own_prepare t _ e = absurd (both_ways false refl e)
-
-pub own_abort : (t : TxId) (r : LogRecord) → is_abort_of t r ≡ true → own_tx r ≡ Some t
-own_abort t (Abort tx) e = ap (λ z. Some z) (sym (tx_true t tx e))
-own_abort t _ e = absurd (both_ways false refl e)
 
 -- what a PREPARE and a COMMIT name is there with them
 there_case : {X : Type 0} (b c : Bool) (x p : X) (o : Option X) → cond b (Some x) o ≡ Some p → (o ≡ Some p → c ≡ true) → (b || c) ≡ true

@@ -1,16 +1,20 @@
 -- The transactions of a log in order are of the runs of its RESTARTs.
-use Rattle.std.proofs.Common.{◌≡◌, refl, subst, ℕ, ◌≤◌, true, false, Bool, List, [], ◌∷◌, ◌++◌, Option, Some, None, ◌==◌, ⊎_elim, max, arith, eqb-true}
+use Rattle.std.proofs.Common.{◌≡◌, refl, sym, subst, ℕ, suc, ◌≤◌, true, false, cond, Bool, ◌&&◌, nat_lt, List, [], ◌∷◌, ◌++◌, length, Option, Some, None, ◌==◌, ⊎_elim, max, arith, eqb-true}
 use Rattle.std.specs.List.{AllByRecursion, list_any}
 use Rattle.std.proofs.lemmas.Bool.{both_ways, or_cases}
 use Rattle.clv_base.specs.declared.names.TxId.{TxId}
 use Rattle.clv_base.specs.declared.logs.LogRecord.{LogRecord}
 use Rattle.clv_base.specs.declared.logs.LogRecord.TheVariants.{Update, Clr, Prepare, Commit, Abort, End, Restart, Add, Unadd}
-use Rattle.clv_base.specs.Logs.{own_tx, is_update_of, is_commit_of, is_prepare_of, is_abort_of, prepare_of, commit_parts}
-use Rattle.clv_base.specs.LogRules.{last_restart, since_restart, in_last_run, commit_by_prepare, some_parts, may_follow}
+use Rattle.clv_base.specs.Orders.{tx_same}
+use Rattle.clv_base.specs.declared.changes.Change.TheVariants.{Sets, Adds}
+use Rattle.clv_base.specs.Logs.{StandingUpdate, own_tx, is_commit_of, is_prepare_of, prepare_of, commit_parts, standing, standing_from, without_newest, newest_of}
+use Rattle.clv_base.specs.LogRules.{last_restart, before_restart, in_last_run, commit_by_prepare, some_parts, clears, unadds, compensates, may_follow}
+use Rattle.clv_base.proofs.SameNames.{tx_true}
 use Rattle.clv_base.specs.Restarts.{greatest_run}
 use Rattle.protocol_laws.specs.Order.{OfRun, RunFits}
-use Rattle.protocol_laws.proofs.LogsInOrder.OneRecordMore.{own_update, own_commit, own_prepare, own_abort, prepared_there, committed_there}
+use Rattle.protocol_laws.proofs.LogsInOrder.OneRecordMore.{own_commit, own_prepare, prepared_there, committed_there}
 use Rattle.law_base.proofs.Bools.{and_first as front, and_second as last}
+use Rattle.law_base.proofs.Names.{all_without}
 
 run_more : (n m : ℕ) (o : Option TxId) → n ≤ m → OfRun n o → OfRun m o
 run_more n m None l f = tt
@@ -69,18 +73,38 @@ pub record_fits : (n : ℕ) (t : TxId) (test : LogRecord → Bool) → ((r : Log
 record_fits n t test own [] a e = absurd (both_ways false refl e)
 record_fits n t test own (r ∷ rs) a e = ⊎_elim (λ s. subst (OfRun n) (own r s) a.0) (λ s. record_fits n t test own rs a.1 s) (or_cases (test r) (list_any test rs) e)
 
--- the records after the last RESTART are the log's
-since_fit : (n : ℕ) (sf rs : List LogRecord) → AllByRecursion (RunFits n) sf → AllByRecursion (RunFits n) rs → AllByRecursion (RunFits n) (since_restart sf rs)
-since_fit n sf [] a b = a
-since_fit n sf (Restart run epoch ∷ rs) a b = since_fit n [] rs tt b.1
-since_fit n sf (Update u key before after ∷ rs) a b = since_fit n (sf ++ Update u key before after ∷ []) rs (push_all n sf (Update u key before after) a b.0) b.1
-since_fit n sf (Clr u next key after ∷ rs) a b = since_fit n (sf ++ Clr u next key after ∷ []) rs (push_all n sf (Clr u next key after) a b.0) b.1
-since_fit n sf (Prepare u home ps ∷ rs) a b = since_fit n (sf ++ Prepare u home ps ∷ []) rs (push_all n sf (Prepare u home ps) a b.0) b.1
-since_fit n sf (Commit u parts ∷ rs) a b = since_fit n (sf ++ Commit u parts ∷ []) rs (push_all n sf (Commit u parts) a b.0) b.1
-since_fit n sf (Abort u ∷ rs) a b = since_fit n (sf ++ Abort u ∷ []) rs (push_all n sf (Abort u) a b.0) b.1
-since_fit n sf (End u ∷ rs) a b = since_fit n (sf ++ End u ∷ []) rs (push_all n sf (End u) a b.0) b.1
-since_fit n sf (Add u key by ∷ rs) a b = since_fit n (sf ++ Add u key by ∷ []) rs (push_all n sf (Add u key by) a b.0) b.1
-since_fit n sf (Unadd u next key by ∷ rs) a b = since_fit n (sf ++ Unadd u next key by ∷ []) rs (push_all n sf (Unadd u next key by) a b.0) b.1
+-- so are those of the writes that stand
+writes_fit : (n i : ℕ) (rs : List LogRecord) (ws : List StandingUpdate) → AllByRecursion (RunFits n) rs → AllByRecursion (λ w. (w.tx).run ≤ n) ws → AllByRecursion (λ w. (w.tx).run ≤ n) (standing_from i rs ws)
+writes_fit n i [] ws a b = b
+writes_fit n i (Update tx key before after ∷ rs) ws a b = writes_fit n (suc i) rs (record { lsn = i; tx = tx; key = key; change = Sets before after } ∷ ws) a.1 (a.0, b)
+writes_fit n i (Clr tx next key after ∷ rs) ws a b = writes_fit n (suc i) rs (without_newest tx ws) a.1 (all_without _ tx ws b)
+writes_fit n i (Prepare tx home ps ∷ rs) ws a b = writes_fit n (suc i) rs ws a.1 b
+writes_fit n i (Commit tx parts ∷ rs) ws a b = writes_fit n (suc i) rs ws a.1 b
+writes_fit n i (Abort tx ∷ rs) ws a b = writes_fit n (suc i) rs ws a.1 b
+writes_fit n i (End tx ∷ rs) ws a b = writes_fit n (suc i) rs ws a.1 b
+writes_fit n i (Restart run epoch ∷ rs) ws a b = writes_fit n (suc i) rs ws a.1 b
+writes_fit n i (Add tx key by ∷ rs) ws a b = writes_fit n (suc i) rs (record { lsn = i; tx = tx; key = key; change = Adds by } ∷ ws) a.1 (a.0, b)
+writes_fit n i (Unadd tx next key by ∷ rs) ws a b = writes_fit n (suc i) rs (without_newest tx ws) a.1 (all_without _ tx ws b)
+
+same_fits : (n : ℕ) (tx u : TxId) → tx_same tx u ≡ true → u.run ≤ n → tx.run ≤ n
+same_fits n tx u e f = subst (λ z. z.run ≤ n) (sym (tx_true tx u e)) f
+
+writer_fits : (n : ℕ) (tx : TxId) (test : StandingUpdate → Bool) (ws : List StandingUpdate) → ((w : StandingUpdate) → test w ≡ true → tx_same tx w.tx ≡ true) → AllByRecursion (λ w. (w.tx).run ≤ n) ws → list_any test ws ≡ true → tx.run ≤ n
+writer_fits n tx test [] k a e = absurd (both_ways false refl e)
+writer_fits n tx test (w ∷ ws) k a e = ⊎_elim (λ h. same_fits n tx w.tx (k w h) a.0) (λ h. writer_fits n tx test ws k a.1 h) (or_cases (test w) (list_any test ws) e)
+
+newest_fits : (n : ℕ) (tx : TxId) (u : StandingUpdate) (ws : List StandingUpdate) → AllByRecursion (λ w. (w.tx).run ≤ n) ws → newest_of tx ws ≡ Some u → tx.run ≤ n
+newest_fits n tx u [] a e = absurd cc
+newest_fits n tx u (w ∷ ws) a e = at (tx_same tx w.tx) refl e (λ f. newest_fits n tx u ws a.1 f)
+  where
+    at : (b : Bool) → tx_same tx w.tx ≡ b → cond b (Some w) (newest_of tx ws) ≡ Some u → (newest_of tx ws ≡ Some u → tx.run ≤ n) → tx.run ≤ n
+    at true s f more = same_fits n tx w.tx s a.0
+    at false s f more = more f
+
+compensated_fits : (n : ℕ) (tx : TxId) (next : Option ℕ) (key : ℕ) (test : StandingUpdate → Bool) (ws : List StandingUpdate) (o : Option StandingUpdate) → newest_of tx ws ≡ o → AllByRecursion (λ w. (w.tx).run ≤ n) ws
+    → compensates test tx next key ws o ≡ true → tx.run ≤ n
+compensated_fits n tx next key test ws None e a c = absurd (both_ways false refl c)
+compensated_fits n tx next key test ws (Some w) e a c = newest_fits n tx w ws a e
 
 commit_case : (shard n : ℕ) (log : List LogRecord) (tx : TxId) (parts : List ℕ) (o : Option (ℕ × List TxId)) → prepare_of log tx ≡ o → AllByRecursion (RunFits n) log → (in_last_run log tx ≡ true → tx.run ≤ n)
     → commit_by_prepare shard log tx parts o ≡ true → tx.run ≤ n
@@ -95,14 +119,17 @@ end_case n log tx (Some ps) e a c = record_fits n tx (is_commit_of tx) (own_comm
 follow_fits : (shard : ℕ) (log : List LogRecord) (r : LogRecord) → AllByRecursion (RunFits (greatest_run log)) log → may_follow shard log r ≡ true → RunFits (greatest_run log) r
 follow_fits shard log (Update tx key before after) a m = in_last_fits log tx (front _ _ (front _ _ (front _ _ (front _ _ (front _ _ (front _ _ (front _ _ m)))))))
 follow_fits shard log (Prepare tx home ps) a m =
-    record_fits (greatest_run log) tx (is_update_of tx) (own_update tx) (since_restart [] log) (since_fit (greatest_run log) [] log tt a) (last _ _ (front _ _ (front _ _ (front _ _ (front _ _ (front _ _ m))))))
+    writer_fits (greatest_run log) tx (λ w. tx_same tx w.tx && nat_lt (length (before_restart [] log)) w.lsn) (standing log) (λ w e. front _ _ e) (writes_fit (greatest_run log) 0 log [] a tt)
+    (last _ _ (front _ _ (front _ _ (front _ _ (front _ _ (front _ _ m))))))
 follow_fits shard log (Commit tx parts) a m = commit_case shard (greatest_run log) log tx parts (prepare_of log tx) refl a (in_last_fits log tx) (last _ _ (front _ _ m))
-follow_fits shard log (Clr tx next key after) a m = record_fits (greatest_run log) tx (is_abort_of tx) (own_abort tx) log a (last _ _ (front _ _ m))
-follow_fits shard log (Abort tx) a m = record_fits (greatest_run log) tx (is_update_of tx) (own_update tx) log a (last _ _ (front _ _ (front _ _ m)))
+follow_fits shard log (Clr tx next key after) a m =
+    compensated_fits (greatest_run log) tx next key (λ w. clears w after (standing log) w.change) (standing log) (newest_of tx (standing log)) refl (writes_fit (greatest_run log) 0 log [] a tt) (last _ _ m)
+follow_fits shard log (Abort tx) a m = writer_fits (greatest_run log) tx (λ w. tx_same tx w.tx) (standing log) (λ w e. e) (writes_fit (greatest_run log) 0 log [] a tt) (last _ _ (front _ _ (front _ _ m)))
 follow_fits shard log (End tx) a m = end_case (greatest_run log) log tx (commit_parts log tx) refl a (last _ _ m)
 follow_fits shard log (Restart run epoch) a m = tt
 follow_fits shard log (Add tx key by) a m = in_last_fits log tx (front _ _ (front _ _ (front _ _ (front _ _ (front _ _ (front _ _ m))))))
-follow_fits shard log (Unadd tx next key by) a m = record_fits (greatest_run log) tx (is_abort_of tx) (own_abort tx) log a (last _ _ (front _ _ m))
+follow_fits shard log (Unadd tx next key by) a m =
+    compensated_fits (greatest_run log) tx next key (λ w. unadds w by (standing log) w.change) (standing log) (newest_of tx (standing log)) refl (writes_fit (greatest_run log) 0 log [] a tt) (last _ _ m)
 
 pub runs_step : (shard : ℕ) (log : List LogRecord) (r : LogRecord) → AllByRecursion (RunFits (greatest_run log)) log → may_follow shard log r ≡ true → AllByRecursion (RunFits (greatest_run (log ++ r ∷ []))) (log ++ r ∷ [])
 runs_step shard log r a m =

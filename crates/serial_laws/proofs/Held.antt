@@ -1,0 +1,4 @@
+-- Operations that hold.
+pub mod OperationsAtPlaces
+pub mod OperationsPassOthers
+pub mod TrailsAreHeldMaps

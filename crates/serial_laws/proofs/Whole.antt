@@ -1,0 +1,2 @@
+-- Transactions over many shards that go whole.
+pub mod GoingsBackAreMerged
