@@ -1,2 +1,4 @@
+pub mod Acting
+pub mod Folding
 pub mod Merging
 pub mod Trees

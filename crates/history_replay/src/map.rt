@@ -79,6 +79,12 @@ fn pairs_of(alloc: Global, pairs: &BTreeMap<u64, Value>) -> Result<Vec<(u64, Val
     pairs.iter().map(copied).collect(alloc)
 }
 
+fn copy_of(pairs: &BTreeMap<u64, Value>) -> Result<BTreeMap<u64, Value>, AllocError>
+    ensures { IfOk result (λ copy. copy.entries ≡ pairs.now.entries) }
+{
+    pairs.clone()
+}
+
 /// A map from keys to values.
 #[derive(Drop)]
 pub struct KeyMap {
@@ -101,6 +107,15 @@ impl KeyMap {
         KeyMap {
             pairs: BTreeMap::new(alloc),
         }
+    }
+
+    /// The same map once more.
+    pub fn copy(&self) -> Result<KeyMap, AllocError>
+        ensures { IfOk result (λ copy. copy ≡ self.now) }
+    {
+        Ok(KeyMap {
+            pairs: copy_of(&self.pairs)?,
+        })
     }
 
     /// The value at a key.

@@ -1,14 +1,16 @@
 // What logs stand for.
 
-ghost use Rattle.std.specs.Prelude.{◌≡◌, ◌||◌, map, [], ◌∷◌, IfOk, OnOk};
+ghost use Rattle.std.specs.Prelude.{◌≡◌, ◌||◌, map, IfOk, OnOk};
 ghost use Rattle.clv_base.specs.declared.names.TxId.{TxId as Tx};
-ghost use Rattle.clv_base.specs.Logs.{committed_in, committed_somewhere, fold_updates, stands_from, stands as stands_for};
+ghost use Rattle.clv_base.specs.Logs.{committed_in, committed_somewhere, fold_updates, standing, stands_from, stands as stands_for};
+ghost use Rattle.history_replay.specs.Folds.{with_record};
 ghost use Rattle.history_replay.specs.Transactions.{has_member};
 
 use crate::transactions::TxSet;
 use crate::{KeyMap, Memory};
 use clv_base::logs::LogRecord;
 use clv_base::values::copy_of;
+use log_analysis::standing_lsns;
 use std::alloc::Global;
 
 // The transactions with a COMMIT in this log join the set.
@@ -36,7 +38,7 @@ fn committed(alloc: Global, logs: &[Vec<LogRecord>]) -> Result<TxSet, Memory>
 
 // A record that is an UPDATE or ADD of a transaction of the set is done.
 fn fold_one(pairs: &mut KeyMap, set: &TxSet, record: &LogRecord) -> Result<(), Memory>
-    ensures { OnOk result (pairs.new ≡ fold_updates (has_member set.now) (record.now ∷ []) pairs.old) }
+    ensures { OnOk result (pairs.new ≡ with_record (has_member set.now) record.now pairs.old) }
 {
     match record {
         LogRecord::Update { tx, key, after, .. } => {
@@ -54,33 +56,47 @@ fn fold_one(pairs: &mut KeyMap, set: &TxSet, record: &LogRecord) -> Result<(), M
     Ok(())
 }
 
-// Each UPDATE and ADD of a transaction of the set is done, in the log's order.
-fn fold(pairs: &mut KeyMap, set: &TxSet, log: &[LogRecord]) -> Result<(), Memory>
+// The records at these LSNs, those that stand, are done, the last LSN first.
+fn fold_lsns(pairs: &mut KeyMap, set: &TxSet, log: &[LogRecord], lsns: &[u64]) -> Result<(), Memory>
+    requires { lsns.now ≡ map (λ w. w.lsn) (standing log.now) }
     ensures { OnOk result (pairs.new ≡ fold_updates (has_member set.now) log.now pairs.old) }
 {
-    for record in log {
-        fold_one(pairs, set, record)?;
+    for place in (0..lsns.len()).rev() {
+        fold_one(pairs, set, &log[lsns[place] as usize])?;
     }
     Ok(())
 }
 
-fn fold_all(pairs: &mut KeyMap, set: &TxSet, logs: &[Vec<LogRecord>]) -> Result<(), Memory>
+// Each UPDATE and ADD that stands and is of a transaction of the set is done, in the log's order.
+fn fold(alloc: Global, pairs: &mut KeyMap, set: &TxSet, log: &[LogRecord]) -> Result<(), Memory>
+    ensures { OnOk result (pairs.new ≡ fold_updates (has_member set.now) log.now pairs.old) }
+{
+    let lsns = standing_lsns(alloc, log)?;
+    fold_lsns(pairs, set, log, &lsns)
+}
+
+fn fold_all(
+    alloc: Global,
+    pairs: &mut KeyMap,
+    set: &TxSet,
+    logs: &[Vec<LogRecord>],
+) -> Result<(), Memory>
     ensures { OnOk result (pairs.new ≡ stands_from (has_member set.now) (map (λ l. l.items) logs.now) pairs.old) }
 {
     for log in logs {
-        fold(pairs, set, log)?;
+        fold(alloc, pairs, set, log)?;
     }
     Ok(())
 }
 
-/// The map that a set of logs stands for: from the empty map, log by log and in order of LSN, each UPDATE of a transaction that has a
-/// COMMIT in some of the logs sets its key to the value after, and each ADD of one adds to the number at its key. Each record takes time
+/// The map that a set of logs stands for: from the empty map, log by log and in order of LSN, each UPDATE that stands and is of a transaction that
+/// has a COMMIT in some of the logs sets its key to the value after, and each such ADD adds to the number at its key. Each record takes time
 /// logarithmic in the records.
 pub fn stands(alloc: Global, logs: &[Vec<LogRecord>]) -> Result<KeyMap, Memory>
     ensures { IfOk result (λ pairs. pairs ≡ stands_for (map (λ l. l.items) logs.now)) }
 {
     let set = committed(alloc, logs)?;
     let mut pairs = KeyMap::new(alloc);
-    fold_all(&mut pairs, &set, logs)?;
+    fold_all(alloc, &mut pairs, &set, logs)?;
     Ok(pairs)
 }

@@ -3,6 +3,7 @@ pub mod Bools
 pub mod Growing
 pub mod Names
 pub mod Places
+pub mod Standing
 pub mod Whole
 pub mod Pushes
 pub mod Tables

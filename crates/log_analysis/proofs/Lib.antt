@@ -1,4 +1,5 @@
-pub mod Counting
+pub mod Writing
+pub mod Passing
 pub mod Doubted
 pub mod Ended
 pub mod Restarting

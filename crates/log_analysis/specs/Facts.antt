@@ -1,40 +1,35 @@
 -- What a log says of a transaction.
-use Rattle.std.specs.Prelude.{◌≡◌, ℕ, suc, Bool, true, false, cond, List, [], ◌∷◌, Option, Some, None, unwrap_or}
-use Rattle.std.specs.List.{list_any}
+use Rattle.std.specs.Prelude.{◌≡◌, ℕ, ◌+◌, ◌-◌, true, false, List, [], ◌∷◌, length, Option, Some, None, unwrap_or}
+use Rattle.std.specs.List.{filter}
 use Rattle.clv_base.specs.declared.names.TxId.{TxId}
 use Rattle.clv_base.specs.declared.logs.LogRecord.{LogRecord}
 use Rattle.clv_base.specs.declared.logs.LogRecord.TheVariants.{Update, Clr, Prepare, Commit, Abort, End, Restart, Add, Unadd}
-use Rattle.clv_base.specs.Logs.{is_update_of, is_record_of, place_from, prepare_lsn, commit_lsn, aborted_in, ended_in}
-use Rattle.clv_base.specs.Orders.{Table, tx_get}
+use Rattle.clv_base.specs.Logs.{is_update_of, place_from, standing, prepare_lsn, commit_lsn, aborted_in, ended_in}
+use Rattle.clv_base.specs.Orders.{Table, tx_same, tx_get}
 pub use Rattle.log_analysis.specs.declared.facts.TxFacts.{TxFacts}
 
--- the place of the last record that passes, counted from n; so far there was one, or none
-abbrev pub last_place_from : ℕ → (LogRecord → Bool) → List LogRecord → Option ℕ → Option ℕ
-last_place_from n test [] so_far = so_far
-last_place_from n test (r ∷ rs) so_far = last_place_from (suc n) test rs (cond (test r) (Some n) so_far)
-
--- the LSNs of the transaction's first and last UPDATE or ADD
+-- the LSN of the transaction's first UPDATE or ADD
 abbrev pub first_update_lsn : List LogRecord → TxId → Option ℕ
 first_update_lsn log tx = place_from 0 (is_update_of tx) log
 
-abbrev pub last_update_lsn : List LogRecord → TxId → Option ℕ
-last_update_lsn log tx = last_place_from 0 (is_update_of tx) log None
+-- how many of its UPDATEs and ADDs stand
+abbrev pub standing_count : List LogRecord → TxId → ℕ
+standing_count log tx = length (filter (λ w. tx_same tx w.tx) (standing log))
 
 -- all that a log says of a transaction
 abbrev pub facts_of : List LogRecord → TxId → TxFacts
 facts_of log tx =
     record {
       first_update = first_update_lsn log tx;
-      last_update = last_update_lsn log tx;
+      standing = standing_count log tx;
       prepare = prepare_lsn log tx;
       commit = commit_lsn log tx;
       is_aborted = aborted_in log tx;
       is_ended = ended_in log tx;
-      is_named = list_any (is_record_of tx) log;
     }
 
 abbrev pub nothing_known : TxFacts
-nothing_known = record { first_update = None; last_update = None; prepare = None; commit = None; is_aborted = false; is_ended = false; is_named = false }
+nothing_known = record { first_update = None; standing = 0; prepare = None; commit = None; is_aborted = false; is_ended = false }
 
 -- what a table of such facts has for a transaction
 abbrev pub known : Table TxFacts → TxId → TxFacts
@@ -60,14 +55,17 @@ KnowAll (m ∷ ms) (log ∷ logs) = Knows m log × KnowAll ms logs
 abbrev pub first_place : ℕ → Option ℕ → Option ℕ
 first_place n so_far = Some (unwrap_or so_far n)
 
--- with one more record of the transaction, at n
+-- with one more UPDATE or ADD of the transaction, at n, and with any record of it
+abbrev pub facts_with_write : ℕ → TxFacts → TxFacts
+facts_with_write n f = record f { first_update = first_place n f.first_update; standing = f.standing + 1 }
+
 abbrev pub facts_with : ℕ → LogRecord → TxFacts → TxFacts
-facts_with n (Update tx key before after) f = record f { first_update = first_place n f.first_update; last_update = Some n; is_named = true }
-facts_with n (Clr tx undo_next key after) f = record f { is_named = true }
-facts_with n (Prepare tx home predecessors) f = record f { prepare = first_place n f.prepare; is_named = true }
-facts_with n (Commit tx parts) f = record f { commit = first_place n f.commit; is_named = true }
-facts_with n (Abort tx) f = record f { is_aborted = true; is_named = true }
-facts_with n (End tx) f = record f { is_ended = true; is_named = true }
-facts_with n (Restart run epoch) f = record f { is_named = true }
-facts_with n (Add tx key by) f = record f { first_update = first_place n f.first_update; last_update = Some n; is_named = true }
-facts_with n (Unadd tx undo_next key by) f = record f { is_named = true }
+facts_with n (Update tx key before after) f = facts_with_write n f
+facts_with n (Clr tx undo_next key after) f = record f { standing = f.standing - 1 }
+facts_with n (Prepare tx home predecessors) f = record f { prepare = first_place n f.prepare }
+facts_with n (Commit tx parts) f = record f { commit = first_place n f.commit }
+facts_with n (Abort tx) f = record f { is_aborted = true }
+facts_with n (End tx) f = record f { is_ended = true }
+facts_with n (Restart run epoch) f = f
+facts_with n (Add tx key by) f = facts_with_write n f
+facts_with n (Unadd tx undo_next key by) f = record f { standing = f.standing - 1 }

@@ -1,35 +1,30 @@
--- How many UPDATEs and ADDs of a transaction stand, and who has some.
-use Rattle.std.specs.Prelude.{ℕ, ◌+◌, ◌-◌, nat_lt, List, [], ◌∷◌, unwrap_or, if◌then◌else◌}
+-- Which UPDATEs and ADDs of a log stand, found from its end: how many of each transaction's next ones are compensated by records that were passed.
+use Rattle.std.specs.Prelude.{◌≡◌, ℕ, ◌+◌, ◌-◌, nat_lt, List, [], ◌∷◌, ◌++◌, map, unwrap_or, cond, if◌then◌else◌}
 use Rattle.clv_base.specs.declared.names.TxId.{TxId}
 use Rattle.clv_base.specs.declared.logs.LogRecord.{LogRecord}
-use Rattle.clv_base.specs.declared.logs.LogRecord.TheVariants.{Update, Clr, Add, Unadd}
-use Rattle.clv_base.specs.Orders.{tx_same, tx_get, tx_insert}
-use Rattle.clv_base.specs.Logs.{StandingUpdate}
-pub use Rattle.log_analysis.specs.declared.standing.Counts.{Counts}
-
--- how many of the writes are the transaction's
-abbrev pub number_of : TxId → List StandingUpdate → ℕ
-number_of t [] = 0
-number_of t (w ∷ ws) = if tx_same t w.tx then number_of t ws + 1 else number_of t ws
+use Rattle.clv_base.specs.Orders.{tx_same, tx_get}
+use Rattle.clv_base.specs.Logs.{StandingUpdate, standing_after}
+pub use Rattle.log_analysis.specs.declared.standing.Passed.{Passed}
 
 -- what a table has for a transaction
-abbrev pub count_in : Counts → TxId → ℕ
-count_in c t = unwrap_or (tx_get t c.rows.rows) 0
+abbrev pub owed_in : Passed → TxId → ℕ
+owed_in p t = unwrap_or (tx_get t p.rows.rows) 0
 
--- the numbers after one more record
-abbrev pub count_after : LogRecord → (TxId → ℕ) → TxId → ℕ
-count_after (Update tx key before after) count t = if tx_same tx t then count tx + 1 else count t
-count_after (Clr tx undo_next key after) count t = if tx_same tx t then count tx - 1 else count t
-count_after (Add tx key by) count t = if tx_same tx t then count tx + 1 else count t
-count_after (Unadd tx undo_next key by) count t = if tx_same tx t then count tx - 1 else count t
-count_after _ count t = count t
+-- with one more of a transaction, and with one fewer
+abbrev pub one_more : TxId → (TxId → ℕ) → TxId → ℕ
+one_more tx owed t = if tx_same tx t then owed tx + 1 else owed t
 
--- the writers with a number above 0 join the list
-abbrev pub with_writer : (TxId → ℕ) → LogRecord → List TxId → List TxId
-with_writer count (Update tx key before after) txs = if nat_lt 0 (count tx) then tx_insert tx txs else txs
-with_writer count (Add tx key by) txs = if nat_lt 0 (count tx) then tx_insert tx txs else txs
-with_writer count _ txs = txs
+abbrev pub one_fewer : TxId → (TxId → ℕ) → TxId → ℕ
+one_fewer tx owed t = if tx_same tx t then owed tx - 1 else owed t
 
-abbrev pub writers_by : (TxId → ℕ) → List LogRecord → List TxId → List TxId
-writers_by count [] txs = txs
-writers_by count (r ∷ rs) txs = writers_by count rs (with_writer count r txs)
+-- what is left of writes, given newest first, without so many newest ones of each transaction
+abbrev pub left_of : (TxId → ℕ) → List StandingUpdate → List StandingUpdate
+left_of owed [] = []
+left_of owed (w ∷ ws) = cond (nat_lt 0 (owed w.tx)) (left_of (one_fewer w.tx owed) ws) (w ∷ left_of owed ws)
+
+abbrev pub lsns_left : (TxId → ℕ) → List StandingUpdate → List ℕ
+lsns_left owed ws = map (λ w. w.lsn) (left_of owed ws)
+
+-- a record at n was passed: of any writes before it, those that are left then are those that were left after it
+abbrev pub Passes : (TxId → ℕ) → List ℕ → ℕ → LogRecord → (TxId → ℕ) → List ℕ → Type 0
+Passes owed lsns n r owed' lsns' = (ws : List StandingUpdate) → lsns' ++ lsns_left owed' ws ≡ lsns ++ lsns_left owed (standing_after n r ws)

@@ -8,8 +8,8 @@ ghost use Rattle.log_analysis.specs.Facts.{Knows};
 ghost use Rattle.log_analysis.specs.Doubt.{settles};
 
 use crate::doubt::{doubted, is_committed, pairs_of, with_homes};
-use crate::standing::writers;
 use crate::unended::unended;
+use crate::writers::writers;
 use crate::{LogFacts, Memory, TxSet};
 use clv_base::logs::LogRecord;
 use clv_base::names::TxId;
@@ -59,7 +59,7 @@ fn losers(
     requires in_doubt { in_doubt.now ≡ in_doubt_in shard records.now }
     ensures { IfOk result (λ losers. losers.items ≡ losers_in shard records.now) }
 {
-    let writers = writers(alloc, records)?.to_vec(alloc)?;
+    let writers = writers(alloc, facts, records)?.to_vec(alloc)?;
     without_winners(alloc, facts, in_doubt, writers.as_slice())
 }
 

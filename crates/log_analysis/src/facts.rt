@@ -1,23 +1,23 @@
 // What a log says of one transaction.
 
-ghost use Rattle.std.specs.Prelude.{◌≡◌};
+ghost use Rattle.std.specs.Prelude.{◌≡◌, IfOk};
 ghost use Rattle.clv_base.specs.Logs.{own_tx};
-ghost use Rattle.log_analysis.specs.Facts.{first_place, nothing_known, facts_with};
+ghost use Rattle.log_analysis.specs.Facts.{first_place, nothing_known, facts_with_write, facts_with};
 
 use clv_base::logs::LogRecord;
 use clv_base::names::TxId;
+use std::alloc::AllocError;
 
-/// What a log says of one transaction: the LSNs of its first and last UPDATE or ADD, of its first PREPARE and its first COMMIT;
-/// whether it has an ABORT, an END, and any record of its own.
+/// What a log says of one transaction: the LSNs of its first UPDATE or ADD, its first PREPARE and its first COMMIT; how many of its
+/// UPDATEs and ADDs stand; whether it has an ABORT and an END.
 #[derive(Clone, Copy)]
 pub struct TxFacts {
     pub first_update: Option<usize>,
-    pub last_update: Option<usize>,
+    pub standing: usize,
     pub prepare: Option<usize>,
     pub commit: Option<usize>,
     pub is_aborted: bool,
     pub is_ended: bool,
-    pub is_named: bool,
 }
 
 // The LSN so far, or this one where there is none.
@@ -51,32 +51,41 @@ impl TxFacts {
     {
         TxFacts {
             first_update: None,
-            last_update: None,
+            standing: 0,
             prepare: None,
             commit: None,
             is_aborted: false,
             is_ended: false,
-            is_named: false,
         }
     }
 
+    // With one more UPDATE or ADD.
+    fn with_write(self, lsn: usize) -> Result<Self, AllocError>
+        ensures { IfOk result (λ f. f ≡ facts_with_write lsn self) }
+    {
+        Ok(TxFacts {
+            first_update: first_of(lsn, self.first_update),
+            standing: self.standing.checked_add(1).ok_or(AllocError)?,
+            ..self
+        })
+    }
+
     // With one more record of the transaction, at this LSN.
-    pub(crate) fn with(self, lsn: usize, r: &LogRecord) -> Self
-        ensures { result ≡ facts_with lsn r.now self }
+    pub(crate) fn with(self, lsn: usize, r: &LogRecord) -> Result<Self, AllocError>
+        ensures { IfOk result (λ f. f ≡ facts_with lsn r.now self) }
     {
         let mut facts = self;
-        facts.is_named = true;
         match r {
-            LogRecord::Update { .. } | LogRecord::Add { .. } => {
-                facts.first_update = first_of(lsn, self.first_update);
-                facts.last_update = Some(lsn);
+            LogRecord::Update { .. } | LogRecord::Add { .. } => return self.with_write(lsn),
+            LogRecord::Clr { .. } | LogRecord::Unadd { .. } => {
+                facts.standing = self.standing.saturating_sub(1);
             }
             LogRecord::Prepare { .. } => facts.prepare = first_of(lsn, self.prepare),
             LogRecord::Commit { .. } => facts.commit = first_of(lsn, self.commit),
             LogRecord::Abort { .. } => facts.is_aborted = true,
             LogRecord::End { .. } => facts.is_ended = true,
-            LogRecord::Clr { .. } | LogRecord::Unadd { .. } | LogRecord::Restart { .. } => {}
+            LogRecord::Restart { .. } => {}
         }
-        facts
+        Ok(facts)
     }
 }

@@ -114,7 +114,7 @@ impl LogFacts {
         match owner(r) {
             None => Ok(()),
             Some(tx) => {
-                let facts = self.get(tx).with(lsn, r);
+                let facts = self.get(tx).with(lsn, r)?;
                 self.hold(tx, facts)
             }
         }

@@ -1,7 +1,6 @@
 -- A chain with one more record.
-use Rattle.std.proofs.Common.{◌≡◌, ℕ, zero, suc, ◌+◌, ◌<◌, ◌≤◌, Bool, true, false, cond, ◌||◌, List, [], ◌∷◌, ◌++◌, length, get_or, Option, Some, None, is_some, refl, sym, ap, subst, ◌∙◌, length-append, arith}
+use Rattle.std.proofs.Common.{◌≡◌, ℕ, zero, suc, ◌+◌, ◌-◌, ◌<◌, ◌≤◌, Bool, true, false, cond, List, [], ◌∷◌, ◌++◌, length, get_or, Option, Some, None, refl, sym, ap, subst, ◌∙◌, length-append, arith}
 use Rattle.std.proofs.lemmas.Bool.{both_ways}
-use Rattle.std.specs.List.{list_any}
 use Rattle.clv_base.specs.declared.names.TxId.{TxId}
 use Rattle.clv_base.specs.Orders.{tx_same, tx_get}
 use Rattle.clv_base.proofs.SameNames.{tx_true}
@@ -9,13 +8,17 @@ use Rattle.log_buffer.specs.declared.measured.Link.{Link}
 use Rattle.log_buffer.specs.declared.measured.Link.TheVariants.{Writes, Undoes, Neither}
 use Rattle.log_buffer.specs.declared.chain.Chain.{Chain}
 use Rattle.log_buffer.specs.declared.chain.Written.{Written}
-use Rattle.log_buffer.specs.Links.{is_write_of}
-use Rattle.log_buffer.specs.Chains.{first, others, places_after, places, write_count}
-use Rattle.log_buffer.specs.Chained.{IsChainOf, Linked, written_in, newest_by, count_by}
-use Rattle.log_buffer.proofs.Places.{places-snoc, any-snoc, count-snoc, none_written, none_counted}
+use Rattle.log_buffer.specs.Links.{undoes_of}
+use Rattle.log_buffer.specs.Chains.{first, others, places_after, places, last_undo}
+use Rattle.log_buffer.specs.Chained.{IsChainOf, Linked, written_in, known_by, with_write, with_undo}
+use Rattle.log_buffer.proofs.Places.{places-snoc, last_undo-snoc, places_few}
 use Rattle.law_base.proofs.Sets.{same_flip as tx_symmetric}
-use Rattle.law_base.proofs.Lists.{filter-few}
-use Rattle.law_base.proofs.Bools.{or_none}
+
+-- a write of the transaction
+abbrev pub writes_of : TxId → Link → Bool
+writes_of t (Writes u) = tx_same t u
+writes_of t (Undoes u) = false
+writes_of t Neither = false
 
 get_left : (xs : List (Option ℕ)) (y : Option ℕ) (k : ℕ) → k < length xs → get_or (xs ++ y ∷ []) k None ≡ get_or xs k None
 get_left [] y k l = absurd (omega arith)
@@ -43,7 +46,7 @@ pub second_told : (below : List (Option ℕ)) (ps : List ℕ) (p : ℕ) → Link
 second_told below [] p h e = absurd cc
 second_told below (q ∷ ps) p h e = let s : q ≡ p = cc in (subst (λ k. k < length below) s h.0, subst (λ k. get_or below k None ≡ first ps) s h.1)
 
-linked_after : (below : List (Option ℕ)) (b : Option ℕ) (t : TxId) (l : Link) (ps : List ℕ) → Linked below ps → (is_write_of t l ≡ true → b ≡ first ps) → Linked (below ++ b ∷ []) (places_after t (length below) l ps)
+linked_after : (below : List (Option ℕ)) (b : Option ℕ) (t : TxId) (l : Link) (ps : List ℕ) → Linked below ps → (writes_of t l ≡ true → b ≡ first ps) → Linked (below ++ b ∷ []) (places_after t (length below) l ps)
 linked_after below b t (Writes u) ps h e = at (tx_same t u) e
   where
     at : (s : Bool) → (s ≡ true → b ≡ first ps) → Linked (below ++ b ∷ []) (cond s (length below ∷ ps) ps)
@@ -56,9 +59,9 @@ linked_after below b t (Undoes u) ps h e = at (tx_same t u)
     at false = Linked-more below b ps h
 linked_after below b t Neither ps h e = Linked-more below b ps h
 
--- a record is pushed: its place tells the write below it, and what each has written is told
-pub pushed : (c d : Chain) (links : List Link) (l : Link) (b : Option ℕ) → IsChainOf c links → d.below.items ≡ c.below.items ++ b ∷ []
-    → ((t : TxId) → tx_get t d.written.rows ≡ written_in t (links ++ l ∷ [])) → ((t : TxId) → is_write_of t l ≡ true → b ≡ first (places t links)) → IsChainOf d (links ++ l ∷ [])
+-- a record is pushed: its place tells the write below it, and what is known of each is told
+pushed : (c d : Chain) (links : List Link) (l : Link) (b : Option ℕ) → IsChainOf c links → d.below.items ≡ c.below.items ++ b ∷ []
+    → ((t : TxId) → known_by (tx_get t d.written.rows) ≡ written_in t (links ++ l ∷ [])) → ((t : TxId) → writes_of t l ≡ true → b ≡ first (places t links)) → IsChainOf d (links ++ l ∷ [])
 pushed c d links l b h e written told = record {
   count = ap length e ∙ (length-append c.below.items (b ∷ []) ∙ (ap (λ n. n + 1) h.count ∙ sym (length-append links (l ∷ []))));
   written = written;
@@ -66,118 +69,77 @@ pushed c d links l b h e written told = record {
       (subst (λ n. Linked (c.below.items ++ b ∷ []) (places_after t n l (places t links))) h.count (linked_after c.below.items b t l (places t links) (h.below t) (told t))));
 }
 
-abbrev pub row_of : Option ℕ → ℕ → Written
-row_of newest count = record { newest = newest; count = count }
+-- ---- what is known of a transaction's writes, with one more record
 
-abbrev told_row : Bool → List ℕ → ℕ → Option Written
-told_row any ps n = cond any (Some (row_of (first ps) n)) None
+abbrev told_of : List ℕ → Option ℕ → Written
+told_of ps last = record { newest = first ps; standing = length ps; undone = last }
 
 written_in-snoc : (t : TxId) (links : List Link) (l : Link)
-    → written_in t (links ++ l ∷ []) ≡ told_row (list_any (is_write_of t) links || is_write_of t l) (places_after t (length links) l (places t links)) (write_count t links + cond (is_write_of t l) 1 0)
+    → written_in t (links ++ l ∷ []) ≡ told_of (places_after t (length links) l (places t links)) (cond (undoes_of t l) (Some (length links)) (last_undo t links))
 written_in-snoc t links l =
-    ap (λ b. told_row b (places t (links ++ l ∷ [])) (write_count t (links ++ l ∷ []))) (any-snoc (is_write_of t) links l)
-    ∙ (ap (λ ps. told_row (list_any (is_write_of t) links || is_write_of t l) ps (write_count t (links ++ l ∷ []))) (places-snoc t links l)
-    ∙ ap (told_row (list_any (is_write_of t) links || is_write_of t l) (places_after t (length links) l (places t links))) (count-snoc (is_write_of t) links l))
+    ap (λ ps. told_of ps (last_undo t (links ++ l ∷ []))) (places-snoc t links l) ∙ ap (told_of (places_after t (length links) l (places t links))) (last_undo-snoc t links l)
 
-no_more : (n : ℕ) → n + 0 ≡ n
-no_more n = omega arith
+one_more : (n : ℕ) (ps : List ℕ) (last : Option ℕ) → told_of (n ∷ ps) last ≡ with_write n (told_of ps last)
+one_more n ps last = let e : suc (length ps) ≡ length ps + 1 = omega arith in ap (λ k. record { newest = Some n; standing = k; undone = last }) e
 
-row_same : (any : Bool) (ps : List ℕ) (n : ℕ) → told_row (any || false) ps (n + 0) ≡ told_row any ps n
-row_same any ps n = ap (λ b. told_row b ps (n + 0)) (or_none any) ∙ ap (told_row any ps) (no_more n)
+one_fewer : (n : ℕ) (ps : List ℕ) (last : Option ℕ) → told_of (others ps) (Some n) ≡ with_undo n (first (others ps)) (told_of ps last)
+one_fewer n [] last = refl
+one_fewer n (p ∷ ps) last = let e : length ps ≡ suc (length ps) - 1 = omega arith in ap (λ k. record { newest = first ps; standing = k; undone = Some n }) e
 
--- what is written after a write
-pub row_written : (u t : TxId) (links : List Link) → written_in t (links ++ Writes u ∷ []) ≡ cond (tx_same u t) (Some (row_of (Some (length links)) (write_count u links + 1))) (written_in t links)
-row_written u t links =
-    written_in-snoc t links (Writes u)
-    ∙ (at (list_any (is_write_of t) links) (tx_same t u) (tx_true t u) ∙ ap (λ b. cond b (Some (row_of (Some (length links)) (write_count u links + 1))) (written_in t links)) (tx_symmetric t u))
+-- after a write
+row_written : (u t : TxId) (links : List Link) → written_in t (links ++ Writes u ∷ []) ≡ cond (tx_same u t) (with_write (length links) (written_in u links)) (written_in t links)
+row_written u t links = written_in-snoc t links (Writes u) ∙ (at (tx_same t u) (tx_true t u) ∙ ap (λ b. cond b (with_write (length links) (written_in u links)) (written_in t links)) (tx_symmetric t u))
   where
-    at : (any s : Bool) → (s ≡ true → t ≡ u) → told_row (any || s) (cond s (length links ∷ places t links) (places t links)) (write_count t links + cond s 1 0)
-        ≡ cond s (Some (row_of (Some (length links)) (write_count u links + 1))) (told_row any (places t links) (write_count t links))
-    at true true same = ap (λ x. Some (row_of (Some (length links)) (write_count x links + 1))) (same refl)
-    at false true same = ap (λ x. Some (row_of (Some (length links)) (write_count x links + 1))) (same refl)
-    at any false same = row_same any (places t links) (write_count t links)
+    at : (s : Bool) → (s ≡ true → t ≡ u) → told_of (cond s (length links ∷ places t links) (places t links)) (last_undo t links) ≡ cond s (with_write (length links) (written_in u links)) (written_in t links)
+    at true same = one_more (length links) (places t links) (last_undo t links) ∙ ap (λ x. with_write (length links) (written_in x links)) (same refl)
+    at false same = refl
 
--- after a compensation, of a transaction that wrote
-pub row_undone : (u t : TxId) (links : List Link) → list_any (is_write_of u) links ≡ true
-    → written_in t (links ++ Undoes u ∷ []) ≡ cond (tx_same u t) (Some (row_of (first (others (places u links))) (write_count u links))) (written_in t links)
-row_undone u t links any = written_in-snoc t links (Undoes u) ∙ (at (tx_same t u) (tx_true t u) ∙ ap (λ b. cond b (Some (row_of (first (others (places u links))) (write_count u links))) (written_in t links)) (tx_symmetric t u))
+-- after a compensation
+row_undone : (u t : TxId) (links : List Link)
+    → written_in t (links ++ Undoes u ∷ []) ≡ cond (tx_same u t) (with_undo (length links) (first (others (places u links))) (written_in u links)) (written_in t links)
+row_undone u t links =
+    written_in-snoc t links (Undoes u)
+    ∙ (at (tx_same t u) (tx_true t u) ∙ ap (λ b. cond b (with_undo (length links) (first (others (places u links))) (written_in u links)) (written_in t links)) (tx_symmetric t u))
   where
-    at : (s : Bool) → (s ≡ true → t ≡ u) → told_row (list_any (is_write_of t) links || false) (cond s (others (places t links)) (places t links)) (write_count t links + 0)
-        ≡ cond s (Some (row_of (first (others (places u links))) (write_count u links))) (told_row (list_any (is_write_of t) links) (places t links) (write_count t links))
-    at true same =
-        ap (λ x. told_row (list_any (is_write_of x) links || false) (others (places x links)) (write_count x links + 0)) (same refl)
-        ∙ (row_same (list_any (is_write_of u) links) (others (places u links)) (write_count u links) ∙ ap (λ b. told_row b (others (places u links)) (write_count u links)) any)
-    at false same = row_same (list_any (is_write_of t) links) (places t links) (write_count t links)
+    at : (s : Bool) → (s ≡ true → t ≡ u) → told_of (cond s (others (places t links)) (places t links)) (cond s (Some (length links)) (last_undo t links))
+        ≡ cond s (with_undo (length links) (first (others (places u links))) (written_in u links)) (written_in t links)
+    at true same = one_fewer (length links) (places t links) (last_undo t links) ∙ ap (λ x. with_undo (length links) (first (others (places x links))) (written_in x links)) (same refl)
+    at false same = refl
 
--- of one that didn't
-pub row_kept : (u t : TxId) (links : List Link) → list_any (is_write_of u) links ≡ false → written_in t (links ++ Undoes u ∷ []) ≡ written_in t links
-row_kept u t links none = written_in-snoc t links (Undoes u) ∙ at (tx_same t u) (tx_true t u)
-  where
-    at : (s : Bool) → (s ≡ true → t ≡ u) → told_row (list_any (is_write_of t) links || false) (cond s (others (places t links)) (places t links)) (write_count t links + 0) ≡ written_in t links
-    at true same =
-        ap (λ x. told_row (list_any (is_write_of x) links || false) (others (places x links)) (write_count x links + 0)) (same refl)
-        ∙ (ap (λ b. told_row (b || false) (others (places u links)) (write_count u links + 0)) none ∙ (sym (ap (λ b. told_row b (places u links) (write_count u links)) none) ∙ ap (λ x. written_in x links) (sym (same refl))))
-    at false same = row_same (list_any (is_write_of t) links) (places t links) (write_count t links)
+row_other : (t : TxId) (links : List Link) → written_in t (links ++ Neither ∷ []) ≡ written_in t links
+row_other t links = written_in-snoc t links Neither
 
-pub row_other : (t : TxId) (links : List Link) → written_in t (links ++ Neither ∷ []) ≡ written_in t links
-row_other t links = written_in-snoc t links Neither ∙ row_same (list_any (is_write_of t) links) (places t links) (write_count t links)
+known_at : (s : Bool) (w : Written) (row : Option Written) → known_by (cond s (Some w) row) ≡ cond s w (known_by row)
+known_at true w row = refl
+known_at false w row = refl
 
--- ---- what a chain tells
-
-any_by : (any : Bool) (ps : List ℕ) (n : ℕ) → is_some (told_row any ps n) ≡ any
-any_by true ps n = refl
-any_by false ps n = refl
-
-newest_of_row : (any : Bool) (ps : List ℕ) (n : ℕ) → (any ≡ false → ps ≡ []) → newest_by (told_row any ps n) ≡ first ps
-newest_of_row true ps n e = refl
-newest_of_row false ps n e = ap first (sym (e refl))
-
-count_of_row : (any : Bool) (ps : List ℕ) (n : ℕ) → (any ≡ false → n ≡ 0) → count_by (told_row any ps n) ≡ n
-count_of_row true ps n e = refl
-count_of_row false ps n e = sym (e refl)
-
-pub any_told : (c : Chain) (links : List Link) (u : TxId) → IsChainOf c links → is_some (tx_get u c.written.rows) ≡ list_any (is_write_of u) links
-any_told c links u h = ap is_some (h.written u) ∙ any_by (list_any (is_write_of u) links) (places u links) (write_count u links)
-
--- the newest write of a transaction, and how many it has
-pub newest_told : (c : Chain) (links : List Link) (u : TxId) → IsChainOf c links → newest_by (tx_get u c.written.rows) ≡ first (places u links)
-newest_told c links u h = ap newest_by (h.written u) ∙ newest_of_row (list_any (is_write_of u) links) (places u links) (write_count u links) (none_written u links)
-
-pub count_told : (c : Chain) (links : List Link) (u : TxId) → IsChainOf c links → count_by (tx_get u c.written.rows) ≡ write_count u links
-count_told c links u h = ap count_by (h.written u) ∙ count_of_row (list_any (is_write_of u) links) (places u links) (write_count u links) (none_counted (is_write_of u) links)
-
--- it isn't more than the records
-pub count_few : (c : Chain) (links : List Link) (u : TxId) → IsChainOf c links → count_by (tx_get u c.written.rows) ≤ length c.below.items
-count_few c links u h = let a = count_told c links u h in let b = filter-few (is_write_of u) links in let d = h.count in omega (arith, a, b, d)
-
--- ---- the four cases
+-- ---- the three cases
 
 module _ (c d : Chain) (links : List Link) (b : Option ℕ) (h : IsChainOf c links) (e : d.below.items ≡ c.below.items ++ b ∷ []) where
-  pub pushed_write : (u : TxId) → ((t : TxId) → tx_get t d.written.rows ≡ cond (tx_same u t) (Some (row_of (Some (length c.below.items)) (count_by (tx_get u c.written.rows) + 1))) (tx_get t c.written.rows))
-      → b ≡ newest_by (tx_get u c.written.rows) → IsChainOf d (links ++ Writes u ∷ [])
-  pushed_write u written told = pushed c d links (Writes u) b h e
-      (λ t. written t
-      ∙ (ap (λ n. cond (tx_same u t) (Some (row_of (Some n) (count_by (tx_get u c.written.rows) + 1))) (tx_get t c.written.rows)) h.count
-      ∙ (ap (λ n. cond (tx_same u t) (Some (row_of (Some (length links)) (n + 1))) (tx_get t c.written.rows)) (count_told c links u h)
-      ∙ (ap (cond (tx_same u t) (Some (row_of (Some (length links)) (write_count u links + 1)))) (h.written t) ∙ sym (row_written u t links)))))
-      (λ t s. told ∙ (newest_told c links u h ∙ ap (λ x. first (places x links)) (sym (tx_true t u s))))
+  pub pushed_write : (u : TxId) (n : ℕ) → n ≡ length c.below.items → ((t : TxId) → tx_get t d.written.rows ≡ cond (tx_same u t) (Some (with_write n (written_in u links))) (tx_get t c.written.rows))
+      → b ≡ first (places u links) → IsChainOf d (links ++ Writes u ∷ [])
+  pushed_write u n at written told = pushed c d links (Writes u) b h e
+      (λ t. ap known_by (written t)
+      ∙ (known_at (tx_same u t) (with_write n (written_in u links)) (tx_get t c.written.rows)
+      ∙ (ap (cond (tx_same u t) (with_write n (written_in u links))) (h.written t)
+      ∙ (ap (λ k. cond (tx_same u t) (with_write k (written_in u links)) (written_in t links)) (at ∙ h.count) ∙ sym (row_written u t links)))))
+      (λ t s. told ∙ ap (λ x. first (places x links)) (sym (tx_true t u s)))
 
-  pub pushed_undo : (u : TxId) (w : Written) (second : Option ℕ) → tx_get u c.written.rows ≡ Some w
-      → ((t : TxId) → tx_get t d.written.rows ≡ cond (tx_same u t) (Some (row_of second w.count)) (tx_get t c.written.rows)) → second ≡ first (others (places u links)) → IsChainOf d (links ++ Undoes u ∷ [])
-  pushed_undo u w second some written told = pushed c d links (Undoes u) b h e
-      (λ t. written t
-      ∙ (ap (λ n. cond (tx_same u t) (Some (row_of n w.count)) (tx_get t c.written.rows)) told
-      ∙ (ap (λ n. cond (tx_same u t) (Some (row_of (first (others (places u links))) n)) (tx_get t c.written.rows)) (ap count_by (sym some) ∙ count_told c links u h)
-      ∙ (ap (cond (tx_same u t) (Some (row_of (first (others (places u links))) (write_count u links)))) (h.written t) ∙ sym (row_undone u t links (sym (any_told c links u h) ∙ ap is_some some))))))
-      (λ t s. absurd (both_ways false refl s))
-
-  pub pushed_undo_of_none : (u : TxId) → ((t : TxId) → tx_get t d.written.rows ≡ tx_get t c.written.rows) → tx_get u c.written.rows ≡ None → IsChainOf d (links ++ Undoes u ∷ [])
-  pushed_undo_of_none u written none = pushed c d links (Undoes u) b h e
-      (λ t. written t ∙ (h.written t ∙ sym (row_kept u t links (sym (any_told c links u h) ∙ ap is_some none))))
+  pub pushed_undo : (u : TxId) (n : ℕ) → n ≡ length c.below.items
+      → ((t : TxId) → tx_get t d.written.rows ≡ cond (tx_same u t) (Some (with_undo n (first (others (places u links))) (written_in u links))) (tx_get t c.written.rows)) → IsChainOf d (links ++ Undoes u ∷ [])
+  pushed_undo u n at written = pushed c d links (Undoes u) b h e
+      (λ t. ap known_by (written t)
+      ∙ (known_at (tx_same u t) (with_undo n (first (others (places u links))) (written_in u links)) (tx_get t c.written.rows)
+      ∙ (ap (cond (tx_same u t) (with_undo n (first (others (places u links))) (written_in u links))) (h.written t)
+      ∙ (ap (λ k. cond (tx_same u t) (with_undo k (first (others (places u links))) (written_in u links)) (written_in t links)) (at ∙ h.count) ∙ sym (row_undone u t links)))))
       (λ t s. absurd (both_ways false refl s))
 
   pub pushed_other : ((t : TxId) → tx_get t d.written.rows ≡ tx_get t c.written.rows) → IsChainOf d (links ++ Neither ∷ [])
-  pushed_other written = pushed c d links Neither b h e (λ t. written t ∙ (h.written t ∙ sym (row_other t links))) (λ t s. absurd (both_ways false refl s))
+  pushed_other written = pushed c d links Neither b h e (λ t. ap known_by (written t) ∙ (h.written t ∙ sym (row_other t links))) (λ t s. absurd (both_ways false refl s))
+
+-- no more writes stand than there are records
+pub standing_few : (c : Chain) (links : List Link) (u : TxId) (w : Written) → IsChainOf c links → w ≡ written_in u links → w.standing ≤ length c.below.items
+standing_few c links u w h e = let few = places_few u links in let told = ap (λ (x : Written). x.standing) e in let count = h.count in omega (arith, few, told, count)
 
 -- ---- the second newest write
 

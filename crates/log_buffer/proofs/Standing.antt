@@ -1,16 +1,16 @@
 -- A transaction's writes that stand are those of its chain.
-use Rattle.std.proofs.Common.{◌≡◌, ℕ, suc, Bool, true, false, cond, ◌||◌, List, [], ◌∷◌, map, length, Some, None, refl, sym, ap, ◌∙◌, arith}
+use Rattle.std.proofs.Common.{◌≡◌, ℕ, suc, Bool, true, false, cond, ◌||◌, List, [], ◌∷◌, map, length, Option, Some, None, is_some, refl, sym, ap, ◌∙◌}
 use Rattle.std.proofs.lemmas.Bool.{cond-true, both_ways}
 use Rattle.std.specs.List.{list_any, filter}
 use Rattle.clv_base.specs.declared.names.TxId.{TxId}
 use Rattle.clv_base.specs.declared.logs.LogRecord.{LogRecord}
 use Rattle.clv_base.specs.declared.logs.LogRecord.TheVariants.{Update, Clr, Prepare, Commit, Abort, End, Restart, Add, Unadd}
 use Rattle.clv_base.specs.Orders.{tx_same}
-use Rattle.clv_base.specs.Logs.{StandingUpdate, is_update_of, wrote_in, without_newest, standing_after, standing_from, standing, newest_of}
+use Rattle.clv_base.specs.Logs.{StandingUpdate, is_undo_of, last_place_from, undone_lsn, has_standing, without_newest, standing_after, standing_from, standing, newest_of}
 use Rattle.clv_base.specs.Undo.{newest_lsn}
 use Rattle.clv_base.proofs.SameNames.{tx_true, tx_self}
-use Rattle.log_buffer.specs.Links.{link_of, is_write_of}
-use Rattle.log_buffer.specs.Chains.{first, others, places_after, places_from, places, write_count}
+use Rattle.log_buffer.specs.Links.{link_of, undoes_of}
+use Rattle.log_buffer.specs.Chains.{first, others, places_after, places_from, places, last_undo_from, last_undo}
 
 -- the places of a transaction's writes among some
 lsns : TxId → List StandingUpdate → List ℕ
@@ -76,28 +76,49 @@ second_newest_told t log =
     newest_lsn-first t (without_newest t (standing log))
     ∙ ap first (lsns-without t t (standing log) ∙ cond-true (tx_same t t) (others (lsns t (standing log))) (lsns t (standing log)) (tx_self t) ∙ ap others (places-standing t log))
 
-write_of : (t : TxId) (r : LogRecord) → is_update_of t r ≡ is_write_of t (link_of r)
-write_of t (Update tx key before after) = refl
-write_of t (Clr tx undo_next key after) = refl
-write_of t (Prepare tx home predecessors) = refl
-write_of t (Commit tx parts) = refl
-write_of t (Abort tx) = refl
-write_of t (End tx) = refl
-write_of t (Restart run epoch) = refl
-write_of t (Add tx key by) = refl
-write_of t (Unadd tx undo_next key by) = refl
-
--- whether it wrote
-pub wrote_told : (t : TxId) (log : List LogRecord) → list_any (is_write_of t) (map link_of log) ≡ wrote_in log t
-wrote_told t [] = refl
-wrote_told t (r ∷ rs) = ap (λ b. is_write_of t (link_of r) || b) (wrote_told t rs) ∙ ap (λ b. b || wrote_in rs t) (sym (write_of t r))
-
--- how often it wrote
-pub count_told : (t : TxId) (log : List LogRecord) → write_count t (map link_of log) ≡ length (filter (is_update_of t) log)
-count_told t [] = refl
-count_told t (r ∷ rs) = more (is_write_of t (link_of r)) (count_told t rs) ∙ ap (λ b. length (cond b (r ∷ filter (is_update_of t) rs) (filter (is_update_of t) rs))) (sym (write_of t r))
+-- whether some write stands, and how many
+any_first : (t : TxId) (ws : List StandingUpdate) → is_some (first (lsns t ws)) ≡ list_any (λ w. tx_same t w.tx) ws
+unfolding lsns
+any_first t [] = refl
+any_first t (w ∷ ws) = at (tx_same t w.tx) (any_first t ws)
   where
-    more : (b : Bool) → write_count t (map link_of rs) ≡ length (filter (is_update_of t) rs)
-        → length (cond b (link_of r ∷ filter (is_write_of t) (map link_of rs)) (filter (is_write_of t) (map link_of rs))) ≡ length (cond b (r ∷ filter (is_update_of t) rs) (filter (is_update_of t) rs))
-    more true h = omega (arith, h)
-    more false h = h
+    at : (b : Bool) → is_some (first (lsns t ws)) ≡ list_any (λ v. tx_same t v.tx) ws → is_some (first (cond b (w.lsn ∷ lsns t ws) (lsns t ws))) ≡ (b || list_any (λ v. tx_same t v.tx) ws)
+    at true h = refl
+    at false h = h
+
+pub any_told : (t : TxId) (log : List LogRecord) → is_some (first (places t (map link_of log))) ≡ has_standing log t
+any_told t log = ap (λ ps. is_some (first ps)) (sym (places-standing t log)) ∙ any_first t (standing log)
+
+count_lsns : (t : TxId) (ws : List StandingUpdate) → length (lsns t ws) ≡ length (filter (λ w. tx_same t w.tx) ws)
+unfolding lsns
+count_lsns t [] = refl
+count_lsns t (w ∷ ws) = at (tx_same t w.tx) (count_lsns t ws)
+  where
+    at : (b : Bool) → length (lsns t ws) ≡ length (filter (λ v. tx_same t v.tx) ws)
+        → length (cond b (w.lsn ∷ lsns t ws) (lsns t ws)) ≡ length (cond b (w ∷ filter (λ v. tx_same t v.tx) ws) (filter (λ v. tx_same t v.tx) ws))
+    at true h = ap suc h
+    at false h = h
+
+pub count_told : (t : TxId) (log : List LogRecord) → length (places t (map link_of log)) ≡ length (filter (λ w. tx_same t w.tx) (standing log))
+count_told t log = ap length (sym (places-standing t log)) ∙ count_lsns t (standing log)
+
+-- ---- the last CLR or UNADD
+
+undo_of : (t : TxId) (r : LogRecord) → undoes_of t (link_of r) ≡ is_undo_of t r
+undo_of t (Update tx key before after) = refl
+undo_of t (Clr tx undo_next key after) = refl
+undo_of t (Prepare tx home predecessors) = refl
+undo_of t (Commit tx parts) = refl
+undo_of t (Abort tx) = refl
+undo_of t (End tx) = refl
+undo_of t (Restart run epoch) = refl
+undo_of t (Add tx key by) = refl
+undo_of t (Unadd tx undo_next key by) = refl
+
+undone_from : (t : TxId) (n : ℕ) (so_far : Option ℕ) (log : List LogRecord) → last_undo_from t n so_far (map link_of log) ≡ last_place_from n so_far (is_undo_of t) log
+undone_from t n so_far [] = refl
+undone_from t n so_far (r ∷ rs) =
+    undone_from t (suc n) (cond (undoes_of t (link_of r)) (Some n) so_far) rs ∙ ap (λ b. last_place_from (suc n) (cond b (Some n) so_far) (is_undo_of t) rs) (undo_of t r)
+
+pub undone_told : (t : TxId) (log : List LogRecord) → last_undo t (map link_of log) ≡ undone_lsn log t
+undone_told t log = undone_from t 0 None log

@@ -1,11 +1,10 @@
 -- The writes of a transaction that stand, as a stack of places.
-use Rattle.std.specs.Prelude.{ℕ, suc, cond, List, [], ◌∷◌, length, Option, Some, None}
-use Rattle.std.specs.List.{filter}
+use Rattle.std.specs.Prelude.{ℕ, suc, cond, List, [], ◌∷◌, Option, Some, None}
 use Rattle.clv_base.specs.declared.names.TxId.{TxId}
 use Rattle.clv_base.specs.Orders.{tx_same}
 use Rattle.log_buffer.specs.declared.measured.Link.{Link}
 use Rattle.log_buffer.specs.declared.measured.Link.TheVariants.{Writes, Undoes, Neither}
-use Rattle.log_buffer.specs.Links.{is_write_of}
+use Rattle.log_buffer.specs.Links.{undoes_of}
 
 abbrev pub first : List ℕ → Option ℕ
 first [] = None
@@ -29,6 +28,10 @@ places_from t n (l ∷ ls) ps = places_from t (suc n) ls (places_after t n l ps)
 abbrev pub places : TxId → List Link → List ℕ
 places t ls = places_from t 0 ls []
 
--- how many writes the transaction has, those that were compensated too
-abbrev pub write_count : TxId → List Link → ℕ
-write_count t ls = length (filter (is_write_of t) ls)
+-- the place of the last record that compensates a write of the transaction
+abbrev pub last_undo_from : TxId → ℕ → Option ℕ → List Link → Option ℕ
+last_undo_from t n so_far [] = so_far
+last_undo_from t n so_far (l ∷ ls) = last_undo_from t (suc n) (cond (undoes_of t l) (Some n) so_far) ls
+
+abbrev pub last_undo : TxId → List Link → Option ℕ
+last_undo t ls = last_undo_from t 0 None ls

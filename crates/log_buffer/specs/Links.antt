@@ -15,8 +15,8 @@ link_of (Add tx key by) = Writes tx
 link_of (Unadd tx undo_next key by) = Undoes tx
 link_of _ = Neither
 
--- a write of the transaction
-abbrev pub is_write_of : TxId → Link → Bool
-is_write_of t (Writes u) = tx_same t u
-is_write_of t (Undoes u) = false
-is_write_of t Neither = false
+-- it compensates a write of the transaction
+abbrev pub undoes_of : TxId → Link → Bool
+undoes_of t (Writes u) = false
+undoes_of t (Undoes u) = tx_same t u
+undoes_of t Neither = false

@@ -1,42 +1,63 @@
-//! Where the writes of each transaction stand: for a transaction its newest one and how many it has, and for each write the one before it.
+//! Where the writes of each transaction stand: for a transaction its newest one, how many it has and where it last took one back, and for each
+//! write the one before it.
 
 ghost use Rattle.std.specs.Prelude.{◌≡◌, None, slice_index_or};
-ghost use Rattle.log_buffer.specs.Chained.{count_by, newest_by};
+ghost use Rattle.log_buffer.specs.Chained.{known_by, with_write, with_undo};
 
 use crate::measured::Link;
 use clv_base::names::TxId;
 use std::alloc::{AllocError, Global};
 use tx_table::TxTable;
 
-/// The writes of a transaction that has one: the newest that stands, and how many it has, those that were compensated too.
+/// The writes of a transaction that stand: the newest, and how many they are; and the place of the last record that compensates one.
 #[derive(Clone, Copy)]
 pub(crate) struct Written {
     newest: Option<usize>,
-    count: usize,
+    standing: usize,
+    undone: Option<usize>,
 }
 
-/// For each record the write that it stands upon, and for each transaction with a write what it has written.
+/// For each record the write that it stands upon, and for each transaction that wrote what is known of its writes.
 #[derive(Drop)]
 pub(crate) struct Chain {
     below: Vec<Option<usize>>,
     written: TxTable<Written>,
 }
 
-fn newest_of(row: Option<Written>) -> Option<usize>
-    ensures { result ≡ newest_by row }
+fn known_of(row: Option<Written>) -> Written
+    ensures { result ≡ known_by row }
 {
-    match row {
-        None => None,
-        Some(written) => written.newest,
-    }
+    row.unwrap_or(Written {
+        newest: None,
+        standing: 0,
+        undone: None,
+    })
 }
 
-fn count_of(row: Option<Written>) -> usize
-    ensures { result ≡ count_by row }
-{
-    match row {
-        None => 0,
-        Some(written) => written.count,
+impl Written {
+    ghost use Rattle.std.specs.Prelude.{◌≡◌, ◌<◌, ◌+◌, ◌^◌};
+
+    /// With one more write, at this place.
+    fn with_write(self, at: usize) -> Written
+        requires { self.standing + 1 < 2 ^ 64 }
+        ensures { result ≡ with_write at self }
+    {
+        Written {
+            newest: Some(at),
+            standing: self.standing + 1,
+            undone: self.undone,
+        }
+    }
+
+    /// Without its newest write, which the record at this place compensates; that one is the newest now.
+    fn with_undo(self, at: usize, newest: Option<usize>) -> Written
+        ensures { result ≡ with_undo at newest self }
+    {
+        Written {
+            newest,
+            standing: self.standing.saturating_sub(1),
+            undone: Some(at),
+        }
     }
 }
 
@@ -51,13 +72,11 @@ fn entry_at(entries: &[Option<usize>], at: usize) -> Option<usize>
 }
 
 impl Chain {
-    ghost use Rattle.std.specs.Prelude.{◌≡◌, ◌≤◌, ◌<◌, ◌+◌, [], ◌∷◌, ◌++◌, IfOk, OnOk, List, vec_capacity};
-    ghost use Rattle.std.specs.List.{list_any};
+    ghost use Rattle.std.specs.Prelude.{◌≡◌, ◌≤◌, ◌<◌, ◌+◌, [], ◌∷◌, ◌++◌, length, IfOk, OnOk, List, vec_capacity};
     ghost use Rattle.clv_base.specs.declared.names.TxId.{TxId as Tx};
     ghost use Rattle.log_buffer.specs.declared.measured.Link.{Link as LinkTo};
-    ghost use Rattle.log_buffer.specs.Links.{is_write_of};
-    ghost use Rattle.log_buffer.specs.Chains.{first, others, places, write_count};
-    ghost use Rattle.log_buffer.specs.Chained.{IsChainOf, chain_room};
+    ghost use Rattle.log_buffer.specs.Chains.{first, others, places, last_undo};
+    ghost use Rattle.log_buffer.specs.Chained.{IsChainOf, chain_room, written_in};
 
     /// The chain of no records. Takes no memory.
     pub(crate) fn new(alloc: Global) -> Chain
@@ -90,25 +109,32 @@ impl Chain {
         self.written.reserve(count)
     }
 
-    /// Whether the transaction has a write.
-    pub(crate) fn wrote(&self, tx: TxId) -> bool
-        ensures { (links : List LinkTo) → IsChainOf self.now links → result ≡ list_any (is_write_of tx) links }
+    /// What is known of the transaction's writes.
+    fn known(&self, tx: TxId) -> Written
+        ensures { (links : List LinkTo) → IsChainOf self.now links → result ≡ written_in tx links }
     {
-        self.written.get(tx).is_some()
+        known_of(self.written.get(tx))
     }
 
-    /// How many writes the transaction has.
+    /// How many writes of the transaction stand.
     pub(crate) fn count(&self, tx: TxId) -> usize
-        ensures { (links : List LinkTo) → IsChainOf self.now links → result ≡ write_count tx links }
+        ensures { (links : List LinkTo) → IsChainOf self.now links → result ≡ length (places tx links) }
     {
-        count_of(self.written.get(tx))
+        self.known(tx).standing
+    }
+
+    /// The last record that compensates a write of the transaction.
+    pub(crate) fn undone(&self, tx: TxId) -> Option<usize>
+        ensures { (links : List LinkTo) → IsChainOf self.now links → result ≡ last_undo tx links }
+    {
+        self.known(tx).undone
     }
 
     /// The newest write of the transaction that stands.
     pub(crate) fn newest(&self, tx: TxId) -> Option<usize>
         ensures { (links : List LinkTo) → IsChainOf self.now links → result ≡ first (places tx links) }
     {
-        newest_of(self.written.get(tx))
+        self.known(tx).newest
     }
 
     /// The write of the transaction that stands below its newest one.
@@ -128,26 +154,17 @@ impl Chain {
         ensures chain { (links : List LinkTo) → IsChainOf self.old links → IsChainOf self.new (links ++ link ∷ []) }
         ensures room { chain_room self.old ≤ chain_room self.new + 1 }
     {
-        let lsn = self.below.len();
+        let at = self.below.len();
         let below = match link {
             Link::Writes(tx) => {
-                let row = self.written.get(tx);
-                let below = newest_of(row);
-                let count = count_of(row) + 1;
-                self.written.set(
-                    tx,
-                    Written {
-                        newest: Some(lsn),
-                        count,
-                    },
-                );
-                below
+                let known = self.known(tx);
+                self.written.set(tx, known.with_write(at));
+                known.newest
             }
             Link::Undoes(tx) => {
+                let known = self.known(tx);
                 let newest = self.second(tx);
-                if let Some(written) = self.written.get(tx) {
-                    self.written.set(tx, Written { newest, ..written });
-                }
+                self.written.set(tx, known.with_undo(at, newest));
                 None
             }
             Link::Neither => None,

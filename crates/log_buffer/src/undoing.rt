@@ -1,7 +1,8 @@
 //! The writes of a transaction in a log.
 ghost use Rattle.std.specs.Prelude.{◌≡◌, length};
 ghost use Rattle.std.specs.List.{filter};
-ghost use Rattle.clv_base.specs.Logs.{is_update_of, wrote_in, standing, without_newest};
+ghost use Rattle.clv_base.specs.Orders.{tx_same};
+ghost use Rattle.clv_base.specs.Logs.{has_standing, undone_lsn, standing, without_newest};
 ghost use Rattle.clv_base.specs.Undo.{newest_lsn};
 
 use crate::buffer::LogBuffer;
@@ -9,28 +10,35 @@ use clv_base::logs::LogRecord;
 use clv_base::names::TxId;
 
 impl LogBuffer<LogRecord> {
-    /// Whether the transaction has an UPDATE.
-    pub fn wrote(&self, tx: TxId) -> bool
-        ensures { result ≡ wrote_in self.now.records tx }
+    /// Whether a write of the transaction stands.
+    pub fn has_standing(&self, tx: TxId) -> bool
+        ensures { result ≡ has_standing self.now.records tx }
     {
-        self.chain.wrote(tx)
+        self.chain.newest(tx).is_some()
     }
 
-    /// How many UPDATEs of the transaction the log has, those that were compensated too.
-    pub fn updates(&self, tx: TxId) -> usize
-        ensures { result ≡ length (filter (is_update_of tx) self.now.records) }
+    /// How many writes of the transaction stand.
+    pub fn standing_writes(&self, tx: TxId) -> usize
+        ensures { result ≡ length (filter (λ w. tx_same tx w.tx) (standing self.now.records)) }
     {
         self.chain.count(tx)
     }
 
-    /// The LSN of the transaction's newest UPDATE that stands.
+    /// The LSN of the last CLR or UNADD of the transaction.
+    pub fn rolled(&self, tx: TxId) -> Option<u64>
+        ensures { result ≡ undone_lsn self.now.records tx }
+    {
+        lsn_of(self.chain.undone(tx))
+    }
+
+    /// The LSN of the transaction's newest write that stands.
     pub fn newest(&self, tx: TxId) -> Option<u64>
         ensures { result ≡ newest_lsn tx (standing self.now.records) }
     {
         lsn_of(self.chain.newest(tx))
     }
 
-    /// The LSN of its UPDATE that stands below that one.
+    /// The LSN of its write that stands below that one.
     pub fn second_newest(&self, tx: TxId) -> Option<u64>
         ensures { result ≡ newest_lsn tx (without_newest tx (standing self.now.records)) }
     {

@@ -176,7 +176,7 @@ module _ (shard : ℕ) (log : List LogRecord) (s : Sound log) where
 
   ready : NobodyBars → (t : TxId) (home : ℕ) (listed : List TxId) → Once t home listed → Ready t home listed
   ready nobody t home listed once pending unaborted =
-      let held = held_from nobody t (s.stands t (s.wrote t (prepared_once t (home, listed) once)) unaborted) pending in
+      let held = held_from nobody t (s.stands t (prepared_once t (home, listed) once) unaborted) pending in
       let a = and_first _ _ held in
       (sym (ap (is_elsewhere shard) once) ∙ and_first _ _ a, sym (ap (list_any (aborted_in log)) (listed_once t home listed once)) ∙ not_true _ (and_second _ _ held))
 

@@ -1,5 +1,5 @@
 -- What fits behind an index is what may follow its records.
-use Rattle.std.proofs.Common.{◌≡◌, ℕ, Bool, true, false, not, ◌&&◌, ◌||◌, ◌==◌, List, [], ◌∷◌, ◌++◌, length, take, Option, Some, None, is_some, unwrap_or, ⊎_elim, refl, sym, ap, subst, ◌∙◌, eqb-true, arith}
+use Rattle.std.proofs.Common.{◌≡◌, ℕ, Bool, true, false, not, ◌&&◌, ◌||◌, ◌==◌, nat_lt, List, [], ◌∷◌, ◌++◌, length, take, Option, Some, None, is_some, unwrap_or, ⊎_elim, refl, sym, ap, subst, ◌∙◌, eqb-true, arith}
 use Rattle.std.specs.List.{AllByRecursion, list_all}
 use Rattle.std.proofs.lemmas.Bool.{both_ways, or_cases}
 use Rattle.clv_base.specs.declared.values.Value.{Value as ValueType}
@@ -9,20 +9,21 @@ use Rattle.clv_base.specs.declared.changes.Change.TheVariants.{Sets, Adds}
 use Rattle.clv_base.specs.declared.logs.LogRecord.{LogRecord}
 use Rattle.clv_base.specs.declared.logs.LogRecord.TheVariants.{Update, Clr, Prepare, Commit, Abort, End, Restart, Add, Unadd}
 use Rattle.clv_base.specs.Orders.{tx_same, tx_in, nat_in}
-use Rattle.clv_base.specs.Logs.{StandingUpdate, is_setting, is_update_of, is_prepare_of, is_commit_of, wrote_in, committed_in, prepared_in, aborted_in, ended_in, prepare_of, commit_parts, standing, newest_of, without_newest, value_in}
+use Rattle.clv_base.specs.Logs.{StandingUpdate, is_setting, is_prepare_of, is_commit_of, wrote_in, has_standing, committed_in, prepared_in, aborted_in, ended_in, prepare_of, commit_parts, standing, newest_of, without_newest, value_in}
 use Rattle.clv_base.specs.Values.{same_optional_value}
 use Rattle.clv_base.specs.Maps.{is_number}
-use Rattle.clv_base.specs.LogRules.{same_option, some_parts, last_restart, above_restarts, before_restart, since_restart, in_last_run, may_cover, may_set, may_add, may_write as may_write_in, may_follow, writes_below, listed_in, commit_by_prepare, clears, unadds, compensates, next_to_undo}
+use Rattle.clv_base.specs.LogRules.{same_option, some_parts, last_restart, above_restarts, before_restart, in_last_run, has_new_standing, may_undo, may_cover, may_set, may_add, may_write as may_write_in, may_follow, writes_below, listed_in, commit_by_prepare, clears, unadds, compensates, next_to_undo}
 use Rattle.clv_base.proofs.SameNames.{tx_true}
 use Rattle.log_analysis.specs.Lists.{home_at, listed_at, parts_at}
 use Rattle.log_analysis.proofs.Laws.Bools.{and_first, and_second, all_same}
 use Rattle.log_analysis.proofs.Laws.Places.{home_in, home_is, listed_is, parts_is}
 use Rattle.log_rules.specs.declared.index.Index.{Index}
 use Rattle.log_rules.specs.Writes.{write_at, top_at, adds_at, newest_by}
-use Rattle.log_rules.specs.Rules.{is_last_run, is_before, is_since, is_below, undoes_setting, undoes_adding, facts_in, has_commit, has_no_fate, may_write, may_be_covered, may_be_set_over, may_be_added_over, may_be_listed, all_clear, home_allows, is_at, compensates_write, compensates_add, restart_fits, update_fits, add_fits, prepare_fits, commit_fits, abort_fits, clr_fits, unadd_fits, end_fits, fits}
+use Rattle.log_rules.specs.Rules.{is_last_run, is_before, is_after, is_below, undoes_setting, undoes_adding, facts_in, has_commit, stands, may_be_undone, has_no_fate, may_write, may_be_covered, may_be_set_over, may_be_added_over, may_be_listed, all_clear, home_allows, is_at, compensates_write, compensates_add, restart_fits, update_fits, add_fits, prepare_fits, commit_fits, abort_fits, clr_fits, unadd_fits, end_fits, fits}
 use Rattle.log_rules.proofs.Below.{below_is, pass_more}
 use Rattle.log_rules.proofs.Doubt.{of_all, nobody_is}
 use Rattle.log_rules.proofs.IndexOf.{IsIndexOf}
+use Rattle.log_rules.proofs.NewWrites.{newest_behind}
 use Rattle.log_rules.proofs.SoundLogs.{Sound, closed_in, may_lie}
 use Rattle.log_rules.proofs.ShareLists.{asks}
 use Rattle.log_rules.proofs.Standing.{top_set, adds_over, lsn_of, split_newest, left_is, newest_own, top_test, free_test}
@@ -31,6 +32,7 @@ use Rattle.log_rules.proofs.Walks.{asked_of_all, asked_of_sets, all_clear_is}
 use Rattle.law_base.proofs.Bools.{by_bool as both, not_true, or_false}
 use Rattle.law_base.proofs.Logs.{place_is as is_some_place}
 use Rattle.law_base.proofs.Names.{Falls, falls_length}
+use Rattle.law_base.proofs.Standing.{counts_some}
 
 and_assoc4 : (a b c d : Bool) → a && (b && c && d) ≡ a && b && c && d
 and_assoc4 true b c d = refl
@@ -65,14 +67,21 @@ module _ (shard : ℕ) (x : Index) (log : List LogRecord) (s : Sound log) (i : I
   is_ended : (t : TxId) → (facts_in x t).is_ended ≡ ended_in log t
   is_ended t = ap (λ f. f.is_ended) (i.facts t)
 
-  wrote : (t : TxId) → is_some (facts_in x t).first_update ≡ wrote_in log t
-  wrote t = ap (λ f. is_some f.first_update) (i.facts t) ∙ is_some_place 0 (is_update_of t) log
+  stands_is : (t : TxId) → stands x t ≡ has_standing log t
+  stands_is t = ap (λ f. nat_lt 0 f.standing) (i.facts t) ∙ sym (counts_some t (standing log))
 
   wrote_before : (t : TxId) → is_before x.restart_at (facts_in x t).first_update ≡ wrote_in (before_restart [] log) t
   wrote_before t = ap (λ f. is_before x.restart_at f.first_update) (i.facts t) ∙ i.restart_at.before t
 
-  wrote_since : (t : TxId) → is_since x.restart_at (facts_in x t).last_update ≡ wrote_in (since_restart [] log) t
-  wrote_since t = ap (λ f. is_since x.restart_at f.last_update) (i.facts t) ∙ i.restart_at.since t
+  stands_since : (t : TxId) → is_after x.restart_at (newest_by x.writes t) ≡ has_new_standing log t
+  stands_since t =
+      ap (is_after x.restart_at) (i.newest t) ∙ ap (λ n. is_after n (lsn_of (newest_of t (standing log)))) i.restart_at.place
+      ∙ newest_behind (length (before_restart [] log)) (length log) t (standing log) s.falls
+
+  undoable_is : (t : TxId) → may_be_undone x t ≡ may_undo log t
+  undoable_is t =
+      ap (λ b. b || (not (is_some (facts_in x t).prepare) && not (has_commit x t))) (is_aborted t) ∙ ap (λ b. aborted_in log t || (not b && not (has_commit x t))) (is_prepared t)
+      ∙ ap (λ b. aborted_in log t || (not (prepared_in log t) && not b)) (is_committed t)
 
   last_run : (tx : TxId) → is_last_run tx.run x.last ≡ in_last_run log tx
   last_run tx = ap (is_last_run tx.run) i.last ∙ run_of tx.run (last_restart log)
@@ -153,14 +162,14 @@ module _ (shard : ℕ) (x : Index) (log : List LogRecord) (s : Sound log) (i : I
 
   prepare_is : (tx : TxId) (home : ℕ) (listed : List TxId) → prepare_fits x (length log) tx listed ≡ may_follow shard log (Prepare tx home listed)
   prepare_is tx home listed =
-      let a : is_some x.last && is_since x.restart_at (facts_in x tx).last_update && has_no_fate x tx ≡ is_some (last_restart log) && wrote_in (since_restart [] log) tx && not (prepared_in log tx) && not (committed_in log tx) && not (aborted_in log tx) =
-      ap (λ b. b && is_since x.restart_at (facts_in x tx).last_update && has_no_fate x tx) any_restart ∙ ap (λ b. is_some (last_restart log) && b && has_no_fate x tx) (wrote_since tx)
-      ∙ ap (λ b. is_some (last_restart log) && wrote_in (since_restart [] log) tx && b) (no_fate tx)
-      ∙ and_assoc4 (is_some (last_restart log) && wrote_in (since_restart [] log) tx) (not (prepared_in log tx)) (not (committed_in log tx)) (not (aborted_in log tx)) in
+      let a : is_some x.last && is_after x.restart_at (newest_by x.writes tx) && has_no_fate x tx ≡ is_some (last_restart log) && has_new_standing log tx && not (prepared_in log tx) && not (committed_in log tx) && not (aborted_in log tx) =
+      ap (λ b. b && is_after x.restart_at (newest_by x.writes tx) && has_no_fate x tx) any_restart ∙ ap (λ b. is_some (last_restart log) && b && has_no_fate x tx) (stands_since tx)
+      ∙ ap (λ b. is_some (last_restart log) && has_new_standing log tx && b) (no_fate tx)
+      ∙ and_assoc4 (is_some (last_restart log) && has_new_standing log tx) (not (prepared_in log tx)) (not (committed_in log tx)) (not (aborted_in log tx)) in
       let b : list_all (may_be_listed x tx) listed ≡ list_all (may_list tx) listed = all_same (may_be_listed x tx) (may_list tx) (list_is tx) listed in
       ap (λ v. v && list_all (may_be_listed x tx) listed && all_clear x tx listed (length log)) a
-      ∙ ap (λ v. is_some (last_restart log) && wrote_in (since_restart [] log) tx && not (prepared_in log tx) && not (committed_in log tx) && not (aborted_in log tx) && v && all_clear x tx listed (length log)) b
-      ∙ and_when (is_some (last_restart log) && wrote_in (since_restart [] log) tx && not (prepared_in log tx) && not (committed_in log tx) && not (aborted_in log tx) && list_all (may_list tx) listed)
+      ∙ ap (λ v. is_some (last_restart log) && has_new_standing log tx && not (prepared_in log tx) && not (committed_in log tx) && not (aborted_in log tx) && v && all_clear x tx listed (length log)) b
+      ∙ and_when (is_some (last_restart log) && has_new_standing log tx && not (prepared_in log tx) && not (committed_in log tx) && not (aborted_in log tx) && list_all (may_list tx) listed)
       (all_clear x tx listed (length log)) (list_all (λ w. committed_in log w.tx || tx_in w.tx listed) (writes_below tx (standing log)))
       (λ e. let f = and_first _ _ e in
       clear tx listed (is_open tx (not_true _ (and_second _ _ (and_first _ _ (and_first _ _ f)))) (not_true _ (and_second _ _ (and_first _ _ f))) (not_true _ (and_second _ _ f))))
@@ -168,7 +177,7 @@ module _ (shard : ℕ) (x : Index) (log : List LogRecord) (s : Sound log) (i : I
   -- ---- ABORT
 
   abort_is : (tx : TxId) → abort_fits x tx ≡ may_follow shard log (Abort tx)
-  abort_is tx = rw (any_restart, wrote tx, is_committed tx, is_aborted tx) refl
+  abort_is tx = rw (any_restart, stands_is tx, is_committed tx, is_aborted tx) refl
 
   -- ---- CLR and UNADD
 
@@ -239,10 +248,10 @@ module _ (shard : ℕ) (x : Index) (log : List LogRecord) (s : Sound log) (i : I
       (unadds_is w at.0 at.1 at.2 by w.change refl)
 
   clr_is : (tx : TxId) (undo_next : Option ℕ) (key : ℕ) (after : Option ValueType) → clr_fits x tx undo_next key after ≡ may_follow shard log (Clr tx undo_next key after)
-  clr_is tx undo_next key after = rw (any_restart, is_aborted tx, clr_found tx undo_next key after (newest_of tx (standing log)) refl) refl
+  clr_is tx undo_next key after = rw (any_restart, undoable_is tx, clr_found tx undo_next key after (newest_of tx (standing log)) refl) refl
 
   unadd_is : (tx : TxId) (undo_next : Option ℕ) (key by : ℕ) → unadd_fits x tx undo_next key by ≡ may_follow shard log (Unadd tx undo_next key by)
-  unadd_is tx undo_next key by = rw (any_restart, is_aborted tx, unadd_found tx undo_next key by (newest_of tx (standing log)) refl) refl
+  unadd_is tx undo_next key by = rw (any_restart, undoable_is tx, unadd_found tx undo_next key by (newest_of tx (standing log)) refl) refl
 
 -- ---- COMMIT and END, which read what earlier records list
 
@@ -296,8 +305,8 @@ module _ (shard : ℕ) (x : Index) (records : List LogRecord) (n : ℕ) (s : Sou
       let c : has_commit x tx ≡ committed_in log tx = is_committed shard x log s i tx in
       let p : is_some (facts_in x tx).prepare ≡ prepared_in log tx = is_prepared shard x log s i tx in
       let k : Bool = all_clear x tx [] (length log) in
-      rw (any_restart shard x log s i, c, is_aborted shard x log s i tx, home_rule tx parts, i.here, lists_committed tx, p, wrote shard x log s i tx)
-      (ap (λ b. b && commit_by_prepare shard log tx parts (prepare_of log tx) && (wrote_in log tx || some_parts parts))
+      rw (any_restart shard x log s i, c, is_aborted shard x log s i tx, home_rule tx parts, i.here, lists_committed tx, p, stands_is shard x log s i tx)
+      (ap (λ b. b && commit_by_prepare shard log tx parts (prepare_of log tx) && (has_standing log tx || some_parts parts))
       (and_when (is_some (last_restart log) && not (committed_in log tx) && not (aborted_in log tx) && not (nat_in shard parts) && list_all (committed_in log) (listed_in log tx))
       (prepared_in log tx || k) (list_all (λ w. committed_in log w.tx) (writes_below tx (standing log)))
       (λ e. let f = and_first _ _ (and_first _ _ e) in

@@ -2,7 +2,7 @@
 use Rattle.std.proofs.Common.{◌≡◌, ℕ, ◌+◌, ◌<◌, Bool, true, false, cond, not, ◌&&◌, ◌||◌, ◌==◌, nat_lt, List, [], ◌∷◌, ◌++◌, length, Option, Some, None, is_some, ◌⊎◌, inl, inr, ⊎_elim, refl, sym, ap, subst, ◌∙◌, eqb-true, eq-eqb, arith}
 use Rattle.std.specs.Prelude.{slice_get}
 use Rattle.std.specs.List.{AllByRecursion, list_any, list_all}
-use Rattle.std.proofs.lemmas.Bool.{both_ways, lt-ltb, ltb-true, or_cases, ne_eqb}
+use Rattle.std.proofs.lemmas.Bool.{lt-ltb, ltb-true, or_cases, ne_eqb}
 use Rattle.clv_base.specs.declared.names.TxId.{TxId}
 use Rattle.clv_base.specs.declared.changes.Change.{Change}
 use Rattle.clv_base.specs.declared.changes.Change.TheVariants.{Sets, Adds as Adding}
@@ -11,7 +11,7 @@ use Rattle.clv_base.specs.declared.logs.LogRecord.TheVariants.{Update, Clr, Prep
 use Rattle.clv_base.specs.Orders.{tx_same, tx_in}
 use Rattle.clv_base.specs.OneShard.{update_of}
 use Rattle.clv_base.specs.Logs.{StandingUpdate, changed, unchanged, is_setting, is_commit_of, is_prepare_of, is_abort_of, committed_in, prepared_in, aborted_in, standing, newest_of, without_newest}
-use Rattle.clv_base.specs.LogRules.{last_restart, above_restarts, before_restart, since_restart, listed_in, may_follow}
+use Rattle.clv_base.specs.LogRules.{last_restart, above_restarts, before_restart, listed_in, may_undo, may_follow}
 use Rattle.clv_base.proofs.SameNames.{tx_true, tx_self, tx_flip}
 use Rattle.log_analysis.specs.Facts.{Knows}
 use Rattle.log_analysis.proofs.Laws.Bools.{and_first, and_second}
@@ -25,10 +25,11 @@ use Rattle.log_rules.specs.Adding.{KeepsRestart, AddsRestart, AddsWrite, AddsUnd
 use Rattle.log_rules.proofs.Doubt.{is_held, bars}
 use Rattle.log_rules.proofs.Fitting.{is_committed}
 use Rattle.log_rules.proofs.Growing.{splits_restart, splits_other}
+use Rattle.log_rules.proofs.NewWrites.{some_behind}
 use Rattle.log_rules.proofs.Held.{eq_flip, listed_other, held_other, bars_other, unprepared_unheld, held_now, held_after, aborted_unheld}
 use Rattle.log_rules.proofs.IndexOf.{IsIndexOf}
 use Rattle.log_rules.proofs.RuleParts.{WriteRule, Undoes, update_rule, add_rule, prepare_rule, abort_rule, clr_rule, unadd_rule, clr_undoes, unadd_undoes}
-use Rattle.log_rules.proofs.SoundLogs.{Sound, any_other, prepare_new, wrote_since, of_other}
+use Rattle.log_rules.proofs.SoundLogs.{Sound, undone_uncommitted, any_other, prepare_new, of_other}
 use Rattle.log_rules.proofs.Standing.{top_set, adds_over, top_value, shares_of, lsn_of, left_is, something_there, shares_here, shares_elsewhere, shares_settled}
 use Rattle.log_rules.proofs.Links.{Linked, link_of, linked_at, linked_is, linked_stay, linked_left, tops_left, adds_left, values_left, newest_left}
 use Rattle.log_rules.proofs.Walks.{settled_shares}
@@ -36,6 +37,7 @@ use Rattle.law_base.proofs.Sets.{same_flip as tx_symmetric}
 use Rattle.law_base.proofs.Bools.{by_bool as both, not_true, or_false, and_no, or_yes}
 use Rattle.law_base.proofs.Logs.{last_restart_push, standing_push, no_prepare}
 use Rattle.law_base.proofs.Names.{Falls, falls_length}
+use Rattle.law_base.proofs.Standing.{newest_is}
 use Rattle.law_base.proofs.Undoing.{IsOver, Chain}
 
 -- ---- the RESTARTs so far
@@ -68,7 +70,6 @@ record IsOther (r : LogRecord) : Type 0 where
   last : last_restart (r ∷ []) ≡ None
   above : (run epoch : ℕ) → above_restarts run epoch (r ∷ []) ≡ true
   before : (l : List LogRecord) → before_restart l (r ∷ []) ≡ []
-  since : (l : List LogRecord) → since_restart l (r ∷ []) ≡ l ++ r ∷ []
 
 -- what an index has beside the facts and what it has of RESTARTs
 record HasRest (shard : ℕ) (z : Index) (log : List LogRecord) : Type 0 where
@@ -135,7 +136,7 @@ module _ (shard : ℕ) (x y : Index) (log : List LogRecord) (s : Sound log) (i :
     here = keeps.shard ∙ i.here;
     last = keeps.last ∙ i.last ∙ sym (last_restart_other log r o.last);
     above = λ run epoch. above_other r o.above run epoch ∙ ap (is_above run epoch) (sym keeps.last);
-    restart_at = rw keeps.restart_at (splits_other x.restart_at log r o.before o.since i.restart_at);
+    restart_at = rw keeps.restart_at (splits_other x.restart_at log r o.before i.restart_at);
     facts = knows;
     tops = h.tops;
     adds = h.adds;
@@ -184,8 +185,8 @@ module _ (shard : ℕ) (x y : Index) (log : List LogRecord) (s : Sound log) (i :
   same_listers : (r : LogRecord) (z : Index) → z.listers ≡ x.listers → ((t : TxId) → listed_in (log ++ r ∷ []) t ≡ listed_in log t) → (q t : TxId) → tx_in t (listers_in z.listers q) ≡ tx_in q (listed_in (log ++ r ∷ []) t)
   same_listers r z listers other q t = ap (λ m. tx_in t (listers_in m q)) listers ∙ i.listers q t ∙ ap (tx_in q) (sym (other t))
 
-  plain : (r : LogRecord) → last_restart (r ∷ []) ≡ None → ((run epoch : ℕ) → above_restarts run epoch (r ∷ []) ≡ true) → ((l : List LogRecord) → before_restart l (r ∷ []) ≡ []) → ((l : List LogRecord) → since_restart l (r ∷ []) ≡ l ++ r ∷ []) → IsOther r
-  plain r last above before since = record { last = last; above = above; before = before; since = since }
+  plain : (r : LogRecord) → last_restart (r ∷ []) ≡ None → ((run epoch : ℕ) → above_restarts run epoch (r ∷ []) ≡ true) → ((l : List LogRecord) → before_restart l (r ∷ []) ≡ []) → IsOther r
+  plain r last above before = record { last = last; above = above; before = before }
 
   -- ---- END
 
@@ -193,7 +194,7 @@ module _ (shard : ℕ) (x y : Index) (log : List LogRecord) (s : Sound log) (i :
   after_end tx z a knows =
       let r : LogRecord = End tx in
       let ws : standing (log ++ r ∷ []) ≡ standing log = standing_push log r in
-      with_rest r z (plain r refl (λ run epoch. refl) (λ l. refl) (λ l. refl)) a.keeps
+      with_rest r z (plain r refl (λ run epoch. refl) (λ l. refl)) a.keeps
       (same_writes r z ws a.writes (shares_kept r (λ u. refl) z a.writes ws) (rw a.listers i.descends) (same_listers r z a.listers (λ t. listed_other log r t refl))
       (λ t. ap (tx_in t) a.barring ∙ i.barring t ∙ sym (bars_other shard log r (λ u. refl) t refl refl (ap (newest_of t) ws)))) knows
 
@@ -210,7 +211,7 @@ module _ (shard : ℕ) (x y : Index) (log : List LogRecord) (s : Sound log) (i :
   after_commit tx parts z a knows =
       let r : LogRecord = Commit tx parts in
       let ws : standing (log ++ r ∷ []) ≡ standing log = standing_push log r in
-      with_rest r z (plain r refl (λ run epoch. refl) (λ l. refl) (λ l. refl)) a.keeps
+      with_rest r z (plain r refl (λ run epoch. refl) (λ l. refl)) a.keeps
       (settled_writes r z ws tx a.writes (λ k. a.writes.shares k ∙ shares_less r tx k (λ u. any_push (is_commit_of u) log r ∙ ap (λ b. committed_in log u || b) (tx_symmetric u tx)) ∙ ap (shares_of (committed_in (log ++ r ∷ [])) k) (sym ws)) (rw a.listers i.descends) (same_listers r z a.listers (λ t. listed_other log r t refl))
       (λ t. a.barring t
       ∙ both (λ b. tx_same tx t ≡ b → cond b false (tx_in t x.barring) ≡ bars shard (log ++ r ∷ []) t) (tx_same tx t)
@@ -244,7 +245,7 @@ module _ (shard : ℕ) (x y : Index) (log : List LogRecord) (s : Sound log) (i :
     stands_now : is_some (newest_of tx (standing log)) ≡ true
     stands_now =
         let rule = prepare_rule shard log tx home listed may in
-        s.stands tx (wrote_since [] log tx rule.wrote) rule.unaborted
+        some_behind (length (before_restart [] log)) tx (standing log) rule.stands
 
     bars_now : (home == x.shard) && tx_in tx x.barring ≡ bars shard (log ++ Prepare tx home listed ∷ []) tx
     bars_now =
@@ -269,7 +270,7 @@ module _ (shard : ℕ) (x y : Index) (log : List LogRecord) (s : Sound log) (i :
       let r : LogRecord = Prepare tx home listed in
       let ws : standing (log ++ r ∷ []) ≡ standing log = standing_push log r in
       let lists = a.listers i.descends in
-      with_rest r z (plain r refl (λ run epoch. refl) (λ l. refl) (λ l. refl)) a.keeps
+      with_rest r z (plain r refl (λ run epoch. refl) (λ l. refl)) a.keeps
       (same_writes r z ws a.writes (shares_kept r (λ u. refl) z a.writes ws) lists.descends
       (λ q t. lists.who q t ∙ ap (λ b. b || (tx_same tx t && tx_in q listed)) (i.listers q t)
       ∙ both (λ b. tx_same tx t ≡ b → tx_in q (listed_in log t) || (b && tx_in q listed) ≡ tx_in q (listed_in (log ++ r ∷ []) t)) (tx_same tx t)
@@ -287,7 +288,7 @@ module _ (shard : ℕ) (x y : Index) (log : List LogRecord) (s : Sound log) (i :
     bars_self =
         let r : LogRecord = Abort tx in
         let rule = abort_rule shard log tx may in
-        let stands : is_some (newest_of tx (standing (log ++ r ∷ []))) ≡ true = ap (λ ws. is_some (newest_of tx ws)) (standing_push log r) ∙ s.stands tx rule.wrote rule.unaborted in
+        let stands : is_some (newest_of tx (standing (log ++ r ∷ []))) ≡ true = ap (λ ws. is_some (newest_of tx ws)) (standing_push log r) ∙ newest_is tx (standing log) ∙ rule.stands in
         let uncommitted : committed_in (log ++ r ∷ []) tx ≡ false = any_other (is_commit_of tx) log r refl ∙ rule.uncommitted in
         let aborted : aborted_in (log ++ r ∷ []) tx ≡ true = any_push (is_abort_of tx) log r ∙ ap (λ b. aborted_in log tx || b) (tx_self tx) ∙ or_yes (aborted_in log tx) in
         ap (λ b. b && not (committed_in (log ++ r ∷ []) tx) && not (is_held shard (log ++ r ∷ []) tx)) stands ∙ ap (λ b. true && not b && not (is_held shard (log ++ r ∷ []) tx)) uncommitted
@@ -319,7 +320,7 @@ module _ (shard : ℕ) (x y : Index) (log : List LogRecord) (s : Sound log) (i :
   after_abort tx may z a knows =
       let r : LogRecord = Abort tx in
       let ws : standing (log ++ r ∷ []) ≡ standing log = standing_push log r in
-      with_rest r z (plain r refl (λ run epoch. refl) (λ l. refl) (λ l. refl)) a.keeps
+      with_rest r z (plain r refl (λ run epoch. refl) (λ l. refl)) a.keeps
       (same_writes r z ws a.writes (shares_kept r (λ u. refl) z a.writes ws) (rw a.listers i.descends) (same_listers r z a.listers (λ t. listed_other log r t refl))
       (λ t. a.barring t
       ∙ both (λ b. tx_same tx t ≡ b → cond b true (tx_in t x.barring || (tx_in t (listers_in x.listers tx) && bars_after_abort x t)) ≡ bars shard (log ++ r ∷ []) t) (tx_same tx t)
@@ -395,7 +396,7 @@ module _ (shard : ℕ) (x y : Index) (log : List LogRecord) (s : Sound log) (i :
   chain_under (v ∷ vs) w under chain = chain_under vs w under chain.1
 
   module _ (r : LogRecord) (tx : TxId) (ws : standing (log ++ r ∷ []) ≡ without_newest tx (standing log)) (other : IsOther r) (no_abort : (t : TxId) → is_abort_of t r ≡ false) (no_prepare : (t : TxId) → is_prepare_of t r ≡ false)
-      (no_commit : (t : TxId) → is_commit_of t r ≡ false) (aborted : aborted_in log tx ≡ true) (u : Undoes tx (standing log)) where
+      (no_commit : (t : TxId) → is_commit_of t r ≡ false) (may : may_undo log tx ≡ true) (u : Undoes tx (standing log)) where
     abbrev link : Write
     link = link_of u.write u.under
 
@@ -412,8 +413,7 @@ module _ (shard : ℕ) (x y : Index) (log : List LogRecord) (s : Sound log) (i :
     chained = chain_under u.over u.write u.under (subst Chain u.is s.chain)
 
     uncommitted : committed_in log u.write.tx ≡ false
-    uncommitted = both (λ b. committed_in log u.write.tx ≡ b → b ≡ false) (committed_in log u.write.tx)
-        (λ _ c. absurd (both_ways _ (s.fates u.write.tx c) (ap (aborted_in log) (sym (tx_true tx u.write.tx u.own)) ∙ aborted))) (λ _ _. refl) refl
+    uncommitted = ap (committed_in log) (sym (tx_true tx u.write.tx u.own)) ∙ undone_uncommitted log tx s may
 
     there : is_there x.writes u.write.key ≡ true
     there = at (top_of x.writes u.write.key) refl
@@ -495,18 +495,18 @@ grows_between shard x y z log (Restart run epoch) s i at may above a knows = aft
 grows_between shard x y z log (Update tx key before after) s i at may above a knows =
     let r : LogRecord = Update tx key before after in
     let w : StandingUpdate = record { lsn = length log; tx = tx; key = key; change = Sets before after } in
-    after_write shard x y log s i r w refl (standing_push log r) (plain shard x y log s i r refl (λ run epoch. refl) (λ l. refl) (λ l. refl)) (λ t. refl) (λ t. refl) (λ t. refl) (update_rule shard log tx key before after may).may at z a knows
+    after_write shard x y log s i r w refl (standing_push log r) (plain shard x y log s i r refl (λ run epoch. refl) (λ l. refl)) (λ t. refl) (λ t. refl) (λ t. refl) (update_rule shard log tx key before after may).may at z a knows
 grows_between shard x y z log (Add tx key by) s i at may above a knows =
     let r : LogRecord = Add tx key by in
     let w : StandingUpdate = record { lsn = length log; tx = tx; key = key; change = Adding by } in
-    after_write shard x y log s i r w refl (standing_push log r) (plain shard x y log s i r refl (λ run epoch. refl) (λ l. refl) (λ l. refl)) (λ t. refl) (λ t. refl) (λ t. refl) (add_rule shard log tx key by may).may at z a knows
+    after_write shard x y log s i r w refl (standing_push log r) (plain shard x y log s i r refl (λ run epoch. refl) (λ l. refl)) (λ t. refl) (λ t. refl) (λ t. refl) (add_rule shard log tx key by may).may at z a knows
 grows_between shard x y z log (Clr tx undo_next key after) s i at may above a knows =
     let r : LogRecord = Clr tx undo_next key after in
-    after_undo shard x y log s i r tx (standing_push log r) (plain shard x y log s i r refl (λ run epoch. refl) (λ l. refl) (λ l. refl)) (λ t. refl) (λ t. refl) (λ t. refl) (clr_rule shard log tx undo_next key after may).aborted
+    after_undo shard x y log s i r tx (standing_push log r) (plain shard x y log s i r refl (λ run epoch. refl) (λ l. refl)) (λ t. refl) (λ t. refl) (λ t. refl) (clr_rule shard log tx undo_next key after may).may
     (clr_undoes shard (length log) log tx undo_next key after s.falls may) z a knows
 grows_between shard x y z log (Unadd tx undo_next key by) s i at may above a knows =
     let r : LogRecord = Unadd tx undo_next key by in
-    after_undo shard x y log s i r tx (standing_push log r) (plain shard x y log s i r refl (λ run epoch. refl) (λ l. refl) (λ l. refl)) (λ t. refl) (λ t. refl) (λ t. refl) (unadd_rule shard log tx undo_next key by may).aborted
+    after_undo shard x y log s i r tx (standing_push log r) (plain shard x y log s i r refl (λ run epoch. refl) (λ l. refl)) (λ t. refl) (λ t. refl) (λ t. refl) (unadd_rule shard log tx undo_next key by may).may
     (unadd_undoes shard (length log) log tx undo_next key by s.falls may) z a knows
 grows_between shard x y z log (Prepare tx home listed) s i at may above a knows = after_prepare shard x y log s i tx home listed may z a knows
 grows_between shard x y z log (Commit tx parts) s i at may above a knows = after_commit shard x y log s i tx parts z a knows

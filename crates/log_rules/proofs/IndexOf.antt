@@ -4,21 +4,21 @@ use Rattle.clv_base.specs.declared.names.TxId.{TxId}
 use Rattle.clv_base.specs.declared.logs.LogRecord.{LogRecord}
 use Rattle.clv_base.specs.Orders.{tx_in}
 use Rattle.clv_base.specs.Logs.{wrote_in, committed_in, standing, newest_of}
-use Rattle.clv_base.specs.LogRules.{last_restart, above_restarts, before_restart, since_restart, listed_in}
-use Rattle.log_analysis.specs.Facts.{Knows, first_update_lsn, last_update_lsn}
+use Rattle.clv_base.specs.LogRules.{last_restart, above_restarts, before_restart, listed_in}
+use Rattle.log_analysis.specs.Facts.{Knows, first_update_lsn}
 use Rattle.log_rules.specs.declared.index.Index.{Index}
 use Rattle.log_rules.specs.Writes.{top_at, adds_at, value_at, shares_at, newest_by}
 use Rattle.log_rules.specs.Listers.{listers_in, Descends}
-use Rattle.log_rules.specs.Rules.{is_above, is_before, is_since}
+use Rattle.log_rules.specs.Rules.{is_above, is_before}
 use Rattle.log_rules.proofs.Doubt.{bars}
 use Rattle.log_rules.proofs.Links.{Linked}
 use Rattle.log_rules.proofs.Standing.{top_set, adds_over, top_value, shares_of, lsn_of}
 
--- before and since the last RESTART, by LSNs
+-- where the last RESTART stands
 pub record SplitsAt (at : ℕ) (log : List LogRecord) : Type 0 where
   pub within : at ≤ length log
+  pub place : at ≡ length (before_restart [] log)
   pub before : (t : TxId) → is_before at (first_update_lsn log t) ≡ wrote_in (before_restart [] log) t
-  pub since : (t : TxId) → is_since at (last_update_lsn log t) ≡ wrote_in (since_restart [] log) t
 
 pub record IsIndexOf (shard : ℕ) (x : Index) (log : List LogRecord) : Type 0 where
   pub here : x.shard ≡ shard

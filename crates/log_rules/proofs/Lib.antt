@@ -8,6 +8,7 @@ pub mod IndexGrows
 pub mod IndexOf
 pub mod Links
 pub mod Listing
+pub mod NewWrites
 pub mod RuleParts
 pub mod Steps
 pub mod Walking
@@ -18,3 +19,4 @@ pub mod Pushing
 pub mod ShareLists
 pub mod Standing
 pub mod SoundLogs
+pub mod Undone

@@ -1,5 +1,5 @@
 -- What the rule of each kind of record says, part by part.
-use Rattle.std.proofs.Common.{◌≡◌, ℕ, Bool, true, false, not, ◌&&◌, ◌||◌, ◌==◌, List, [], ◌∷◌, ◌++◌, Option, Some, None, refl, sym, ap, subst, ◌∙◌}
+use Rattle.std.proofs.Common.{◌≡◌, ℕ, Bool, true, false, not, ◌&&◌, ◌||◌, ◌==◌, List, ◌∷◌, ◌++◌, Option, Some, None, refl, sym, ap, subst, ◌∙◌}
 use Rattle.std.specs.List.{AllByRecursion, list_all}
 use Rattle.clv_base.specs.declared.values.Value.{Value as ValueType}
 use Rattle.clv_base.specs.declared.names.TxId.{TxId}
@@ -9,8 +9,8 @@ use Rattle.clv_base.specs.declared.logs.LogRecord.{LogRecord}
 use Rattle.clv_base.specs.declared.logs.LogRecord.TheVariants.{Update, Clr, Prepare, Commit, Abort, Add, Unadd}
 use Rattle.clv_base.specs.Orders.{tx_same, tx_in}
 use Rattle.clv_base.specs.Values.{same_optional_value}
-use Rattle.clv_base.specs.Logs.{StandingUpdate, is_setting, wrote_in, committed_in, prepared_in, aborted_in, standing, newest_at, newest_of, value_in}
-use Rattle.clv_base.specs.LogRules.{since_restart, writes_below, lies_below, may_write, may_set, may_add, clears, unadds, compensates, may_follow}
+use Rattle.clv_base.specs.Logs.{StandingUpdate, is_setting, has_standing, committed_in, prepared_in, aborted_in, standing, newest_at, newest_of, value_in}
+use Rattle.clv_base.specs.LogRules.{has_new_standing, may_undo, writes_below, lies_below, may_write, may_set, may_add, clears, unadds, compensates, may_follow}
 use Rattle.log_analysis.proofs.Laws.Bools.{and_first, and_second}
 use Rattle.log_rules.proofs.Standing.{IsClear, split_newest, clear_by_top, clear_by_free}
 use Rattle.law_base.proofs.Bools.{not_true}
@@ -31,7 +31,7 @@ pub record AddRule (log : List LogRecord) (tx : TxId) (key : ℕ) : Type 0 where
   pub covers : may_add log tx key (standing log) ≡ true
 
 pub record PrepareRule (log : List LogRecord) (tx : TxId) (listed : List TxId) : Type 0 where
-  pub wrote : wrote_in (since_restart [] log) tx ≡ true
+  pub stands : has_new_standing log tx ≡ true
   pub unprepared : prepared_in log tx ≡ false
   pub uncommitted : committed_in log tx ≡ false
   pub unaborted : aborted_in log tx ≡ false
@@ -44,12 +44,12 @@ pub record CommitRule (log : List LogRecord) (tx : TxId) : Type 0 where
   pub below : list_all (λ w. committed_in log w.tx) (writes_below tx (standing log)) ≡ true
 
 pub record AbortRule (log : List LogRecord) (tx : TxId) : Type 0 where
-  pub wrote : wrote_in log tx ≡ true
+  pub stands : has_standing log tx ≡ true
   pub uncommitted : committed_in log tx ≡ false
   pub unaborted : aborted_in log tx ≡ false
 
 pub record UndoRule (log : List LogRecord) (test : StandingUpdate → Bool) (tx : TxId) (undo_next : Option ℕ) (key : ℕ) : Type 0 where
-  pub aborted : aborted_in log tx ≡ true
+  pub may : may_undo log tx ≡ true
   pub compensates : compensates test tx undo_next key (standing log) (newest_of tx (standing log)) ≡ true
 
 pub write_rule : (log : List LogRecord) (tx : TxId) → may_write log tx ≡ true → WriteRule log tx
@@ -74,7 +74,7 @@ prepare_rule shard log tx home listed e =
     let a = and_first _ _ e in
     let b = and_first _ _ a in
     record {
-      wrote = and_second _ _ (and_first _ _ (and_first _ _ (and_first _ _ b)));
+      stands = and_second _ _ (and_first _ _ (and_first _ _ (and_first _ _ b)));
       unprepared = not_true _ (and_second _ _ (and_first _ _ (and_first _ _ b)));
       uncommitted = not_true _ (and_second _ _ (and_first _ _ b));
       unaborted = not_true _ (and_second _ _ b);
@@ -91,15 +91,15 @@ commit_rule shard log tx parts e =
 pub abort_rule : (shard : ℕ) (log : List LogRecord) (tx : TxId) → may_follow shard log (Abort tx) ≡ true → AbortRule log tx
 abort_rule shard log tx e =
     let a = and_first _ _ e in
-    record { wrote = and_second _ _ (and_first _ _ a); uncommitted = not_true _ (and_second _ _ a); unaborted = not_true _ (and_second _ _ e) }
+    record { stands = and_second _ _ (and_first _ _ a); uncommitted = not_true _ (and_second _ _ a); unaborted = not_true _ (and_second _ _ e) }
 
 pub clr_rule : (shard : ℕ) (log : List LogRecord) (tx : TxId) (undo_next : Option ℕ) (key : ℕ) (after : Option ValueType) → may_follow shard log (Clr tx undo_next key after) ≡ true
     → UndoRule log (λ w. clears w after (standing log) w.change) tx undo_next key
-clr_rule shard log tx undo_next key after e = record { aborted = and_second _ _ (and_first _ _ e); compensates = and_second _ _ e }
+clr_rule shard log tx undo_next key after e = record { may = and_second _ _ (and_first _ _ e); compensates = and_second _ _ e }
 
 pub unadd_rule : (shard : ℕ) (log : List LogRecord) (tx : TxId) (undo_next : Option ℕ) (key by : ℕ) → may_follow shard log (Unadd tx undo_next key by) ≡ true
     → UndoRule log (λ w. unadds w by (standing log) w.change) tx undo_next key
-unadd_rule shard log tx undo_next key by e = record { aborted = and_second _ _ (and_first _ _ e); compensates = and_second _ _ e }
+unadd_rule shard log tx undo_next key by e = record { may = and_second _ _ (and_first _ _ e); compensates = and_second _ _ e }
 
 -- what is compensated
 pub tested : (test : StandingUpdate → Bool) (tx : TxId) (undo_next : Option ℕ) (key : ℕ) (ws : List StandingUpdate) (o : Option StandingUpdate) → compensates test tx undo_next key ws o ≡ true

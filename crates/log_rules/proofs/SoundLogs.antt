@@ -9,17 +9,18 @@ use Rattle.clv_base.specs.declared.changes.Change.TheVariants.{Sets, Adds}
 use Rattle.clv_base.specs.declared.logs.LogRecord.{LogRecord}
 use Rattle.clv_base.specs.declared.logs.LogRecord.TheVariants.{Update, Clr, Prepare, Commit, Abort, End, Restart, Add, Unadd}
 use Rattle.clv_base.specs.Orders.{tx_same, tx_in}
-use Rattle.clv_base.specs.Logs.{StandingUpdate, is_setting, is_update_of, is_commit_of, is_prepare_of, is_abort_of, wrote_in, committed_in, prepared_in, aborted_in, prepare_of, standing, standing_after, newest_of, without_newest, value_in}
-use Rattle.clv_base.specs.LogRules.{since_restart, listed_in, may_cover, may_follow}
+use Rattle.clv_base.specs.Logs.{StandingUpdate, is_setting, is_commit_of, is_prepare_of, is_abort_of, committed_in, prepared_in, aborted_in, prepare_of, standing, standing_after, newest_of, without_newest, value_in}
+use Rattle.clv_base.specs.LogRules.{before_restart, listed_in, may_cover, may_undo, may_follow}
 use Rattle.clv_base.proofs.SameNames.{tx_true, tx_self}
 use Rattle.log_analysis.proofs.Laws.Bools.{and_first, and_second, all_weaker}
 use Rattle.log_analysis.proofs.Laws.Pushes.{any_push}
 use Rattle.log_rules.proofs.Below.{Covers, all_pass, below_is, pass_more, pass_fewer, pass_pushed}
 use Rattle.log_rules.proofs.RuleParts.{Undoes, update_rule, add_rule, prepare_rule, commit_rule, abort_rule, clr_rule, unadd_rule, clr_undoes, unadd_undoes}
+use Rattle.log_rules.proofs.NewWrites.{some_behind}
 use Rattle.log_rules.proofs.Standing.{top_value, IsClear, ahead, value_step, left_is}
 use Rattle.law_base.specs.Items.{AllLater}
 use Rattle.law_base.proofs.Sets.{same_flip as tx_symmetric}
-use Rattle.law_base.proofs.Bools.{by_bool as both, or_false, or_assoc}
+use Rattle.law_base.proofs.Bools.{by_bool as both, or_false}
 use Rattle.law_base.proofs.Lists.{later_mono}
 use Rattle.law_base.proofs.Names.{Falls, falls_weaker, falls_without}
 use Rattle.law_base.proofs.Numbers.{unequal_flip}
@@ -57,12 +58,21 @@ pub record Sound (log : List LogRecord) : Type 0 where
   -- below the writes of a PREPARE without an ABORT all others' are committed or listed
   pub below : (t : TxId) → prepared_in log t ≡ true → aborted_in log t ≡ false → all_pass (may_lie log t) t (standing log) ≡ true
   pub fates : (t : TxId) → committed_in log t ≡ true → aborted_in log t ≡ false
-  -- who wrote and has no ABORT has a write that stands
-  pub stands : (t : TxId) → wrote_in log t ≡ true → aborted_in log t ≡ false → is_some (newest_of t (standing log)) ≡ true
-  pub wrote : (t : TxId) → prepared_in log t ≡ true → wrote_in log t ≡ true
+  -- who is prepared and has no ABORT has a write that stands
+  pub stands : (t : TxId) → prepared_in log t ≡ true → aborted_in log t ≡ false → is_some (newest_of t (standing log)) ≡ true
   -- no transaction has two PREPAREs
   pub once : EachPrepare (λ t home listed. prepare_of log t ≡ Some (home, listed)) log
   pub earlier : ListsEarlier [] log
+
+-- of one that is committed nothing is undone
+pub undone_uncommitted : (log : List LogRecord) (t : TxId) → Sound log → may_undo log t ≡ true → committed_in log t ≡ false
+undone_uncommitted log t s may = at (committed_in log t) (aborted_in log t) (prepared_in log t) (s.fates t) may
+  where
+    at : (c a p : Bool) → (c ≡ true → a ≡ false) → a || (not p && not c) ≡ true → c ≡ false
+    at false a p fate e = refl
+    at true true p fate e = absurd (both_ways true (fate refl) refl)
+    at true false true fate e = absurd (both_ways false refl e)
+    at true false false fate e = absurd (both_ways false refl e)
 
 -- ---- one record more, in general
 
@@ -111,13 +121,6 @@ of_other tx t (v ∷ vs) other =
 all_by : (f : StandingUpdate → Bool) (P : StandingUpdate → Type 0) → ((x : StandingUpdate) → f x ≡ true → P x) → (xs : List StandingUpdate) → list_all f xs ≡ true → AllByRecursion P xs
 all_by f P h [] all = tt
 all_by f P h (x ∷ xs) all = (h x (and_first (f x) (list_all f xs) all), all_by f P h xs (and_second (f x) (list_all f xs) all))
-
--- who wrote since the last RESTART wrote
-pub wrote_since : (so_far log : List LogRecord) (t : TxId) → wrote_in (since_restart so_far log) t ≡ true → wrote_in so_far t || wrote_in log t ≡ true
-wrote_since so_far [] t e = ap (λ b. b || false) e
-wrote_since so_far (Restart run epoch ∷ rs) t e = or_right (wrote_in so_far t) (wrote_in rs t) (wrote_since [] rs t e)
-wrote_since so_far (r ∷ rs) t e =
-    sym (or_assoc (wrote_in so_far t) (is_update_of t r) (wrote_in rs t)) ∙ ap (λ b. b || wrote_in rs t) (sym (any_push (is_update_of t) so_far r)) ∙ wrote_since (so_far ++ r ∷ []) rs t e
 
 -- ---- PREPAREs, with one record more
 
@@ -306,52 +309,45 @@ module _ (shard : ℕ) (log : List LogRecord) (s : Sound log) where
   fates_after (Add tx key by) may t e = fates_other (Add tx key by) (λ t. refl) (λ t. refl) t e
   fates_after (Unadd tx undo_next key by) may t e = fates_other (Unadd tx undo_next key by) (λ t. refl) (λ t. refl) t e
 
-  -- where the record is no UPDATE and its writes stand
-  stands_other : (r : LogRecord) → ((t : TxId) → is_update_of t r ≡ false) → (t : TxId) → wrote_in (log ++ r ∷ []) t ≡ true → aborted_in (log ++ r ∷ []) t ≡ false → is_some (newest_of t (standing log)) ≡ true
-  stands_other r no_update t wrote unaborted = s.stands t (sym (any_other (is_update_of t) log r (no_update t)) ∙ wrote) (any_less (is_abort_of t) log r unaborted)
+  -- where the record is no PREPARE and its writes stand
+  stands_other : (r : LogRecord) → ((t : TxId) → is_prepare_of t r ≡ false) → (t : TxId) → prepared_in (log ++ r ∷ []) t ≡ true → aborted_in (log ++ r ∷ []) t ≡ false → is_some (newest_of t (standing log)) ≡ true
+  stands_other r no_prepare t prepared unaborted = s.stands t (sym (any_other (is_prepare_of t) log r (no_prepare t)) ∙ prepared) (any_less (is_abort_of t) log r unaborted)
 
-  stands_undone : (r : LogRecord) (tx : TxId) → aborted_in log tx ≡ true → ((t : TxId) → is_update_of t r ≡ false) → (t : TxId) → wrote_in (log ++ r ∷ []) t ≡ true → aborted_in (log ++ r ∷ []) t ≡ false
+  -- nothing of one that is prepared is undone
+  stands_undone : (r : LogRecord) (tx : TxId) → may_undo log tx ≡ true → ((t : TxId) → is_prepare_of t r ≡ false) → (t : TxId) → prepared_in (log ++ r ∷ []) t ≡ true → aborted_in (log ++ r ∷ []) t ≡ false
       → is_some (newest_of t (without_newest tx (standing log))) ≡ true
-  stands_undone r tx aborted no_update t wrote unaborted =
-      let was : aborted_in log t ≡ false = any_less (is_abort_of t) log r unaborted in
+  stands_undone r tx may no_prepare t prepared unaborted =
       both (λ b. tx_same tx t ≡ b → is_some (newest_of t (without_newest tx (standing log))) ≡ true) (tx_same tx t)
-      (λ _ own. absurd (both_ways _ was (sym (ap (aborted_in log) (tx_true tx t own)) ∙ aborted)))
-      (λ _ other. ap is_some (of_other tx t (standing log) other) ∙ stands_other r no_update t wrote unaborted) refl
+      (λ _ own.
+      let same = tx_true tx t own in
+      absurd (closed_stays (prepared_in log tx) (committed_in log tx) (aborted_in log tx) may
+      (ap (prepared_in log) same ∙ sym (any_other (is_prepare_of t) log r (no_prepare t)) ∙ prepared) (ap (aborted_in log) same ∙ any_less (is_abort_of t) log r unaborted)))
+      (λ _ other. ap is_some (of_other tx t (standing log) other) ∙ stands_other r no_prepare t prepared unaborted) refl
+    where
+      closed_stays : (p c a : Bool) → a || (not p && not c) ≡ true → p ≡ true → a ≡ false → ⊥
+      closed_stays true c false e p a = both_ways false refl e
+      closed_stays false c a e p f = both_ways false refl p
+      closed_stays true c true e p a = both_ways true a refl
 
-  stands_written : (r : LogRecord) (w : StandingUpdate) → ((t : TxId) → is_update_of t r ≡ tx_same t w.tx) → (t : TxId) → wrote_in (log ++ r ∷ []) t ≡ true → aborted_in (log ++ r ∷ []) t ≡ false
+  stands_written : (r : LogRecord) (w : StandingUpdate) → ((t : TxId) → is_prepare_of t r ≡ false) → (t : TxId) → prepared_in (log ++ r ∷ []) t ≡ true → aborted_in (log ++ r ∷ []) t ≡ false
       → is_some (newest_of t (w ∷ standing log)) ≡ true
-  stands_written r w update t wrote unaborted =
-      both (λ b. tx_same t w.tx ≡ b → is_some (cond b (Some w) (newest_of t (standing log))) ≡ true) (tx_same t w.tx) (λ _ own. refl)
-      (λ _ other. s.stands t (sym (any_other (is_update_of t) log r (update t ∙ other)) ∙ wrote) (any_less (is_abort_of t) log r unaborted)) refl
+  stands_written r w no_prepare t prepared unaborted =
+      both (λ b. is_some (cond b (Some w) (newest_of t (standing log))) ≡ true) (tx_same t w.tx) (λ own. refl) (λ other. stands_other r no_prepare t prepared unaborted)
 
-  stands_after : (r : LogRecord) → may_follow shard log r ≡ true → (t : TxId) → wrote_in (log ++ r ∷ []) t ≡ true → aborted_in (log ++ r ∷ []) t ≡ false
+  stands_after : (r : LogRecord) → may_follow shard log r ≡ true → (t : TxId) → prepared_in (log ++ r ∷ []) t ≡ true → aborted_in (log ++ r ∷ []) t ≡ false
       → is_some (newest_of t (standing_after (length log) r (standing log))) ≡ true
-  stands_after (Update tx key before after) may t wrote unaborted = stands_written (Update tx key before after) (record { lsn = length log; tx = tx; key = key; change = Sets before after }) (λ u. refl) t wrote unaborted
-  stands_after (Add tx key by) may t wrote unaborted = stands_written (Add tx key by) (record { lsn = length log; tx = tx; key = key; change = Adds by }) (λ u. refl) t wrote unaborted
-  stands_after (Clr tx undo_next key after) may t wrote unaborted = stands_undone (Clr tx undo_next key after) tx (clr_rule shard log tx undo_next key after may).aborted (λ u. refl) t wrote unaborted
-  stands_after (Unadd tx undo_next key by) may t wrote unaborted = stands_undone (Unadd tx undo_next key by) tx (unadd_rule shard log tx undo_next key by may).aborted (λ u. refl) t wrote unaborted
-  stands_after (Commit tx parts) may t wrote unaborted = stands_other (Commit tx parts) (λ t. refl) t wrote unaborted
-  stands_after (Prepare tx home listed) may t wrote unaborted = stands_other (Prepare tx home listed) (λ t. refl) t wrote unaborted
-  stands_after (Abort tx) may t wrote unaborted = stands_other (Abort tx) (λ t. refl) t wrote unaborted
-  stands_after (End tx) may t wrote unaborted = stands_other (End tx) (λ t. refl) t wrote unaborted
-  stands_after (Restart run epoch) may t wrote unaborted = stands_other (Restart run epoch) (λ t. refl) t wrote unaborted
-
-  wrote_other : (r : LogRecord) → ((t : TxId) → is_prepare_of t r ≡ false) → (t : TxId) → prepared_in (log ++ r ∷ []) t ≡ true → wrote_in (log ++ r ∷ []) t ≡ true
-  wrote_other r no_prepare t e = any_more (is_update_of t) log r (s.wrote t (sym (any_other (is_prepare_of t) log r (no_prepare t)) ∙ e))
-
-  wrote_after : (r : LogRecord) → may_follow shard log r ≡ true → (t : TxId) → prepared_in (log ++ r ∷ []) t ≡ true → wrote_in (log ++ r ∷ []) t ≡ true
-  wrote_after (Prepare tx home listed) may t e =
-      let rule = prepare_rule shard log tx home listed may in
-      any_more (is_update_of t) log (Prepare tx home listed)
-      (⊎_elim (λ old. s.wrote t old) (λ own. ap (wrote_in log) (tx_true t tx own) ∙ wrote_since [] log tx rule.wrote) (or_cases (prepared_in log t) (tx_same t tx) (sym (any_push (is_prepare_of t) log (Prepare tx home listed)) ∙ e)))
-  wrote_after (Update tx key before after) may t e = wrote_other (Update tx key before after) (λ t. refl) t e
-  wrote_after (Clr tx undo_next key after) may t e = wrote_other (Clr tx undo_next key after) (λ t. refl) t e
-  wrote_after (Commit tx parts) may t e = wrote_other (Commit tx parts) (λ t. refl) t e
-  wrote_after (Abort tx) may t e = wrote_other (Abort tx) (λ t. refl) t e
-  wrote_after (End tx) may t e = wrote_other (End tx) (λ t. refl) t e
-  wrote_after (Restart run epoch) may t e = wrote_other (Restart run epoch) (λ t. refl) t e
-  wrote_after (Add tx key by) may t e = wrote_other (Add tx key by) (λ t. refl) t e
-  wrote_after (Unadd tx undo_next key by) may t e = wrote_other (Unadd tx undo_next key by) (λ t. refl) t e
+  stands_after (Update tx key before after) may t prepared unaborted = stands_written (Update tx key before after) (record { lsn = length log; tx = tx; key = key; change = Sets before after }) (λ u. refl) t prepared unaborted
+  stands_after (Add tx key by) may t prepared unaborted = stands_written (Add tx key by) (record { lsn = length log; tx = tx; key = key; change = Adds by }) (λ u. refl) t prepared unaborted
+  stands_after (Clr tx undo_next key after) may t prepared unaborted = stands_undone (Clr tx undo_next key after) tx (clr_rule shard log tx undo_next key after may).may (λ u. refl) t prepared unaborted
+  stands_after (Unadd tx undo_next key by) may t prepared unaborted = stands_undone (Unadd tx undo_next key by) tx (unadd_rule shard log tx undo_next key by may).may (λ u. refl) t prepared unaborted
+  stands_after (Prepare tx home listed) may t prepared unaborted =
+      ⊎_elim (λ old. s.stands t old (any_less (is_abort_of t) log (Prepare tx home listed) unaborted))
+      (λ own. ap (λ u. is_some (newest_of u (standing log))) (tx_true t tx own) ∙ some_behind (length (before_restart [] log)) tx (standing log) (prepare_rule shard log tx home listed may).stands)
+      (or_cases (prepared_in log t) (tx_same t tx) (sym (any_push (is_prepare_of t) log (Prepare tx home listed)) ∙ prepared))
+  stands_after (Commit tx parts) may t prepared unaborted = stands_other (Commit tx parts) (λ t. refl) t prepared unaborted
+  stands_after (Abort tx) may t prepared unaborted = stands_other (Abort tx) (λ t. refl) t prepared unaborted
+  stands_after (End tx) may t prepared unaborted = stands_other (End tx) (λ t. refl) t prepared unaborted
+  stands_after (Restart run epoch) may t prepared unaborted = stands_other (Restart run epoch) (λ t. refl) t prepared unaborted
 
   once_new : (r : LogRecord) → may_follow shard log r ≡ true → EachPrepare (λ t home listed. prepare_of (log ++ r ∷ []) t ≡ Some (home, listed)) (r ∷ [])
   once_new (Prepare tx home listed) may =
@@ -377,8 +373,7 @@ module _ (shard : ℕ) (log : List LogRecord) (s : Sound log) where
     covers = rw standing_push (covers_after r may);
     below = λ t prepared unaborted. ap (all_pass (may_lie (log ++ r ∷ []) t) t) (standing_push log r) ∙ below_after r may t prepared unaborted;
     fates = fates_after r may;
-    stands = λ t wrote unaborted. ap (λ ws. is_some (newest_of t ws)) (standing_push log r) ∙ stands_after r may t wrote unaborted;
-    wrote = wrote_after r may;
+    stands = λ t prepared unaborted. ap (λ ws. is_some (newest_of t ws)) (standing_push log r) ∙ stands_after r may t prepared unaborted;
     once = once_after r may;
     earlier = earlier_push [] log r s.earlier (earlier_new r may);
   }

@@ -28,14 +28,14 @@ abbrev pub is_last_run : ℕ → Option (ℕ × ℕ) → Bool
 is_last_run run None = false
 is_last_run run (Some p) = run == p.0
 
--- an LSN that is there and below another, and one that is there and not below it
+-- an LSN that is there and below another, and one that is there and above it
 abbrev pub is_before : ℕ → Option ℕ → Bool
 is_before at None = false
 is_before at (Some n) = nat_lt n at
 
-abbrev pub is_since : ℕ → Option ℕ → Bool
-is_since at None = false
-is_since at (Some n) = not (nat_lt n at)
+abbrev pub is_after : ℕ → Option ℕ → Bool
+is_after at None = false
+is_after at (Some n) = nat_lt at n
 
 -- an LSN that may be none is below this one
 abbrev pub is_below : Option ℕ → ℕ → Bool
@@ -60,6 +60,14 @@ has_commit x tx = is_some (facts_in x tx).commit
 
 abbrev pub has_no_fate : Index → TxId → Bool
 has_no_fate x tx = not (is_some (facts_in x tx).prepare) && not (is_some (facts_in x tx).commit) && not (facts_in x tx).is_aborted
+
+-- whether some write of it stands
+abbrev pub stands : Index → TxId → Bool
+stands x tx = nat_lt 0 (facts_in x tx).standing
+
+-- what it wrote may be undone
+abbrev pub may_be_undone : Index → TxId → Bool
+may_be_undone x tx = (facts_in x tx).is_aborted || (not (is_some (facts_in x tx).prepare) && not (is_some (facts_in x tx).commit))
 
 -- others may write over what this one wrote
 abbrev pub may_be_covered : Index → TxId → TxId → Bool
@@ -127,7 +135,7 @@ add_fits x tx key = may_write x tx && adds_over x tx key
 -- the list and the set of those whom a PREPARE lists
 abbrev pub prepare_fits_by : Index → ℕ → TxId → List TxId → List TxId → Bool
 prepare_fits_by x lsn tx predecessors listed =
-    is_some x.last && is_since x.restart_at (facts_in x tx).last_update && has_no_fate x tx && list_all (may_be_listed x tx) predecessors
+    is_some x.last && is_after x.restart_at (newest_by x.writes tx) && has_no_fate x tx && list_all (may_be_listed x tx) predecessors
     && all_clear x tx listed lsn
 
 abbrev pub prepare_fits : Index → ℕ → TxId → List TxId → Bool
@@ -141,10 +149,10 @@ abbrev pub commit_fits : Index → List LogRecord → ℕ → TxId → List ℕ 
 commit_fits x records lsn tx parts =
     is_some x.last && not (is_some (facts_in x tx).commit) && not (facts_in x tx).is_aborted && not (nat_in x.shard parts)
     && list_all (has_commit x) (listed_at records (facts_in x tx).prepare) && (is_some (facts_in x tx).prepare || all_clear x tx [] lsn) && home_allows x records (facts_in x tx) tx parts
-    && (is_some (facts_in x tx).first_update || some_parts parts)
+    && (stands x tx || some_parts parts)
 
 abbrev pub abort_fits : Index → TxId → Bool
-abort_fits x tx = is_some x.last && is_some (facts_in x tx).first_update && not (is_some (facts_in x tx).commit) && not (facts_in x tx).is_aborted
+abort_fits x tx = is_some x.last && stands x tx && not (is_some (facts_in x tx).commit) && not (facts_in x tx).is_aborted
 
 abbrev pub is_at : ℕ → Option ℕ → Bool
 is_at n None = false
@@ -157,7 +165,7 @@ compensates_write x tx undo_next key after (Some w) =
 
 abbrev pub clr_fits : Index → TxId → Option ℕ → ℕ → Option ValueType → Bool
 clr_fits x tx undo_next key after =
-    is_some x.last && (facts_in x tx).is_aborted && compensates_write x tx undo_next key after (write_at x.writes (newest_by x.writes tx))
+    is_some x.last && may_be_undone x tx && compensates_write x tx undo_next key after (write_at x.writes (newest_by x.writes tx))
 
 abbrev pub compensates_add : Index → TxId → Option ℕ → ℕ → ℕ → Option Write → Bool
 compensates_add x tx undo_next key by None = false
@@ -166,7 +174,7 @@ compensates_add x tx undo_next key by (Some w) =
 
 abbrev pub unadd_fits : Index → TxId → Option ℕ → ℕ → ℕ → Bool
 unadd_fits x tx undo_next key by =
-    is_some x.last && (facts_in x tx).is_aborted && compensates_add x tx undo_next key by (write_at x.writes (newest_by x.writes tx))
+    is_some x.last && may_be_undone x tx && compensates_add x tx undo_next key by (write_at x.writes (newest_by x.writes tx))
 
 abbrev pub end_fits : Index → List LogRecord → TxId → Bool
 end_fits x records tx = is_some x.last && not (facts_in x tx).is_ended && some_parts (parts_at records (facts_in x tx).commit)

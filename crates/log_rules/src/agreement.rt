@@ -5,7 +5,7 @@ ghost use Rattle.std.specs.List.{list_all};
 ghost use Rattle.clv_base.specs.Orders.{nat_in};
 ghost use Rattle.clv_base.specs.LogRules.{all_logs_from, any_log_from, agrees_at, is_home_of, first_apart, apart as apart_in};
 ghost use Rattle.log_analysis.specs.Facts.{KnowAll};
-ghost use Rattle.log_rules.specs.Agreement.{is_part_or_silent, agrees_on, commits_on};
+ghost use Rattle.log_rules.specs.Agreement.{is_part_or_undone, agrees_on, commits_on};
 
 use crate::Memory;
 use crate::committed::committed;
@@ -51,14 +51,14 @@ fn is_among(shard: usize, parts: &[u32]) -> bool
 }
 
 fn allows(other: &IndexedLog, tx: TxId, home: usize, parts: &[u32], shard: usize) -> bool
-    ensures { result ≡ is_part_or_silent tx home parts.now shard other.now }
+    ensures { result ≡ is_part_or_undone tx home parts.now shard other.now }
 {
-    shard == home || !other.names(tx) || is_among(shard, parts)
+    shard == home || is_among(shard, parts) || other.is_undone(tx)
 }
 
-// Whether all other logs with a record of the transaction are those of parts.
+// Whether all other logs are those of parts, or have undone what they have of the transaction.
 fn others_are_parts(logs: &[IndexedLog], tx: TxId, home: usize, parts: &[u32]) -> bool
-    ensures { result ≡ all_logs_from 0 (is_part_or_silent tx home parts.now) logs.now }
+    ensures { result ≡ all_logs_from 0 (is_part_or_undone tx home parts.now) logs.now }
 {
     for (shard, other) in logs.iter().enumerate() {
         if !allows(other, tx, home, parts, shard) {
@@ -140,9 +140,9 @@ fn first_homeless(logs: &[IndexedLog], txs: &[TxId]) -> Option<TxId>
 
 /// The least transaction on which the logs disagree, the log of shard i at place i, by what each says of each transaction; none
 /// where they agree. They agree on a transaction that has a COMMIT where one shard is its home: its log has the COMMIT, and no
-/// PREPARE for another home; each other log with a record of it is that of a part of this COMMIT; each part's log has a PREPARE for
-/// this home, no ABORT, and the COMMITs of the predecessors that it lists; and where the home's log has an END, each part's log has
-/// a COMMIT.
+/// PREPARE for another home; each other log with a record of it is that of a part of this COMMIT, or has writes of it that are all
+/// compensated, with their CLRs and UNADDs, and nothing else; each part's log has a PREPARE for this home, no ABORT, and the COMMITs of the
+/// predecessors that it lists; and where the home's log has an END, each part's log has a COMMIT.
 ///
 /// `Memory` comes for want of memory alone. Takes time linear in the records and in what their PREPAREs list, times a
 /// logarithm and the number of logs.

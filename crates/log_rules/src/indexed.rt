@@ -1,10 +1,11 @@
 // A log with an index.
 
 ghost use Rattle.std.specs.Prelude.{◌≡◌, ℕ, [], is_some, unwrap_or};
-ghost use Rattle.std.specs.List.{list_any, list_all};
-ghost use Rattle.clv_base.specs.Logs.{is_record_of, committed_in, ended_in, prepare_of, commit_parts};
-ghost use Rattle.clv_base.specs.LogRules.{home_is, listed_in, part_agrees};
+ghost use Rattle.std.specs.List.{list_all};
+ghost use Rattle.clv_base.specs.Logs.{committed_in, ended_in, prepare_of, commit_parts};
+ghost use Rattle.clv_base.specs.LogRules.{home_is, is_undone_in, listed_in, part_agrees};
 ghost use Rattle.log_analysis.specs.Facts.{Knows, facts_of};
+ghost use Rattle.log_rules.specs.Agreement.{is_undone_by};
 
 use clv_base::logs::LogRecord;
 use clv_base::names::TxId;
@@ -12,6 +13,17 @@ use log_analysis::LogFacts;
 use log_analysis::facts::TxFacts;
 use log_analysis::lists::{home_at, listed_at, parts_at};
 use std::marker::Model;
+
+// Whether nothing stands, and nothing but writes and what compensates them is there.
+fn has_undone(says: TxFacts) -> bool
+    ensures { result ≡ is_undone_by says }
+{
+    says.standing == 0
+        && says.prepare.is_none()
+        && says.commit.is_none()
+        && !says.is_aborted
+        && !says.is_ended
+}
 
 // A log with what it says of each transaction, seen as the log.
 #[derive(Drop)]
@@ -58,11 +70,11 @@ impl<'a> IndexedLog<'a> {
         self.says(tx).is_ended
     }
 
-    // Whether the log has any record of the transaction.
-    pub fn names(&self, tx: TxId) -> bool
-        ensures { result ≡ list_any (is_record_of tx) self.now }
+    // Whether the log has of the transaction compensated writes and what compensates them, and nothing else.
+    pub fn is_undone(&self, tx: TxId) -> bool
+        ensures { result ≡ is_undone_in self.now tx }
     {
-        self.says(tx).is_named
+        has_undone(self.says(tx))
     }
 
     // The shards that the transaction's COMMIT names, none where there is no COMMIT.

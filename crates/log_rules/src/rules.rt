@@ -2,7 +2,7 @@
 
 ghost use Rattle.std.specs.Prelude.{◌≡◌};
 ghost use Rattle.clv_base.specs.Orders.{nat_in};
-ghost use Rattle.log_rules.specs.Rules.{is_above as is_above_last, is_last_run as is_of_last_run, is_before as comes_before, is_since as comes_since, is_own_or_one_of, is_below as lies_below, undoes_setting, undoes_adding};
+ghost use Rattle.log_rules.specs.Rules.{is_above as is_above_last, is_last_run as is_of_last_run, is_before as comes_before, is_after as comes_after, is_own_or_one_of, is_below as lies_below, undoes_setting, undoes_adding};
 
 use crate::Memory;
 use crate::index::Index;
@@ -35,7 +35,7 @@ fn is_last_run(run: u32, last: Option<(u32, u64)>) -> bool
     }
 }
 
-// Whether the LSN is there and below the other one, and whether it is there and not below.
+// Whether the LSN is there and below the other one, and whether it is there and above.
 fn is_before(at: usize, lsn: Option<usize>) -> bool
     ensures { result ≡ comes_before at lsn }
 {
@@ -45,12 +45,12 @@ fn is_before(at: usize, lsn: Option<usize>) -> bool
     }
 }
 
-fn is_since(at: usize, lsn: Option<usize>) -> bool
-    ensures { result ≡ comes_since at lsn }
+fn is_after(at: usize, lsn: Option<u64>) -> bool
+    ensures { result ≡ comes_after at lsn }
 {
     match lsn {
         None => false,
-        Some(n) => !(n < at),
+        Some(n) => (at as u64) < n,
     }
 }
 
@@ -100,7 +100,7 @@ impl<'a> Index<'a> {
     ghost use Rattle.std.specs.Prelude.{◌≡◌, ◌==◌, ◌||◌, IfOk};
     ghost use Rattle.std.specs.List.{list_all};
     ghost use Rattle.clv_base.specs.Orders.{tx_in};
-    ghost use Rattle.log_rules.specs.Rules.{has_commit, may_be_covered, sets_over, adds_over, may_be_listed, has_no_fate, may_write, is_met, is_clear_under, all_clear, home_allows, restart_fits, update_fits, add_fits, prepare_fits_by, prepare_fits, commit_fits, abort_fits, clr_fits, unadd_fits, end_fits, fits};
+    ghost use Rattle.log_rules.specs.Rules.{has_commit, may_be_undone, may_be_covered, sets_over, adds_over, may_be_listed, has_no_fate, may_write, is_met, is_clear_under, all_clear, home_allows, restart_fits, update_fits, add_fits, prepare_fits_by, prepare_fits, commit_fits, abort_fits, clr_fits, unadd_fits, end_fits, fits};
 
     fn is_committed(&self, tx: TxId) -> bool
         ensures { result ≡ has_commit self.now tx }
@@ -114,6 +114,14 @@ impl<'a> Index<'a> {
     {
         let facts = self.facts.get(tx);
         facts.prepare.is_none() && facts.commit.is_none() && !facts.is_aborted
+    }
+
+    // Whether what it wrote may be undone: it has an ABORT, or neither a PREPARE nor a COMMIT.
+    fn may_undo(&self, tx: TxId) -> bool
+        ensures { result ≡ may_be_undone self.now tx }
+    {
+        let facts = self.facts.get(tx);
+        facts.is_aborted || (facts.prepare.is_none() && facts.commit.is_none())
     }
 
     // Whether others may write over what this one wrote: it has a PREPARE or COMMIT and no ABORT.
@@ -258,7 +266,7 @@ impl<'a> Index<'a> {
         ensures { result ≡ prepare_fits_by self.now lsn tx predecessors.now listed.now }
     {
         self.last.is_some()
-            && is_since(self.restart_at, self.facts.get(tx).last_update)
+            && is_after(self.restart_at, self.writes.newest_of(tx))
             && self.is_open(tx)
             && self.may_list_all(tx, predecessors)
             && self.covers_only(lsn, tx, listed)
@@ -306,17 +314,14 @@ impl<'a> Index<'a> {
             && self.has_committed(listed_at(records, facts.prepare))
             && (facts.prepare.is_some() || self.covers_only(lsn, tx, &nobody))
             && self.home_lets(records, facts, tx, parts)
-            && (facts.first_update.is_some() || !parts.is_empty())
+            && (facts.standing > 0 || !parts.is_empty())
     }
 
     fn takes_abort(&self, tx: TxId) -> bool
         ensures { result ≡ abort_fits self.now tx }
     {
         let facts = self.facts.get(tx);
-        self.last.is_some()
-            && facts.first_update.is_some()
-            && facts.commit.is_none()
-            && !facts.is_aborted
+        self.last.is_some() && facts.standing > 0 && facts.commit.is_none() && !facts.is_aborted
     }
 
     fn takes_clr(&self, tx: TxId, undo_next: Option<u64>, key: u64, after: &Option<Value>) -> bool
@@ -326,7 +331,7 @@ impl<'a> Index<'a> {
             return false;
         };
         self.last.is_some()
-            && self.facts.get(tx).is_aborted
+            && self.may_undo(tx)
             && w.key == key
             && is_undone_by_value(&w.change, after)
             && self.writes.top(key) == Some(w.lsn)
@@ -341,7 +346,7 @@ impl<'a> Index<'a> {
             return false;
         };
         self.last.is_some()
-            && self.facts.get(tx).is_aborted
+            && self.may_undo(tx)
             && w.key == key
             && is_undone_by_number(&w.change, by)
             && is_below(self.writes.top(key), w.lsn)

@@ -1,0 +1,6 @@
+use Rattle.std.proofs.Common.{ap}
+use Rattle.log_buffer.specs.declared.chain.Written.{Written}
+use Rattle.log_buffer.proofs.chain.Chain.undone.Goals as goal
+
+pub returns : goal.returns
+returns c = λ links h. ap (λ (w : Written). w.undone) (c.known.ensures links h)
