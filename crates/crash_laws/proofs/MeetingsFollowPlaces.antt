@@ -1,16 +1,13 @@
--- Where two operations of members meet, the earlier is of the same member or of one at an earlier place.
-use Rattle.std.proofs.Common.{◌≡◌, ◌⊎◌, inl, inr, ⊎_elim, sym, subst, ℕ, ◌<◌, true, Bool, List, ◌++◌, ◌==◌, eqb-true, arith}
-use Rattle.std.specs.List.{filter}
-use Rattle.std.proofs.lemmas.Bool.{both_ways, and_parts, false_from_ne_true}
+-- Where two operations of members meet, the earlier is of the same member or of one at an earlier place; and nobody is between one and its going
+-- back.
+use Rattle.std.proofs.Common.{◌≡◌, ◌⊎◌, inl, inr, ⊎_elim, sym, subst, ℕ, ◌<◌, true, Bool, List, ◌++◌, ◌==◌, arith, refl, ap, ◌∙◌, cond, [], ◌∷◌}
+use Rattle.std.specs.List.{filter, AllByRecursion}
+use Rattle.std.proofs.lemmas.Bool.{false_from_ne_true}
 use Rattle.std.proofs.lemmas.List.Elements.{filter-append}
 use Rattle.clv_base.specs.declared.names.TxId.{TxId}
 use Rattle.clv_base.specs.declared.logs.LogRecord.{LogRecord}
-use Rattle.clv_base.specs.declared.ops.Op.{Op}
-use Rattle.clv_base.specs.declared.ops.Op.TheVariants.{Get, Put, Del, Scan, Add}
 use Rattle.clv_base.specs.Orders.{tx_in}
-use Rattle.clv_base.specs.Folding.{meets_key}
-use Rattle.clv_base.specs.Shards.{shard_count, are_splits, span, in_span}
-use Rattle.clv_base.specs.Sessions.{lies_in}
+use Rattle.clv_base.specs.Shards.{shard_count}
 use Rattle.clv_base.specs.LogRules.{log_of}
 use Rattle.clv_base.specs.Restarts.{run_after}
 use Rattle.clv_base.specs.Journals.{History}
@@ -18,43 +15,28 @@ use Rattle.law_base.proofs.Sets.{in_filter}
 use Rattle.law_base.proofs.Lists.{all_mono, all_filter}
 use Rattle.history_laws.specs.Openings.{LegalFrom}
 use Rattle.history_laws.specs.Continuing.{serial_left}
-use Rattle.law_base.specs.Items.{Item, AllLater, Clash}
-use Rattle.shard_laws.specs.OneShard.{found_asked, place}
+use Rattle.law_base.specs.Items.{AllLater, Clash, Deed, Did, WentBack}
+use Rattle.shard_laws.specs.OneShard.{found_asked, place, doer, items_in}
 use Rattle.shard_laws.proofs.Cuts.MembersRunSerially.{in_kept}
 use Rattle.shard_laws.proofs.Keeping.LeavingKeeps.{in_more}
 use Rattle.history_laws.specs.Places.{transactions_of, StandsBefore}
 use Rattle.history_laws.proofs.Entries.LowerPlacesStandBefore.{placed_before}
 use Rattle.fate_laws.specs.Leading.{deeds_before, requests_of}
 use Rattle.fate_laws.proofs.EachShardLeads.DoubtedAreEarlier.{asked_are_old}
-use Rattle.headline_laws.specs.Shares.{LiesIn}
-use Rattle.headline_laws.proofs.TransactionsReplayByShards.SpansShareNoKey.{one_shard, between}
 use Rattle.headline_laws.proofs.MembersReplayWhereHere.WhoIsAMember.{chosen, chosen_are_members}
 use Rattle.history_laws.proofs.Logs.FoundLogsInOrder.{log_found}
-use Rattle.crash_laws.specs.Acts.{Act, Meet, member_acts, MeetingsFollowPlaces}
-use Rattle.crash_laws.proofs.Acts.ActsByShards.{later_told, later_by_shard}
-use Rattle.crash_laws.proofs.Acts.ActsAreDeeds.{told}
-use Rattle.crash_laws.proofs.Acts.MembersActOnShards.{IsFine, members_are_fine, chosen_member, deeds_run, chosen_acts, acted}
-use Rattle.law_base.proofs.Names.{written_at}
+use Rattle.crash_laws.specs.Acts.{Act, Meet, member_acts, MeetingsFollowPlaces, NobodyBetween}
+use Rattle.crash_laws.proofs.Acts.ActsByShards.{later_by_shard}
+use Rattle.crash_laws.proofs.Acts.MembersActOnShards.{IsFine, members_are_fine, chosen_member, deeds_run, chosen_acts, acted, picks}
+use Rattle.crash_laws.proofs.Acts.ActsAreDeeds.{meets_none, later_told, clash_of, between_told}
+use Rattle.crash_laws.proofs.Acts.ShardsHoldTheActs.{on, shard_on, on_shard, IsThere, meet_apart, between_all}
 use Rattle.headline_laws.proofs.PredecessorsStandBeforeWhereHere.{stands_later}
+use Rattle.serial_laws.specs.Shares.{LiesIn}
 
--- ---- what is written at a key
-
-clash_of : (n : ℕ) (x y : Item) → Meet (told n x) (told n y) → Clash x y
-clash_of n x y (k, p, q, inl w, b) = (k, p, q, (λ f. absurd (both_ways _ f (written_at x.op x.answer k w))), b)
-clash_of n x y (k, p, q, inr w, b) = (k, p, q, (λ f. written_at y.op y.answer k w), b)
-
--- ---- on two shards none meet
-
-key_lies : (splits : List ℕ) (n : ℕ) (op : Op) (k : ℕ) → lies_in splits n op ≡ true → meets_key op k ≡ true → in_span splits n k ≡ true
-key_lies splits n (Get j) k l m = subst (λ z. in_span splits n z ≡ true) (eqb-true j k m) l
-key_lies splits n (Put j v) k l m = subst (λ z. in_span splits n z ≡ true) (eqb-true j k m) l
-key_lies splits n (Del j) k l m = subst (λ z. in_span splits n z ≡ true) (eqb-true j k m) l
-key_lies splits n (Add j by) k l m = subst (λ z. in_span splits n z ≡ true) (eqb-true j k m) l
-key_lies splits n (Scan lo hi) k l m = let p = and_parts (in_span splits n lo) (in_span splits n hi) l in between (span splits n) lo hi k p.0 p.1 m
-
-meet_apart : (splits : List ℕ) (a b : Act) → are_splits splits ≡ true → LiesIn splits a.done → LiesIn splits b.done → ((a.done).shard ≡ (b.done).shard → ⊥) → Meet a b → ⊥
-meet_apart splits a b s p q n (k, x, y, w, z) =
-    n (one_shard splits (a.done).shard (b.done).shard k s p.0 q.0 (key_lies splits (a.done).shard (a.done).op k p.1 x) (key_lies splits (b.done).shard (b.done).op k q.1 y))
+-- the acts on a shard, by the shard of each
+same_on : (n : ℕ) (as_ : List Act) → on n as_ ≡ filter (λ a. shard_on a.done == n) as_
+same_on n [] = refl
+same_on n (a ∷ as_) = ap (λ b. cond b (a ∷ on n as_) (on n as_)) (on_shard n a.done) ∙ ap (λ l. cond (shard_on a.done == n) (a ∷ l) l) (same_on n as_)
 
 -- ---- who is none of the first ones stands behind them
 
@@ -62,6 +44,9 @@ module _ {splits : List ℕ} {before after : List (List LogRecord)} {h : History
   where
     abbrev Follows : Act → Act → Type 0
     Follows a b = Meet a b → (a.tx ≡ b.tx) ⊎ StandsBefore a.tx b.tx (transactions_of (serial_left splits before h after choice))
+
+    abbrev WhoIs : TxId → Type 0
+    WhoIs t = (t.run ≡ run_after before) × (tx_in t (transactions_of (serial_left splits before h after choice)) ≡ true)
 
     -- ---- on one shard
 
@@ -78,22 +63,41 @@ module _ {splits : List ℕ} {before after : List (List LogRecord)} {h : History
         subst (StandsBefore p t) (sym names) (stands_later p t (filter pick found) (filter pick (requests_of h))
         (false_from_ne_true _ (λ j. absurd (let old = asked_are_old splits before n l.opens (log_found l n i) p (in_filter pick p found j).0 in omega (arith, old, rp)))) b)
 
-    on_one : (n : ℕ) → n < shard_count splits → AllLater Follows (filter (λ a. (a.done).shard == n) (member_acts splits before h after choice))
+    on_one : (n : ℕ) → n < shard_count splits → AllLater Follows (on n (member_acts splits before h after choice))
     on_one n i =
         subst (AllLater Follows) (chosen_acts l choice n i)
-        (later_told (λ x. ((x.tx).run ≡ run_after before) × (tx_in x.tx (transactions_of (serial_left splits before h after choice)) ≡ true)) _ Follows (told n)
+        (later_told n (λ x. WhoIs x.tx) (λ x y. Clash x y → (x.tx ≡ y.tx) ⊎ (place asked x.tx < place asked y.tx)) Follows (λ a b k m. absurd (meets_none a b k m))
         (λ x y p q r m. ⊎_elim (λ e. inl e) (λ less. inr (by_place n i x.tx y.tx p.0 q.0 q.1 less)) (r (clash_of n x y m)))
-        (filter (λ x. chosen splits before h after choice n x.tx) (deeds_before before h after n).items)
-        (all_mono _ _ (λ x p. (p.0, subst (λ b. b ≡ true) (chosen_member l choice n i x.tx p.0) p.1)) (filter (λ x. chosen splits before h after choice n x.tx) (deeds_before before h after n).items)
-        (all_filter (λ x. (x.tx).run ≡ run_after before) (λ x. chosen splits before h after choice n x.tx) (deeds_before before h after n).items (deeds_run l choice n i)))
-        (acted l choice n i).2)
+        (picks l choice n i) (items_placed (picks l choice n i) placed) (acted l choice n i).2)
+      where
+        asked : List TxId
+        asked = filter (chosen splits before h after choice n) (found_asked n (log_of before n) ++ requests_of h)
+
+        placed : AllByRecursion (λ d. WhoIs (doer d)) (picks l choice n i)
+        placed =
+            all_mono _ _ (λ d p. (p.0, subst (λ b. b ≡ true) (chosen_member l choice n i (doer d) p.0) p.1)) (picks l choice n i)
+            (all_filter (λ d. (doer d).run ≡ run_after before) (λ d. chosen splits before h after choice n (doer d)) (deeds_before before h after n).done (deeds_run l choice n i))
+
+        items_placed : (ds : List Deed) → AllByRecursion (λ d. WhoIs (doer d)) ds → AllByRecursion (λ x. WhoIs x.tx) (items_in ds)
+        items_placed [] a = tt
+        items_placed (Did x ∷ ds) a = (a.0, items_placed ds a.1)
+        items_placed (WentBack tx number upto ∷ ds) a = items_placed ds a.1
+
+    pub between_one : (n : ℕ) → n < shard_count splits → NobodyBetween [] (on n (member_acts splits before h after choice))
+    between_one n i = subst (NobodyBetween []) (chosen_acts l choice n i) (between_told n [] (picks l choice n i) (acted l choice n i).3)
 
     -- ---- on all
 
+    each_there : AllByRecursion (IsThere splits) (member_acts splits before h after choice)
+    each_there = all_mono (IsFine splits before) (IsThere splits) (λ a p. p.1) (member_acts splits before h after choice) (members_are_fine splits before h after choice l.legal)
+
     on_all : AllLater Follows (member_acts splits before h after choice)
     on_all =
-        later_by_shard (λ a. (a.done).shard) (λ a. LiesIn splits a.done) Follows (λ a b p q n m. absurd (meet_apart splits a b l.legal.splits_rise p q n m)) (shard_count splits) (member_acts splits before h after choice)
-        (all_mono (IsFine splits before) _ (λ a p. (p.1, (p.1).0)) (member_acts splits before h after choice) (members_are_fine splits before h after choice l.legal)) on_one
+        later_by_shard (λ a. shard_on a.done) (λ a. LiesIn splits a.done) Follows (λ a b p q n m. absurd (n (meet_apart splits a b l.legal.splits_rise p q m))) (shard_count splits) (member_acts splits before h after choice) each_there
+        (λ n i. subst (AllLater Follows) (same_on n (member_acts splits before h after choice)) (on_one n i))
+
+    between_everywhere : NobodyBetween [] (member_acts splits before h after choice)
+    between_everywhere = between_all splits l.legal.splits_rise [] (member_acts splits before h after choice) tt each_there between_one
 
 pub meetings_follow_places : MeetingsFollowPlaces
-meetings_follow_places splits before h after choice l = on_all l choice
+meetings_follow_places splits before h after choice l = (on_all l choice, between_everywhere l choice)

@@ -4,7 +4,7 @@ use Rattle.std.proofs.lemmas.Bool.{false_from_ne_true}
 use Rattle.clv_base.specs.declared.names.TxId.{TxId}
 use Rattle.clv_base.specs.declared.logs.LogRecord.{LogRecord}
 use Rattle.clv_base.specs.declared.events.Event.{Event}
-use Rattle.clv_base.specs.declared.events.Event.TheVariants.{Op, Request as RequestEvent, Look, Drop, Send, Deliver, Remind, FlushOut, FlushIn, Stop, Restart}
+use Rattle.clv_base.specs.declared.events.Event.TheVariants.{Op, RollTo, Request as RequestEvent, Look, Drop, Send, Deliver, Remind, FlushOut, FlushIn, Stop, Restart}
 use Rattle.clv_base.specs.declared.events.Outcome.{Outcome}
 use Rattle.clv_base.specs.declared.events.Outcome.TheVariants.{Durable}
 use Rattle.clv_base.specs.declared.events.Entry.{Entry}
@@ -31,6 +31,7 @@ use Rattle.ended_laws.proofs.Following.{works_of, no_work_follows_a_request, onl
 
 may_come : (tx : TxId) (q : Request) (e : Event) → works_for tx e ≡ false → (is_by_log q.state ≡ true) ⊎ (asks_for tx e ≡ false) → MayCome tx q e
 may_come tx q (Op t birth nth seen op) w a = w
+may_come tx q (RollTo t nth seen upto) w a = w
 may_come tx q (RequestEvent t ts) w a = w
 may_come tx q (Look t) w (inl l) = inr l
 may_come tx q (Look t) w (inr o) = inl o
@@ -45,6 +46,7 @@ may_come tx q Restart w a = tt
 
 none_asks : (t : TxId) (e : Event) → names t e ≡ false → asks_for t e ≡ false
 none_asks t (Op tx birth nth seen op) h = h
+none_asks t (RollTo tx nth seen upto) h = h
 none_asks t (RequestEvent tx ts) h = h
 none_asks t (Look tx) h = h
 none_asks t (Drop tx) h = refl
@@ -99,6 +101,7 @@ event_same : (log : List LogRecord) (s : Shard) (tx : TxId) (q : Request) (e : E
 event_same log s tx q FlushIn x o m n = flush_same s tx q x o
 event_same log s tx q Restart x o m n = absurd (n refl)
 event_same log s tx q (Op t birth nth seen op) x o m n = (happens_same s tx q (Op t birth nth seen op) o m, happens_over s tx q (Op t birth nth seen op) _ refl o m)
+event_same log s tx q (RollTo t nth seen upto) x o m n = (happens_same s tx q (RollTo t nth seen upto) o m, happens_over s tx q (RollTo t nth seen upto) _ refl o m)
 event_same log s tx q (RequestEvent t ts) x o m n = (happens_same s tx q (RequestEvent t ts) o m, happens_over s tx q (RequestEvent t ts) _ refl o m)
 event_same log s tx q (Look t) x o m n = (happens_same s tx q (Look t) o m, happens_over s tx q (Look t) _ refl o m)
 event_same log s tx q (Drop t) x o m n = (happens_same s tx q (Drop t) o m, happens_over s tx q (Drop t) _ refl o m)

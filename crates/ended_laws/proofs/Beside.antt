@@ -4,7 +4,7 @@ use Rattle.std.proofs.lemmas.Bool.{false_from_ne_true}
 use Rattle.clv_base.specs.declared.names.TxId.{TxId}
 use Rattle.clv_base.specs.declared.logs.LogRecord.{LogRecord}
 use Rattle.clv_base.specs.declared.events.Event.{Event}
-use Rattle.clv_base.specs.declared.events.Event.TheVariants.{Op, Request as RequestEvent, Look, Drop, Send, Deliver, Remind, FlushOut, FlushIn, Stop, Restart}
+use Rattle.clv_base.specs.declared.events.Event.TheVariants.{Op, RollTo, Request as RequestEvent, Look, Drop, Send, Deliver, Remind, FlushOut, FlushIn, Stop, Restart}
 use Rattle.clv_base.specs.declared.events.Outcome.{Outcome}
 use Rattle.clv_base.specs.declared.events.Outcome.TheVariants.{Durable}
 use Rattle.clv_base.specs.declared.events.Entry.{Entry}
@@ -48,6 +48,7 @@ no_prepare_comes_home splits before pre n e post after tx home seen stamp l (inl
 
 may_meet : (tx : TxId) (e : Event) → names tx e ≡ false → (IsPrepareOf tx e → ⊥) → MayMeet tx e
 may_meet tx (Op t birth nth seen op) w n = w
+may_meet tx (RollTo t nth seen upto) w n = w
 may_meet tx (RequestEvent t ts) w n = w
 may_meet tx (Look t) w n = tt
 may_meet tx (Drop t) w n = w
@@ -99,6 +100,7 @@ event_same : (log : List LogRecord) (s : Shard) (tx : TxId) (e : Event) (x : Out
 event_same log s tx FlushIn x p m n = flush_same s tx x p
 event_same log s tx Restart x p m n = absurd (n refl)
 event_same log s tx (Op t birth nth seen op) x p m n = (happens_same s tx (Op t birth nth seen op) p m, happens_past s tx (Op t birth nth seen op) _ refl p m)
+event_same log s tx (RollTo t nth seen upto) x p m n = (happens_same s tx (RollTo t nth seen upto) p m, happens_past s tx (RollTo t nth seen upto) _ refl p m)
 event_same log s tx (RequestEvent t ts) x p m n = (happens_same s tx (RequestEvent t ts) p m, happens_past s tx (RequestEvent t ts) _ refl p m)
 event_same log s tx (Look t) x p m n = (happens_same s tx (Look t) p m, happens_past s tx (Look t) _ refl p m)
 event_same log s tx (Drop t) x p m n = (happens_same s tx (Drop t) p m, happens_past s tx (Drop t) _ refl p m)

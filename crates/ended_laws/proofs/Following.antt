@@ -4,7 +4,7 @@ use Rattle.std.proofs.lemmas.Bool.{both_ways, false_from_ne_true, or_cases}
 use Rattle.clv_base.specs.declared.names.TxId.{TxId}
 use Rattle.clv_base.specs.declared.logs.LogRecord.{LogRecord}
 use Rattle.clv_base.specs.declared.events.Event.{Event}
-use Rattle.clv_base.specs.declared.events.Event.TheVariants.{Op, Request, Look, Drop, Send, Deliver, Remind, FlushOut, FlushIn, Stop, Restart}
+use Rattle.clv_base.specs.declared.events.Event.TheVariants.{Op, RollTo, Request, Look, Drop, Send, Deliver, Remind, FlushOut, FlushIn, Stop, Restart}
 use Rattle.clv_base.specs.declared.events.Outcome.{Outcome}
 use Rattle.clv_base.specs.declared.events.Outcome.TheVariants.{Asked, Dead, Acknowledged, Aborted, Dropped}
 use Rattle.clv_base.specs.declared.events.Entry.{Entry}
@@ -42,11 +42,13 @@ same_walker splits before after h r x u t l i j e f s = sym (walker_of splits be
 
 pub works_of : (t : TxId) (e : Event) → works_for t e ≡ true → (tx_of e ≡ Some t) × (works_on t.serial e ≡ true)
 works_of t (Op tx birth nth seen op) h = (ap Some (sym (tx_true t tx h)), eq-eqb tx.serial t.serial (ap (λ z. z.serial) (sym (tx_true t tx h))))
+works_of t (RollTo tx nth seen upto) h = (ap Some (sym (tx_true t tx h)), eq-eqb tx.serial t.serial (ap (λ z. z.serial) (sym (tx_true t tx h))))
 works_of t (Request tx ts) h = (ap Some (sym (tx_true t tx h)), eq-eqb tx.serial t.serial (ap (λ z. z.serial) (sym (tx_true t tx h))))
 works_of t _ h = absurd (both_ways false refl h)
 
 names_of : (t : TxId) (e : Event) → names t e ≡ true → tx_of e ≡ Some t
 names_of t (Op tx birth nth seen op) h = ap Some (sym (tx_true t tx h))
+names_of t (RollTo tx nth seen upto) h = ap Some (sym (tx_true t tx h))
 names_of t (Request tx ts) h = ap Some (sym (tx_true t tx h))
 names_of t (Look tx) h = ap Some (sym (tx_true t tx h))
 names_of t (Drop tx) h = ap Some (sym (tx_true t tx h))
@@ -54,12 +56,14 @@ names_of t _ h = absurd (both_ways false refl h)
 
 asks_of : (t : TxId) (e : Event) → asks_for t e ≡ true → names t e ≡ true
 asks_of t (Op tx birth nth seen op) h = h
+asks_of t (RollTo tx nth seen upto) h = h
 asks_of t (Request tx ts) h = h
 asks_of t (Look tx) h = h
 asks_of t _ h = absurd (both_ways false refl h)
 
 asks_by : (t : TxId) (e : Event) → asks_for t e ≡ names_by false t e
 asks_by t (Op tx birth nth seen op) = refl
+asks_by t (RollTo tx nth seen upto) = refl
 asks_by t (Request tx ts) = refl
 asks_by t (Look tx) = refl
 asks_by t (Drop tx) = refl
@@ -73,6 +77,7 @@ asks_by t Restart = refl
 
 all_by : (t : TxId) (e : Event) → names t e ≡ names_by true t e
 all_by t (Op tx birth nth seen op) = refl
+all_by t (RollTo tx nth seen upto) = refl
 all_by t (Request tx ts) = refl
 all_by t (Look tx) = refl
 all_by t (Drop tx) = refl
@@ -107,6 +112,7 @@ success_of t _ o h = absurd (both_ways false refl h)
 
 abort_of : (t : TxId) (e : Event) (o : Outcome) → is_abort t e o ≡ true → tx_of e ≡ Some t
 abort_of t (Op tx birth nth seen op) (Dead cause) h = ap Some (sym (tx_true t tx h))
+abort_of t (RollTo tx nth seen upto) (Dead cause) h = ap Some (sym (tx_true t tx h))
 abort_of t (Request tx ts) (Dead cause) h = ap Some (sym (tx_true t tx h))
 abort_of t (Look tx) (Aborted cause) h = ap Some (sym (tx_true t tx h))
 abort_of t (Drop tx) Dropped h = ap Some (sym (tx_true t tx h))
@@ -185,6 +191,8 @@ nothing_follows_a_later_one splits before pre n e post after t l (m, r, u, i, f,
 dead_of : (t : TxId) (e : Event) (o : Outcome) → dies t e o ≡ true → (tx_of e ≡ Some t) × (ended_by e o ≡ Some t.serial) × (works_on t.serial e ≡ true)
 dead_of t (Op tx birth nth seen op) (Dead cause) h =
     let q = sym (tx_true t tx h) in (ap Some q, ap (λ z. Some z.serial) q, eq-eqb tx.serial t.serial (ap (λ z. z.serial) q))
+dead_of t (RollTo tx nth seen upto) (Dead cause) h =
+    let q = sym (tx_true t tx h) in (ap Some q, ap (λ z. Some z.serial) q, eq-eqb tx.serial t.serial (ap (λ z. z.serial) q))
 dead_of t (Request tx ts) (Dead cause) h =
     let q = sym (tx_true t tx h) in (ap Some q, ap (λ z. Some z.serial) q, eq-eqb tx.serial t.serial (ap (λ z. z.serial) q))
 dead_of t _ _ h = absurd (both_ways false refl h)
@@ -192,6 +200,7 @@ dead_of t _ _ h = absurd (both_ways false refl h)
 -- one entry doesn't do both
 not_both : (t : TxId) (e : Event) (o : Outcome) → dies t e o ≡ true → request_of e o ≡ Some t → ⊥
 not_both t (Op tx birth nth seen op) (Dead cause) h q = absurd cc
+not_both t (RollTo tx nth seen upto) (Dead cause) h q = absurd cc
 not_both t (Request tx ts) (Dead cause) h q = absurd cc
 not_both t _ _ h q = absurd (both_ways false refl h)
 

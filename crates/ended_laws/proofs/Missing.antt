@@ -8,14 +8,14 @@ use Rattle.std.proofs.lemmas.Bool.{both_ways}
 use Rattle.clv_base.specs.declared.names.TxId.{TxId}
 use Rattle.clv_base.specs.declared.names.Birth.{Birth}
 use Rattle.clv_base.specs.declared.ops.Op.{Op}
-use Rattle.clv_base.specs.declared.causes.AbortCause.TheVariants.{Restarted as RestartedCause}
+use Rattle.clv_base.specs.declared.causes.AbortCause.TheVariants.{Asked as AskedCause, Restarted as RestartedCause}
 use Rattle.clv_base.specs.declared.causes.Vote.{Vote}
 use Rattle.clv_base.specs.declared.messages.Message.{Message}
 use Rattle.clv_base.specs.declared.messages.Message.TheVariants.{Prepare, Vote as VoteMessage, Decide, Done, Ask}
 use Rattle.clv_base.specs.declared.events.Event.{Event}
-use Rattle.clv_base.specs.declared.events.Event.TheVariants.{Op as OpEvent, Request as RequestEvent, Look, Drop, Send, Deliver, Remind, FlushOut, FlushIn, Stop, Restart}
+use Rattle.clv_base.specs.declared.events.Event.TheVariants.{Op as OpEvent, RollTo, Request as RequestEvent, Look, Drop, Send, Deliver, Remind, FlushOut, FlushIn, Stop, Restart}
 use Rattle.clv_base.specs.declared.events.Outcome.{Outcome}
-use Rattle.clv_base.specs.declared.events.Outcome.TheVariants.{Acknowledged, Aborted, Taken, NotYet, Stale, Down, Dead, Asked}
+use Rattle.clv_base.specs.declared.events.Outcome.TheVariants.{Acknowledged, Aborted, Taken, NotYet, Stale, Down, Dead, Rolled, Asked}
 use Rattle.clv_base.specs.declared.state.Stage.{Stage}
 use Rattle.clv_base.specs.declared.state.Stage.TheVariants.{Active, Closed, Gone}
 use Rattle.clv_base.specs.declared.state.Request.{Request}
@@ -27,14 +27,15 @@ use Rattle.clv_base.specs.Orders.{tx_cmp, tx_same, tx_in, tx_get}
 use Rattle.clv_base.specs.Logs.{committed_in, fitting}
 use Rattle.clv_base.specs.State.{Shard, with_local}
 use Rattle.clv_base.specs.Undo.{stage_of}
+use Rattle.clv_base.specs.Backs.{count_after, standing_numbers}
 use Rattle.clv_base.specs.Facts.{facts_of, has_durable_commit}
 use Rattle.clv_base.specs.Participant.{taken_by, asks}
 use Rattle.clv_base.specs.Coordinator.{others, takes_vote, with_vote_of, takes_done, with_done_of, ask_answer, doom_cause, prepares, missing_votes, missing_dones, each_request, home_reminders}
 use Rattle.clv_base.specs.OneShard.{OpReply, OpWaits, OpCrowded, OpDies, OpAnswers, op_reply, seen_fits, close_part}
 use Rattle.clv_base.specs.Due.{send}
-use Rattle.clv_base.specs.Events.{QuietBeforeWorn, Does, finish, op_event, is_alone, epoch_in, coordinate, request_by_stage, request_event, request_epoch, look_lost, look_state, look_known, drop_event, owe_vote, on_prepare, with_votes, on_vote, on_decide, with_done, on_done, ask_messages, on_ask, on_message, to_of, send_event, durable_requests, waiting_voters, remind_with, reminders, taken, out_event, happen_up}
+use Rattle.clv_base.specs.Events.{QuietBeforeWorn, Does, finish, op_event, roll_by_stage, roll_event, is_alone, epoch_in, coordinate, request_by_stage, request_event, request_epoch, look_lost, look_state, look_known, drop_event, owe_vote, on_prepare, with_votes, on_vote, on_decide, with_done, on_done, ask_messages, on_ask, on_message, to_of, send_event, durable_requests, waiting_voters, remind_with, reminders, taken, out_event, happen_up}
 use Rattle.clv_base.proofs.SameNames.{tx_true}
-use Rattle.history_cases.proofs.Stepping.{Step, op_dies, op_answers, request_new, request_closes, drops, sends, prepare_closes, prepare_again, vote_counts, decision_comes, decision_again, done_counts, asked, reminds, flushes}
+use Rattle.history_cases.proofs.Stepping.{Step, op_dies, op_answers, rolls_back, request_new, request_closes, drops, sends, prepare_closes, prepare_again, vote_counts, decision_comes, decision_again, done_counts, asked, reminds, flushes}
 use Rattle.ended_laws.specs.Requests.{without, forgets, forgetful, IsOver, is_by_log, MayCome, NobodyMissesIt}
 use Rattle.ended_laws.proofs.Reading.{no_vote, no_done, same_answer, same_look, no_prepare, no_decide}
 use Rattle.ended_laws.proofs.Rows.{get_own, get_without, set_without, put_without, OwnRowsAre, own_rows, each_without, keys_without}
@@ -88,6 +89,20 @@ module _ (s : Shard) (tx : TxId) (q : Request) (over : IsOver s tx q) where
   request : (u : TxId) (ts : List (ℕ × ℕ)) (b : Bool) → tx_same tx u ≡ false → seen_fits s.local.epoch (epoch_in s.shard ts) ≡ b → request_event (forgets tx s) u ts b ≡ forgetful tx (request_event s u ts b)
   request u ts true d f = by_stage u ts (stage_of s.local u) d f refl
   request u ts false d f = idly _
+
+  -- ---- goings back
+
+  rolling : (u : TxId) (nth seen upto : ℕ) (st : Option Stage) → tx_same tx u ≡ false → (seen == s.local.epoch) ≡ true → stage_of s.local u ≡ st
+      → roll_by_stage (forgets tx s) u (count_after upto (standing_numbers u s.journal)) st ≡ forgetful tx (roll_by_stage s u (count_after upto (standing_numbers u s.journal)) st)
+  rolling u nth seen upto None d f e = idly Rolled
+  rolling u nth seen upto (Some Active) d f e = done_by _ (rolls_back u nth seen upto f e) d
+  rolling u nth seen upto (Some Closed) d f e = idly (Dead AskedCause)
+  rolling u nth seen upto (Some (Gone None)) d f e = idly (Dead AskedCause)
+  rolling u nth seen upto (Some (Gone (Some x))) d f e = idly (Dead (doom_cause u x))
+
+  going_back : (u : TxId) (nth seen upto : ℕ) (b : Bool) → tx_same tx u ≡ false → (seen == s.local.epoch) ≡ b → roll_event (forgets tx s) u seen upto b ≡ forgetful tx (roll_event s u seen upto b)
+  going_back u nth seen upto false d f = idly _
+  going_back u nth seen upto true d f = rolling u nth seen upto (stage_of s.local u) d f refl
 
   -- ---- looks
 
@@ -264,6 +279,7 @@ module _ (s : Shard) (tx : TxId) (q : Request) (over : IsOver s tx q) where
 
   up : (e : Event) → MayCome tx q e → happen_up (forgets tx s) e ≡ forgetful tx (happen_up s e)
   up (OpEvent u birth nth seen op) m = operation u birth nth seen op (op_reply s.shard s.local u birth seen op) m refl
+  up (RollTo u nth seen upto) m = going_back u nth seen upto (seen == s.local.epoch) m refl
   up (RequestEvent u ts) m = request u ts (seen_fits s.local.epoch (epoch_in s.shard ts)) m refl
   up (Look u) m = look u (has_durable_commit (facts_of s u)) m
   up (Drop u) m = dropping u (stage_of s.local u) refl

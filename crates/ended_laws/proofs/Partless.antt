@@ -21,7 +21,7 @@ use Rattle.clv_base.specs.declared.state.Ruling.{Ruling}
 use Rattle.clv_base.specs.declared.state.Ruling.TheVariants.{Commit as CommitVerdict, Acknowledge, Abort as AbortVerdict, End as EndVerdict}
 use Rattle.clv_base.specs.Orders.{Table, tx_same, tx_in, tx_get}
 use Rattle.clv_base.specs.declared.changes.Change.{Change}
-use Rattle.clv_base.specs.Logs.{wrote_in, commit_lsn, prepare_lsn}
+use Rattle.clv_base.specs.Logs.{has_standing, undone_lsn, commit_lsn, prepare_lsn}
 use Rattle.clv_base.specs.Locks.{decide}
 use Rattle.clv_base.specs.State.{Local, Shard, with_local, is_present}
 use Rattle.clv_base.specs.Undo.{stage_of, doomed_by, doomed_here, release_parts, undo, gone_part, take_away, roll_back}
@@ -147,11 +147,12 @@ facts_by l durable u o =
     record {
       state = state_by (elim o as (λ z. Option Stage) [ Some h ↦ Some h.stage | None ↦ None ]);
       now = l.epoch;
-      updates = wrote_in l.log u;
+      updates = has_standing l.log u;
       restored = is_restored_by o;
       doom = doom_by (elim o as (λ z. Option Stage) [ Some h ↦ Some h.stage | None ↦ None ]);
       prepare = prepare_lsn l.log u;
       commit = commit_lsn l.log u;
+      rolled = undone_lsn l.log u;
       undecided = length (undecided_of l u);
       due_lsn = due_lsn_of l u;
       durable = durable;

@@ -32,11 +32,11 @@ use Rattle.law_base.proofs.Stages.{written_parts}
 use Rattle.law_base.proofs.Tables.{get_put}
 use Rattle.protocol_laws.proofs.DependentsHaveParts.{keys_stay}
 use Rattle.protocol_laws.proofs.Due.WhatEventsTouch.{set_other}
-use Rattle.history_cases.proofs.Stepping.{commits, votes, rules, KeptByDue, settled, Step, op_dies, op_answers, request_new, request_closes, drops, prepare_closes, prepare_again, vote_counts, decision_comes, done_counts, Happens, finishes, stops, happened}
+use Rattle.history_cases.proofs.Stepping.{commits, votes, rules, KeptByDue, settled, Step, op_dies, op_answers, rolls_back, request_new, request_closes, drops, prepare_closes, prepare_again, vote_counts, decision_comes, done_counts, Happens, finishes, stops, happened}
 use Rattle.history_laws.proofs.Entries.WhatOperationsDo.{OpIs, dies, rolls, performs, reply_is}
 use Rattle.ended_laws.specs.Parts.{owes_none, IsPast, MayMeet, PastStaysPast}
 use Rattle.ended_laws.proofs.Rows.{put_rises, set_rises}
-use Rattle.ended_laws.proofs.Staying.{Leaves, leaves_same, leaves_append, leaves_finished, leaves_rolled, leaves_dropped, leaves_closed, leaves_reply, absent_after}
+use Rattle.ended_laws.proofs.Staying.{Leaves, leaves_same, leaves_append, leaves_finished, leaves_rolled, leaves_dropped, leaves_back, leaves_closed, leaves_reply, absent_after}
 
 -- ---- parts rise
 
@@ -154,6 +154,7 @@ step_past s _ tx (op_dies u birth nth seen op cause l e) p m =
 step_past s _ tx (op_answers u birth nth seen op answer l e) p m =
     let is = reply_is s.shard s.local u birth seen op (OpAnswers answer l) e in
     past_local s tx l p ((reply_rises u birth seen op s.local (OpAnswers answer l) is p.parts_rise).0 answer l refl) ((leaves_reply tx u birth seen op s.local (OpAnswers answer l) is m p.is_gone).0 answer l refl)
+step_past s _ tx (rolls_back u nth seen upto f e) p m = past_local s tx _ p p.parts_rise (leaves_back tx u _ s.local)
 step_past s _ tx (request_new u ts f e) p m = past_stays s _ tx p p.parts_rise p.voters_rise (put_rises u _ s.requests p.requests_rise) refl (put_other tx u _ s.requests m) (leaves_same tx s.local)
 step_past s _ tx (request_closes u ts f e) p m =
     past_stays s _ tx p (rise_by s.local.parts _ (keys_stay _ s.local.parts) p.parts_rise) p.voters_rise (put_rises u _ s.requests p.requests_rise) refl (put_other tx u _ s.requests m)

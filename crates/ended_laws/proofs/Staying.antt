@@ -21,9 +21,9 @@ use Rattle.clv_base.specs.declared.state.Ruling.{Ruling}
 use Rattle.clv_base.specs.declared.state.Ruling.TheVariants.{Commit as CommitVerdict, Acknowledge, Abort as AbortVerdict, End as EndVerdict}
 use Rattle.clv_base.specs.Orders.{tx_same, tx_in, tx_get, tx_put}
 use Rattle.clv_base.specs.declared.changes.Change.{Change}
-use Rattle.clv_base.specs.Logs.{is_commit_of, committed_in, wrote_in, standing}
+use Rattle.clv_base.specs.Logs.{is_commit_of, committed_in, has_standing, standing}
 use Rattle.clv_base.specs.State.{Local, Shard, is_present}
-use Rattle.clv_base.specs.Undo.{stage_of, doomed_by, doomed_here, aborts_of, clrs_of, release_parts, roll_back}
+use Rattle.clv_base.specs.Undo.{stage_of, doomed_by, doomed_here, aborts_of, clrs_of, release_parts, roll_back, roll_to}
 use Rattle.clv_base.specs.Facts.{facts_of, doom_by, undecided_of}
 use Rattle.clv_base.specs.Coordinator.{others, takes_vote, takes_done, ruling_by, ruled_request}
 use Rattle.clv_base.specs.OneShard.{OpReply, OpAnswers, OpDies, written, locked, performed, rolled_back_if, without_part, closing, close_part, drop_part, purge}
@@ -35,7 +35,7 @@ use Rattle.law_base.proofs.Sets.{Rise, in_filter}
 use Rattle.law_base.proofs.Stages.{gone_by, stage_own, stage_other, stage_marked, closed_other, other_part}
 use Rattle.law_base.proofs.Tables.{stage_by, get_put}
 use Rattle.protocol_laws.proofs.Due.WhatEventsTouch.{set_other}
-use Rattle.history_cases.proofs.Stepping.{commits, votes, rules, KeptByDue, settled, Step, op_dies, op_answers, request_new, request_closes, drops, prepare_closes, vote_counts, decision_comes, done_counts, Happens, finishes, stops, happened}
+use Rattle.history_cases.proofs.Stepping.{commits, votes, rules, KeptByDue, settled, Step, op_dies, op_answers, rolls_back, request_new, request_closes, drops, prepare_closes, vote_counts, decision_comes, done_counts, Happens, finishes, stops, happened}
 use Rattle.history_laws.proofs.Entries.WhatOperationsDo.{OpIs, dies, rolls, performs, reply_is}
 use Rattle.ended_laws.specs.Requests.{IsDone, IsOver, MayCome, OverStaysOver}
 use Rattle.ended_laws.proofs.Reading.{no_vote, no_done, no_ruling}
@@ -109,7 +109,11 @@ leaves_dropped tx u l g =
 
 -- another part that closes
 pub leaves_closed : (tx u : TxId) (home : ℕ) (alone : Bool) (l : Local) → tx_same u tx ≡ false → Leaves tx l (close_part u home alone l)
-leaves_closed tx u home alone l o = record { stays = still_in l.log (closing (wrote_in l.log u) alone u home (undecided_of l u)) tx; fades = inl (closed_other l.parts u tx o) }
+leaves_closed tx u home alone l o = record { stays = still_in l.log (closing (has_standing l.log u) alone u home (undecided_of l u)) tx; fades = inl (closed_other l.parts u tx o) }
+
+-- a going back
+pub leaves_back : (tx u : TxId) (n : ℕ) (l : Local) → Leaves tx l (roll_to u n l)
+leaves_back tx u n l = record { stays = still_in l.log _ tx; fades = inl refl }
 
 -- another's operation
 leaves_written : (tx u : TxId) (w : Option (ℕ × Change)) (l : Local) → Leaves tx l (written u w l)
@@ -219,6 +223,7 @@ put_other tx u p s o = get_put u tx p s.requests ∙ cond-false (tx_same tx u) (
 pub step_leaves : (s t : Shard) (tx : TxId) (q : Request) {e : Event} {o : Outcome} → Step s e o t → IsOver s tx q → MayCome tx q e → IsOver t tx q
 step_leaves s _ tx q (op_dies u birth nth seen op cause l e) o m = over_stays s _ tx q o refl o.rises refl ((leaves_reply tx u birth seen op s.local (OpDies cause l) (reply_is s.shard s.local u birth seen op (OpDies cause l) e) m o.is_gone).1 cause l refl)
 step_leaves s _ tx q (op_answers u birth nth seen op answer l e) o m = over_stays s _ tx q o refl o.rises refl ((leaves_reply tx u birth seen op s.local (OpAnswers answer l) (reply_is s.shard s.local u birth seen op (OpAnswers answer l) e) m o.is_gone).0 answer l refl)
+step_leaves s _ tx q (rolls_back u nth seen upto f e) o m = over_stays s _ tx q o refl o.rises refl (leaves_back tx u _ s.local)
 step_leaves s _ tx q (request_new u ts f e) o m = over_stays s _ tx q o refl (put_rises u _ s.requests o.rises) (put_other tx u _ s m) (leaves_same tx s.local)
 step_leaves s _ tx q (request_closes u ts f e) o m =
     over_stays s _ tx q o refl (put_rises u _ s.requests o.rises) (put_other tx u _ s m) (leaves_closed tx u s.shard _ s.local (not_here s.local tx u o.is_gone e))

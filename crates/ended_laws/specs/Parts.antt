@@ -6,7 +6,7 @@ use Rattle.clv_base.specs.declared.names.TxId.{TxId}
 use Rattle.clv_base.specs.declared.messages.Message.{Message}
 use Rattle.clv_base.specs.declared.messages.Message.TheVariants.{Prepare}
 use Rattle.clv_base.specs.declared.events.Event.{Event}
-use Rattle.clv_base.specs.declared.events.Event.TheVariants.{Op as OpEvent, Request as RequestEvent, Drop, Deliver}
+use Rattle.clv_base.specs.declared.events.Event.TheVariants.{Op as OpEvent, RollTo, Request as RequestEvent, Drop, Deliver}
 use Rattle.clv_base.specs.declared.events.Outcome.{Outcome}
 use Rattle.clv_base.specs.declared.state.Voter.{Voter}
 use Rattle.clv_base.specs.Orders.{tx_cmp, tx_same, tx_get}
@@ -49,6 +49,7 @@ IsNoPrepareOf tx _ = ⊤
 
 abbrev pub MayMeet : TxId → Event → Type 0
 MayMeet tx (OpEvent t birth nth seen op) = tx_same tx t ≡ false
+MayMeet tx (RollTo t nth seen upto) = tx_same tx t ≡ false
 MayMeet tx (RequestEvent t touched) = tx_same tx t ≡ false
 MayMeet tx (Drop t) = tx_same tx t ≡ false
 MayMeet tx (Deliver m stamp) = IsNoPrepareOf tx m

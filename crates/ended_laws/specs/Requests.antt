@@ -5,7 +5,7 @@ use Rattle.std.specs.List.Sorted.{IsStrictlySortedBy}
 use Rattle.std.specs.Map.{keys_of}
 use Rattle.clv_base.specs.declared.names.TxId.{TxId}
 use Rattle.clv_base.specs.declared.events.Event.{Event}
-use Rattle.clv_base.specs.declared.events.Event.TheVariants.{Op as OpEvent, Request as RequestEvent, Look}
+use Rattle.clv_base.specs.declared.events.Event.TheVariants.{Op as OpEvent, RollTo, Request as RequestEvent, Look}
 use Rattle.clv_base.specs.declared.events.Outcome.{Outcome}
 use Rattle.clv_base.specs.Orders.{Table, tx_cmp, tx_same, tx_get, nat_in}
 use Rattle.clv_base.specs.Logs.{committed_in}
@@ -59,6 +59,7 @@ is_by_log (Refused cause) = false
 -- what no session makes any more once it was told, or goes by the log
 abbrev pub MayCome : TxId → Request → Event → Type 0
 MayCome tx q (OpEvent t birth nth seen op) = tx_same tx t ≡ false
+MayCome tx q (RollTo t nth seen upto) = tx_same tx t ≡ false
 MayCome tx q (RequestEvent t touched) = tx_same tx t ≡ false
 MayCome tx q (Look t) = (tx_same tx t ≡ false) ⊎ (is_by_log q.state ≡ true)
 MayCome tx q _ = ⊤

@@ -3,7 +3,7 @@ use Rattle.std.specs.Prelude.{◌≡◌, ℕ, ◌<◌, Bool, false, true, ◌||�
 use Rattle.clv_base.specs.declared.names.TxId.{TxId}
 use Rattle.clv_base.specs.declared.logs.LogRecord.{LogRecord}
 use Rattle.clv_base.specs.declared.events.Event.{Event}
-use Rattle.clv_base.specs.declared.events.Event.TheVariants.{Op, Request, Look, Drop}
+use Rattle.clv_base.specs.declared.events.Event.TheVariants.{Op, RollTo, Request, Look, Drop}
 use Rattle.clv_base.specs.declared.events.Outcome.{Outcome}
 use Rattle.clv_base.specs.declared.events.Outcome.TheVariants.{Dead}
 use Rattle.clv_base.specs.declared.events.Entry.{Entry}
@@ -13,15 +13,17 @@ use Rattle.clv_base.specs.History.{Legal, IsAmong, is_acknowledgement, request_o
 use Rattle.protocol_laws.specs.SessionLaws.{tx_of}
 use Rattle.history_laws.specs.Outcomes.{is_abort}
 
--- an operation or a request of the transaction; or a look; or a drop
+-- an operation, a going back or a request of the transaction; or a look; or a drop
 abbrev pub works_for : TxId → Event → Bool
 works_for t (Op tx birth nth seen op) = tx_same t tx
+works_for t (RollTo tx nth seen upto) = tx_same t tx
 works_for t (Request tx touched) = tx_same t tx
 works_for t _ = false
 
 abbrev pub asks_for : TxId → Event → Bool
 asks_for t (Look tx) = tx_same t tx
 asks_for t (Op tx birth nth seen op) = tx_same t tx
+asks_for t (RollTo tx nth seen upto) = tx_same t tx
 asks_for t (Request tx touched) = tx_same t tx
 asks_for t _ = false
 
@@ -29,6 +31,7 @@ abbrev pub names : TxId → Event → Bool
 names t (Drop tx) = tx_same t tx
 names t (Look tx) = tx_same t tx
 names t (Op tx birth nth seen op) = tx_same t tx
+names t (RollTo tx nth seen upto) = tx_same t tx
 names t (Request tx touched) = tx_same t tx
 names t _ = false
 
@@ -51,7 +54,7 @@ Behind Was does =
     (splits : List ℕ) (before : List (List LogRecord)) (so_far : History) (n : ℕ) (e : Entry) (later : History) (after : List (List LogRecord)) (t : TxId)
     → Legal splits before (so_far ++ (n, e) ∷ later) after → Was so_far t → does t e.event ≡ false
 
--- behind its request there is no operation and no further request of it
+-- behind its request there is no operation, no going back and no further request of it
 abbrev pub NoWorkFollowsARequest : Type 0
 NoWorkFollowsARequest = Behind WasRequested works_for
 
@@ -67,9 +70,10 @@ NothingFollowsSuccess = Behind WasAcknowledged names
 abbrev pub NothingFollowsALaterOne : Type 0
 NothingFollowsALaterOne = Behind WasFollowed names
 
--- an operation or a request of it died
+-- an operation, a going back or a request of it died
 abbrev pub dies : TxId → Event → Outcome → Bool
 dies t (Op tx birth nth seen op) (Dead cause) = tx_same t tx
+dies t (RollTo tx nth seen upto) (Dead cause) = tx_same t tx
 dies t (Request tx touched) (Dead cause) = tx_same t tx
 dies t _ _ = false
 

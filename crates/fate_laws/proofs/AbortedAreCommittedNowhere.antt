@@ -11,7 +11,7 @@ use Rattle.clv_base.specs.declared.state.Request.{Request}
 use Rattle.clv_base.specs.declared.state.RequestState.{RequestState}
 use Rattle.clv_base.specs.declared.state.RequestState.TheVariants.{Undecided, Committed, Finished, Refused}
 use Rattle.clv_base.specs.declared.events.Event.{Event}
-use Rattle.clv_base.specs.declared.events.Event.TheVariants.{Op as OpEvent, Request as RequestEvent, Look, Drop, Deliver}
+use Rattle.clv_base.specs.declared.events.Event.TheVariants.{Op as OpEvent, Request as RequestEvent, Look, Drop, Deliver, RollTo}
 use Rattle.clv_base.specs.declared.events.Outcome.{Outcome}
 use Rattle.clv_base.specs.declared.events.Outcome.TheVariants.{Asked, Aborted, Dead as DeadOutcome, Dropped}
 use Rattle.clv_base.specs.declared.events.Entry.{Entry}
@@ -324,12 +324,14 @@ module _ {splits : List ℕ} {before after : List (List LogRecord)} {h : History
 -- an entry that tells of an abort
 data TellsAbort (tx : TxId) : Event → Outcome → Type 0 where
   operated : (birth : Birth) (nth : ℕ) (seen : Option ℕ) (op : Op) (cause : AbortCause) → TellsAbort tx (OpEvent tx birth nth seen op) (DeadOutcome cause)
+  went_back : (nth seen upto : ℕ) (cause : AbortCause) → TellsAbort tx (RollTo tx nth seen upto) (DeadOutcome cause)
   requested : (ts : List (ℕ × ℕ)) (cause : AbortCause) → TellsAbort tx (RequestEvent tx ts) (DeadOutcome cause)
   looked : (cause : AbortCause) → TellsAbort tx (Look tx) (Aborted cause)
   dropped : TellsAbort tx (Drop tx) Dropped
 
 tells_abort : (tx : TxId) (e : Event) (o : Outcome) → is_abort tx e o ≡ true → TellsAbort tx e o
 tells_abort tx (OpEvent u birth nth seen op) (DeadOutcome cause) a = subst (λ v. TellsAbort tx (OpEvent v birth nth seen op) (DeadOutcome cause)) (tx_true tx u a) (operated birth nth seen op cause)
+tells_abort tx (RollTo u nth seen upto) (DeadOutcome cause) a = subst (λ v. TellsAbort tx (RollTo v nth seen upto) (DeadOutcome cause)) (tx_true tx u a) (went_back nth seen upto cause)
 tells_abort tx (RequestEvent u ts) (DeadOutcome cause) a = subst (λ v. TellsAbort tx (RequestEvent v ts) (DeadOutcome cause)) (tx_true tx u a) (requested ts cause)
 tells_abort tx (Look u) (Aborted cause) a = subst (λ v. TellsAbort tx (Look v) (Aborted cause)) (tx_true tx u a) (looked cause)
 tells_abort tx (Drop u) Dropped a = subst (λ v. TellsAbort tx (Drop v) Dropped) (tx_true tx u a) dropped
@@ -338,6 +340,11 @@ tells_abort tx _ _ a = absurd (both_ways false refl a)
 told_nowhere : {splits : List ℕ} {before after : List (List LogRecord)} {h : History} → LegalFrom splits before h after → (choice : ℕ → Bool) (n : ℕ) (x : Placed) (tx : TxId) {e : Event} {o : Outcome}
     → (x.1).event ≡ e → (x.1).outcome ≡ o → TellsAbort tx e o → n < shard_count splits → Among x h → is_abort tx (x.1).event (x.1).outcome ≡ true → is_left splits before h after choice n tx ≡ true → ⊥
 told_nowhere l choice n x tx f g (operated birth nth seen op cause) i j a c =
+    died_nowhere l choice n x tx i j (ap tx_of f) (ap (works_on tx.serial) f ∙ eq-eqb tx.serial tx.serial refl) a (λ z. differ (sym g ∙ z)) c
+  where
+    differ : DeadOutcome cause ≡ Asked → ⊥
+    differ z = absurd cc
+told_nowhere l choice n x tx f g (went_back nth seen upto cause) i j a c =
     died_nowhere l choice n x tx i j (ap tx_of f) (ap (works_on tx.serial) f ∙ eq-eqb tx.serial tx.serial refl) a (λ z. differ (sym g ∙ z)) c
   where
     differ : DeadOutcome cause ≡ Asked → ⊥

@@ -8,7 +8,7 @@ pub mod EntriesEndTheDying
 pub mod FrontsHaveCauses
 pub mod SeenWasAnswered
 pub mod WhyOneDies
-use Rattle.std.proofs.Common.{◌≡◌, inl, inr, ⊎_elim, refl, sym, ap, subst, ◌∙◌, ℕ, ◌<◌, true, false, cond, Bool, List, [], ◌∷◌, ◌++◌, Option, Some, None, ◌==◌, arith, unwrap_or}
+use Rattle.std.proofs.Common.{◌≡◌, ◌⊎◌, inl, inr, ⊎_elim, refl, sym, ap, subst, ◌∙◌, ℕ, ◌<◌, true, false, cond, Bool, List, [], ◌∷◌, ◌++◌, Option, Some, None, ◌==◌, arith, unwrap_or}
 use Rattle.std.proofs.lemmas.Bool.{both_ways, cond-true, cond-false, eq-eqb, false_from_ne_true}
 use Rattle.clv_base.specs.declared.names.TxId.{TxId}
 use Rattle.clv_base.specs.declared.names.Birth.{Birth}
@@ -18,7 +18,7 @@ use Rattle.clv_base.specs.declared.causes.AbortCause.TheVariants.{Asked as Asked
 use Rattle.clv_base.specs.declared.logs.LogRecord.{LogRecord}
 use Rattle.clv_base.specs.declared.state.Stage.TheVariants.{Closed, Gone}
 use Rattle.clv_base.specs.declared.events.Event.{Event}
-use Rattle.clv_base.specs.declared.events.Event.TheVariants.{Op as OpEvent, Request as RequestEvent}
+use Rattle.clv_base.specs.declared.events.Event.TheVariants.{Op as OpEvent, Request as RequestEvent, RollTo}
 use Rattle.clv_base.specs.declared.events.Outcome.{Outcome}
 use Rattle.clv_base.specs.declared.events.Outcome.TheVariants.{Dead}
 use Rattle.clv_base.specs.declared.events.Entry.{Entry}
@@ -26,6 +26,7 @@ use Rattle.clv_base.specs.Orders.{tx_same}
 use Rattle.clv_base.specs.Shards.{shard_count}
 use Rattle.clv_base.specs.LogRules.{log_of}
 use Rattle.clv_base.specs.State.{Shard, Local}
+use Rattle.clv_base.specs.Undo.{stage_of}
 use Rattle.clv_base.specs.Coordinator.{doom_cause}
 use Rattle.clv_base.specs.OneShard.{OpDies, op_reply}
 use Rattle.clv_base.specs.Events.{epoch_in, is_asked_outcome, entry_request, request_epoch}
@@ -41,17 +42,17 @@ use Rattle.history_cases.proofs.Entering.{Makes, by_event, by_flush, by_failure,
 use Rattle.history_cases.proofs.Merging.{Placed, Among, among_is, from_journal, before_then, in_order, own_in_order, precedes_before}
 use Rattle.history_laws.specs.Openings.{LegalFrom}
 use Rattle.history_laws.proofs.NeverTakenBack.{walker_of, together}
-use Rattle.history_cases.proofs.Stepping.{FindsIll, Step, op_dies, Happens, finishes, stops}
+use Rattle.history_cases.proofs.Stepping.{FindsIll, Step, op_dies, Happens, finishes, stops, roll_refused, roll_doomed, roll_late}
 use Rattle.history_laws.proofs.Entries.NothingFollowsRequests.{nothing_follows}
 use Rattle.history_cases.proofs.Worlds.{state_at}
 use Rattle.history_laws.proofs.RequestsNameWhatAnswered.NamedShardsAnswered.{AnsweredAt}
-use Rattle.fate_laws.proofs.History.EntriesInTurn.{Turn, Requested, turn_of, own_precedes, named_at, op_no_request}
+use Rattle.fate_laws.proofs.History.EntriesInTurn.{Turn, Requested, turn_of, own_precedes, named_at, op_no_request, back_no_request}
 use Rattle.fate_laws.proofs.Origins.DueKeepsOrigins.{SomeRequest, part_of}
 use Rattle.fate_laws.proofs.Origins.FrontsKeepOrigins.{IsOld}
 use Rattle.fate_laws.proofs.History.EntryByEntry.{next_at}
 use Rattle.fate_laws.proofs.AbortedAreCommittedNowhere.{look_made}
-use Rattle.fate_laws.specs.Causes.{TellsCause, op_died, request_died, look_found, IsOfAnother, CausesStand}
-use Rattle.fate_laws.proofs.CausesStand.SeenWasAnswered.{lookup_row, seen_before}
+use Rattle.fate_laws.specs.Causes.{TellsCause, op_died, going_back_died, request_died, look_found, IsOfAnother, CausesStand}
+use Rattle.fate_laws.proofs.CausesStand.SeenWasAnswered.{lookup_row, seen_before, back_seen_before}
 use Rattle.fate_laws.proofs.CausesStand.WhyOneDies.{OpWhy, unseen, closed, doomed, older, RequestWhy, late, fell, op_why, request_why, seen_other}
 use Rattle.fate_laws.proofs.CausesStand.NextFrontHasCauses.{Ended, Fallen, GoneHow, RefusedHow, StateHow, Caused, fallen_more}
 use Rattle.fate_laws.proofs.CausesStand.EntriesEndTheDying.{Before_entry}
@@ -149,6 +150,74 @@ op_stands splits before after h pre e t b nth seen op c w k p (doomed d g q) =
 op_stands splits before after h pre e t b nth seen op c w k p (older o g q) =
     subst (Holds before pre after e t) (sym q) (subst (λ z. DiedOf (state_at before after e.0 pre) z o) (sym p) g, tt)
 
+-- ---- a going back
+
+-- why one dies: in another epoch, or of a part that is gone, or of one that asked
+data RollWhy (s : Shard) (t : TxId) (seen : ℕ) (c : AbortCause) : Type 0 where
+  other_epoch : (seen == s.local.epoch) ≡ false → c ≡ Restarted s.shard seen s.local.epoch → RollWhy s t seen c
+  doomed_part : (d : TxId) → stage_of s.local t ≡ Some (Gone (Some d)) → c ≡ doom_cause t d → RollWhy s t seen c
+  asked_part : (stage_of s.local t ≡ Some (Gone None)) ⊎ (stage_of s.local t ≡ Some Closed) → RollWhy s t seen c
+
+step_rolls : (s t : Shard) {ev : Event} {o : Outcome} (tx : TxId) (nth seen upto : ℕ) (c : AbortCause) → Step s ev o t → ev ≡ RollTo tx nth seen upto → o ≡ Dead c → RollWhy s tx seen c
+step_rolls s _ tx nth seen upto c (roll_refused tx' nth' seen' upto' f) p q = other_epoch (subst (λ z. (z == s.local.epoch) ≡ false) (seen_of p) f) (cause_of q)
+  where
+    seen_of : RollTo tx' nth' seen' upto' ≡ RollTo tx nth seen upto → seen' ≡ seen
+    seen_of p = cc
+
+    cause_of : Dead (Restarted s.shard seen' s.local.epoch) ≡ Dead c → c ≡ Restarted s.shard seen s.local.epoch
+    cause_of q = let e = seen_of p in cc
+step_rolls s _ tx nth seen upto c (roll_doomed tx' nth' seen' upto' d f g) p q = doomed_part d (subst (λ z. stage_of s.local z ≡ Some (Gone (Some d))) (tx_is p) g) (cause_of q)
+  where
+    tx_is : RollTo tx' nth' seen' upto' ≡ RollTo tx nth seen upto → tx' ≡ tx
+    tx_is p = cc
+
+    same_cause : (a b : AbortCause) → Dead a ≡ Dead b → b ≡ a
+    same_cause a b z = cc
+
+    cause_of : Dead (doom_cause tx' d) ≡ Dead c → c ≡ doom_cause tx d
+    cause_of q = same_cause (doom_cause tx' d) c q ∙ ap (λ z. doom_cause z d) (tx_is p)
+step_rolls s _ tx nth seen upto c (roll_late tx' nth' seen' upto' f g) p q = asked_part (subst (λ z. (stage_of s.local z ≡ Some (Gone None)) ⊎ (stage_of s.local z ≡ Some Closed)) (tx_is p) g)
+  where
+    tx_is : RollTo tx' nth' seen' upto' ≡ RollTo tx nth seen upto → tx' ≡ tx
+    tx_is p = cc
+step_rolls s t tx nth seen upto c _ p q = absurd cc
+
+happens_rolls : (s t : Shard) {ev : Event} {o : Outcome} (tx : TxId) (nth seen upto : ℕ) (c : AbortCause) → Happens s ev o t → ev ≡ RollTo tx nth seen upto → o ≡ Dead c → RollWhy s tx seen c
+happens_rolls s _ tx nth seen upto c (finishes {t = u} z f) p q = step_rolls s u tx nth seen upto c f p q
+happens_rolls s _ tx nth seen upto c (stops z) p q = absurd cc
+
+roll_made : (log : List LogRecord) (s t : Shard) {ev : Event} {o : Outcome} (tx : TxId) (nth seen upto : ℕ) (c : AbortCause) → Makes log s ev o t → ev ≡ RollTo tx nth seen upto → o ≡ Dead c → RollWhy s tx seen c
+roll_made log s t tx nth seen upto c (by_event g h) p q = happens_rolls s t tx nth seen upto c h p q
+roll_made log s _ tx nth seen upto c (by_flush n u f) p q = absurd cc
+roll_made log s _ tx nth seen upto c (by_failure n u f) p q = absurd cc
+roll_made log s _ tx nth seen upto c (by_restart epoch kept u g) p q = absurd cc
+
+back_asked : (splits : List ℕ) (before after : List (List LogRecord)) (h pre : History) (e : Placed) (t : TxId) (nth seen upto : ℕ) → Before_entry splits before after h pre e → (e.1).event ≡ RollTo t nth seen upto
+    → SomeRequest (Requested pre) (IsOld (run_after before)) t → ⊥
+back_asked splits before after h pre e t nth seen upto w p (inl (n, r)) = back_no_request splits before after h pre e t nth seen upto n w.legal w.behind p r
+back_asked splits before after h pre e t nth seen upto w p (inr o) = let z = (walker_of splits before after h e t w.legal (w.behind).here (ap tx_of p)).0 in omega (arith, o, z)
+
+back_saw : (splits : List ℕ) (before after : List (List LogRecord)) (h pre : History) (e : Placed) (t : TxId) (nth seen upto : ℕ) → Before_entry splits before after h pre e → (e.1).event ≡ RollTo t nth seen upto → WasAnswered pre e.0 t seen
+back_saw splits before after h pre e t nth seen upto w p =
+    let g = together splits before after h e e t w.legal (w.behind).here (w.behind).here (ap tx_of p) (ap tx_of p) in
+    let v = own (e.1).walker h in
+    let y = back_seen_before splits v (no_session (run_after before) (e.1).walker) e t nth seen upto refl g.session g.first p in
+    was_answered pre e.0 t seen y.0 ((w.behind).earlier y.0 (from_own (e.1).walker y.0 h (first_among y.0 e v y.1)) (precedes_before y.0 e v (own_in_order (e.1).walker h (in_order h (w.legal).ordered)) y.1)) y.2
+
+works_back : (e : Placed) (t : TxId) (nth seen upto : ℕ) → (e.1).event ≡ RollTo t nth seen upto → works_on t.serial (e.1).event ≡ true
+works_back e t nth seen upto p = subst (λ z. works_on t.serial z ≡ true) (sym p) (eq-eqb t.serial t.serial refl)
+
+back_stands : (splits : List ℕ) (before after : List (List LogRecord)) (h pre : History) (e : Placed) (t : TxId) (nth seen upto : ℕ) (c : AbortCause) → Before_entry splits before after h pre e
+    → Caused (run_after before) before after pre e.0 (state_at before after e.0 pre) → (e.1).event ≡ RollTo t nth seen upto → RollWhy (state_at before after e.0 pre) t seen c → Holds before pre after e t c
+back_stands splits before after h pre e t nth seen upto c w k p (other_epoch f q) =
+    restarted_stands before after pre e (state_at before after e.0 pre) t seen c refl ((w.traced).origins).shard q f (back_saw splits before after h pre e t nth seen upto w p)
+back_stands splits before after h pre e t nth seen upto c w k p (doomed_part d g q) =
+    doomed_stands (run_after before) before after pre e t d c q (nothing_after splits before after h pre e t w (ap tx_of p) (works_back e t nth seen upto p)) (k.gone t d g)
+back_stands splits before after h pre e t nth seen upto c w k p (asked_part g) =
+    let s = state_at before after e.0 pre in
+    let o = (w.traced).origins in
+    absurd (back_asked splits before after h pre e t nth seen upto w p (⊎_elim (λ x. (part_of e.0 s.local.epoch _ _ _ _ _ s t (Gone None) o x).3) (λ x. (part_of e.0 s.local.epoch _ _ _ _ _ s t Closed o x).3) g))
+
 -- ---- a request
 
 -- what a request names was answered, before it
@@ -229,6 +298,12 @@ tells {splits} {before} {after} {h} l pre e post _ _ _ _ q p r (op_died t b nth 
     let w = before_entry l pre e post q in
     let d = op_made (log_of after e.0) s _ t b nth seen op c (makes (log_of after e.0) s (e.1).event (e.1).outcome ((x.split).enters).event) p r in
     op_stands splits before after h pre e t b nth seen op c w (caused_front l pre (e ∷ post) e.0 q x.inside) p (op_why s.shard s.local d.0 t b seen op c d.1)
+tells {splits} {before} {after} {h} l pre e post _ _ _ _ q p r (going_back_died t nth seen upto c) =
+    let s = state_at before after e.0 pre in
+    let x = next_at splits before after h pre e post l.legal q in
+    let w = before_entry l pre e post q in
+    back_stands splits before after h pre e t nth seen upto c w (caused_front l pre (e ∷ post) e.0 q x.inside) p
+    (roll_made (log_of after e.0) s _ t nth seen upto c (makes (log_of after e.0) s (e.1).event (e.1).outcome ((x.split).enters).event) p r)
 tells {splits} {before} {after} {h} l pre e post _ _ _ _ q p r (request_died t ts c) =
     let s = state_at before after e.0 pre in
     let x = next_at splits before after h pre e post l.legal q in

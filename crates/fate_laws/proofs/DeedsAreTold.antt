@@ -10,25 +10,24 @@ use Rattle.clv_base.specs.declared.events.Outcome.{Outcome}
 use Rattle.clv_base.specs.declared.events.Outcome.TheVariants.{Answered}
 use Rattle.clv_base.specs.declared.events.Entry.{Entry}
 use Rattle.clv_base.specs.Orders.{tx_same, tx_in}
-use Rattle.clv_base.specs.Locks.{violated}
-use Rattle.clv_base.specs.Needs.{needs_of}
+use Rattle.clv_base.specs.OneShard.{violated_here}
 use Rattle.clv_base.specs.LogRules.{log_of}
 use Rattle.clv_base.specs.State.{Shard}
 use Rattle.clv_base.specs.Journals.{History, journal_of, start_of, after_entry, got_predecessors, predecessors_in}
-use Rattle.clv_base.specs.History.{is_acknowledgement, acknowledged_in, ops_in, state_before}
+use Rattle.clv_base.specs.History.{is_acknowledgement, acknowledged_in, state_before}
 use Rattle.clv_base.proofs.SameNames.{tx_flip}
-use Rattle.shard_laws.specs.OneShard.{Deeds, no_deeds, items_of, has_met, new_met}
+use Rattle.shard_laws.specs.OneShard.{Deeds, no_deeds, deeds_of, has_met, new_met}
 use Rattle.history_cases.proofs.Merging.{Placed}
-use Rattle.history_laws.proofs.Entries.WhatEntriesAdd.{items_next, told_next}
+use Rattle.history_laws.specs.Telling.{told_in, told_by}
+use Rattle.history_laws.proofs.Entries.WhatEntriesAdd.{deeds_next, told_next}
 use Rattle.fate_laws.specs.Leading.{deeds_with, deeds_after, own_deeds, deeds_before}
 use Rattle.fate_laws.specs.FallTelling.{own_entries, DeedsAreTold}
 use Rattle.fate_laws.proofs.History.DeedsOfOneEntry.{deeds_own, deeds_other}
 use Rattle.fate_laws.proofs.Waits.WaitsGoDown.{in_union}
-use Rattle.law_base.proofs.Names.{ops_append, item_told as told_pair}
 
 -- what the front tells the shard did
 pub record Tells (before after : List (List LogRecord)) (n : ℕ) (t : TxId) (pre : History) : Type 0 where
-  pub items : ops_in t (own_entries n pre) ≡ map told_pair (items_of t (deeds_before before pre after n).items)
+  pub done : told_in t (own_entries n pre) ≡ map told_by (deeds_of t (deeds_before before pre after n).done)
   pub told : tx_in t (deeds_before before pre after n).told ≡ acknowledged_in (own_entries n pre) t
 
 own_push : (n : ℕ) (pre : History) (y : Placed) → own_entries n (pre ++ y ∷ []) ≡ own_entries n pre ++ cond (y.0 == n) (y ∷ []) []
@@ -51,7 +50,7 @@ module _ (before after : List (List LogRecord)) (n : ℕ) (t : TxId) where
       let e = deeds_own before after n x pre in
       let o = own_entries n pre in
       record {
-        items = ap (ops_in t) (pushed pre x) ∙ ops_append t o ((n, x) ∷ []) ∙ sym (ops_append t o ((0, x) ∷ [])) ∙ items_next o x s d.items t k.items ∙ ap (λ z. map told_pair (items_of t z.items)) (sym e);
+        done = ap (told_in t) (pushed pre x) ∙ deeds_next n o x s d.done t k.done ∙ ap (λ z. map told_by (deeds_of t z.done)) (sym e);
         told = ap (λ z. tx_in t z.told) e ∙ told_next o x d.told t k.told
             ∙ list_any-append (λ z. is_acknowledgement t (z.1).event (z.1).outcome) o ((0, x) ∷ []) ∙ sym (list_any-append (λ z. is_acknowledgement t (z.1).event (z.1).outcome) o ((n, x) ∷ [])) ∙ ap (λ l. acknowledged_in l t) (sym (pushed pre x));
       }
@@ -61,7 +60,7 @@ module _ (before after : List (List LogRecord)) (n : ℕ) (t : TxId) where
       let e : own_deeds before (pre ++ y ∷ []) after n ≡ own_deeds before pre after n = deeds_other before after n y pre b in
       let o : own_entries n (pre ++ y ∷ []) ≡ own_entries n pre = own_push n pre y ∙ ap (λ c. own_entries n pre ++ cond c (y ∷ []) []) b ∙ append-nil (own_entries n pre) in
       record {
-        items = ap (ops_in t) o ∙ k.items ∙ ap (λ z. map told_pair (items_of t z.items)) (sym e);
+        done = ap (told_in t) o ∙ k.done ∙ ap (λ z. map told_by (deeds_of t z.done)) (sym e);
         told = ap (λ z. tx_in t z.told) e ∙ k.told ∙ ap (λ l. acknowledged_in l t) (sym o);
       }
 
@@ -87,8 +86,8 @@ met_here tx p (q ∷ qs) t s e =
 got_met : (s : Shard) (t p : TxId) (e : Event) (o : Outcome) → tx_in p (got_predecessors s t e o) ≡ true → has_met (new_met s e o) t p ≡ true
 got_met s t p (OpEvent tx birth nth seen op) (Answered a n) e = at (tx_same t tx) refl e
   where
-    at : (b : Bool) → tx_same t tx ≡ b → tx_in p (cond b (violated tx (needs_of op s.local.records) s.local.locks) []) ≡ true → has_met (map (λ q. (tx, q)) (violated tx (needs_of op s.local.records) s.local.locks)) t p ≡ true
-    at true f g = met_here tx p (violated tx (needs_of op s.local.records) s.local.locks) t f g
+    at : (b : Bool) → tx_same t tx ≡ b → tx_in p (cond b (violated_here s.local tx op) []) ≡ true → has_met (map (λ q. (tx, q)) (violated_here s.local tx op)) t p ≡ true
+    at true f g = met_here tx p (violated_here s.local tx op) t f g
     at false f g = absurd (both_ways false refl g)
 got_met s t p (OpEvent tx birth nth seen op) _ e = absurd (both_ways false refl e)
 got_met s t p _ o e = absurd (both_ways false refl e)
@@ -113,5 +112,5 @@ met_in log d s (x ∷ xs) t p e =
 
 pub deeds_are_told : DeedsAreTold
 deeds_are_told before so_far after n t =
-    let k = all_tell before after n t [] so_far (record { items = refl; told = refl }) in
-    (sym k.items, k.told, (λ p e. met_in (log_of after n) no_deeds (start_of before n) (journal_of n so_far) t p e))
+    let k = all_tell before after n t [] so_far (record { done = refl; told = refl }) in
+    (sym k.done, k.told, (λ p e. met_in (log_of after n) no_deeds (start_of before n) (journal_of n so_far) t p e))

@@ -8,7 +8,8 @@ pub mod MessagesMayCome
 pub mod WhatCommitsFind
 pub mod WhoAsksHere
 pub mod DeedsWereAnswered
-use Rattle.std.proofs.Common.{◌≡◌, inr, refl, sym, ap, subst, ◌∙◌, ℕ, ◌<◌, true, false, Bool, List, [], ◌∷◌, ◌++◌, Option, Some, None, ◌==◌, eqb-true, append-nil, append_assoc, length}
+pub mod NumbersRise
+use Rattle.std.proofs.Common.{◌≡◌, inr, refl, sym, ap, subst, ◌∙◌, ℕ, ◌<◌, true, false, Bool, List, [], ◌∷◌, ◌++◌, map, Option, Some, None, ◌==◌, eqb-true, append-nil, append_assoc, length}
 use Rattle.std.specs.List.{AllByRecursion}
 use Rattle.std.proofs.lemmas.Bool.{both_ways, false_from_ne_true, or_right}
 use Rattle.std.proofs.lemmas.List.Folds.{list_any-append}
@@ -17,7 +18,7 @@ use Rattle.clv_base.specs.declared.logs.LogRecord.{LogRecord}
 use Rattle.clv_base.specs.declared.messages.Message.{Message}
 use Rattle.clv_base.specs.declared.messages.Message.TheVariants.{Prepare, Vote as VoteMessage, Decide, Done, Ask}
 use Rattle.clv_base.specs.declared.events.Event.{Event}
-use Rattle.clv_base.specs.declared.events.Event.TheVariants.{Op as OpEvent, Request as RequestEvent, Drop, Deliver, Restart}
+use Rattle.clv_base.specs.declared.events.Event.TheVariants.{Op as OpEvent, RollTo, Request as RequestEvent, Drop, Deliver, Restart}
 use Rattle.clv_base.specs.declared.events.Outcome.{Outcome}
 use Rattle.clv_base.specs.declared.events.Entry.{Entry}
 use Rattle.clv_base.specs.Orders.{tx_same, tx_in}
@@ -29,10 +30,11 @@ use Rattle.clv_base.specs.Events.{Does, happen, with_entry}
 use Rattle.clv_base.specs.Restarts.{run_after}
 use Rattle.clv_base.specs.Journals.{History, start_of, event_state, after_entry}
 use Rattle.clv_base.specs.History.{Legal, request_of, state_before}
+use Rattle.law_base.specs.Items.{Did}
 use Rattle.law_base.proofs.Lists.{all_mono}
 use Rattle.protocol_laws.specs.SessionLaws.{tx_of}
 use Rattle.history_laws.specs.Openings.{LegalFrom}
-use Rattle.shard_laws.specs.OneShard.{Deeds, deeds_found, Leads, opens, happens, lands, revives, MayServe, MayHappen, MayDeliver, with_one, new_item, new_told, new_met, doomed_in, found_items, found_asked}
+use Rattle.shard_laws.specs.OneShard.{Deeds, deeds_found, Leads, opens, happens, lands, revives, MayServe, MayHappen, MayDeliver, with_one, new_deed, new_told, new_met, doomed_in, found_items, found_asked}
 use Rattle.history_cases.proofs.Entering.{Makes, by_event, by_flush, by_failure, by_restart, makes}
 use Rattle.history_cases.proofs.Merging.{Placed}
 use Rattle.history_cases.proofs.OldRuns.{below_next_run}
@@ -40,12 +42,12 @@ use Rattle.history_laws.proofs.NeverTakenBack.{is_request, walker_of}
 use Rattle.history_laws.proofs.Entries.WalkedEntryByEntry.{Behind, next_entry}
 use Rattle.history_laws.proofs.Logs.FoundLogsInOrder.{found_in_order, log_found}
 use Rattle.fate_laws.proofs.History.EntriesInTurn.{Requested, request_no_request}
-use Rattle.fate_laws.proofs.Origins.FrontsKeepOrigins.{IsOld, DidOrOld, Traced, Brings, brought, traced_front}
+use Rattle.fate_laws.proofs.Origins.FrontsKeepOrigins.{IsOld, Traced, Brings, brought, traced_front}
 use Rattle.fate_laws.specs.Leading.{deeds_with, own_deeds, with_found, falling, requests_of, EachShardLeads}
 use Rattle.fate_laws.proofs.History.DeedsOfOneEntry.{deeds_own, deeds_other, state_other, requests_push}
 use Rattle.fate_laws.proofs.EachShardLeads.RestoredStayPrepared.{RestoredArePrepared, restored_prepared}
-use Rattle.fate_laws.proofs.EachShardLeads.DoubtedAreEarlier.{items_are_old, asked_are_old, met_are_old, one_after, found_with}
-use Rattle.fate_laws.proofs.EachShardLeads.SessionsMayAsk.{Here, Remembers, AskedFrom, asked_from, not_asked, may_ask, may_touch}
+use Rattle.fate_laws.proofs.EachShardLeads.DoubtedAreEarlier.{deeds_are_old, asked_are_old, met_are_old, one_after, found_with}
+use Rattle.fate_laws.proofs.EachShardLeads.SessionsMayAsk.{Here, WasDone, Remembers, AskedFrom, asked_from, not_asked, may_ask, may_touch, back_did, may_go_back}
 use Rattle.fate_laws.proofs.EachShardLeads.MessagesMayCome.{when_up, comes_to, decide_taken, may_prepare}
 use Rattle.fate_laws.proofs.EachShardLeads.WhatCommitsFind.{AllFound, DropsSpared, all_found, drops_spared}
 use Rattle.fate_laws.proofs.EachShardLeads.WhoAsksHere.{with_others, asked_own}
@@ -67,7 +69,7 @@ made : (n run : ℕ) (log0 log : List LogRecord) (asked : List TxId) (d : Deeds)
     → ((u : Shard) → happen s e ≡ Does o u → MayHappen (record d { asked = asked }) s e) → ((u : TxId) → request_of e o ≡ Some u → tx_in u asked ≡ false)
     → LeadsAs n run log0 (with_one asked (request_of e o)) (deeds_with d s (with_entry stamp walker e o t) (entry stamp walker e o)) (with_entry stamp walker e o t)
 made n run log0 log asked d s t stamp walker (by_event {e} {o} f g) l may new =
-    let now : List TxId → Deeds = λ w. record { items = with_one d.items (new_item s e o); asked = asked; told = with_one d.told (new_told e o); met = new_met s e o ++ d.met; fell = w ++ d.fell } in
+    let now : List TxId → Deeds = λ w. record { done = with_one d.done (new_deed s e o); asked = asked; told = with_one d.told (new_told e o); met = new_met s e o ++ d.met; fell = w ++ d.fell } in
     subst (λ w. LeadsAs n run log0 (with_one asked (request_of e o)) (now w) (with_entry stamp walker e o t)) (sym (falls_up s t (with_entry stamp walker e o t) e o f))
     (asked_own n run log0 (now (doomed_in t)) s t (with_entry stamp walker e o t) e o f new (happens e o t stamp walker l (may t f) f))
 made n run log0 log asked d s _ stamp walker (by_flush m u f) l may new = lands m true _ _ stamp walker l f refl
@@ -84,7 +86,7 @@ module _ (splits : List ℕ) (before after : List (List LogRecord)) (h pre : His
       may_prepare splits before after h pre n x (state_before before pre after n) (record d { asked = found ++ requests_of pre }) (log_of before n) to t home seen here leads (λ i. list_any-append (λ u. tx_same u t) found (requests_of pre) ∙ or_right (tx_in t found) (tx_in t (requests_of pre)) i) (comes_to (state_before before pre after n) (Prepare to t home seen) stamp x.outcome u f) b.0 b.1
   may_come (Decide to t home true) stamp u e b f =
       λ c.
-      let k = finds pre n x post t to home stamp q e (decide_taken (state_before before pre after n) to t home stamp x.outcome u f) c in (k.due, k.wrote, k.decided, false_from_ne_true _ (λ i. k.unfallen (m.fell t i).1))
+      let k = finds pre n x post t to home stamp q e (decide_taken (state_before before pre after n) to t home stamp x.outcome u f) c in (k.due, k.stands, k.decided, false_from_ne_true _ (λ i. k.unfallen (m.fell t i).1))
   may_come (Decide to t home false) stamp u e b f = tt
   may_come (VoteMessage to t from vote) stamp u e b f = tt
   may_come (Done to t from) stamp u e b f = tt
@@ -93,6 +95,7 @@ module _ (splits : List ℕ) (before after : List (List LogRecord)) (h pre : His
   may : (e : Event) (u : Shard) → x.event ≡ e → Brings (Requested pre) (IsOld (run_after before)) e → happen (state_before before pre after n) e ≡ Does x.outcome u → MayHappen (record d { asked = found ++ requests_of pre }) (state_before before pre after n) e
   may (OpEvent t birth nth seen op) u e b f =
       may_touch splits before after h pre n x (state_before before pre after n) t birth nth seen op here e d (found ++ requests_of pre) from m (restored_prepared n (run_after before) (log_of before n) (record d { asked = found ++ requests_of pre }) (state_before before pre after n) leads)
+  may (RollTo t nth seen upto) u e b f = may_go_back splits before after h pre n x (state_before before pre after n) t nth seen upto here e d (found ++ requests_of pre) m
   may (RequestEvent t ts) u e b f = may_ask splits before after h pre n x (state_before before pre after n) (record d { asked = found ++ requests_of pre }) t ts here from e
   may (Drop t) u e b f = λ c. spares pre n x post t q e
   may (Deliver w stamp) u e b f = may_come w stamp u e b f
@@ -148,7 +151,7 @@ module _ {splits : List ℕ} {before after : List (List LogRecord)} {h : History
       let l : LeadsAs n run log0 (found ++ requests_of (pre ++ (n, x) ∷ [])) (deeds_with d s t x) t = subst (λ asked. LeadsAs n run log0 asked (deeds_with d s t x) t) (asked_more found pre (n, x)) l0 in
       let r = restored_prepared n run log0 (record d { asked = found ++ requests_of pre }) s a.leads in
       let r2 = restored_prepared n run log0 (record (deeds_with d s t x) { asked = found ++ requests_of (pre ++ (n, x) ∷ []) }) t l in
-      let m = remembers_own before after pre n x s t here.traced (subst (Traced run (pre ++ (n, x) ∷ []) n) (p.split).next (w2.states n inside)) r r2 refl (p.split).next d a.remembers in
+      let m = remembers_own before after pre n x s t here.traced (subst (Traced run (pre ++ (n, x) ∷ []) n) (p.split).next (w2.states n inside)) r r2 refl (p.split).next d a.remembers (λ u i seen upto v. (seen, back_did splits before after h pre n x s u i seen upto here v)) in
       let e = found_with n log0 (own_deeds before pre after n) s t x ∙ ap (with_found n log0) (sym (deeds_own before after n x pre)) in
       record {
         leads = subst (λ c. LeadsAs n run log0 (found ++ requests_of (pre ++ (n, x) ∷ [])) c (state_before before (pre ++ (n, x) ∷ []) after n)) e
@@ -197,10 +200,10 @@ begins splits before after n m l =
     let log = log_of before n in
     let run = run_after before in
     record {
-      leads = subst (λ all. Leads n run log (record (deeds_found n log) { items = all; asked = found_asked n log ++ [] }) (start_of before n)) (sym (append-nil (found_items n log)))
+      leads = subst (λ all. Leads n run log (record (deeds_found n log) { done = all; asked = found_asked n log ++ [] }) (start_of before n)) (sym (append-nil (map (λ x. Did x) (found_items n log))))
           (subst (λ asked. Leads n run log (record (deeds_found n log) { asked = asked }) (start_of before n)) (sym (append-nil (found_asked n log))) (opens (may_serve splits before n m l)));
       remembers = record {
-        items = subst (AllByRecursion (λ x. DidOrOld run [] n x.tx)) (sym (append-nil (found_items n log))) (all_mono _ _ (λ x o. inr o) (found_items n log) (items_are_old splits before n m l));
+        done = subst (AllByRecursion (WasDone run [] n)) (sym (append-nil (map (λ x. Did x) (found_items n log)))) (all_mono _ _ (λ d o. inr o) (map (λ x. Did x) (found_items n log)) (deeds_are_old splits before n m l));
         met = λ t p e. inr (met_are_old splits before n m l t p e);
         fell = λ t i. absurd (both_ways false refl i);
       };

@@ -3,5 +3,5 @@ pub mod LogOnlyGrows
 pub mod WhatAddsNoPrepare
 pub mod RestoredRequestsAreCommitted
 pub mod WhatPreparesOrCommits
-pub mod RecordNamesItsTransaction
 pub mod RestartsWriteNoUpdate
+pub mod PreparedWritesStand

@@ -1,5 +1,6 @@
 -- What binds the parts of a transaction, from its votes to its commit.
 pub mod OthersCloseOrGo
+pub mod ClosedPartsKeepWrites
 pub mod YesVotesArePrepared
 pub mod CommittedAreVotedFor
 pub mod EventsKeepParts

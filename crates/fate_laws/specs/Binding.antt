@@ -9,7 +9,7 @@ use Rattle.clv_base.specs.declared.events.Outcome.TheVariants.{Asked, Taken}
 use Rattle.clv_base.specs.declared.events.Entry.{Entry}
 use Rattle.clv_base.specs.Orders.{nat_in}
 use Rattle.clv_base.specs.Shards.{shard_count}
-use Rattle.clv_base.specs.Logs.{wrote_in, committed_in, prepared_in}
+use Rattle.clv_base.specs.Logs.{has_standing, committed_in, prepared_in}
 use Rattle.clv_base.specs.LogRules.{log_of, listed_in}
 use Rattle.clv_base.specs.State.{Shard}
 use Rattle.clv_base.specs.Facts.{predecessors_of}
@@ -19,9 +19,9 @@ use Rattle.clv_base.specs.History.{IsAmong, logs_left, state_before}
 use Rattle.history_laws.specs.Openings.{LegalFrom}
 use Rattle.fate_laws.specs.Decisions.{is_left}
 
--- on the shard the transaction wrote, and all its predecessors there have COMMITs
+-- on the shard a write of the transaction stands, and all its predecessors there have COMMITs
 abbrev pub IsDue : Shard → TxId → Type 0
-IsDue s tx = (list_all (committed_in s.local.log) (predecessors_of s.local.pairs tx) ≡ true) × (wrote_in s.local.log tx ≡ true)
+IsDue s tx = (list_all (committed_in s.local.log) (predecessors_of s.local.pairs tx) ≡ true) × (has_standing s.local.log tx ≡ true)
 
 -- so it is wherever a shard takes word of a commit, of this run or an earlier one, that isn't in its log yet
 abbrev pub CommitsComeDue : Type 0

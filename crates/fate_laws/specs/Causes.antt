@@ -7,7 +7,7 @@ use Rattle.clv_base.specs.declared.logs.LogRecord.{LogRecord}
 use Rattle.clv_base.specs.declared.causes.AbortCause.{AbortCause}
 use Rattle.clv_base.specs.declared.causes.AbortCause.TheVariants.{Predecessor}
 use Rattle.clv_base.specs.declared.events.Event.{Event}
-use Rattle.clv_base.specs.declared.events.Event.TheVariants.{Op, Request, Look}
+use Rattle.clv_base.specs.declared.events.Event.TheVariants.{Op, RollTo, Request, Look}
 use Rattle.clv_base.specs.declared.events.Outcome.{Outcome}
 use Rattle.clv_base.specs.declared.events.Outcome.TheVariants.{Dead, Aborted}
 use Rattle.clv_base.specs.declared.events.Entry.{Entry}
@@ -15,9 +15,10 @@ use Rattle.clv_base.specs.Journals.{History}
 use Rattle.clv_base.specs.History.{CauseStands}
 use Rattle.history_laws.specs.Openings.{LegalFrom}
 
--- the entry tells the transaction this cause: an operation or a request that died, or a look that found it aborted
+-- the entry tells the transaction this cause: an operation, a going back or a request that died, or a look that found it aborted
 pub data TellsCause : Event → Outcome → TxId → AbortCause → Type 0 where
   op_died : (tx : TxId) (birth : Birth) (nth : ℕ) (seen : Option ℕ) (op : Operation) (cause : AbortCause) → TellsCause (Op tx birth nth seen op) (Dead cause) tx cause
+  going_back_died : (tx : TxId) (nth seen upto : ℕ) (cause : AbortCause) → TellsCause (RollTo tx nth seen upto) (Dead cause) tx cause
   request_died : (tx : TxId) (touched : List (ℕ × ℕ)) (cause : AbortCause) → TellsCause (Request tx touched) (Dead cause) tx cause
   look_found : (tx : TxId) (cause : AbortCause) → TellsCause (Look tx) (Aborted cause) tx cause
 

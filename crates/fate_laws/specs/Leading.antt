@@ -1,5 +1,5 @@
 -- What a shard of a history of many did, and that the laws of one shard hold of it.
-use Rattle.std.specs.Prelude.{◌≡◌, ℕ, ◌<◌, List, [], ◌∷◌, ◌++◌, Some, None}
+use Rattle.std.specs.Prelude.{◌≡◌, ℕ, ◌<◌, List, [], ◌∷◌, ◌++◌, map, Some, None}
 use Rattle.clv_base.specs.declared.names.TxId.{TxId}
 use Rattle.clv_base.specs.declared.logs.LogRecord.{LogRecord}
 use Rattle.clv_base.specs.declared.events.Event.{Event}
@@ -11,8 +11,9 @@ use Rattle.clv_base.specs.State.{Shard}
 use Rattle.clv_base.specs.Restarts.{run_after}
 use Rattle.clv_base.specs.Journals.{History, journal_of, start_of, after_entry}
 use Rattle.clv_base.specs.History.{request_of, state_before}
+use Rattle.law_base.specs.Items.{Did}
 use Rattle.history_laws.specs.Openings.{LegalFrom}
-use Rattle.shard_laws.specs.OneShard.{Deeds, no_deeds, Leads, with_one, new_item, new_told, new_met, doomed_in, left_out, found_items, found_asked, found_met}
+use Rattle.shard_laws.specs.OneShard.{Deeds, no_deeds, Leads, with_one, new_deed, new_told, new_met, doomed_in, left_out, found_items, found_asked, found_met}
 
 -- ---- what a shard did
 
@@ -24,7 +25,7 @@ falling _ s t = doomed_in t
 abbrev pub deeds_with : Deeds → Shard → Shard → Entry → Deeds
 deeds_with d s t e =
     record d {
-      items = with_one d.items (new_item s e.event e.outcome);
+      done = with_one d.done (new_deed s e.event e.outcome);
       told = with_one d.told (new_told e.event e.outcome);
       met = new_met s e.event e.outcome ++ d.met;
       fell = falling e.event s t ++ d.fell;
@@ -49,7 +50,7 @@ deeds_before before so_far after n = record (own_deeds before so_far after n) { 
 
 -- with what those that its log left in doubt did before
 abbrev pub with_found : ℕ → List LogRecord → Deeds → Deeds
-with_found n log d = record { items = found_items n log ++ d.items; asked = found_asked n log ++ d.asked; told = d.told; met = d.met ++ found_met n log; fell = d.fell }
+with_found n log d = record { done = map (λ x. Did x) (found_items n log) ++ d.done; asked = found_asked n log ++ d.asked; told = d.told; met = d.met ++ found_met n log; fell = d.fell }
 
 -- ---- the laws of one shard hold of each
 

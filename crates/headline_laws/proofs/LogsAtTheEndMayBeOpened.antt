@@ -2,14 +2,14 @@
 pub mod FailedRestartsKeepLogs
 use Rattle.std.proofs.Common.{◌≡◌, ◌⊎◌, inl, inr, ⊎_elim, refl, sym, ap, subst, ◌∙◌, ℕ, ◌+◌, ◌<◌, ◌≤◌, true, false, cond, Bool, ◌||◌, ◌==◌, nat_lt, List, [], ◌∷◌, Option, Some, None, length, arith, append-nil, eqb-true}
 use Rattle.std.specs.Prelude.{is_none, take, drop}
-use Rattle.std.specs.List.{list_any, list_all}
-use Rattle.std.proofs.lemmas.Bool.{both_ways, and_parts, and_from, false_from_ne_true, ltb-true, lt-ltb}
+use Rattle.std.specs.List.{list_all}
+use Rattle.std.proofs.lemmas.Bool.{both_ways, and_parts, and_from, or_cases, false_from_ne_true, ltb-true, lt-ltb}
 use Rattle.std.proofs.lemmas.List.{take-append-drop}
 use Rattle.clv_base.specs.declared.names.TxId.{TxId}
 use Rattle.clv_base.specs.declared.logs.LogRecord.{LogRecord}
 use Rattle.clv_base.specs.Orders.{nat_in}
 use Rattle.clv_base.specs.Shards.{shard_count}
-use Rattle.clv_base.specs.Logs.{is_record_of, committed_in, wrote_in, aborted_in, ended_in, prepare_of, commit_parts, committed_somewhere, fold_updates, stands}
+use Rattle.clv_base.specs.Logs.{committed_in, wrote_in, prepared_in, aborted_in, ended_in, has_standing, prepare_of, commit_parts, committed_somewhere, fold_updates, stands}
 use Rattle.clv_base.specs.LogRules.{log_of, all_logs_from, home_is}
 use Rattle.clv_base.specs.FileRules.{may_open, log_passes, passes_file_rules}
 use Rattle.clv_base.specs.State.{Shard}
@@ -19,6 +19,10 @@ use Rattle.clv_base.specs.History.{Member, logs_left, request_of, acknowledged_i
 use Rattle.law_base.proofs.Commits.{parts_keep}
 use Rattle.protocol_laws.proofs.LogsInOrder.OneRecordMore.{committed_there}
 use Rattle.history_laws.specs.Openings.{LegalFrom}
+use Rattle.law_base.proofs.Standing.{stood_before}
+use Rattle.shard_laws.proofs.Keeping.ChangesKeepPrepared.{prepared_from}
+use Rattle.shard_laws.proofs.Keeping.RecordsAndFrontsKeep.{aborted_append}
+use Rattle.shard_laws.proofs.Keeping.RecordsOfAnUndo.{undo_writes, undo_prepares}
 use Rattle.shard_laws.proofs.Order.RecordByRecord.{Follows, to_disorder, follows_take, greatest_front}
 use Rattle.shard_laws.proofs.AnswersAndMap.{held}
 use Rattle.shard_laws.proofs.Order.WritesLieOnListed.{order_of}
@@ -37,11 +41,12 @@ use Rattle.fate_laws.proofs.Homes.FoundCommitsHaveHomes.{home_of}
 use Rattle.headline_laws.proofs.AtOpening.RecordedAreKnown.{doubted}
 use Rattle.headline_laws.specs.Ends.{LogsAtTheEndMayBeOpened, TellTheSame, LogsAtTheEndAreWhatIsLeft}
 use Rattle.headline_laws.proofs.LogsLeftMayBeOpened.LogsAgreeByHomes.{HomeIs, HasHome, PartIs, home_from, part_here, part_from, agree}
-use Rattle.fate_laws.proofs.Logs.RecordNamesItsTransaction.{update_is, commit_is}
-use Rattle.headline_laws.proofs.LogsLeftMayBeOpened.FrontsTellHomes.{wrote_or_committed, home_behind, all_committed}
+use Rattle.headline_laws.proofs.LogsLeftMayBeOpened.FrontsTellHomes.{Marked, marks_of, marks_stay, home_behind, all_committed}
 use Rattle.headline_laws.proofs.EarlierMembersNeverFell.{committed_within}
+use Rattle.headline_laws.proofs.ReadersPass.FrontsWithoutWrites.{aborted_stood}
+use Rattle.headline_laws.proofs.SharesAreMaps.{wins, writer_known}
 use Rattle.headline_laws.proofs.LogsLeftMayBeOpened.{logs_left_may_be_opened}
-use Rattle.headline_laws.proofs.LogsAtTheEndMayBeOpened.FailedRestartsKeepLogs.{Stays, stays_same, stays_failed, same_wrote, same_committed, same_ended}
+use Rattle.headline_laws.proofs.LogsAtTheEndMayBeOpened.FailedRestartsKeepLogs.{Keeps, Stays, stays_same, stays_failed, same_committed, same_ended}
 use Rattle.law_base.proofs.Logs.{passes_at as each_passes, all_logs, same_somewhere, same_stands, same_fold}
 use Rattle.history_laws.proofs.NeverTakenBack.{log_now}
 
@@ -132,11 +137,15 @@ module _ {splits : List ℕ} {before after : List (List LogRecord)} {h : History
   below : (n : ℕ) → n < length left → n < shard_count splits
   below n i = let e = left_length splits before h after choice in omega (arith, i, e)
 
+  -- of whom a write stands in what is left, and who has a COMMIT there, is committed or in doubt
+  won : (n : ℕ) → Keeps n (log_of left n) (committed_somewhere left)
+  won n t w c = wins n (log_of left n) t (writer_known splits left n t (logs_left_may_be_opened splits before h after choice l) w c)
+
   map : stands after ≡ stands left
   map = same_stands (committed_somewhere after) (committed_somewhere left) after left [] lengths (λ n i m.
       let g = stays n (below n i) in
       ap (λ z. fold_updates (committed_somewhere after) z m) (sym g.goes)
-      ∙ same_fold (committed_somewhere after) (committed_somewhere left) (λ t. same_somewhere after left t lengths (λ k j. commits k t (below k j))) (log_of left n) g.more m g.kinds)
+      ∙ same_fold (committed_somewhere after) (committed_somewhere left) (λ t. same_somewhere after left t lengths (λ k j. commits k t (below k j))) (log_of left n) g.more m (g.spared (committed_somewhere left) (won n)))
 
   pub tell : TellTheSame splits before h after choice
   tell = record { map = map; members = same_members (shard_count splits) after left h h l.legal.in_shards commits; commits = commits }
@@ -150,11 +159,26 @@ module _ {splits : List ℕ} {before after : List (List LogRecord)} {h : History
     behind : Follows home (log_of left home) (stays home inside).more
     behind = let g = stays home inside in follows_behind home [] (log_of left home) g.more (subst (Follows home []) (sym g.goes) g.follows)
 
-    recorded : (n : ℕ) → n < shard_count splits → list_any (is_record_of t) (log_of after n) ≡ true → list_any (is_record_of t) (log_of left n) ≡ true
-    recorded n i r =
-        let g = stays n i in
-        ⊎_elim (λ w. update_is (log_of left n) t (sym (same_wrote (log_of left n) g.more t g.kinds) ∙ ap (λ z. wrote_in z t) g.goes ∙ w)) (λ w. commit_is (log_of left n) t (sym (commits n t i) ∙ w))
-        (wrote_or_committed n (log_of after n) g.follows t r)
+    recorded : (n : ℕ) → n < shard_count splits → Marked (log_of after n) t → Marked (log_of left n) t
+    recorded n i m = by_mark m
+      where
+        g : Stays splits n (log_of left n) (log_of after n)
+        g = stays n i
+
+        none : wrote_in g.more t ≡ false
+        none = undo_writes t g.more g.kinds
+
+        behind_left : Follows n (log_of left n) g.more
+        behind_left = follows_behind n [] (log_of left n) g.more (subst (Follows n []) (sym g.goes) g.follows)
+
+        by_mark : Marked (log_of after n) t → Marked (log_of left n) t
+        by_mark (inl w) = inl (stood_before (log_of left n) g.more t none (subst (λ z. has_standing z t ≡ true) (sym g.goes) w))
+        by_mark (inr (inl p)) = inr (inl (prepared_from (log_of left n) g.more t (undo_prepares t g.more g.kinds) (subst (λ z. prepared_in z t ≡ true) (sym g.goes) p)))
+        by_mark (inr (inr (inl c))) = inr (inr (inl (sym (commits n t i) ∙ c)))
+        by_mark (inr (inr (inr (inl a)))) =
+            ⊎_elim (λ x. inr (inr (inr (inl x)))) (λ x. inl (aborted_stood n (log_of left n) g.more t behind_left none x))
+            (or_cases (aborted_in (log_of left n) t) (aborted_in g.more t) (sym (aborted_append (log_of left n) g.more t) ∙ ap (λ z. aborted_in z t) g.goes ∙ a))
+        by_mark (inr (inr (inr (inr e)))) = inr (inr (inr (inr (sym (same_ended (log_of left n) g.more t g.kinds) ∙ ap (λ z. ended_in z t) g.goes ∙ e))))
 
     -- a part is committed, or in doubt
     unaborted : (n : ℕ) → n < shard_count splits → PartIs (log_of left n) t home → aborted_in (log_of after n) t ≡ false
@@ -187,7 +211,7 @@ module _ {splits : List ℕ} {before after : List (List LogRecord)} {h : History
         record {
           commits = subst (λ z. commit_parts z t ≡ Some ps) g.goes (parts_keep (log_of left home) g.more t ps k.commits);
           home = subst (λ z. home_is home (prepare_of z t) ≡ true) g.goes (home_behind home home (log_of left home) g.more t behind there k.home);
-          named = λ n i d r. let e = lengths in let j : n < length left = omega (arith, i, e) in k.named n j d (recorded n (below n j) r);
+          named = λ n i d r. let e = lengths in let j : n < length left = omega (arith, i, e) in k.named n j d (marks_stay (log_of left n) t (recorded n (below n j) (marks_of (log_of after n) t r)));
           parts = λ n i. part_here (log_of after n) t home (part n (part_inside n i) (part_from (log_of left n) t home (k.parts n i)));
           ended = λ e n i. commits n t (part_inside n i) ∙ k.ended (sym (same_ended (log_of left home) g.more t g.kinds) ∙ ap (λ z. ended_in z t) g.goes ∙ e) n i;
         }

@@ -112,7 +112,7 @@ module _ {splits : List ℕ} {before after : List (List LogRecord)} {h : History
         let log = log_of before n in
         let run = run_after before in
         let bs = (bindings_front l [] h refl).parted n i in
-        parted_state run (WasTaken h) (Sought before []) (Votes before []) n run 0 (log_after_restart n log run 0) 0 [] (bs.base).ordered (λ tx p r. (bs.base).seen tx p r)
+        parted_state run (WasTaken h) (Sought before []) (Votes before []) n run 0 (log_after_restart n log run 0) 0 [] (bs.base).firm (λ tx p r. (bs.base).seen tx p r)
         (λ tx c m d r. absurd (none_of_this_run splits before n tx l.opens (log_found l n i) (opening_adds n log run 0 tx c) r));
     said = λ x to home tx i. elim i [ ];
     bindings = bindings_front l [] h refl;

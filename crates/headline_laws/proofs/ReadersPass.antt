@@ -1,19 +1,27 @@
--- Who voted read left no mark and never fell; so no part of a member ever did.
+-- Of who voted read no write stands and no COMMIT is there, and it never fell; so no part of a member ever did.
 pub mod AbortedWereHere
+pub mod FrontsWithoutWrites
 pub mod OnlyOwnOperationsUpdate
 pub mod ReadVotersWroteNothing
 pub mod WhyCommittedHere
 pub mod ReturnedArePrepared
 pub mod FrontsPassReaders
-use Rattle.std.proofs.Common.{◌≡◌, inl, inr, ⊎_elim, refl, sym, subst, ◌∙◌, ℕ, ◌<◌, true, List, [], ◌∷◌, ◌++◌, map, None, append-nil}
+use Rattle.std.proofs.Common.{◌≡◌, inl, inr, ⊎_elim, refl, sym, subst, ◌∙◌, ℕ, ◌<◌, true, false, Bool, List, [], ◌∷◌, ◌++◌, map, None, append-nil}
 use Rattle.std.proofs.lemmas.Bool.{both_ways, false_from_ne_true}
 use Rattle.clv_base.specs.declared.names.TxId.{TxId}
 use Rattle.clv_base.specs.declared.logs.LogRecord.{LogRecord}
 use Rattle.clv_base.specs.Orders.{nat_in}
 use Rattle.clv_base.specs.Shards.{shard_count}
+use Rattle.clv_base.specs.declared.causes.Vote.TheVariants.{Read}
+use Rattle.clv_base.specs.declared.messages.Message.TheVariants.{Vote as VoteMessage}
+use Rattle.clv_base.specs.declared.events.Outcome.TheVariants.{Sent}
+use Rattle.clv_base.specs.declared.events.Entry.{Entry}
+use Rattle.clv_base.specs.Logs.{has_standing}
+use Rattle.clv_base.specs.State.{Shard}
 use Rattle.clv_base.specs.Undo.{stage_of}
-use Rattle.clv_base.specs.Restarts.{run_after}
-use Rattle.clv_base.specs.Journals.{History}
+use Rattle.clv_base.specs.Restarts.{run_after, log_left}
+use Rattle.clv_base.specs.Journals.{History, final_of}
+use Rattle.clv_base.specs.History.{IsAmong}
 use Rattle.history_cases.proofs.Merging.{Among, among_left, is_among}
 use Rattle.history_cases.proofs.Worlds.{state_at}
 use Rattle.history_laws.specs.Openings.{LegalFrom}
@@ -30,6 +38,9 @@ use Rattle.headline_laws.proofs.RequestsNameTheirShards.{names_shard}
 use Rattle.headline_laws.proofs.OnlyReadersMayFall.{only_readers_may_fall}
 use Rattle.headline_laws.specs.Passing.{ReadersPass}
 use Rattle.headline_laws.specs.Falling.{ReadersNeverFell, MembersNeverFell}
+use Rattle.fate_laws.proofs.Parts.FrontsKeepParts.{bindings_front}
+use Rattle.headline_laws.proofs.ReadersPass.FrontsWithoutWrites.{none_whole}
+use Rattle.headline_laws.proofs.ReadersPass.OnlyOwnOperationsUpdate.{none_left}
 use Rattle.headline_laws.proofs.ReadersPass.FrontsPassReaders.{Passed, passing_front}
 use Rattle.headline_laws.proofs.ReadersPass.WhyCommittedHere.{committed_by}
 
@@ -37,12 +48,18 @@ use Rattle.headline_laws.proofs.ReadersPass.WhyCommittedHere.{committed_by}
 
 pub readers_pass : ReadersPass
 readers_pass splits before so_far later after n e home from tx l i j q = (
-  p.unwritten,
-  false_from_ne_true _ (λ c. ⊎_elim (λ w. both_ways _ p.unwritten w) (λ r. elsewhere r) (committed_by l so_far later refl from i tx (p.asked).0 c)),
+  unwritten,
+  false_from_ne_true _ (λ c. ⊎_elim (λ w. both_ways _ unwritten w) (λ r. elsewhere r) (committed_by l so_far later refl from i tx (p.asked).0 c)),
 )
   where
     p : Passed splits before after so_far from tx
     p = (passing_front l so_far later refl).sent (n, e) home from tx i (is_among n e so_far j) q
+
+    s : Shard
+    s = state_at before after from so_far
+
+    unwritten : has_standing (state_at before after from so_far).local.log tx ≡ false
+    unwritten = none_whole s.durable s.local.log tx (((bindings_front l so_far later refl).fated).counts.counted from i).within p.unwritten
 
     elsewhere : Requested so_far tx from → ⊥
     elsewhere (y, ts, k, a, z) = apart (p.asked).1
@@ -51,8 +68,17 @@ readers_pass splits before so_far later after n e home from tx l i j q = (
         apart (m, d, (x, us, g, b, v)) =
             d (sym v ∙ one_home splits before after (so_far ++ later) tx x.0 y.0 x.1 y.1 us ts l.legal (among_left x so_far later g) b (among_left y so_far later k) a ∙ z)
 
+pub passed_last : {splits : List ℕ} {before after : List (List LogRecord)} {h : History} → LegalFrom splits before h after → (m k to : ℕ) (x : Entry) (tx : TxId) → m < shard_count splits → IsAmong k x h → x.outcome ≡ Sent (VoteMessage to tx m Read) → Passed splits before after h m tx
+passed_last {splits} {before} {after} {h} l m k to x tx i j q = (passing_front l h [] (append-nil h)).sent (k, x) to m tx i (is_among k x h j) q
+
+-- nor does a write of it stand in what a crash leaves, whatever it keeps
+pub readers_left : {splits : List ℕ} {before after : List (List LogRecord)} {h : History} → LegalFrom splits before h after → (m k to : ℕ) (x : Entry) (tx : TxId) (kept : Bool) → m < shard_count splits → IsAmong k x h → x.outcome ≡ Sent (VoteMessage to tx m Read)
+    → has_standing (log_left (final_of before h after m) kept) tx ≡ false
+readers_left {splits} {before} {after} {h} l m k to x tx kept i j q =
+    none_left (final_of before h after m) tx kept (((bindings_front l h [] (append-nil h)).fated).counts.counted m i) (passed_last l m k to x tx i j q).unwritten
+
 pub readers_never_fell : ReadersNeverFell
-readers_never_fell splits before h after m k to x tx l i j q f = ((passing_front l h [] (append-nil h)).sent (k, x) to m tx i (is_among k x h j) q).unfallen f
+readers_never_fell splits before h after m k to x tx l i j q f = (passed_last l m k to x tx i j q).unfallen f
 
 -- ---- who fell was answered there
 

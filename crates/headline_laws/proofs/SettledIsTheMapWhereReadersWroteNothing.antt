@@ -1,4 +1,4 @@
--- Where a history is settled, the live records of the shards are the map: who wrote on a shard, and has a COMMIT on any, has one there.
+-- Where a history is settled, the live records of the shards are the map: who has a COMMIT on any shard has one wherever a write of it stands.
 use Rattle.std.proofs.Common.{◌≡◌, ⊎_elim, refl, sym, ap, subst, ◌∙◌, ℕ, zero, suc, ◌+◌, ◌<◌, true, false, Bool, ◌||◌, ◌==◌, List, [], ◌∷◌, ◌++◌, map, Option, Some, None, arith, append-nil, eqb-true}
 use Rattle.std.specs.List.{AllByRecursion, list_all}
 use Rattle.std.proofs.lemmas.Bool.{both_ways, and_parts, or_cases, or_left, not-true}
@@ -12,7 +12,7 @@ use Rattle.clv_base.specs.declared.events.Entry.{Entry}
 use Rattle.clv_base.specs.declared.state.Held.{Held}
 use Rattle.clv_base.specs.Orders.{Table, tx_same, tx_in, tx_get, nat_in}
 use Rattle.clv_base.specs.Maps.{KeyMap}
-use Rattle.clv_base.specs.Logs.{committed_in, wrote_in, committed_somewhere, in_doubt, standing}
+use Rattle.clv_base.specs.Logs.{committed_in, has_standing, committed_somewhere, in_doubt, standing}
 use Rattle.clv_base.specs.LogRules.{log_of}
 use Rattle.clv_base.specs.Needs.{live_pairs}
 use Rattle.clv_base.specs.Shards.{shard_count}
@@ -26,14 +26,14 @@ use Rattle.clv_base.proofs.SameNames.{tx_self}
 use Rattle.law_base.proofs.Lists.{all_mono}
 use Rattle.law_base.proofs.Rows.{rows_get}
 use Rattle.law_base.proofs.Tables.{stage_by}
-use Rattle.law_base.proofs.Running.{fold_writers}
+use Rattle.law_base.proofs.Running.{fold_standing}
 use Rattle.history_laws.specs.Openings.{LegalFrom}
 use Rattle.shard_laws.proofs.Cuts.WhoIsInDoubt.{prepared_cut}
 use Rattle.shard_laws.specs.OneShard.{Deeds, Leads}
 use Rattle.shard_laws.proofs.AnswersAndMap.{held}
 use Rattle.shard_laws.proofs.Keeping.WhatOneShardKeeps.{view_of, Wrote}
-use Rattle.shard_laws.proofs.Order.WritesLieOnListed.{order_of, prepared_wrote, wrote_stands}
-use Rattle.shard_laws.proofs.Restarts.RestartsKeepOrder.{writer_wrote}
+use Rattle.law_base.proofs.Standing.{of_writer, standing_wrote}
+use Rattle.shard_laws.proofs.Order.WhoseWritesStand.{prepared_stands}
 use Rattle.shard_laws.proofs.QuietIsSettled.{writer_committed}
 use Rattle.history_laws.proofs.LogsLeftPass.{logs_left_pass, left_length}
 use Rattle.history_laws.proofs.Logs.DoubtedAreUndecided.{doubt_prepared, doubt_undecided}
@@ -53,9 +53,9 @@ use Rattle.headline_laws.specs.Shares.{share_of, in_turn}
 use Rattle.headline_laws.proofs.SharesMakeTheMap.{shares_make_the_map}
 use Rattle.headline_laws.specs.SettlingHere.{ReadersWroteNothing, SettledIsTheMapWhereReadersWroteNothing, SettledOpensClear}
 use Rattle.headline_laws.proofs.SharesAreMaps.{writer_known, at_somewhere, somewhere_at}
-use Rattle.headline_laws.proofs.AtOpening.EarlierOnesStoodThere.{wrote_at_opening, committed_still, somewhere_at_opening}
+use Rattle.headline_laws.proofs.AtOpening.EarlierOnesStoodThere.{stood_at_opening, committed_still, somewhere_at_opening}
 use Rattle.headline_laws.proofs.AtOpening.DoubtedStayKnown.{still_known}
-use Rattle.headline_laws.proofs.MembersReplayWhereHere.{leads, left_is, within, left_run, wrote_last, fell_there}
+use Rattle.headline_laws.proofs.MembersReplayWhereHere.{leads, left_is, within, left_run, fell_there}
 use Rattle.fate_laws.proofs.MembersAreHere.{in_others}
 use Rattle.law_base.proofs.Bools.{same_truth as same_test}
 
@@ -77,7 +77,7 @@ present_committed s t q e = at (tx_get t s.local.parts) refl e
 
 -- ---- nothing is in doubt on a quiet shard
 
--- who is prepared and neither committed nor aborted wrote what stands, so it is committed on a quiet shard
+-- of who is prepared and neither committed nor aborted a write stands, so it is committed on a quiet shard
 undoubted : (shard run : ℕ) (before : List LogRecord) (d : Deeds) (s : Shard) (n : ℕ) (t : TxId) → Leads shard run before d s → IsQuiet s
     → tx_in t (in_doubt n s.local.log) ≡ true → ⊥
 undoubted shard run before d s n t leads q i =
@@ -86,9 +86,9 @@ undoubted shard run before d s n t leads q i =
     let follows = (b.1).order.ordered.follows in
     let undecided = doubt_undecided n log t i in
     ⊎_elim
-    (λ w. both_ways _ undecided.1 (writer_wrote (λ u. committed_in log u ≡ true) (standing log) t (all_mono (Wrote (view_of s)) _ (λ w a. writer_committed b.0 s w (b.1).kept q a) (standing log) (b.1).kept.wrote) w))
-    (λ u. both_ways _ undecided.2 ((order_of s.shard log follows).undone t u))
-    (wrote_stands s.shard log follows t (prepared_wrote s.shard log follows t (doubt_prepared n log t i)))
+    (λ w. both_ways _ undecided.1 (of_writer (λ u. committed_in log u ≡ true) (standing log) t (all_mono (Wrote (view_of s)) _ (λ w a. writer_committed b.0 s w (b.1).kept q a) (standing log) (b.1).kept.wrote) w))
+    (λ a. both_ways _ undecided.2 a)
+    (prepared_stands s.shard log follows t (doubt_prepared n log t i))
 
 module _ {splits : List ℕ} {before after : List (List LogRecord)} {h : History} (l : LegalFrom splits before h after) (choice : ℕ → Bool)
     (pass : ReadersWroteNothing splits before h after) (quiet : IsSettled splits before h after) where
@@ -114,18 +114,18 @@ module _ {splits : List ℕ} {before after : List (List LogRecord)} {h : History
           (⊎_elim (λ f. fallen (subst (λ z. tx_in t z ≡ true) b.8 (⊎_elim (λ y. y) (λ y. b.9 t y) f))) (λ r. yes_voters_unaborted l choice m n k x home t j i run a v left (aborted_take s.durable s.local.log t r))
           (b.1.falls.gone t (prepared_cut s.durable s.local.log t (bound.0).0) e p))
 
-  by_vote : (n m k home : ℕ) (x : Entry) (v : Vote) (t : TxId) → n < shard_count splits → m < shard_count splits → t.run ≡ run_after before → wrote_in (final_of before h after n).local.log t ≡ true → IsAmong k x h → x.outcome ≡ Sent (VoteMessage home t n v) → is_good (Some v) ≡ true
+  by_vote : (n m k home : ℕ) (x : Entry) (v : Vote) (t : TxId) → n < shard_count splits → m < shard_count splits → t.run ≡ run_after before → has_standing (final_of before h after n).local.log t ≡ true → IsAmong k x h → x.outcome ≡ Sent (VoteMessage home t n v) → is_good (Some v) ≡ true
       → committed_in (log_of (logs_left splits before h after choice) m) t ≡ true → committed_in (final_of before h after n).local.log t ≡ true
   by_vote n m k home x Yes t i j run w a v g left = yes_committed n m k home x t i j run a v left
   by_vote n m k home x Read t i j run w a v g left = absurd (both_ways _ (pass n k home x t i a v) w)
   by_vote n m k home x (No why) t i j run w a v g left = absurd (both_ways false refl g)
 
-  -- ---- who wrote on a shard, and has a COMMIT left on any, has one there
+  -- ---- of whom a write stands on a shard, and who has a COMMIT left on any, has one there
 
   left_last : (n : ℕ) (t : TxId) → n < shard_count splits → committed_in (final_of before h after n).local.log t ≡ true → committed_in (log_of (logs_left splits before h after choice) n) t ≡ true
   left_last n t i e = subst (λ z. committed_in z t ≡ true) (sym (left_is l choice n i ∙ left_whole (final_of before h after n) (choice n) (quiet n i))) e
 
-  this_run : (n m : ℕ) (t : TxId) → n < shard_count splits → m < shard_count splits → t.run ≡ run_after before → wrote_in (final_of before h after n).local.log t ≡ true → committed_in (log_of (logs_left splits before h after choice) m) t ≡ true
+  this_run : (n m : ℕ) (t : TxId) → n < shard_count splits → m < shard_count splits → t.run ≡ run_after before → has_standing (final_of before h after n).local.log t ≡ true → committed_in (log_of (logs_left splits before h after choice) m) t ≡ true
       → committed_in (log_of (logs_left splits before h after choice) n) t ≡ true
   this_run n m t i j run w left = at (n == home) refl
     where
@@ -138,7 +138,7 @@ module _ {splits : List ℕ} {before after : List (List LogRecord)} {h : History
       named : nat_in n (map (λ p. p.0) (z.1).1) ≡ true
       named =
           names_shard splits before after h n z.0 t z.1 l.legal run
-          (wrote_from (DidOrOld (run_after before) h n) (Requested h) (IsOld (run_after before)) n (final_of before h after n).local.log (((traced_front l h [] (append-nil h)).states n i).origins).log t w)
+          (wrote_from (DidOrOld (run_after before) h n) (Requested h) (IsOld (run_after before)) n (final_of before h after n).local.log (((traced_front l h [] (append-nil h)).states n i).origins).log t (standing_wrote (final_of before h after n).local.log t w))
 
       at : (b : Bool) → (n == home) ≡ b → committed_in (log_of (logs_left splits before h after choice) n) t ≡ true
       at true e = subst (λ k. committed_in (log_of (logs_left splits before h after choice) k) t ≡ true) (sym (eqb-true n z.0 e)) z.2
@@ -156,17 +156,17 @@ module _ {splits : List ℕ} {before after : List (List LogRecord)} {h : History
       (undoubted n (run_after before) found (with_found n found e) s n t (leads l choice n i) (quiet n i)
       (subst (λ z. tx_in t (in_doubt n z) ≡ true) (left_whole s (choice n) (quiet n i)) a.0))) (still_known l (choice n) n t i d c)
 
-  has_commit : (n m : ℕ) (t : TxId) → n < shard_count splits → m < shard_count splits → wrote_in (log_of (logs_left splits before h after choice) n) t ≡ true → committed_in (log_of (logs_left splits before h after choice) m) t ≡ true
+  has_commit : (n m : ℕ) (t : TxId) → n < shard_count splits → m < shard_count splits → has_standing (log_of (logs_left splits before h after choice) n) t ≡ true → committed_in (log_of (logs_left splits before h after choice) m) t ≡ true
       → committed_in (log_of (logs_left splits before h after choice) n) t ≡ true
   has_commit n m t i j w k =
-      ⊎_elim (λ r. this_run n m t i j r (wrote_last l choice n t i w) k) (λ r.
+      ⊎_elim (λ r. this_run n m t i j r (subst (λ z. has_standing z t ≡ true) (left_is l choice n i ∙ left_whole (final_of before h after n) (choice n) (quiet n i)) w) k) (λ r.
       let c = somewhere_at_opening l choice m t j r k in
-      ⊎_elim (λ a. committed_still splits before h after choice n t l.legal i a) (λ a. found_left n t i a c) (writer_known splits before n t l.opens (wrote_at_opening l choice n t i r w) c))
+      ⊎_elim (λ a. committed_still splits before h after choice n t l.legal i a) (λ a. found_left n t i a c) (writer_known splits before n t l.opens (stood_at_opening l choice n t i r w) c))
       (left_run l choice m t j k)
 
   -- ---- the shards' records
 
-  writers_committed : (n : ℕ) (t : TxId) → n < shard_count splits → wrote_in (log_of (logs_left splits before h after choice) n) t ≡ true
+  writers_committed : (n : ℕ) (t : TxId) → n < shard_count splits → has_standing (log_of (logs_left splits before h after choice) n) t ≡ true
       → committed_somewhere (logs_left splits before h after choice) t ≡ committed_somewhere (log_of (logs_left splits before h after choice) n ∷ []) t
   writers_committed n t i w =
       let left = logs_left splits before h after choice in
@@ -178,7 +178,7 @@ module _ {splits : List ℕ} {before after : List (List LogRecord)} {h : History
   live_is_share n i =
       let left = logs_left splits before h after choice in
       quiet_shards_are_their_maps splits before h after choice n l i (quiet n i)
-      ∙ sym (fold_writers (committed_somewhere left) (committed_somewhere (log_of left n ∷ [])) (log_of left n) [] (λ t w. writers_committed n t i w))
+      ∙ sym (fold_standing (committed_somewhere left) (committed_somewhere (log_of left n ∷ [])) (log_of left n) [] (λ t w. writers_committed n t i w))
 
 turns_alike : (f g : ℕ → KeyMap) (count n k : ℕ) → n + k ≡ count → ((j : ℕ) → j < count → f j ≡ g j) → in_turn f n k ≡ in_turn g n k
 turns_alike f g count n zero e a = refl

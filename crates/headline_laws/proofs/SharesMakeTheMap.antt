@@ -16,7 +16,7 @@ use Rattle.clv_base.specs.Shards.{shard_count, are_splits, in_span}
 use Rattle.clv_base.specs.Folding.{IsRising}
 use Rattle.clv_base.proofs.Folding.{eq_true, same_map}
 use Rattle.headline_laws.specs.Shares.{AreLogsOf, share_of, in_turn, SharesMakeTheMap}
-use Rattle.headline_laws.proofs.TransactionsReplayByShards.SpansShareNoKey.{one_shard, follow, whose}
+use Rattle.serial_laws.proofs.ReplayByShards.SpansShareNoKey.{one_shard, follow, whose}
 use Rattle.headline_laws.proofs.TransactionsReplayByShards.LogsAgreeWithMap.{fold_away, logs_agree}
 use Rattle.law_base.proofs.Lists.{all_append as all_two}
 use Rattle.law_base.proofs.Anchors.{less_true as less_test}
@@ -145,7 +145,7 @@ shares_make_the_map splits logs s a =
     let g = logs_agree splits logs s a in
     let count = shard_count splits in
     let none_outside : (n k : ℕ) → n < shard_count splits → in_span splits n k ≡ false → map_get k (share_of logs n) ≡ None = λ n k. outside splits logs n k a in
-    same_map (in_turn f 0 count) (stands logs) (of_true _ (turns_rise splits f s g.parts none_outside 0 count (omega arith)).0) g.whole (λ q.
-    ⊎_elim (λ w. turns_value splits f s g.parts none_outside 0 count w.0 q (omega arith) (omega arith) w.1 w.2 ∙ sym (g.values w.0 q w.1 w.2))
-    (λ none. turns_none splits f s g.parts none_outside 0 count q (omega arith) (λ j l i. none j i) ∙ sym (g.nowhere q none))
+    same_map (in_turn f 0 count) (stands logs) (of_true _ (turns_rise splits f s g.shares_rise none_outside 0 count (omega arith)).0) g.whole_rises (λ q.
+    ⊎_elim (λ w. turns_value splits f s g.shares_rise none_outside 0 count w.0 q (omega arith) (omega arith) w.1 w.2 ∙ sym (g.values w.0 q w.1 w.2))
+    (λ none. turns_none splits f s g.shares_rise none_outside 0 count q (omega arith) (λ j l i. none j i) ∙ sym (g.nowhere q none))
     (whose splits q count))

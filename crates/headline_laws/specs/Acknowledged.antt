@@ -9,7 +9,7 @@ use Rattle.clv_base.specs.declared.events.Outcome.TheVariants.{Asked, Sent}
 use Rattle.clv_base.specs.declared.events.Entry.{Entry}
 use Rattle.clv_base.specs.Orders.{nat_in}
 use Rattle.clv_base.specs.Shards.{shard_count}
-use Rattle.clv_base.specs.Logs.{wrote_in, committed_in}
+use Rattle.clv_base.specs.Logs.{has_standing, committed_in}
 use Rattle.clv_base.specs.State.{is_present}
 use Rattle.clv_base.specs.Undo.{stage_of}
 use Rattle.clv_base.specs.Coordinator.{others}
@@ -24,10 +24,10 @@ use Rattle.fate_laws.specs.Falls.{Fell}
 abbrev pub VotedRead : History → TxId → ℕ → Type 0
 VotedRead h t m = (k : ℕ) × (x : Entry) × (to : ℕ) × IsAmong k x h × (x.outcome ≡ Sent (VoteMessage to t m Read))
 
--- the transaction, whose request names these shards, only read
+-- no write stands of the transaction, whose request names these shards: it only read, or went back over what it wrote
 pub record OnlyRead (before : List (List LogRecord)) (h : History) (after : List (List LogRecord)) (home : ℕ) (touched : List (ℕ × ℕ)) (t : TxId) : Type 0 where
-  -- at its home it wrote nothing, is committed nowhere in the log, and isn't there any more
-  pub unwritten : wrote_in (final_of before h after home).local.log t ≡ false
+  -- at its home no write of it stands, it is committed nowhere in the log, and isn't there any more
+  pub unwritten : has_standing (final_of before h after home).local.log t ≡ false
   pub uncommitted : committed_in (final_of before h after home).local.log t ≡ false
   pub absent : is_present (stage_of (final_of before h after home).local t) ≡ false
   -- it never fell there

@@ -6,7 +6,7 @@ use Rattle.clv_base.specs.Maps.{replay_map, replay_answers}
 use Rattle.clv_base.specs.Logs.{stands}
 use Rattle.clv_base.specs.Shards.{shard_count}
 use Rattle.clv_base.specs.Journals.{History}
-use Rattle.clv_base.specs.History.{logs_left, serial_ops, serial_answers}
+use Rattle.clv_base.specs.History.{logs_left, serial_acts, serial_answers}
 use Rattle.history_laws.specs.Openings.{LegalFrom}
 use Rattle.history_laws.specs.Continuing.{serial_left}
 use Rattle.fate_laws.specs.Members.{is_member}
@@ -24,5 +24,5 @@ abbrev pub MembersReplay : Type 0
 MembersReplay =
     (splits : List ℕ) (before : List (List LogRecord)) (h : History) (after : List (List LogRecord)) (choice : ℕ → Bool)
     → LegalFrom splits before h after
-    → (replay_answers (stands before) (serial_ops (serial_left splits before h after choice)) ≡ serial_answers (serial_left splits before h after choice))
-    × (replay_map (stands before) (serial_ops (serial_left splits before h after choice)) ≡ stands (logs_left splits before h after choice))
+    → (replay_answers (stands before) (serial_acts (serial_left splits before h after choice)) ≡ serial_answers (serial_left splits before h after choice))
+    × (replay_map (stands before) (serial_acts (serial_left splits before h after choice)) ≡ stands (logs_left splits before h after choice))

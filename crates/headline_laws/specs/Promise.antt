@@ -11,7 +11,7 @@ use Rattle.clv_base.specs.Logs.{stands, in_doubt, committed_somewhere}
 use Rattle.clv_base.specs.LogRules.{log_of}
 use Rattle.clv_base.specs.FileRules.{may_open}
 use Rattle.clv_base.specs.Journals.{History, final_of}
-use Rattle.clv_base.specs.History.{Legal, IsSettled, CauseStands, Waits, logs_left, acknowledged_in, has_request, serial_ops, serial_answers}
+use Rattle.clv_base.specs.History.{Legal, IsSettled, CauseStands, Waits, logs_left, acknowledged_in, has_request, serial_acts, serial_answers}
 use Rattle.history_laws.specs.Openings.{LegalFrom}
 use Rattle.history_laws.specs.Continuing.{IsSublistOf, GoesOn, serial_now, serial_left}
 use Rattle.history_laws.specs.Ordering.{AreInSessionOrder}
@@ -26,8 +26,8 @@ use Rattle.headline_laws.specs.SettlingHere.{live_pairs_of_all}
 -- flight. Its members are the transactions with a COMMIT left at their home, and the acknowledged ones
 pub record Promised (splits : List ℕ) (before : List (List LogRecord)) (h : History) (after : List (List LogRecord)) (choice : ℕ → Bool) : Type 0 where
   -- answers and map: the members replay one after another to the answers that they were told, and to the map that the logs left stand for
-  pub answers : replay_answers (stands before) (serial_ops (serial_left splits before h after choice)) ≡ serial_answers (serial_left splits before h after choice)
-  pub map : replay_map (stands before) (serial_ops (serial_left splits before h after choice)) ≡ stands (logs_left splits before h after choice)
+  pub answers : replay_answers (stands before) (serial_acts (serial_left splits before h after choice)) ≡ serial_answers (serial_left splits before h after choice)
+  pub map : replay_map (stands before) (serial_acts (serial_left splits before h after choice)) ≡ stands (logs_left splits before h after choice)
   -- nothing acknowledged is ever lost: each acknowledged transaction is a member
   pub acknowledged : (t : TxId) → acknowledged_in h t ≡ true → is_member splits before h after choice t ≡ true
   -- and the members by what is durable now stay members of every history that goes on from this one, whatever a later crash keeps

@@ -10,7 +10,7 @@ use Rattle.clv_base.specs.LogRules.{log_of, listed_in}
 use Rattle.clv_base.specs.Shards.{shard_count}
 use Rattle.clv_base.specs.FileRules.{may_open}
 use Rattle.clv_base.specs.Journals.{History, final_of}
-use Rattle.clv_base.specs.History.{logs_left, serial_ops, serial_answers}
+use Rattle.clv_base.specs.History.{logs_left, serial_acts, serial_answers}
 use Rattle.history_laws.specs.Openings.{LegalFrom}
 use Rattle.history_laws.specs.Continuing.{serial_left}
 use Rattle.fate_laws.specs.Members.{is_member}
@@ -32,7 +32,7 @@ SharesAreMaps =
 abbrev pub IsInDoubt : List (List LogRecord) → ℕ → TxId → Type 0
 IsInDoubt left n t = (tx_in t (in_doubt n (log_of left n)) ≡ true) × (list_all (committed_in (log_of left n)) (listed_in (log_of left n) t) ≡ true) × (committed_somewhere left t ≡ true)
 
--- on the shard its COMMIT is left, or it is in doubt, or it asked, wrote nothing there and is gone
+-- on the shard its COMMIT is left, or it is in doubt, or it asked, no write of it stands there and it is gone
 abbrev pub IsHere : List ℕ → List (List LogRecord) → History → List (List LogRecord) → (ℕ → Bool) → ℕ → TxId → Type 0
 IsHere splits before h after choice n t =
     (committed_in (log_of (logs_left splits before h after choice) n) t ≡ true)
@@ -45,5 +45,5 @@ MembersReplayWhereHere =
     (splits : List ℕ) (before : List (List LogRecord)) (h : History) (after : List (List LogRecord)) (choice : ℕ → Bool)
     → LegalFrom splits before h after
     → ((n : ℕ) (t : TxId) → n < shard_count splits → is_member splits before h after choice t ≡ true → IsHere splits before h after choice n t)
-    → (replay_answers (stands before) (serial_ops (serial_left splits before h after choice)) ≡ serial_answers (serial_left splits before h after choice))
-    × (replay_map (stands before) (serial_ops (serial_left splits before h after choice)) ≡ stands (logs_left splits before h after choice))
+    → (replay_answers (stands before) (serial_acts (serial_left splits before h after choice)) ≡ serial_answers (serial_left splits before h after choice))
+    × (replay_map (stands before) (serial_acts (serial_left splits before h after choice)) ≡ stands (logs_left splits before h after choice))

@@ -7,7 +7,7 @@ use Rattle.clv_base.specs.declared.messages.Message.TheVariants.{Vote as VoteMes
 use Rattle.clv_base.specs.declared.events.Outcome.TheVariants.{Sent}
 use Rattle.clv_base.specs.declared.events.Entry.{Entry}
 use Rattle.clv_base.specs.Maps.{KeyMap}
-use Rattle.clv_base.specs.Logs.{wrote_in, in_doubt, stands}
+use Rattle.clv_base.specs.Logs.{has_standing, in_doubt, stands}
 use Rattle.clv_base.specs.LogRules.{log_of}
 use Rattle.clv_base.specs.Needs.{live_pairs}
 use Rattle.clv_base.specs.Shards.{shard_count}
@@ -16,16 +16,16 @@ use Rattle.clv_base.specs.History.{IsAmong, IsSettled, logs_left}
 use Rattle.history_laws.specs.Openings.{LegalFrom}
 use Rattle.headline_laws.specs.Shares.{in_turn}
 
--- whom a shard voted read on wrote nothing there
+-- of whom a shard voted read on no write stands there
 abbrev pub ReadersWroteNothing : List ℕ → List (List LogRecord) → History → List (List LogRecord) → Type 0
 ReadersWroteNothing splits before h after =
-    (n k home : ℕ) (e : Entry) (t : TxId) → n < shard_count splits → IsAmong k e h → e.outcome ≡ Sent (VoteMessage home t n Read) → wrote_in (final_of before h after n).local.log t ≡ false
+    (n k home : ℕ) (e : Entry) (t : TxId) → n < shard_count splits → IsAmong k e h → e.outcome ≡ Sent (VoteMessage home t n Read) → has_standing (final_of before h after n).local.log t ≡ false
 
 -- the live records of all shards, one shard after another
 abbrev pub live_pairs_of_all : List ℕ → List (List LogRecord) → History → List (List LogRecord) → KeyMap
 live_pairs_of_all splits before h after = in_turn (λ n. live_pairs (final_of before h after n).local.records) 0 (shard_count splits)
 
--- where the history is settled, and who voted read wrote nothing, they are the map that the logs left stand for, whatever a crash would keep
+-- where the history is settled, and of those voted read on nothing stands, they are the map that the logs left stand for, whatever a crash would keep
 abbrev pub SettledIsTheMapWhereReadersWroteNothing : Type 0
 SettledIsTheMapWhereReadersWroteNothing =
     (splits : List ℕ) (before : List (List LogRecord)) (h : History) (after : List (List LogRecord)) (choice : ℕ → Bool)

@@ -6,14 +6,14 @@ use Rattle.clv_base.specs.declared.names.Birth.{Birth}
 use Rattle.clv_base.specs.declared.ops.Op.{Op}
 use Rattle.clv_base.specs.declared.ops.Answer.{Answer}
 use Rattle.clv_base.specs.declared.causes.AbortCause.{AbortCause}
-use Rattle.clv_base.specs.declared.causes.AbortCause.TheVariants.{Restarted as RestartedCause}
+use Rattle.clv_base.specs.declared.causes.AbortCause.TheVariants.{Asked as AskedCause, Restarted as RestartedCause}
 use Rattle.clv_base.specs.declared.causes.Vote.{Vote}
 use Rattle.clv_base.specs.declared.messages.Message.{Message}
 use Rattle.clv_base.specs.declared.messages.Message.TheVariants.{Prepare, Vote as VoteMessage, Decide, Done, Ask}
 use Rattle.clv_base.specs.declared.events.Event.{Event}
-use Rattle.clv_base.specs.declared.events.Event.TheVariants.{Op as OpEvent, Request as RequestEvent, Look, Drop, Send, Deliver, Remind, FlushOut, FlushIn, Stop, Restart}
+use Rattle.clv_base.specs.declared.events.Event.TheVariants.{Op as OpEvent, RollTo, Request as RequestEvent, Look, Drop, Send, Deliver, Remind, FlushOut, FlushIn, Stop, Restart}
 use Rattle.clv_base.specs.declared.events.Outcome.{Outcome}
-use Rattle.clv_base.specs.declared.events.Outcome.TheVariants.{Answered, Dead, Asked, Acknowledged, Aborted, Dropped, Sent, Taken, Reminded, Out, Stopped, NotYet, Stale, Down}
+use Rattle.clv_base.specs.declared.events.Outcome.TheVariants.{Answered, Rolled, Dead, Asked, Acknowledged, Aborted, Dropped, Sent, Taken, Reminded, Out, Stopped, NotYet, Stale, Down}
 use Rattle.clv_base.specs.Orders.{tx_get}
 use Rattle.clv_base.specs.Logs.{committed_in, fitting}
 use Rattle.clv_base.specs.State.{Shard, Local, with_local}
@@ -26,13 +26,14 @@ use Rattle.clv_base.specs.declared.state.Request.{Request}
 use Rattle.clv_base.specs.declared.state.RequestState.{RequestState}
 use Rattle.clv_base.specs.declared.state.RequestState.TheVariants.{Undecided, Committed, Finished, Refused}
 use Rattle.clv_base.specs.declared.state.Ruling.{Ruling}
-use Rattle.clv_base.specs.Undo.{stage_of}
+use Rattle.clv_base.specs.Undo.{stage_of, roll_to}
+use Rattle.clv_base.specs.Backs.{standing_numbers, count_after}
 use Rattle.clv_base.specs.Facts.{facts_of, has_durable_commit}
 use Rattle.clv_base.specs.Participant.{vote_by, taken_by}
 use Rattle.clv_base.specs.Coordinator.{others, takes_vote, takes_done, ask_answer, doom_cause, ruling_by}
 use Rattle.clv_base.specs.OneShard.{OpReply, OpWaits, OpCrowded, OpDies, OpAnswers, op_reply, seen_fits, close_part, drop_part}
 use Rattle.clv_base.specs.Due.{send, or_else, with_commit_done, commit_due, with_vote, finish_reader, give_vote, vote_due, with_ruling, do_ruling, rule, request_due, due_of, first_due, known_txs, next_due, do_due, with_due_done, work}
-use Rattle.clv_base.specs.Events.{Reply, QuietBeforeWorn, QuietAfterWorn, Does, finish, op_event, is_alone, epoch_in, coordinate, request_by_stage, request_event, request_epoch, look_lost, look_state, look_known, drop_event, owe_vote, on_prepare, with_votes, on_vote, decided, on_decide, with_done, on_done, ask_messages, on_message, to_of, with_outbox, send_event, remind_with, reminders, taken, with_flight, out_event, put_down, happen_up, happen}
+use Rattle.clv_base.specs.Events.{Reply, QuietBeforeWorn, QuietAfterWorn, Does, finish, op_event, roll_by_stage, roll_event, is_alone, epoch_in, coordinate, request_by_stage, request_event, request_epoch, look_lost, look_state, look_known, drop_event, owe_vote, on_prepare, with_votes, on_vote, decided, on_decide, with_done, on_done, ask_messages, on_message, to_of, with_outbox, send_event, remind_with, reminders, taken, with_flight, out_event, put_down, happen_up, happen}
 use Rattle.clv_base.proofs.Settling.{do_due_at}
 
 -- ---- what is due
@@ -128,6 +129,18 @@ pub data Step (s : Shard) : Event → Outcome → Shard → Type 0 where
   op_answers :
       (tx : TxId) (birth : Birth) (nth : ℕ) (seen : Option ℕ) (op : Op) (answer : Answer) (l : Local) → op_reply s.shard s.local tx birth seen op ≡ OpAnswers answer l
       → Step s (OpEvent tx birth nth seen op) (Answered answer s.local.epoch) (with_work l s)
+  -- a going back of a transaction that another epoch knew, that an abort took away, that asked already, that isn't known here, or that goes on here
+  roll_refused : (tx : TxId) (nth seen upto : ℕ) → (seen == s.local.epoch) ≡ false → Step s (RollTo tx nth seen upto) (Dead (RestartedCause s.shard seen s.local.epoch)) s
+  roll_doomed :
+      (tx : TxId) (nth seen upto : ℕ) (doom : TxId) → (seen == s.local.epoch) ≡ true → stage_of s.local tx ≡ Some (Gone (Some doom))
+      → Step s (RollTo tx nth seen upto) (Dead (doom_cause tx doom)) s
+  roll_late :
+      (tx : TxId) (nth seen upto : ℕ) → (seen == s.local.epoch) ≡ true → (stage_of s.local tx ≡ Some (Gone None)) ⊎ (stage_of s.local tx ≡ Some Closed)
+      → Step s (RollTo tx nth seen upto) (Dead AskedCause) s
+  roll_unknown : (tx : TxId) (nth seen upto : ℕ) → (seen == s.local.epoch) ≡ true → stage_of s.local tx ≡ None → Step s (RollTo tx nth seen upto) Rolled s
+  rolls_back :
+      (tx : TxId) (nth seen upto : ℕ) → (seen == s.local.epoch) ≡ true → stage_of s.local tx ≡ Some Active
+      → Step s (RollTo tx nth seen upto) Rolled (with_local (roll_to tx (count_after upto (standing_numbers tx s.journal))) s)
   request_refused :
       (tx : TxId) (touched : List (ℕ × ℕ)) (cause : AbortCause) → seen_fits s.local.epoch (epoch_in s.shard touched) ≡ false
       → Step s (RequestEvent tx touched) (Dead cause) s
@@ -186,6 +199,18 @@ operation s tx birth nth seen op (OpWaits y) u e = late
 operation s tx birth nth seen op (OpCrowded n) u e = late
 operation s tx birth nth seen op (OpDies c l) u e = does (finishes u (op_dies tx birth nth seen op c l e))
 operation s tx birth nth seen op (OpAnswers a l) u e = does (finishes u (op_answers tx birth nth seen op a l e))
+
+going_back : (s : Shard) (tx : TxId) (nth seen upto : ℕ) (st : Option Stage) → s.is_up ≡ true → (seen == s.local.epoch) ≡ true → stage_of s.local tx ≡ st
+    → HappensIn s (RollTo tx nth seen upto) (roll_by_stage s tx (count_after upto (standing_numbers tx s.journal)) st)
+going_back s tx nth seen upto None u f e = does (finishes u (roll_unknown tx nth seen upto f e))
+going_back s tx nth seen upto (Some Active) u f e = does (finishes u (rolls_back tx nth seen upto f e))
+going_back s tx nth seen upto (Some Closed) u f e = does (finishes u (roll_late tx nth seen upto f (inr e)))
+going_back s tx nth seen upto (Some (Gone None)) u f e = does (finishes u (roll_late tx nth seen upto f (inl e)))
+going_back s tx nth seen upto (Some (Gone (Some d))) u f e = does (finishes u (roll_doomed tx nth seen upto d f e))
+
+rolling : (s : Shard) (tx : TxId) (nth seen upto : ℕ) (b : Bool) → s.is_up ≡ true → (seen == s.local.epoch) ≡ b → HappensIn s (RollTo tx nth seen upto) (roll_event s tx seen upto b)
+rolling s tx nth seen upto false u e = does (finishes u (roll_refused tx nth seen upto e))
+rolling s tx nth seen upto true u e = going_back s tx nth seen upto (stage_of s.local tx) u e refl
 
 by_stage : (s : Shard) (tx : TxId) (ts : List (ℕ × ℕ)) (st : Option Stage) → s.is_up ≡ true → seen_fits s.local.epoch (epoch_in s.shard ts) ≡ true → stage_of s.local tx ≡ st → HappensIn s (RequestEvent tx ts) (request_by_stage s tx ts st)
 by_stage s tx ts None u f e = does (finishes u (request_new tx ts f e))
@@ -311,6 +336,7 @@ flushing s None (suc k) u e g = does (finishes u (flushes k e g))
 
 up : (s : Shard) (e : Event) → s.is_up ≡ true → HappensIn s e (happen_up s e)
 up s (OpEvent tx birth nth seen op) u = operation s tx birth nth seen op (op_reply s.shard s.local tx birth seen op) u refl
+up s (RollTo tx nth seen upto) u = rolling s tx nth seen upto (seen == s.local.epoch) u refl
 up s (RequestEvent tx ts) u = request s tx ts (seen_fits s.local.epoch (epoch_in s.shard ts)) u refl
 up s (Look tx) u = look s tx (has_durable_commit (facts_of s tx)) u refl
 up s (Drop tx) u = dropping s tx (stage_of s.local tx) u refl

@@ -22,9 +22,10 @@ use Rattle.clv_base.specs.declared.events.Outcome.TheVariants.{Asked, Acknowledg
 use Rattle.clv_base.specs.declared.events.Entry.{Entry}
 use Rattle.clv_base.specs.Orders.{Table, tx_in, tx_get, tx_set, nat_in}
 use Rattle.std.specs.Prelude.{take}
-use Rattle.clv_base.specs.Logs.{committed_in, is_commit_of, wrote_in}
+use Rattle.clv_base.specs.Logs.{committed_in, is_commit_of, has_standing}
 use Rattle.clv_base.specs.State.{Shard, Local, with_local}
-use Rattle.clv_base.specs.Undo.{roll_back}
+use Rattle.clv_base.specs.Undo.{roll_back, roll_to}
+use Rattle.clv_base.specs.Backs.{standing_numbers, count_after}
 use Rattle.clv_base.specs.Facts.{facts_of, has_durable_commit, undecided_of}
 use Rattle.clv_base.specs.Participant.{asked_voter, ask_by, asks, restored_voter}
 use Rattle.clv_base.specs.Coordinator.{new_request, others, vote_from, counts_vote, with_vote_of, with_done_of, ask_answer, prepare_for, prepares, missing_votes, missing_dones, each_request, home_reminders, restored_request}
@@ -35,10 +36,10 @@ use Rattle.clv_base.specs.Journals.{History, after_entry, event_state, up_to_res
 use Rattle.law_base.proofs.Rows.{rows_get, rows_put}
 use Rattle.law_base.proofs.Sets.{in_filter}
 use Rattle.law_base.proofs.Lists.{all_mono, all_append, all_of}
-use Rattle.history_cases.proofs.Stepping.{Step, op_dies, op_answers, request_new, request_closes, looks_well, drops, sends, prepare_closes, prepare_again, vote_counts, decision_comes, decision_again, done_counts, asked, reminds, flushes, Happens, finishes, stops, FindsWell}
+use Rattle.history_cases.proofs.Stepping.{Step, op_dies, op_answers, rolls_back, request_new, request_closes, looks_well, drops, sends, prepare_closes, prepare_again, vote_counts, decision_comes, decision_again, done_counts, asked, reminds, flushes, Happens, finishes, stops, FindsWell}
 use Rattle.history_cases.proofs.Entering.{Makes, by_event, by_flush, by_failure, by_restart, makes}
 use Rattle.history_cases.proofs.Merging.{Among}
-use Rattle.history_cases.proofs.Uncommitting.{NoMoreCommits, with_more, rolled, dropped, op_dying, op_answering, restarts_add, opening_adds}
+use Rattle.history_cases.proofs.Uncommitting.{NoMoreCommits, with_more, rolled, gone_back, dropped, op_dying, op_answering, restarts_add, opening_adds}
 use Rattle.history_cases.proofs.Telling.{RequestedBelow, AskedAfter, Voted, Tells, tells_later, VoterIs, RequestIs, Told, all_map, told_send, request_set, votes_put, commit_more, durable_voted, told_finish}
 
 -- ---- with a later bound
@@ -96,7 +97,7 @@ close_log h run log tx home true false us k p u c = p u (with_more log (PrepareR
 
 told_close : (h : History) (run bound : ℕ) (s : Shard) (tx : TxId) (home : ℕ) (one : Bool) → (one ≡ true → Voted h tx) → Told h run bound s → Told h run bound (with_local (close_part tx home one) s)
 told_close h run bound s tx home one k p =
-    record { out = p.out; voters = p.voters; requests = p.requests; log = close_log h run s.local.log tx home (wrote_in s.local.log tx) one (undecided_of s.local tx) k p.log }
+    record { out = p.out; voters = p.voters; requests = p.requests; log = close_log h run s.local.log tx home (has_standing s.local.log tx) one (undecided_of s.local tx) k p.log }
 
 alone_voted : (h : History) (s : Shard) (x : Entry) (tx : TxId) (ts : List (ℕ × ℕ)) (os : List ℕ) → others s.shard ts ≡ os → Here h s x (RequestEvent tx ts) Asked → is_alone os ≡ true → Voted h tx
 alone_voted h s x tx ts [] e k a = ((s.shard, x), ts, k.among, (k.event, k.outcome), (λ m i. absurd (both_ways false refl (subst (λ z. nat_in m z ≡ true) e i))))
@@ -202,6 +203,8 @@ told_outbox h run bound s m ms e p = record { out = (subst (AllByRecursion (Tell
 pub told_step : (h : History) (run : ℕ) (s t : Shard) (x : Entry) {e : Event} {o : Outcome} → Step s e o t → Here h s x e o → Brings h run e → Told h run (suc x.stamp) s → Told h run (suc x.stamp) t
 told_step h run s t x (op_dies tx birth nth seen op cause l g) k b p = told_log h run _ s l (op_dying s.shard s.local l tx birth seen op cause g) p
 told_step h run s t x (op_answers tx birth nth seen op answer l g) k b p = told_log h run _ s l (op_answering s.shard s.local l tx birth seen op answer g) p
+told_step h run s t x (rolls_back tx nth seen upto f g) k b p =
+    let n = count_after upto (standing_numbers tx s.journal) in told_log h run _ s (roll_to tx n s.local) (gone_back tx n s.local) p
 told_step h run s t x (request_new tx ts f0 g) k b p = told_coordinate h run s x tx ts k p
 told_step h run s t x (request_closes tx ts f0 g) k b p =
     let u = with_local (close_part tx s.shard (is_alone (others s.shard ts))) s in

@@ -1,4 +1,4 @@
--- What an operation, an abort and a drop write is no COMMIT.
+-- What an operation, an abort, a going back and a drop write is no COMMIT.
 use Rattle.std.proofs.Common.{◌≡◌, refl, subst, ℕ, true, false, cond, not, Bool, List, [], ◌∷◌, ◌++◌, map, Option, Some, None}
 use Rattle.std.proofs.lemmas.Bool.{or_from}
 use Rattle.std.specs.Prelude.{take, zero, suc}
@@ -14,13 +14,12 @@ use Rattle.clv_base.specs.declared.modes.Decision.{Decision}
 use Rattle.clv_base.specs.declared.modes.Decision.TheVariants.{Grant, Wait, Die}
 use Rattle.clv_base.specs.declared.state.Stage.{Stage}
 use Rattle.clv_base.specs.declared.state.Stage.TheVariants.{Active, Closed, Gone}
-use Rattle.clv_base.specs.Orders.{tx_in}
 use Rattle.clv_base.specs.declared.changes.Change.{Change}
 use Rattle.clv_base.specs.declared.changes.Change.TheVariants.{Sets, Adds}
-use Rattle.clv_base.specs.Logs.{StandingUpdate, is_commit_of, committed_in, wrote_in, standing}
+use Rattle.clv_base.specs.Logs.{StandingUpdate, is_commit_of, committed_in, has_standing, standing}
 use Rattle.clv_base.specs.Locks.{decide}
 use Rattle.clv_base.specs.State.{Local, is_present}
-use Rattle.clv_base.specs.Undo.{stage_of, aborts_of, clrs_of, newest_lsn, doomed_here, roll_back, compensation}
+use Rattle.clv_base.specs.Undo.{stage_of, is_of, aborts_of, clrs_by, clrs_of, newest_lsn, newest_lsns, is_at, doomed_here, roll_back, roll_to, compensation}
 use Rattle.clv_base.specs.Needs.{needs_of, writes_of, value_at, key_of}
 use Rattle.clv_base.specs.OneShard.{OpReply, OpWaits, OpCrowded, OpDies, OpAnswers, written, locked, rolled_back_if, without_part, op_granted, op_decided, op_by_stage, op_seen, op_reply, drop_part, seen_fits}
 use Rattle.clv_base.specs.State.{Shard}
@@ -53,11 +52,11 @@ aborts_have : (ts : List TxId) → HaveNoCommit (map (λ t. Abort t) ts)
 aborts_have [] = tt
 aborts_have (t ∷ ts) = ((λ u. refl), aborts_have ts)
 
-clrs_have : (set : List TxId) (ws : List StandingUpdate) → HaveNoCommit (clrs_of set ws)
-clrs_have set [] = tt
-clrs_have set (w ∷ ws) = at (tx_in w.tx set) w.change (clrs_have set ws)
+clrs_have : (gone : StandingUpdate → Bool) (ws : List StandingUpdate) → HaveNoCommit (clrs_by gone ws)
+clrs_have gone [] = tt
+clrs_have gone (w ∷ ws) = at (gone w) w.change (clrs_have gone ws)
   where
-    at : (b : Bool) (c : Change) → HaveNoCommit (clrs_of set ws) → HaveNoCommit (cond b (compensation w.tx (newest_lsn w.tx ws) w.key c ∷ clrs_of set ws) (clrs_of set ws))
+    at : (b : Bool) (c : Change) → HaveNoCommit (clrs_by gone ws) → HaveNoCommit (cond b (compensation w.tx (newest_lsn w.tx ws) w.key c ∷ clrs_by gone ws) (clrs_by gone ws))
     at true (Sets before after) a = ((λ u. refl), a)
     at true (Adds by) a = ((λ u. refl), a)
     at false c a = a
@@ -71,8 +70,8 @@ with_more xs ys a t h = committed_from xs ys t (uncommitted ys a t) h
 
 pub rolled : (tx : TxId) (l : Local) → NoMoreCommits l.log (roll_back tx l).log
 rolled tx l t h =
-    with_more l.log (aborts_of l.log (doomed_here l tx)) (aborts_have (filter (wrote_in l.log) (doomed_here l tx))) t
-    (with_more (l.log ++ aborts_of l.log (doomed_here l tx)) (clrs_of (doomed_here l tx) (standing l.log)) (clrs_have (doomed_here l tx) (standing l.log)) t h)
+    with_more l.log (aborts_of l.log (doomed_here l tx)) (aborts_have (filter (has_standing l.log) (doomed_here l tx))) t
+    (with_more (l.log ++ aborts_of l.log (doomed_here l tx)) (clrs_of (doomed_here l tx) (standing l.log)) (clrs_have (is_of (doomed_here l tx)) (standing l.log)) t h)
 
 rolled_if : (b : Bool) (tx : TxId) (l : Local) → NoMoreCommits l.log (rolled_back_if b tx l).log
 rolled_if true tx l = rolled tx l
@@ -80,6 +79,9 @@ rolled_if false tx l = λ t h. h
 
 pub without : (tx : TxId) (l : Local) → NoMoreCommits l.log (without_part tx l).log
 without tx l = rolled_if (is_present (stage_of l tx)) tx l
+
+pub gone_back : (tx : TxId) (n : ℕ) (l : Local) → NoMoreCommits l.log (roll_to tx n l).log
+gone_back tx n l = let gone = is_at (newest_lsns n tx (standing l.log)) in with_more l.log (clrs_by gone (standing l.log)) (clrs_have gone (standing l.log))
 
 pub dropped : (tx : TxId) (l : Local) → NoMoreCommits l.log (drop_part tx l).log
 dropped tx l = without tx l
@@ -134,7 +136,7 @@ op_answering shard l m tx birth seen op a e = by_answer l m a (subst (OpAdds l) 
 restart_have : (shard : ℕ) (log : List LogRecord) (run epoch : ℕ) → HaveNoCommit (restart_records shard log run epoch)
 restart_have shard log run epoch =
     both_have (undo_records shard log) (Restart run epoch ∷ [])
-    (both_have _ _ (aborts_have (filter (λ t. not (aborted_in log t)) (losers shard log))) (clrs_have (losers shard log) (standing log))) ((λ t. refl), tt)
+    (both_have _ _ (aborts_have (filter (λ t. not (aborted_in log t)) (losers shard log))) (clrs_have (is_of (losers shard log)) (standing log))) ((λ t. refl), tt)
 
 pub opening_adds : (shard : ℕ) (log : List LogRecord) (run epoch : ℕ) → NoMoreCommits log (log_after_restart shard log run epoch)
 opening_adds shard log run epoch = with_more log (restart_records shard log run epoch) (restart_have shard log run epoch)

@@ -23,7 +23,7 @@ use Rattle.clv_base.specs.Orders.{tx_same, tx_in}
 use Rattle.clv_base.specs.State.{Shard}
 use Rattle.clv_base.specs.Events.{happen, landed, with_entry}
 use Rattle.clv_base.specs.Journals.{reply_state}
-use Rattle.law_base.specs.Items.{Item}
+use Rattle.law_base.specs.Items.{Deed, Did}
 use Rattle.clv_base.specs.declared.logs.LogRecord.{LogRecord}
 use Rattle.clv_base.specs.declared.logs.LogRecord.TheVariants.{Update, Prepare as PrepareRecord, Restart as RestartRecord}
 use Rattle.std.specs.List.{list_all}
@@ -120,12 +120,16 @@ s7 = entered 8 FlushOut (Out 5) s6
 abbrev s8 : Shard
 s8 = with_entry 9 0 FlushIn (Durable 5) (reply_state s7 (landed s7 5 true))
 
-abbrev items : List Item
-items = record { tx = doubtful; op = Put 5 (Num 10); answer = Value None; lsn = 1 } ∷ []
+-- the put, by its number
+abbrev done : ℕ → List Deed
+done n = Did (record { tx = doubtful; number = n; op = Put 5 (Num 10); answer = Value None; lsn = 1 }) ∷ []
 
 -- what they did, where so many asked and fell
+abbrev did_as : ℕ → List TxId → List TxId → Deeds
+did_as n asked fell = record { done = done n; asked = asked; told = []; met = []; fell = fell }
+
 abbrev did : List TxId → List TxId → Deeds
-did asked fell = record { items = items; asked = asked; told = []; met = []; fell = fell }
+did asked fell = did_as 1 asked fell
 
 abbrev Led : List TxId → Shard → Type 0
 Led asked s = Leads 1 1 [] (did asked []) s
@@ -135,6 +139,7 @@ led1 =
     happens put put_answered (reply_state s0 (happen s0 put)) 2 0 (opens (refl, lit< tt))
     (record {
       of_run = refl;
+      rises = tt;
       not_closed = none_closed;
       not_asked = λ q. refl;
       fresh = λ q e. record { unwritten = refl; unprepared = refl; uncommitted = refl; unaborted = refl; idle = refl; unmet = λ p m. absurd (both_ways false refl m); unfallen = refl };
@@ -209,8 +214,8 @@ f0 = opened 1 2 doubt_log
 abbrev f1 : Shard
 f1 = entered 2 decide Taken f0
 
-led_found : Leads 1 2 doubt_log (did (doubtful ∷ []) []) f1
+led_found : Leads 1 2 doubt_log (did_as 0 (doubtful ∷ []) []) f1
 led_found = happens decide Taken (reply_state f0 (happen f0 decide)) 2 0 (opens (refl, lit< tt)) (λ open_. (refl, refl, (λ q e. absurd (none_request q e)), refl)) refl
 
 pub doubt_is_found : DoubtIsFound
-doubt_is_found = (did (doubtful ∷ []) [], f1, led_found, refl, refl, refl, refl, refl, refl, refl, refl, refl)
+doubt_is_found = (did_as 0 (doubtful ∷ []) [], f1, led_found, refl, refl, refl, refl, refl, refl, refl, refl, refl)

@@ -14,10 +14,11 @@ use Rattle.clv_base.specs.Logs.{stands, in_doubt}
 use Rattle.clv_base.specs.LogRules.{log_of}
 use Rattle.clv_base.specs.FileRules.{may_open}
 use Rattle.clv_base.specs.Journals.{History}
-use Rattle.clv_base.specs.History.{Member, logs_left, acknowledged_in, serial_ops, serial_answers}
+use Rattle.clv_base.specs.History.{Member, logs_left, acknowledged_in, serial_acts, serial_answers}
 use Rattle.history_laws.specs.Openings.{LegalFrom}
 use Rattle.history_laws.specs.Continuing.{serial_left}
 use Rattle.history_examples.specs.Noted.{splits, new_logs, born, writer, on_0, on_1}
+use Rattle.history_examples.specs.Playing.{operated}
 
 -- shard 0 is the home; shard 1 is prepared durably, votes yes and takes the decision
 abbrev pub wide : History
@@ -52,13 +53,13 @@ abbrev pub WideIsLegal : Type 0
 WideIsLegal = LegalFrom splits new_logs wide wide_logs
 
 abbrev pub wide_member : Member
-wide_member = record { tx = writer; point = record { stamp = 4; shard = 0 }; ops = (Put 3 (Num 30), Value None) ∷ (Put 5 (Num 50), Value None) ∷ [] }
+wide_member = record { tx = writer; point = record { stamp = 4; shard = 0 }; acts = operated 1 ((Put 3 (Num 30), Value None) ∷ (Put 5 (Num 50), Value None) ∷ []) }
 
 abbrev pub WideHasMember : Type 0
 WideHasMember =
     (serial_left splits new_logs wide wide_logs (λ n. false) ≡ wide_member ∷ []) × (acknowledged_in wide writer ≡ true)
-    × (replay_answers (stands new_logs) (serial_ops (wide_member ∷ [])) ≡ serial_answers (wide_member ∷ []))
-    × (replay_map (stands new_logs) (serial_ops (wide_member ∷ [])) ≡ stands wide_logs) × (stands wide_logs ≡ (3, Num 30) ∷ (5, Num 50) ∷ [])
+    × (replay_answers (stands new_logs) (serial_acts (wide_member ∷ [])) ≡ serial_answers (wide_member ∷ []))
+    × (replay_map (stands new_logs) (serial_acts (wide_member ∷ [])) ≡ stands wide_logs) × (stands wide_logs ≡ (3, Num 30) ∷ (5, Num 50) ∷ [])
 
 abbrev pub WideIsLeftInDoubt : Type 0
 WideIsLeftInDoubt =

@@ -8,10 +8,11 @@ use Rattle.clv_base.specs.declared.ops.Op.TheVariants.{Put}
 use Rattle.clv_base.specs.declared.state.Stage.TheVariants.{Closed}
 use Rattle.std.specs.List.{filter}
 use Rattle.clv_base.specs.Orders.{tx_same, tx_in}
-use Rattle.clv_base.specs.Logs.{committed_in, in_doubt, fold_updates}
+use Rattle.clv_base.specs.Logs.{committed_in, in_doubt}
 use Rattle.clv_base.specs.State.{Shard}
 use Rattle.clv_base.specs.Undo.{stage_of}
-use Rattle.shard_laws.specs.OneShard.{Deeds, Leads, MayChoose, members_of, ops_by, found_asked, map_found}
+use Rattle.clv_base.specs.Maps.{Operates}
+use Rattle.shard_laws.specs.OneShard.{Deeds, Leads, MayChoose, members_of, acts_by, map_chosen, found_asked, map_found}
 
 abbrev pub doubtful : TxId
 doubtful = record { run = 1; session = 1; serial = 1 }
@@ -33,14 +34,14 @@ abbrev pub DoubtIsCommitted : Type 0
 DoubtIsCommitted =
     (d : Deeds) × (s : Shard)
     × Leads 1 1 [] d s × (d.told ≡ []) × (d.fell ≡ []) × (s.local.epoch ≡ 1) × (committed_in s.local.log doubtful ≡ true)
-    × (members_of s s.durable d ≡ doubtful ∷ []) × (ops_by (doubtful ∷ []) d.items ≡ (Put 5 (Num 10) ∷ []) ∷ [])
+    × (members_of s s.durable d ≡ doubtful ∷ []) × (acts_by (doubtful ∷ []) d.done ≡ ((1, Operates (Put 5 (Num 10))) ∷ []) ∷ [])
 
 -- or another shard's COMMIT chooses it while it is in doubt still: then it replays to the map of its UPDATE
 abbrev pub DoubtIsChosen : Type 0
 DoubtIsChosen =
     (d : Deeds) × (s : Shard)
     × Leads 1 1 [] d s × (d.told ≡ []) × (d.fell ≡ []) × (s.durable ≤ 4) × MayChoose s 4 d (tx_same doubtful)
-    × (ops_by (filter (tx_same doubtful) d.asked) d.items ≡ (Put 5 (Num 10) ∷ []) ∷ []) × (fold_updates (tx_same doubtful) (take 4 s.local.log) [] ≡ (5, Num 10) ∷ [])
+    × (acts_by (filter (tx_same doubtful) d.asked) d.done ≡ ((1, Operates (Put 5 (Num 10))) ∷ []) ∷ []) × (map_chosen 1 (take 4 s.local.log) (tx_same doubtful) ≡ (5, Num 10) ∷ [])
 
 -- the log that a run left with it in doubt
 abbrev pub doubt_log : List LogRecord
@@ -52,4 +53,4 @@ abbrev pub DoubtIsFound : Type 0
 DoubtIsFound =
     (d : Deeds) × (s : Shard)
     × Leads 1 2 doubt_log d s × (d.asked ≡ doubtful ∷ []) × (d.told ≡ []) × (d.met ≡ []) × (d.fell ≡ []) × (found_asked 1 doubt_log ≡ doubtful ∷ []) × (s.local.epoch ≡ 0)
-    × (members_of s 5 d ≡ doubtful ∷ []) × (ops_by (doubtful ∷ []) d.items ≡ (Put 5 (Num 10) ∷ []) ∷ []) × (map_found 1 doubt_log (tx_same doubtful) ≡ (5, Num 10) ∷ [])
+    × (members_of s 5 d ≡ doubtful ∷ []) × (acts_by (doubtful ∷ []) d.done ≡ ((0, Operates (Put 5 (Num 10))) ∷ []) ∷ []) × (map_found 1 doubt_log (tx_same doubtful) ≡ (5, Num 10) ∷ [])

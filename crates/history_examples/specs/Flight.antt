@@ -15,6 +15,7 @@ use Rattle.clv_base.specs.Journals.{History}
 use Rattle.clv_base.specs.History.{Legal, Member, CauseStands, logs_left}
 use Rattle.history_laws.specs.Continuing.{GoesOn, serial_left}
 use Rattle.history_examples.specs.Noted.{splits, new_logs, born, writer, on_1}
+use Rattle.history_examples.specs.Playing.{operated}
 
 -- one transaction on shard 1 alone, whose COMMIT is in flight when the shard stops
 abbrev pub stopped : History
@@ -67,7 +68,7 @@ abbrev pub LostIsLegal : Type 0
 LostIsLegal = Legal splits new_logs lost lost_logs
 
 abbrev pub flight_member : Member
-flight_member = record { tx = writer; point = record { stamp = 3; shard = 1 }; ops = (Put 5 (Num 50), Value None) ∷ [] }
+flight_member = record { tx = writer; point = record { stamp = 3; shard = 1 }; acts = operated 1 ((Put 5 (Num 50), Value None) ∷ []) }
 
 -- a crash leaves the batch or not: with it the transaction is a member, without it nothing is; both may be opened
 abbrev pub CrashDecides : Type 0

@@ -2,7 +2,7 @@
 use Rattle.clv_base.specs.declared.values.Value.TheVariants.{Num}
 use Rattle.clv_base.specs.Core.{World}
 use Rattle.clv_base.specs.FileRules.{have_spellings, may_open}
-use Rattle.clv_base.specs.History.{Legal, Member, serial, serial_answers, serial_ops}
+use Rattle.clv_base.specs.History.{Legal, Member, serial, serial_answers, serial_acts}
 use Rattle.clv_base.specs.Journals.{History, final_of}
 use Rattle.clv_base.specs.LogRules.{apart}
 use Rattle.clv_base.specs.Logs.{stands}
@@ -19,7 +19,7 @@ use Rattle.clv_base.specs.declared.ops.Op.TheVariants.{Del, Get, Put, Scan}
 use Rattle.history_examples.specs.Cascades.{chain, gap_split_after}
 use Rattle.history_examples.specs.Crashes.{flush_failed, stopped_found, stopped_lost}
 use Rattle.history_examples.specs.InDoubt.{prepared_found, prepared_lost}
-use Rattle.history_examples.specs.Playing.{empty_logs, splits_at, tx}
+use Rattle.history_examples.specs.Playing.{empty_logs, splits_at, tx, operated}
 use Rattle.history_examples.specs.Repeats.{asked_twice, repeats}
 use Rattle.history_examples.specs.Scans.{phantoms, wide_reader}
 use Rattle.history_examples.specs.Waiting.{old_waits, young_dies}
@@ -37,14 +37,14 @@ finals_from n (suc k) h after = final_of (empty_logs (n + suc k)) h after n ∷ 
 
 -- a member of a serial history
 abbrev pub member : ℕ → ℕ → ℕ → List (Op × Answer) → Member
-member s stamp shard ops = record { tx = tx s 1; point = record { stamp = stamp; shard = shard }; ops = ops }
+member s stamp shard ops = record { tx = tx s 1; point = record { stamp = stamp; shard = shard }; acts = operated 1 ops }
 
 -- the serial history has these members; they replay with their answers to what the logs stand for
 abbrev pub SerialIs : World → Bool → List Member → Type 0
 SerialIs w flight_survives ms =
     (serial (left w flight_survives) (w.history) ≡ ms)
-    × (replay_answers [] (serial_ops ms) ≡ serial_answers ms)
-    × (replay_map [] (serial_ops ms) ≡ stands (left w flight_survives))
+    × (replay_answers [] (serial_acts ms) ≡ serial_answers ms)
+    × (replay_map [] (serial_acts ms) ≡ stands (left w flight_survives))
 
 abbrev pub writer_alone : List Member
 writer_alone = member 1 2 0 ((Put 5 (Num 10), Value None) ∷ []) ∷ []
@@ -113,7 +113,7 @@ abbrev pub phantom_members : List Member
 phantom_members =
     member 1 2 0 ((Put 5 (Num 10), Value None) ∷ []) ∷
     member 2 8 0 ((Scan 0 9, Pairs ((5, Num 10) ∷ [])) ∷ []) ∷
-    record { tx = tx 3 2; point = record { stamp = 11; shard = 0 }; ops = (Put 7 (Num 70), Value None) ∷ [] } ∷
+    record { tx = tx 3 2; point = record { stamp = 11; shard = 0 }; acts = operated 1 ((Put 7 (Num 70), Value None) ∷ []) } ∷
     member 4 13 0 ((Del 5, Value (Some (Num 10))) ∷ []) ∷
     member 5 15 0 ((Scan 0 9, Pairs ((7, Num 70) ∷ [])) ∷ []) ∷ []
 

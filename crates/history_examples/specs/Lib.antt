@@ -12,6 +12,7 @@ pub mod Histories
 pub mod Soundness
 pub mod LogRows
 pub mod Adding
+pub mod GoingBack
 pub mod Noted
 pub mod Committed
 pub mod Reopened

@@ -2,12 +2,13 @@
 use Rattle.clv_base.specs.Core.{World, after_answer, live, logs_of, new_world as opened_world, step_answer}
 use Rattle.clv_base.specs.declared.events.CoreStep.{CoreStep}
 use Rattle.clv_base.specs.Events.{CallAnswer, Enters, Quiet, Worn, to_of}
-use Rattle.clv_base.specs.Maps.{KeyMap}
+use Rattle.clv_base.specs.History.{DoneAct}
+use Rattle.clv_base.specs.Maps.{KeyMap, Operates}
 use Rattle.clv_base.specs.Runs.{allows_answer}
 use Rattle.clv_base.specs.State.{Shard}
 use Rattle.clv_base.specs.declared.events.Entry.{Entry}
 use Rattle.clv_base.specs.declared.events.Event.{Event}
-use Rattle.clv_base.specs.declared.events.Event.TheVariants.{Deliver, FlushIn, FlushOut, Look, Op as OpEvent, Request, Restart as RestartEvent, Send}
+use Rattle.clv_base.specs.declared.events.Event.TheVariants.{Deliver, FlushIn, FlushOut, Look, Op as OpEvent, Request, RollTo, Restart as RestartEvent, Send}
 use Rattle.clv_base.specs.declared.events.Outcome.{Outcome}
 use Rattle.clv_base.specs.declared.events.Outcome.TheVariants.{Sent}
 use Rattle.clv_base.specs.declared.logs.LogRecord.{LogRecord}
@@ -17,8 +18,9 @@ use Rattle.clv_base.specs.declared.modes.Mode.{Mode}
 use Rattle.clv_base.specs.declared.modes.Part.{Part}
 use Rattle.clv_base.specs.declared.names.Birth.{Birth}
 use Rattle.clv_base.specs.declared.names.TxId.{TxId}
+use Rattle.clv_base.specs.declared.ops.Answer.{Answer}
 use Rattle.clv_base.specs.declared.ops.Op.{Op}
-use Rattle.std.specs.Prelude.{Bool, List, None, Option, Some, [], false, replicate, slice_get, true, ℕ, ◌++◌, ◌∷◌, ◌≡◌}
+use Rattle.std.specs.Prelude.{Bool, List, None, Option, Some, [], false, replicate, slice_get, suc, true, ℕ, ◌++◌, ◌∷◌, ◌≡◌}
 
 -- what a walker does in an example: an event on a shard; the end of a flush, pushed or not; a restart that finds the records in flight
 -- or not; a message carried from a shard to the one that it is for; the message that entry k of a shard sent, delivered again
@@ -116,6 +118,15 @@ next s n shard age nth op = Event_at s shard (OpEvent (tx s n) (birth s age) nth
 
 abbrev pub again : ℕ → ℕ → ℕ → ℕ → ℕ → ℕ → Op → Act
 again s n shard age nth seen op = Event_at s shard (OpEvent (tx s n) (birth s age) nth (Some seen) op)
+
+-- a going back, under a number, to a number
+abbrev pub go_back : ℕ → ℕ → ℕ → ℕ → ℕ → ℕ → Act
+go_back s n shard nth seen upto = Event_at s shard (RollTo (tx s n) nth seen upto)
+
+-- operations with their answers, numbered from this on, as acts
+abbrev pub operated : ℕ → List (Op × Answer) → List DoneAct
+operated n [] = []
+operated n (p ∷ ps) = (n, Operates p.0, Some p.1) ∷ operated (suc n) ps
 
 abbrev pub request : ℕ → ℕ → ℕ → List (ℕ × ℕ) → Act
 request s n shard touched = Event_at s shard (Request (tx s n) touched)

@@ -15,9 +15,10 @@ use Rattle.clv_base.specs.Maps.{replay_map, replay_answers}
 use Rattle.clv_base.specs.Logs.{stands, committed_somewhere}
 use Rattle.clv_base.specs.LogRules.{log_of}
 use Rattle.clv_base.specs.Journals.{History, start_of, journal_of, predecessors_in}
-use Rattle.clv_base.specs.History.{Legal, Member, acknowledged_in, serial_ops, serial_answers}
+use Rattle.clv_base.specs.History.{Legal, Member, acknowledged_in, serial_acts, serial_answers}
 use Rattle.history_laws.specs.Continuing.{serial_left}
 use Rattle.history_examples.specs.Noted.{splits, new_logs, tx, born, writer, on_0, on_1}
+use Rattle.history_examples.specs.Playing.{operated}
 
 abbrev pub reader : TxId
 reader = tx 1 2
@@ -81,17 +82,17 @@ ReadingIsLegal = Legal splits new_logs reading reading_logs
 
 abbrev pub reading_members : List Member
 reading_members =
-    record { tx = writer; point = record { stamp = 4; shard = 0 }; ops = (Put 3 (Num 30), Value None) ∷ (Put 5 (Num 50), Value None) ∷ [] }
-    ∷ record { tx = reader; point = record { stamp = 9; shard = 0 }; ops = (Get 3, Value (Some (Num 30))) ∷ (Get 5, Value (Some (Num 50))) ∷ [] }
-    ∷ record { tx = second; point = record { stamp = 29; shard = 0 }; ops = (Put 3 (Num 31), Value (Some (Num 30))) ∷ [] }
+    record { tx = writer; point = record { stamp = 4; shard = 0 }; acts = operated 1 ((Put 3 (Num 30), Value None) ∷ (Put 5 (Num 50), Value None) ∷ []) }
+    ∷ record { tx = reader; point = record { stamp = 9; shard = 0 }; acts = operated 1 ((Get 3, Value (Some (Num 30))) ∷ (Get 5, Value (Some (Num 50))) ∷ []) }
+    ∷ record { tx = second; point = record { stamp = 29; shard = 0 }; acts = operated 1 ((Put 3 (Num 31), Value (Some (Num 30))) ∷ []) }
     ∷ []
 
 -- the members are the writer, the reader and the session's second one, and replay with their answers to the map that the logs stand for
 abbrev pub ReadingHasMembers : Type 0
 ReadingHasMembers =
     (serial_left splits new_logs reading reading_logs (λ n. false) ≡ reading_members)
-    × (replay_answers (stands new_logs) (serial_ops reading_members) ≡ serial_answers reading_members)
-    × (replay_map (stands new_logs) (serial_ops reading_members) ≡ stands reading_logs) × (stands reading_logs ≡ (3, Num 31) ∷ (5, Num 50) ∷ [])
+    × (replay_answers (stands new_logs) (serial_acts reading_members) ≡ serial_answers reading_members)
+    × (replay_map (stands new_logs) (serial_acts reading_members) ≡ stands reading_logs) × (stands reading_logs ≡ (3, Num 31) ∷ (5, Num 50) ∷ [])
 
 -- the writer is the reader's predecessor on both shards; the reader is acknowledged, and no log has a COMMIT of it
 abbrev pub ReaderFollowsWriter : Type 0

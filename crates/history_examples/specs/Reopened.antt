@@ -14,11 +14,12 @@ use Rattle.clv_base.specs.Logs.{stands, in_doubt, committed_somewhere}
 use Rattle.clv_base.specs.LogRules.{log_of}
 use Rattle.clv_base.specs.Needs.{live_pairs}
 use Rattle.clv_base.specs.Journals.{History, start_of, final_of, journal_of, predecessors_in}
-use Rattle.clv_base.specs.History.{Member, serial_ops, serial_answers, IsSettled}
+use Rattle.clv_base.specs.History.{Member, serial_acts, serial_answers, IsSettled}
 use Rattle.history_laws.specs.Openings.{LegalFrom}
 use Rattle.history_laws.specs.Continuing.{serial_left}
 use Rattle.history_examples.specs.Noted.{splits, tx, born, writer, on_0, on_1}
 use Rattle.history_examples.specs.Committed.{home_log, part_log, wide_logs}
+use Rattle.history_examples.specs.Playing.{operated}
 
 abbrev pub reader : TxId
 reader = tx 2 1
@@ -46,14 +47,14 @@ abbrev pub ReopenedIsLegal : Type 0
 ReopenedIsLegal = (in_doubt 1 (log_of wide_logs 1) ≡ writer ∷ []) × LegalFrom splits wide_logs reopened reopened_logs
 
 abbrev pub reader_member : Member
-reader_member = record { tx = reader; point = record { stamp = 3; shard = 1 }; ops = (Get 5, Value (Some (Num 50))) ∷ [] }
+reader_member = record { tx = reader; point = record { stamp = 3; shard = 1 }; acts = operated 1 ((Get 5, Value (Some (Num 50))) ∷ []) }
 
 -- the reader is the one member, and replays; its predecessor was committed at opening
 abbrev pub ReopenedHasMember : Type 0
 ReopenedHasMember =
     (serial_left splits wide_logs reopened reopened_logs (λ n. false) ≡ reader_member ∷ [])
-    × (replay_answers (stands wide_logs) (serial_ops (reader_member ∷ [])) ≡ serial_answers (reader_member ∷ []))
-    × (replay_map (stands wide_logs) (serial_ops (reader_member ∷ [])) ≡ stands reopened_logs)
+    × (replay_answers (stands wide_logs) (serial_acts (reader_member ∷ [])) ≡ serial_answers (reader_member ∷ []))
+    × (replay_map (stands wide_logs) (serial_acts (reader_member ∷ [])) ≡ stands reopened_logs)
     × (predecessors_in (log_of reopened_logs 1) (start_of wide_logs 1) reader (journal_of 1 reopened) ≡ writer ∷ []) × (committed_somewhere wide_logs writer ≡ true)
     × (stands wide_logs ≡ (3, Num 30) ∷ (5, Num 50) ∷ []) × (stands reopened_logs ≡ (3, Num 30) ∷ (5, Num 50) ∷ [])
 

@@ -20,6 +20,7 @@ use Rattle.clv_base.specs.History.{Legal, Member, logs_left}
 use Rattle.history_laws.specs.Openings.{LegalFrom}
 use Rattle.history_laws.specs.Continuing.{serial_left}
 use Rattle.history_examples.specs.Noted.{splits, new_logs, tx, born, writer, on_0, on_1}
+use Rattle.history_examples.specs.Playing.{operated}
 
 abbrev pub loser : TxId
 loser = tx 1 2
@@ -70,7 +71,7 @@ abbrev pub RestartedIsLegal : Type 0
 RestartedIsLegal = LegalFrom splits new_logs restarted restarted_logs
 
 abbrev pub restarted_member : Member
-restarted_member = record { tx = writer; point = record { stamp = 4; shard = 0 }; ops = (Put 3 (Num 30), Value None) ∷ (Put 5 (Num 50), Value None) ∷ [] }
+restarted_member = record { tx = writer; point = record { stamp = 4; shard = 0 }; acts = operated 1 ((Put 3 (Num 30), Value None) ∷ (Put 5 (Num 50), Value None) ∷ []) }
 
 -- the writer is in doubt on the shard that was restarted, and a member; the loser, which depended on it, is gone
 abbrev pub RestartedHasMember : Type 0

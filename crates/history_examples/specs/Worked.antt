@@ -21,6 +21,7 @@ use Rattle.history_laws.specs.Outcomes.{aborted_in_history}
 use Rattle.clv_base.specs.declared.names.TxId.{TxId}
 use Rattle.clv_base.specs.declared.names.Birth.{Birth}
 use Rattle.history_laws.specs.Places.{predecessors_on}
+use Rattle.history_examples.specs.Playing.{operated}
 
 -- a disk that was made and never used: one shard, whose log has no record
 abbrev pub new_log : List (List LogRecord)
@@ -34,7 +35,7 @@ abbrev pub birth_of : ℕ → ℕ → Birth
 birth_of stamp serial = record { stamp = stamp; session = 1; serial = serial }
 
 abbrev pub first_member : Member
-first_member = record { tx = tx_of 1 1; point = record { stamp = 3; shard = 0 }; ops = (Put 5 (Num 10), Value None) ∷ [] }
+first_member = record { tx = tx_of 1 1; point = record { stamp = 3; shard = 0 }; acts = operated 1 ((Put 5 (Num 10), Value None) ∷ []) }
 
 -- ---- a shard that stops with nothing flushed, and is restarted
 
@@ -86,7 +87,7 @@ abbrev pub ViolatedIsLegal : Type 0
 ViolatedIsLegal = Legal [] new_log violated (violated_log ∷ [])
 
 abbrev pub reader_member : Member
-reader_member = record { tx = reader; point = record { stamp = 5; shard = 0 }; ops = (Get 5, Value (Some (Num 10))) ∷ [] }
+reader_member = record { tx = reader; point = record { stamp = 5; shard = 0 }; acts = operated 1 ((Get 5, Value (Some (Num 10))) ∷ []) }
 
 abbrev pub ViolatedHasMembers : Type 0
 ViolatedHasMembers =
@@ -116,7 +117,7 @@ abbrev pub FoundIsLegal : Type 0
 FoundIsLegal = LegalFrom [] (found_log ∷ []) from_found (found_left ∷ [])
 
 abbrev pub new_member : Member
-new_member = record { tx = tx_of 2 1; point = record { stamp = 4; shard = 0 }; ops = (Get 6, Value None) ∷ (Put 5 (Num 12), Value (Some (Num 10))) ∷ [] }
+new_member = record { tx = tx_of 2 1; point = record { stamp = 4; shard = 0 }; acts = operated 1 ((Get 6, Value None) ∷ (Put 5 (Num 12), Value (Some (Num 10))) ∷ []) }
 
 abbrev pub FoundHasMembers : Type 0
 FoundHasMembers =

@@ -15,6 +15,7 @@ pub mod doubt;
 pub mod doubts;
 pub mod dropped;
 pub mod flight;
+pub mod going_back;
 pub mod histories;
 pub mod legal;
 pub mod logs;

@@ -5,3 +5,4 @@ pub mod LogsLeftPass
 pub mod Logs
 pub mod RequestsNameWhatAnswered
 pub mod Laws
+pub mod RequestsGoWhole

@@ -10,19 +10,20 @@ use Rattle.clv_base.specs.declared.logs.LogRecord.{LogRecord}
 use Rattle.clv_base.specs.declared.ops.Op.{Op}
 use Rattle.clv_base.specs.declared.ops.Answer.{Answer}
 use Rattle.clv_base.specs.declared.events.Event.{Event}
-use Rattle.clv_base.specs.declared.events.Event.TheVariants.{Op as OpEvent, Request as RequestEvent, Look}
+use Rattle.clv_base.specs.declared.events.Event.TheVariants.{Op as OpEvent, RollTo, Request as RequestEvent, Look}
 use Rattle.clv_base.specs.declared.events.Outcome.{Outcome}
-use Rattle.clv_base.specs.declared.events.Outcome.TheVariants.{Answered, Asked, Acknowledged}
+use Rattle.clv_base.specs.declared.events.Outcome.TheVariants.{Answered, Rolled, Asked, Acknowledged}
 use Rattle.clv_base.specs.declared.events.Entry.{Entry}
 use Rattle.clv_base.specs.Orders.{tx_same, nat_in}
 use Rattle.clv_base.specs.Shards.{shard_count}
+use Rattle.clv_base.specs.Maps.{Operates, GoesBack}
 use Rattle.clv_base.specs.Logs.{committed_in}
 use Rattle.clv_base.specs.LogRules.{log_of}
 use Rattle.clv_base.specs.Coordinator.{others}
 use Rattle.clv_base.specs.Restarts.{run_after, log_left}
-use Rattle.clv_base.specs.Sessions.{is_session, no_session}
+use Rattle.clv_base.specs.Sessions.{SessionState, makes_from, is_session, no_session}
 use Rattle.clv_base.specs.Journals.{History, journal_of, own, start_of, final_of}
-use Rattle.clv_base.specs.History.{Legal, is_acknowledgement, acknowledged_in, answered_op, request_of, logs_left}
+use Rattle.clv_base.specs.History.{Legal, is_acknowledgement, acknowledged_in, DoneAct, act_of, request_of, logs_left}
 use Rattle.clv_base.proofs.SameNames.{tx_true}
 use Rattle.protocol_laws.specs.SessionLaws.{tx_of, works_on, ended_by}
 use Rattle.protocol_laws.proofs.SessionsKeepOrder.{sessions_keep_order}
@@ -32,8 +33,8 @@ use Rattle.history_cases.proofs.Durability.{opened_counted}
 use Rattle.history_laws.proofs.Entries.LaterJournalsGoOn.{later_front}
 use Rattle.history_cases.proofs.Merging.{Placed, InOrder, in_order, Among, among_front, among_append, Precedes, in_turn, precedes_before, in_journal, from_journal, in_own, own_in_order, journal_precedes, front_precedes, stamps_follow, stamps_rise}
 use Rattle.history_laws.proofs.Entries.SublistsOfHistories.{sublist}
-use Rattle.history_laws.proofs.NeverTakenBack.LaterHistoriesHoldMembers.{op_at, same_ops, any_in, any_among, committed_front, Stays, members_stay, left_at}
-use Rattle.history_laws.proofs.Entries.NothingFollowsRequests.{has, of_session, nothing_follows, request_names}
+use Rattle.history_laws.proofs.NeverTakenBack.LaterHistoriesHoldMembers.{act_at, same_acts, any_in, any_among, committed_front, Stays, members_stay, left_at}
+use Rattle.history_laws.proofs.Entries.NothingFollowsRequests.{has, of_session, nothing_follows, request_names, request_names_back}
 use Rattle.history_cases.proofs.Telling.{IsRequest, AskedAfter, Voted}
 use Rattle.history_cases.proofs.TellingEvents.{SaysWell, front_committed}
 use Rattle.history_cases.proofs.Worlds.{world, in_a_shard}
@@ -126,17 +127,25 @@ touched_entry splits before after h x tx ts m l i r (y, us, j, s, k) t =
 
 -- ---- no operation comes later
 
--- an entry that is an answered operation of the transaction
-pub is_op : (t : TxId) (ev : Event) (o : Outcome) (p : Op × Answer) → answered_op t ev o ≡ Some p
-    → (birth : Birth) × (nth : ℕ) × (seen : Option ℕ) × (op : Op) × (a : Answer) × (epoch : ℕ) × (ev ≡ OpEvent t birth nth seen op) × (o ≡ Answered a epoch)
-is_op t (OpEvent tx birth nth seen op) (Answered a epoch) p e = at (tx_same t tx) refl e
+-- an entry that is an act of the transaction: an operation that was answered, or a going back
+pub data IsAct (t : TxId) (ev : Event) (o : Outcome) : Type 0 where
+  operates : (birth : Birth) (nth : ℕ) (seen : Option ℕ) (op : Op) (a : Answer) (epoch : ℕ) → ev ≡ OpEvent t birth nth seen op → o ≡ Answered a epoch → IsAct t ev o
+  goes_back : (nth seen upto : ℕ) → ev ≡ RollTo t nth seen upto → o ≡ Rolled → IsAct t ev o
+
+pub is_act : (t : TxId) (ev : Event) (o : Outcome) (p : DoneAct) → act_of t ev o ≡ Some p → IsAct t ev o
+is_act t (OpEvent tx birth nth seen op) (Answered a epoch) p e = at (tx_same t tx) refl e
   where
-    at : (b : Bool) → tx_same t tx ≡ b → cond b (Some (op, a)) None ≡ Some p
-        → (birth' : Birth) × (nth' : ℕ) × (seen' : Option ℕ) × (op' : Op) × (a' : Answer) × (epoch' : ℕ) × (OpEvent tx birth nth seen op ≡ OpEvent t birth' nth' seen' op') × (Answered a epoch ≡ Answered a' epoch')
-    at true q f = (birth, nth, seen, op, a, epoch, ap (λ z. OpEvent z birth nth seen op) (sym (tx_true t tx q)), refl)
+    at : (b : Bool) → tx_same t tx ≡ b → cond b (Some (nth, Operates op, Some a)) None ≡ Some p → IsAct t (OpEvent tx birth nth seen op) (Answered a epoch)
+    at true q f = operates birth nth seen op a epoch (ap (λ z. OpEvent z birth nth seen op) (sym (tx_true t tx q))) refl
     at false q f = absurd cc
-is_op t (OpEvent tx birth nth seen op) _ p e = absurd cc
-is_op t _ o p e = absurd cc
+is_act t (OpEvent tx birth nth seen op) _ p e = absurd cc
+is_act t (RollTo tx nth seen upto) Rolled p e = at (tx_same t tx) refl e
+  where
+    at : (b : Bool) → tx_same t tx ≡ b → cond b (Some (nth, GoesBack upto, None)) None ≡ Some p → IsAct t (RollTo tx nth seen upto) Rolled
+    at true q f = goes_back nth seen upto (ap (λ z. RollTo z nth seen upto) (sym (tx_true t tx q))) refl
+    at false q f = absurd cc
+is_act t (RollTo tx nth seen upto) _ p e = absurd cc
+is_act t _ o p e = absurd cc
 
 -- ---- the law
 
@@ -171,31 +180,43 @@ op_before splits before h after h' after' c x tx ts i r v y j t l =
     (touched_entry splits before after h x tx ts y.0 c.first.legal i r v t)))
     (among_append y.1 (journal_of y.0 h) front.0 (subst (Among y.1) (sym front.1) (in_journal y h' j)))
 
-op_by : (splits : List ℕ) (before : List (List LogRecord)) (h : History) (after : List (List LogRecord)) (h' : History) (after' : List (List LogRecord)) → Both splits before h after h' after'
+-- what a transaction works on before its request, on a shard that this names, stands in the shorter history
+work_by : (splits : List ℕ) (before : List (List LogRecord)) (h : History) (after : List (List LogRecord)) (h' : History) (after' : List (List LogRecord)) → Both splits before h after h' after'
     → (x : Placed) (tx : TxId) (ts : List (ℕ × ℕ)) → Among x h → IsRequest tx ts x → Voted h tx → (y : Placed) → Among y h'
-    → (birth : Birth) (nth : ℕ) (seen : Option ℕ) (op : Op) (a : Answer) (epoch : ℕ) → (y.1).event ≡ OpEvent tx birth nth seen op → (y.1).outcome ≡ Answered a epoch → Among y h
-op_by splits before h after h' after' c x tx ts i r v y j birth nth seen op a epoch ev out =
-    let p = together splits before after' h' x y tx c.later (stands_later splits before h after h' after' c x i) j (ap tx_of r.0) (ap tx_of ev) in
+    → tx_of (y.1).event ≡ Some tx → works_on tx.serial (y.1).event ≡ true → (RequestEvent tx ts ≡ (y.1).event → ⊥)
+    → ((w : List Placed) (t : SessionState) → makes_from splits (Some t) w ≡ true → Precedes y x w → has y.0 ts ≡ true) → Among y h
+work_by splits before h after h' after' c x tx ts i r v y j its works apart named =
+    let p = together splits before after' h' x y tx c.later (stands_later splits before h after h' after' c x i) j (ap tx_of r.0) its in
     let w = own (x.1).walker h' in
     let k = (sessions_keep_order splits (run_after before) (x.1).walker w p.session).2 in
-    ⊎_elim (λ q. absurd (other_events (sym r.0 ∙ ap (λ z. (z.1).event) q ∙ ev)))
+    ⊎_elim (λ q. absurd (apart (sym r.0 ∙ ap (λ z. (z.1).event) q)))
     (λ q. ⊎_elim
-    (λ b. absurd (both_ways _ (nothing_follows w x y tx.serial k b (ends tx x ts r)) (subst (λ z. works_on tx.serial z ≡ true) (sym ev) (eq-eqb tx.serial tx.serial refl))))
+    (λ b. absurd (both_ways _ (nothing_follows w x y tx.serial k b (ends tx x ts r)) works))
     (λ b. op_before splits before h after h' after' c x tx ts i r v y j
-    (request_names splits w (no_session (run_after before) (x.1).walker) y x tx birth nth seen op a epoch ts p.session b ev out r.0)
+    (named w (no_session (run_after before) (x.1).walker) p.session b)
     (stamps_follow y x (precedes_before y x w (own_in_order (x.1).walker h' (in_order h' c.later.ordered)) b)))
     q)
     (in_turn x y w p.first p.second)
+
+-- an act of a member stands in the shorter history
+act_by : (splits : List ℕ) (before : List (List LogRecord)) (h : History) (after : List (List LogRecord)) (h' : History) (after' : List (List LogRecord)) → Both splits before h after h' after'
+    → (x : Placed) (tx : TxId) (ts : List (ℕ × ℕ)) → Among x h → IsRequest tx ts x → Voted h tx → (y : Placed) → Among y h' → IsAct tx (y.1).event (y.1).outcome → Among y h
+act_by splits before h after h' after' c x tx ts i r v y j (operates birth nth seen op a epoch ev out) =
+    work_by splits before h after h' after' c x tx ts i r v y j (ap tx_of ev) (subst (λ z. works_on tx.serial z ≡ true) (sym ev) (eq-eqb tx.serial tx.serial refl)) (λ q. other_events (q ∙ ev))
+    (λ w t k b. request_names splits w t y x tx birth nth seen op a epoch ts k b ev out r.0)
   where
     other_events : RequestEvent tx ts ≡ OpEvent tx birth nth seen op → ⊥
     other_events q = absurd cc
+act_by splits before h after h' after' c x tx ts i r v y j (goes_back nth seen upto ev out) =
+    work_by splits before h after h' after' c x tx ts i r v y j (ap tx_of ev) (subst (λ z. works_on tx.serial z ≡ true) (sym ev) (eq-eqb tx.serial tx.serial refl)) (λ q. other_events (q ∙ ev))
+    (λ w t k b. request_names_back splits w t y x tx nth seen upto ts k b ev r.0)
+  where
+    other_events : RequestEvent tx ts ≡ RollTo tx nth seen upto → ⊥
+    other_events q = absurd cc
 
--- an operation of a member stands in the shorter history
-op_stands : (splits : List ℕ) (before : List (List LogRecord)) (h : History) (after : List (List LogRecord)) (h' : History) (after' : List (List LogRecord)) → Both splits before h after h' after'
-    → (x : Placed) (tx : TxId) (ts : List (ℕ × ℕ)) → Among x h → IsRequest tx ts x → Voted h tx → (y : Placed) (p : Op × Answer) → Among y h' → op_at tx y ≡ Some p → Among y h
-op_stands splits before h after h' after' c x tx ts i r v y p j e =
-    let o = is_op tx (y.1).event (y.1).outcome p e in
-    op_by splits before h after h' after' c x tx ts i r v y j o.0 o.1 o.2 o.3 o.4 o.5 o.6 o.7
+act_stands : (splits : List ℕ) (before : List (List LogRecord)) (h : History) (after : List (List LogRecord)) (h' : History) (after' : List (List LogRecord)) → Both splits before h after h' after'
+    → (x : Placed) (tx : TxId) (ts : List (ℕ × ℕ)) → Among x h → IsRequest tx ts x → Voted h tx → (y : Placed) (p : DoneAct) → Among y h' → act_at tx y ≡ Some p → Among y h
+act_stands splits before h after h' after' c x tx ts i r v y p j e = act_by splits before h after h' after' c x tx ts i r v y j (is_act tx (y.1).event (y.1).outcome p e)
 
 -- a member was voted on by all
 pub is_request : (t : TxId) (ev : Event) (o : Outcome) → request_of ev o ≡ Some t → (ts : List (ℕ × ℕ)) × (ev ≡ RequestEvent t ts) × (o ≡ Asked)
@@ -251,7 +272,7 @@ stays splits before h after h' after' choice c s x t i e k =
     let n = in_a_shard splits before after h x c.first.legal i in (
       either (committed_in (log_of (logs_left splits before h after (λ n. false)) x.0) t) (acknowledged_in h t) (committed_in (log_of (logs_left splits before h' after' choice) x.0) t) (acknowledged_in h' t)
           (commit_stays splits before h after h' after' choice c x.0 t n) (any_in (λ e. is_acknowledgement t (e.1).event (e.1).outcome) h h' s) k,
-      same_ops t h h' s (in_order h' c.later.ordered) (op_stands splits before h after h' after' c x t q.0 i (q.1, q.2) v),
+      same_acts t h h' s (in_order h' c.later.ordered) (act_stands splits before h after h' after' c x t q.0 i (q.1, q.2) v),
     )
 
 pub never_taken_back : NeverTakenBack

@@ -6,7 +6,7 @@ use Rattle.std.proofs.lemmas.Bool.{both_ways, cases_eq, or_right, false_from_ne_
 use Rattle.clv_base.specs.declared.names.TxId.{TxId}
 use Rattle.clv_base.specs.declared.logs.LogRecord.{LogRecord}
 use Rattle.clv_base.specs.declared.events.Event.{Event}
-use Rattle.clv_base.specs.declared.events.Event.TheVariants.{Op as OpEvent, Request as RequestEvent, Look, Drop}
+use Rattle.clv_base.specs.declared.events.Event.TheVariants.{Op as OpEvent, Request as RequestEvent, Look, Drop, RollTo}
 use Rattle.clv_base.specs.declared.events.Outcome.{Outcome}
 use Rattle.clv_base.specs.declared.events.Outcome.TheVariants.{Acknowledged, Aborted, Dead, Dropped}
 use Rattle.clv_base.specs.Restarts.{run_after}
@@ -113,6 +113,8 @@ acknowledged_names t _ o k = absurd (both_ways false refl k)
 abort_names : (t : TxId) (e : Event) (o : Outcome) → is_abort t e o ≡ true → (tx_of e ≡ Some t) × (names true t e ≡ true) × (is_acknowledgement t e o ≡ false)
 abort_names t (OpEvent tx birth nth seen op) (Dead cause) k = (ap (λ z. Some z) (sym (tx_true t tx k)), k, refl)
 abort_names t (OpEvent tx birth nth seen op) _ k = absurd (both_ways false refl k)
+abort_names t (RollTo tx nth seen upto) (Dead cause) k = (ap (λ z. Some z) (sym (tx_true t tx k)), k, refl)
+abort_names t (RollTo tx nth seen upto) _ k = absurd (both_ways false refl k)
 abort_names t (RequestEvent tx ts) (Dead cause) k = (ap (λ z. Some z) (sym (tx_true t tx k)), k, refl)
 abort_names t (RequestEvent tx ts) _ k = absurd (both_ways false refl k)
 abort_names t (Look tx) (Aborted cause) k = (ap (λ z. Some z) (sym (tx_true t tx k)), k, refl)

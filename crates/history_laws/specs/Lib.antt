@@ -7,3 +7,5 @@ pub mod Places
 pub mod Turns
 pub mod Dropping
 pub mod Naming
+pub mod Telling
+pub mod Going

@@ -6,15 +6,15 @@ use Rattle.std.proofs.lemmas.Bool.{both_ways}
 use Rattle.clv_base.specs.declared.ops.Op.{Op as Operation}
 use Rattle.clv_base.specs.declared.ops.Answer.TheVariants.{Value}
 use Rattle.clv_base.specs.declared.events.Event.{Event}
-use Rattle.clv_base.specs.declared.events.Event.TheVariants.{Op, Request, Look, Drop, FlushIn}
+use Rattle.clv_base.specs.declared.events.Event.TheVariants.{Op, RollTo, Request, Look, Drop, FlushIn}
 use Rattle.clv_base.specs.declared.events.Outcome.{Outcome}
-use Rattle.clv_base.specs.declared.events.Outcome.TheVariants.{Answered, Dead, Asked, Acknowledged, Aborted}
+use Rattle.clv_base.specs.declared.events.Outcome.TheVariants.{Answered, Rolled, Dead, Asked, Acknowledged, Aborted}
 use Rattle.clv_base.specs.declared.events.Entry.{Entry}
 use Rattle.clv_base.specs.Orders.{tx_same}
 use Rattle.clv_base.specs.LogRules.{same_option}
 use Rattle.clv_base.specs.State.{Shard}
 use Rattle.clv_base.specs.Restarts.{opened}
-use Rattle.clv_base.specs.Sessions.{SessionState, no_session, is_number, lies_in, is_touching, session_for, op_answered, op_in_session, same_touched, is_lowest, requested, looked, stands_at, session_after, makes_from}
+use Rattle.clv_base.specs.Sessions.{SessionState, no_session, is_number, lies_in, is_touching, session_for, op_answered, op_in_session, back_for, went_back, back_in_session, is_whole_now, same_touched, is_lowest, requested, looked, stands_at, session_after, makes_from}
 use Rattle.clv_base.specs.Journals.{History, stamp_bound}
 use Rattle.history_cases.proofs.Merging.{Placed}
 use Rattle.history_cases.proofs.Stepping.{Step, op_dies, Happens, finishes, stops, happened}
@@ -22,12 +22,13 @@ use Rattle.clv_base.specs.Machines.{BecomesBy, Makes, Runs}
 use Rattle.journal_laws.specs.Worlds.{LandsInTime}
 use Rattle.journal_laws.specs.Offers.{hoped_for, EachOutcomeGoesOn, FlyingIsInTime}
 use Rattle.journal_laws.proofs.SteadyIsLegal.AnsweredStepsMakeEntries.{lands_after}
-use Rattle.law_base.proofs.Shards.{is_told as fits_look, fits_op, fits_request}
+use Rattle.law_base.proofs.Shards.{is_told as fits_look, fits_op, fits_back, fits_request}
 
 -- ---- outcomes
 
 abbrev fits : Event → Outcome → Bool
 fits (Op tx birth nth seen op) o = fits_op o
+fits (RollTo tx nth seen upto) o = fits_back o
 fits (Request tx touched) o = fits_request o
 fits (Look tx) o = fits_look o
 fits _ o = true
@@ -56,6 +57,15 @@ op_in splits n nth seen op o (Some t) f h = at (is_number t n nth op && lies_in 
     at true k = op_goes splits n nth op t o f
     at false k = absurd (both_ways false refl k)
 
+back_goes : (n upto : ℕ) (t : SessionState) (o : Outcome) → fits_back o ≡ true → is_some (went_back n upto t o) ≡ true
+back_goes n upto t Rolled h = refl
+back_goes n upto t (Dead cause) h = refl
+back_goes n upto t _ h = absurd (both_ways false refl h)
+
+back_in : (n upto : ℕ) (o : Outcome) (v : Option SessionState) → fits_back o ≡ true → is_some (back_in_session n upto Rolled v) ≡ true → is_some (back_in_session n upto o v) ≡ true
+back_in n upto o None f h = h
+back_in n upto o (Some t) f h = back_goes n upto t o f
+
 request_goes : (n : ℕ) (t : SessionState) (o : Outcome) → fits_request o ≡ true → is_some (requested n t o) ≡ true
 request_goes n t Asked h = refl
 request_goes n t (Dead cause) h = refl
@@ -68,7 +78,12 @@ look_goes t _ h = absurd (both_ways false refl h)
 
 goes : (splits : List ℕ) (n : ℕ) (t : SessionState) (e : Event) (o : Outcome) → fits e o ≡ true → is_some (session_after splits n t e (hoped_for e)) ≡ true → is_some (session_after splits n t e o) ≡ true
 goes splits n t (Op tx birth nth seen op) o f h = op_in splits n nth seen op o (session_for t tx birth) f h
-goes splits n t (Request tx ts) o f h = at (tx_same tx t.tx && is_touching t.phase && same_touched ts t.touched && is_lowest n ts) h
+goes splits n t (RollTo tx nth seen upto) o f h = at (tx_same tx t.tx && is_touching t.phase && same_option (Some seen) (lookup (◌==◌ n) t.touched)) h
+  where
+    at : (b : Bool) → is_some (cond b (back_in_session n upto Rolled (back_for t n nth upto)) None) ≡ true → is_some (cond b (back_in_session n upto o (back_for t n nth upto)) None) ≡ true
+    at true k = back_in n upto o (back_for t n nth upto) f k
+    at false k = absurd (both_ways false refl k)
+goes splits n t (Request tx ts) o f h = at (tx_same tx t.tx && is_touching t.phase && is_whole_now t && same_touched ts t.touched && is_lowest n ts) h
   where
     at : (b : Bool) → is_some (cond b (requested n t Asked) None) ≡ true → is_some (cond b (requested n t o) None) ≡ true
     at true k = request_goes n t o f

@@ -3,9 +3,9 @@ use Rattle.std.specs.Prelude.{◌≡◌, ℕ, Bool, true, List, [], ◌∷◌, �
 use Rattle.clv_base.specs.declared.logs.LogRecord.{LogRecord}
 use Rattle.clv_base.specs.declared.ops.Answer.TheVariants.{Value}
 use Rattle.clv_base.specs.declared.events.Event.{Event}
-use Rattle.clv_base.specs.declared.events.Event.TheVariants.{Op, Request, Look}
+use Rattle.clv_base.specs.declared.events.Event.TheVariants.{Op, RollTo, Request, Look}
 use Rattle.clv_base.specs.declared.events.Outcome.{Outcome}
-use Rattle.clv_base.specs.declared.events.Outcome.TheVariants.{Answered, Asked, Acknowledged, Dropped}
+use Rattle.clv_base.specs.declared.events.Outcome.TheVariants.{Answered, Rolled, Asked, Acknowledged, Dropped}
 use Rattle.clv_base.specs.declared.events.Entry.{Entry}
 use Rattle.clv_base.specs.State.{Shard}
 use Rattle.clv_base.specs.Events.{Does, happen}
@@ -18,6 +18,7 @@ use Rattle.journal_laws.specs.Worlds.{LandsInTime}
 -- an outcome that the event may have
 abbrev pub hoped_for : Event → Outcome
 hoped_for (Op tx birth nth seen op) = Answered (Value None) 0
+hoped_for (RollTo tx nth seen upto) = Rolled
 hoped_for (Request tx touched) = Asked
 hoped_for (Look tx) = Acknowledged
 hoped_for _ = Dropped

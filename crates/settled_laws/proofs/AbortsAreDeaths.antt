@@ -18,7 +18,7 @@ use Rattle.protocol_laws.specs.SessionLaws.{tx_of}
 use Rattle.history_cases.proofs.Merging.{Placed, is_among}
 use Rattle.history_laws.specs.Openings.{LegalFrom}
 use Rattle.history_laws.proofs.NeverTakenBack.{walker_of}
-use Rattle.fate_laws.specs.Causes.{TellsCause, op_died, request_died, look_found, IsOfAnother}
+use Rattle.fate_laws.specs.Causes.{TellsCause, op_died, going_back_died, request_died, look_found, IsOfAnother}
 use Rattle.fate_laws.proofs.History.EntryByEntry.{next_at}
 use Rattle.fate_laws.proofs.CausesStand.{causes_stand}
 use Rattle.settled_laws.specs.Deaths.{BeginsSettled, AbortsAreDeaths}
@@ -28,6 +28,7 @@ use Rattle.settled_laws.proofs.AbortsAreDeaths.OldClosedAreCommitted.{calm, begi
 
 of_tx : (ev : Event) (o : Outcome) (tx : TxId) (c : AbortCause) → TellsCause ev o tx c → tx_of ev ≡ Some tx
 of_tx _ _ tx c (op_died _ birth nth seen op _) = refl
+of_tx _ _ tx c (going_back_died _ nth seen upto _) = refl
 of_tx _ _ tx c (request_died _ touched _) = refl
 of_tx _ _ tx c (look_found _ _) = refl
 

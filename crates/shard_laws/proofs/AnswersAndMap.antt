@@ -6,7 +6,7 @@ use Rattle.clv_base.specs.declared.names.TxId.{TxId}
 use Rattle.clv_base.specs.declared.state.Stage.{Stage}
 use Rattle.clv_base.specs.declared.state.Stage.TheVariants.{Active, Closed, Gone}
 use Rattle.clv_base.specs.Orders.{tx_same, tx_in}
-use Rattle.law_base.specs.Items.{Item}
+use Rattle.law_base.specs.Items.{Deed}
 use Rattle.clv_base.proofs.SameNames.{tx_true}
 use Rattle.law_base.proofs.Tables.{is_pair}
 use Rattle.law_base.proofs.Sets.{filter_in, in_filter}
@@ -14,7 +14,7 @@ use Rattle.shard_laws.proofs.Keeping.WhatOneShardKeeps.{Past, place}
 use Rattle.std.specs.List.{filter}
 use Rattle.std.specs.Prelude.{take}
 use Rattle.clv_base.specs.declared.events.Event.{Event}
-use Rattle.clv_base.specs.declared.events.Event.TheVariants.{Op as OpEvent, Request as RequestEvent, Look, Drop, Send, Deliver, Remind, FlushOut, FlushIn, Stop, Restart as RestartEvent}
+use Rattle.clv_base.specs.declared.events.Event.TheVariants.{Op as OpEvent, Request as RequestEvent, Look, Drop, Send, Deliver, Remind, FlushOut, FlushIn, Stop, Restart as RestartEvent, RollTo}
 use Rattle.clv_base.specs.declared.events.Outcome.{Outcome}
 use Rattle.clv_base.specs.Maps.{replay_map, replay_answers}
 use Rattle.clv_base.specs.declared.logs.LogRecord.{LogRecord}
@@ -24,7 +24,7 @@ use Rattle.clv_base.specs.Undo.{stage_of}
 use Rattle.clv_base.specs.Events.{Reply, Does, landed, put_down, epoch_in}
 use Rattle.clv_base.specs.OneShard.{seen_fits}
 use Rattle.clv_base.specs.Restarts.{revived}
-use Rattle.shard_laws.specs.OneShard.{Deeds, with_one, asks_by_stage, new_asked, MayHappen, Leads, opens, happens, lands, others_ask, revives, new_told, is_member, ops_by, answers_by, AnswersAndMap, ValuesAreFolds, Recoverable, new_met}
+use Rattle.shard_laws.specs.OneShard.{Deeds, with_one, asks_by_stage, new_asked, MayHappen, Leads, opens, happens, lands, others_ask, revives, new_told, is_member, acts_by, answers_by, AnswersAndMap, ValuesAreFolds, Recoverable, new_met, GoBackInOrder}
 use Rattle.shard_laws.proofs.Events.DueKeeps.{Sound, as_done, After, More_over, at_once}
 use Rattle.shard_laws.proofs.Restarts.OpeningKeeps.{past_of, sound_opened, opened_undoomed}
 use Rattle.shard_laws.proofs.Restarts.RestartsKeep.{revived_sound}
@@ -42,6 +42,7 @@ use Rattle.shard_laws.proofs.Events.EventsKeep.{happen_sound, landed_sound, fail
 use Rattle.shard_laws.proofs.Events.RequestsKeep.{asks_sound}
 use Rattle.shard_laws.proofs.Cuts.MembersRunSerially.{Once, once_push}
 use Rattle.shard_laws.proofs.Cuts.MembersOfCutsReplay.{serial_run, recovered}
+use Rattle.shard_laws.proofs.Events.StandingNumbers.{numbers_are}
 
 -- ---- who asks, asks once
 
@@ -54,6 +55,7 @@ asks_active t u (Some (Gone d)) b e = absurd (none_tx u e)
 
 asked_new : (d : Deeds) (s : Shard) (e : Event) (u : TxId) → MayHappen d s e → new_asked s e ≡ Some u → tx_in u d.asked ≡ false
 asked_new d s (OpEvent tx birth nth seen op) u may e = absurd (none_tx u e)
+asked_new d s (RollTo tx nth seen upto) u may e = absurd (none_tx u e)
 asked_new d s (RequestEvent tx touched) u may e = let a = asks_active tx u (stage_of s.local tx) (seen_fits s.local.epoch (epoch_in s.shard touched)) e in ap (λ z. tx_in z d.asked) (sym a.1) ∙ may.0
 asked_new d s (Look tx) u may e = absurd (none_tx u e)
 asked_new d s (Drop tx) u may e = absurd (none_tx u e)
@@ -71,14 +73,14 @@ once_more as_ (Some t) h n = once_push as_ t h (n t refl)
 
 -- ---- all histories
 
-data Landed (all : List Item) (g : Past) : Reply → Type 0 where
+data Landed (all : List Deed) (g : Past) : Reply → Type 0 where
   does : {o : Outcome} {t : Shard} → After all g t → Landed all g (Does o t)
 
-landed_any : (all : List Item) (g : Past) (s : Shard) (n : ℕ) (pushed : Bool) → Sound all g s → s.flight ≡ Some n → Landed all g (landed s n pushed)
+landed_any : (all : List Deed) (g : Past) (s : Shard) (n : ℕ) (pushed : Bool) → Sound all g s → s.flight ≡ Some n → Landed all g (landed s n pushed)
 landed_any all g s n true h e = does (landed_sound all g s n h e)
 landed_any all g s n false h e = does (at_once all g (put_down s) (failed_sound all g s h))
 
-from_landed : (all : List Item) (g : Past) (o : Outcome) (t : Shard) → Landed all g (Does o t) → After all g t
+from_landed : (all : List Deed) (g : Past) (o : Outcome) (t : Shard) → Landed all g (Does o t) → After all g t
 from_landed all g o t (does a) = a
 
 abbrev Over_all : List TxId → Past → Type 0
@@ -107,7 +109,7 @@ absent_doomed (Some Closed) d p = both_ways false refl d
 absent_doomed (Some (Gone x)) d p = both_ways false refl p
 
 -- at the end of a step those that an abort took away fell
-refell : (all : List Item) (g : Past) (t : Shard) → Sound all g t → Sound all (record g { fell = doomed_in t ++ g.fell }) t
+refell : (all : List Deed) (g : Past) (t : Shard) → Sound all g t → Sound all (record g { fell = doomed_in t ++ g.fell }) t
 refell all g t h =
     let k = h.kept in
     let f = h.falls in
@@ -142,7 +144,7 @@ refell all g t h =
 
 abbrev pub Holds : ℕ → ℕ → List LogRecord → Deeds → Shard → Type 0
 Holds shard run before d s =
-    (g : Past) × Sound d.items g s × (g.start ≡ stands (before ∷ [])) × (g.base ≡ filter (of_kept (committed_in before)) (standing before)) × (g.asked ≡ d.asked) × Once d.asked × Over_all d.told g × (g.met ≡ d.met) × (g.fell ≡ d.fell) × ((u : TxId) → is_doomed (stage_of s.local u) ≡ true → tx_in u g.fell ≡ true)
+    (g : Past) × Sound d.done g s × (g.start ≡ stands (before ∷ [])) × (g.base ≡ filter (of_kept (committed_in before)) (standing before)) × (g.asked ≡ d.asked) × Once d.asked × Over_all d.told g × (g.met ≡ d.met) × (g.fell ≡ d.fell) × ((u : TxId) → is_doomed (stage_of s.local u) ≡ true → tx_in u g.fell ≡ true)
 
 boundary : (t : Shard) (fell : List TxId) (u : TxId) → is_doomed (stage_of t.local u) ≡ true → tx_in u (doomed_in t ++ fell) ≡ true
 boundary t fell u d = in_first (doomed_in t) fell u (doomed_named t u d)
@@ -151,7 +153,7 @@ pub held : (shard run : ℕ) (before : List LogRecord) (d : Deeds) (s : Shard) �
 held shard run log0 _ _ (opens may) = (past_of shard log0, sound_opened shard run log0 may, refl, refl, refl, order_once shard (λ t. tx_in t (in_doubt shard log0)) log0 (from_disorder shard 0 [] log0 may.0), (λ t i. absurd (both_ways false refl i)), refl, refl, (λ u d. absurd (opened_undoomed shard run log0 u d)))
 held shard run log0 _ _ (happens {d} {s} e o t stamp walker before may eq) =
     let b = held shard run log0 d s before in
-    let later = happen_sound d.items d.told b.0 s e o t b.1 (subst (λ x. MayHappen x s e) (sym (as_done d b.0 b.4 b.7 b.8)) may) eq in (
+    let later = happen_sound d.done d.told b.0 s e o t b.1 (numbers_are shard run log0 d s before) (subst (λ x. MayHappen x s e) (sym (as_done d b.0 b.4 b.7 b.8)) may) eq in (
       record later.0 { fell = doomed_in t ++ (later.0).fell },
       refell _ later.0 t later.1,
       later.2 ∙ b.2,
@@ -165,9 +167,9 @@ held shard run log0 _ _ (happens {d} {s} e o t stamp walker before may eq) =
     )
 held shard run log0 _ _ (lands {d} {s} n pushed o t stamp walker before flies eq) =
     let b = held shard run log0 d s before in
-    let later = from_landed d.items b.0 o t (subst (Landed d.items b.0) eq (landed_any d.items b.0 s n pushed b.1 flies)) in (
+    let later = from_landed d.done b.0 o t (subst (Landed d.done b.0) eq (landed_any d.done b.0 s n pushed b.1 flies)) in (
       record later.0 { fell = doomed_in t ++ (later.0).fell },
-      refell d.items later.0 t later.1,
+      refell d.done later.0 t later.1,
       later.2 ∙ b.2,
       later.3 ∙ b.3,
       later.4 ∙ b.4,
@@ -179,18 +181,18 @@ held shard run log0 _ _ (lands {d} {s} n pushed o t stamp walker before flies eq
     )
 held shard run log0 _ _ (others_ask {d} {s} t before new) =
     let b = held shard run log0 d s before in
-    (record b.0 { asked = (b.0).asked ++ t ∷ [] }, asks_sound d.items b.0 s t b.1, b.2, b.3, ap (λ l. l ++ t ∷ []) b.4, once_push d.asked t b.5 new, b.6, b.7, b.8, b.9)
+    (record b.0 { asked = (b.0).asked ++ t ∷ [] }, asks_sound d.done b.0 s t b.1, b.2, b.3, ap (λ l. l ++ t ∷ []) b.4, once_push d.asked t b.5 new, b.6, b.7, b.8, b.9)
 held shard run log0 _ _ (revives {d} {s} kept epoch log stamp walker before down leads) =
     let b = held shard run log0 d s before in
-    let later = revived_sound d.items d.told b.0 s kept epoch log b.1 b.9 (subst Once (sym b.4) b.5) b.6 leads in
+    let later = revived_sound d.done d.told b.0 s kept epoch log b.1 b.9 (subst Once (sym b.4) b.5) b.6 leads in
     (later.0, later.1, later.2 ∙ b.2, later.3 ∙ b.3, later.4 ∙ b.4, b.5, later.5, later.6 ∙ b.7, later.7 ∙ ap (λ l. left_out s (revived s epoch log) ++ l) b.8, later.8)
 
 pub answers_and_map : AnswersAndMap
-answers_and_map shard run before d s cut leads le =
+answers_and_map shard run before d s cut leads le backs =
     let b = held shard run before d s leads in
-    let r = serial_run d.items b.0 s d.told cut b.1 le (subst Once (sym b.4) b.5) b.6 in (
-      subst (λ l. replay_answers (stands (before ∷ [])) (ops_by (filter (is_member s cut d.told) l) d.items) ≡ answers_by (filter (is_member s cut d.told) l) d.items) b.4 (subst (λ m. replay_answers m (ops_by (filter (is_member s cut d.told) (b.0).asked) d.items) ≡ answers_by (filter (is_member s cut d.told) (b.0).asked) d.items) b.2 r.0),
-      subst (λ l. replay_map (stands (before ∷ [])) (ops_by (filter (is_member s cut d.told) l) d.items) ≡ stands (take cut s.local.log ∷ [])) b.4 (subst (λ m. replay_map m (ops_by (filter (is_member s cut d.told) (b.0).asked) d.items) ≡ stands (take cut s.local.log ∷ [])) b.2 r.1),
+    let r = serial_run d.done b.0 s d.told cut b.1 le (subst Once (sym b.4) b.5) b.6 (subst (λ l. GoBackInOrder (filter (is_member s cut d.told) l) d.done) (sym b.4) backs) in (
+      subst (λ l. replay_answers (stands (before ∷ [])) (acts_by (filter (is_member s cut d.told) l) d.done) ≡ answers_by (filter (is_member s cut d.told) l) d.done) b.4 (subst (λ m. replay_answers m (acts_by (filter (is_member s cut d.told) (b.0).asked) d.done) ≡ answers_by (filter (is_member s cut d.told) (b.0).asked) d.done) b.2 r.0),
+      subst (λ l. replay_map (stands (before ∷ [])) (acts_by (filter (is_member s cut d.told) l) d.done) ≡ stands (take cut s.local.log ∷ [])) b.4 (subst (λ m. replay_map m (acts_by (filter (is_member s cut d.told) (b.0).asked) d.done) ≡ stands (take cut s.local.log ∷ [])) b.2 r.1),
     )
 
 pub values_are_folds : ValuesAreFolds
@@ -199,5 +201,5 @@ values_are_folds shard run before d s leads k = let b = held shard run before d 
 pub recoverable : Recoverable
 recoverable shard run before d s cut t p leads le e member =
     let b = held shard run before d s leads in
-    let r = recovered d.items b.0 s d.told cut b.1 le (subst Once (sym b.4) b.5) b.6 t p (subst (λ m. is_pair m t p ≡ true) (sym b.7) e) member in
+    let r = recovered d.done b.0 s d.told cut b.1 le (subst Once (sym b.4) b.5) b.6 t p (subst (λ m. is_pair m t p ≡ true) (sym b.7) e) member in
     (r.0, subst (λ l. place (filter (is_member s cut d.told) l) p < place (filter (is_member s cut d.told) l) t) b.4 r.1)

@@ -7,3 +7,6 @@ pub mod RequestsKeep
 pub mod LooksAndDropsKeep
 pub mod MessagesKeep
 pub mod EventsKeep
+pub mod EventsKeepTheFrame
+pub mod StandingNumbers
+pub mod GoingsBackKeep

@@ -1,113 +1,113 @@
 -- The replay of the chosen ones, split at the opening: those that the log found leaves in doubt come first.
-use Rattle.std.proofs.Common.{◌≡◌, ℕ, ◌+◌, ◌<◌, ◌⊎◌, inl, inr, ⊎_elim, Bool, true, false, cond, ◌&&◌, ◌||◌, List, [], ◌∷◌, ◌++◌, map, length, Option, Some, None, refl, sym, ap, subst, ◌∙◌}
+use Rattle.std.proofs.Common.{◌≡◌, ℕ, ◌<◌, arith, append-nil, ◌⊎◌, inl, inr, ⊎_elim, Bool, true, false, cond, ◌&&◌, ◌||◌, List, [], ◌∷◌, ◌++◌, map, Option, Some, None, refl, sym, ap, subst, ◌∙◌}
 use Rattle.std.specs.List.{AllByRecursion, filter}
-use Rattle.std.proofs.lemmas.Bool.{both_ways, cond_both, and_parts, and_from, false_from_ne_true, or_cases}
+use Rattle.std.proofs.lemmas.Bool.{cases_Bool, both_ways, cond_both, cond-false, and_parts, or_cases}
 use Rattle.std.proofs.lemmas.List.{append_cancel_left, map-append}
 use Rattle.std.proofs.lemmas.List.Elements.{filter-append}
 use Rattle.clv_base.specs.declared.names.TxId.{TxId}
-use Rattle.clv_base.specs.declared.names.Birth.{Birth}
 use Rattle.clv_base.specs.declared.logs.LogRecord.{LogRecord}
-use Rattle.clv_base.specs.declared.ops.Op.{Op}
-use Rattle.clv_base.specs.declared.ops.Answer.{Answer}
-use Rattle.clv_base.specs.declared.causes.AbortCause.{AbortCause}
 use Rattle.clv_base.specs.declared.events.Event.{Event}
-use Rattle.clv_base.specs.declared.events.Event.TheVariants.{Op as OpEvent, Request as RequestEvent, Look, Drop, Send, Deliver, Remind, FlushOut, FlushIn, Stop, Restart as RestartEvent}
+use Rattle.clv_base.specs.declared.events.Event.TheVariants.{Op as OpEvent, RollTo, Request as RequestEvent, Look, Drop, Send, Deliver, Remind, FlushOut, FlushIn, Stop, Restart as RestartEvent}
 use Rattle.clv_base.specs.declared.events.Outcome.{Outcome}
-use Rattle.clv_base.specs.declared.events.Outcome.TheVariants.{Answered, Dead}
+use Rattle.clv_base.specs.declared.events.Outcome.TheVariants.{Answered, Rolled}
 use Rattle.clv_base.specs.Orders.{tx_same, tx_in}
 use Rattle.clv_base.specs.Folding.{IsRising}
 use Rattle.clv_base.specs.Maps.{KeyMap, replay_map, replay_answers}
-use Rattle.clv_base.specs.Logs.{StandingUpdate, standing, committed_in, in_doubt, is_winner, stands, committed_somewhere}
+use Rattle.clv_base.specs.Logs.{StandingUpdate, standing, committed_in, prepared_in, is_prepare_of, in_doubt, is_winner, stands, committed_somewhere}
+use Rattle.clv_base.specs.Restarts.{greatest_run}
 use Rattle.clv_base.specs.State.{Shard}
-use Rattle.clv_base.specs.OneShard.{OpReply, OpWaits, OpCrowded, OpDies, OpAnswers, seen_fits, op_seen}
-use Rattle.clv_base.specs.Events.{Reply, QuietBeforeWorn, QuietAfterWorn, Does, op_event, happen_up, happen}
-use Rattle.clv_base.proofs.SameNames.{or_left, or_right, tx_true}
+use Rattle.clv_base.proofs.SameNames.{or_left, or_right, tx_ne}
 use Rattle.clv_base.proofs.Folding.{same_map}
-use Rattle.law_base.specs.Items.{Item, Runs, after, AllLater, Clash, pile}
+use Rattle.law_base.specs.Items.{Item, Deed, Runs, after, AllLater, Clash, pile}
 use Rattle.law_base.proofs.Lists.{all_mono, all_filter, later_mono, later_filter}
 use Rattle.law_base.proofs.Running.{top_value, Keeps, kept_runs, rising_all, pile_value, replay_map_append, replay_answers_append}
 use Rattle.law_base.proofs.Tables.{is_pair}
-use Rattle.shard_laws.specs.OneShard.{Deeds, items_of, with_one, new_item, new_asked, new_met, MayHappen, MayServe, Leads, opens, happens, lands, others_ask, revives, ops_by, answers_by, found_items, found_asked, found_met, map_found, LaterReplay}
-use Rattle.protocol_laws.specs.Order.{undone_in}
+use Rattle.shard_laws.specs.OneShard.{Deeds, doer, deeds_of, items_in, act_of_deed, with_one, new_deed, new_asked, new_met, MayHappen, MayServe, Leads, opens, happens, lands, others_ask, revives, acts_by, answers_by, GoBackInOrder, found_items, found_asked, found_met, map_found, LaterReplay}
 use Rattle.shard_laws.proofs.Operations.WritesAtEachKey.{keys_filter, keys_top}
 use Rattle.shard_laws.proofs.Keeping.WhatOneShardKeeps.{of_kept, place}
 use Rattle.shard_laws.proofs.Cuts.WhatCutsHold.{fold_values}
-use Rattle.shard_laws.proofs.Events.DueKeeps.{filter_both, filter_same}
 use Rattle.shard_laws.proofs.Keeping.LeavingKeeps.{in_first}
-use Rattle.shard_laws.proofs.Cuts.MembersOfCutsReplay.{pile_keep, filter_all_kept, filter_within}
+use Rattle.shard_laws.proofs.Cuts.MembersOfCutsReplay.{own_chosen, SameDeeds, same_acts, same_answers, same_backs, pile_keep, filter_all_kept, filter_within}
 use Rattle.shard_laws.proofs.Cuts.MembersRunSerially.{once_filter, filter_place, in_kept, serial_of}
 use Rattle.shard_laws.proofs.Restarts.RestoredRequestsAndPairs.{pair_there, pair_append}
-use Rattle.shard_laws.proofs.Restarts.RecordsAfterRestart.{whole_log}
-use Rattle.shard_laws.proofs.Restarts.RestartsKeepOrder.{found_self}
-use Rattle.shard_laws.proofs.Restarts.FoundDoubtedActedBefore.{UnderFound, order_once}
-use Rattle.shard_laws.proofs.Restarts.OpeningKeeps.{follows, order, doubt_apart, doubt_asked, listed_place, start_value, runs_start, split_start, items_doubted, under_start, reached}
-use Rattle.shard_laws.proofs.Events.WhoOperatesNow.{push_other}
+use Rattle.shard_laws.proofs.Restarts.FoundDoubtedActedBefore.{UnderFound, order_once, order_out}
+use Rattle.shard_laws.proofs.Restarts.RestartsKeepOrder.{all_first}
+use Rattle.shard_laws.proofs.Restarts.OperationsAlone.{alone, held_alone, items_alone, acts_alone, between_alone, all_alone, alone_chosen}
+use Rattle.protocol_laws.proofs.LogsInOrder.{in_order}
+use Rattle.protocol_laws.proofs.LogsInOrder.OneRecordMore.{own_prepare}
+use Rattle.protocol_laws.proofs.LogsInOrder.RunsAreOfRestarts.{record_fits}
+use Rattle.shard_laws.proofs.OrderIsKept.{stays_here}
+use Rattle.shard_laws.proofs.Restarts.OpeningKeeps.{follows, doubt_apart, doubt_asked, listed_place, start_value, runs_start, split_start, items_doubted, under_start, reached}
 use Rattle.shard_laws.proofs.ChosenReplay.{chosen_replay, chosen_stand_before}
 use Rattle.law_base.proofs.Names.{own_in as each_in}
 use Rattle.law_base.proofs.Logs.{fold_rises}
 
--- ---- who asked does nothing more
+-- ---- who was found in doubt does nothing more: it is of an earlier run
 
--- an operation that is answered fits its epoch
-data Answering (fits : Bool) : Reply → Type 0 where
-  answers : {a : Answer} {n : ℕ} {t : Shard} → fits ≡ true → Answering fits (Does (Answered a n) t)
-  dies : {c : AbortCause} {t : Shard} → Answering fits (Does (Dead c) t)
-  late : {o : Outcome} → Answering fits (QuietAfterWorn o)
-  early : {o : Outcome} → Answering fits (QuietBeforeWorn o)
+-- whose deed an event's is
+abbrev IsOf : TxId → Option Deed → Type 0
+IsOf u None = Unit {0}
+IsOf u (Some d) = doer d ≡ u → ⊥
 
-replied : (s : Shard) (fits : Bool) (r : OpReply) → fits ≡ true → Answering fits (op_event s r)
-replied s fits (OpWaits younger) e = late
-replied s fits (OpCrowded count) e = late
-replied s fits (OpDies cause l) e = dies
-replied s fits (OpAnswers answer l) e = answers e
+new_other : (d : Deeds) (s : Shard) (e : Event) (o : Outcome) (u : TxId) → MayHappen d s e → (u.run ≡ s.run → ⊥) → IsOf u (new_deed s e o)
+new_other d s (OpEvent tx birth nth seen op) o u may old = at o
+  where
+    apart : tx ≡ u → ⊥
+    apart e = old (ap (λ z. z.run) (sym e) ∙ may.of_run)
 
-operation : (s : Shard) (tx : TxId) (birth : Birth) (seen : Option ℕ) (op : Op) (fits : Bool) → Answering fits (op_event s (op_seen s.shard s.local tx birth seen op fits))
-operation s tx birth seen op true = replied s true (op_seen s.shard s.local tx birth seen op true) refl
-operation s tx birth seen op false = dies
+    at : (o : Outcome) → IsOf u (new_deed s (OpEvent tx birth nth seen op) o)
+    at (Answered a n) = apart
+    at _ = tt
+new_other d s (RollTo tx nth seen upto) o u may old = at o
+  where
+    apart : tx ≡ u → ⊥
+    apart e = old (ap (λ z. z.run) (sym e) ∙ may.of_run)
 
-if_up : (s : Shard) (tx : TxId) (birth : Birth) (nth : ℕ) (seen : Option ℕ) (op : Op) (b : Bool) (x : Outcome) → Answering (seen_fits s.local.epoch seen) (elim b [ true ↦ happen_up s (OpEvent tx birth nth seen op) | false ↦ QuietBeforeWorn x ])
-if_up s tx birth nth seen op true x = operation s tx birth seen op (seen_fits s.local.epoch seen)
-if_up s tx birth nth seen op false x = early
+    at : (o : Outcome) → IsOf u (new_deed s (RollTo tx nth seen upto) o)
+    at Rolled = apart
+    at _ = tt
+new_other d s (RequestEvent tx touched) o u may old = tt
+new_other d s (Look tx) o u may old = tt
+new_other d s (Drop tx) o u may old = tt
+new_other d s Send o u may old = tt
+new_other d s (Deliver m stamp) o u may old = tt
+new_other d s Remind o u may old = tt
+new_other d s FlushOut o u may old = tt
+new_other d s FlushIn o u may old = tt
+new_other d s Stop o u may old = tt
+new_other d s RestartEvent o u may old = tt
 
-other_item : (s : Shard) (tx : TxId) (birth : Birth) (nth : ℕ) (seen : Option ℕ) (op : Op) (fits : Bool) (o : Outcome) (t : Shard) (all : List Item) (u : TxId) → Answering fits (Does o t) → (fits ≡ true → tx ≡ u → ⊥)
-    → items_of u (with_one all (new_item s (OpEvent tx birth nth seen op) o)) ≡ items_of u all
-other_item s tx birth nth seen op fits _ t all u (answers {a} e) ne = push_other (record { tx = tx; op = op; answer = a; lsn = 0 + length s.local.log }) u (ne e) all
-other_item s tx birth nth seen op fits _ t all u dies ne = refl
+deeds_with : (ds : List Deed) (o : Option Deed) (u : TxId) → IsOf u o → deeds_of u (with_one ds o) ≡ deeds_of u ds
+deeds_with ds None u n = refl
+deeds_with ds (Some d) u n =
+    filter-append (λ e. tx_same (doer e) u) ds (d ∷ []) ∙ ap (λ l. deeds_of u ds ++ l) (cond-false (tx_same (doer d) u) (d ∷ []) [] (tx_ne (doer d) u n)) ∙ append-nil (deeds_of u ds)
 
-step_items : (d : Deeds) (s : Shard) (e : Event) (o : Outcome) (t : Shard) (u : TxId) → MayHappen d s e → happen s e ≡ Does o t → tx_in u d.asked ≡ true
-    → items_of u (with_one d.items (new_item s e o)) ≡ items_of u d.items
-step_items d s (OpEvent tx birth nth seen op) o t u may eq i =
-    other_item s tx birth nth seen op (seen_fits s.local.epoch seen) o t d.items u (subst (Answering (seen_fits s.local.epoch seen)) eq (if_up s tx birth nth seen op s.is_up _)) (λ fit same. both_ways _ (may.not_asked fit) (subst (λ z. tx_in z d.asked ≡ true) (sym same) i))
-step_items d s (RequestEvent tx touched) o t u may eq i = refl
-step_items d s (Look tx) o t u may eq i = refl
-step_items d s (Drop tx) o t u may eq i = refl
-step_items d s Send o t u may eq i = refl
-step_items d s (Deliver m stamp) o t u may eq i = refl
-step_items d s Remind o t u may eq i = refl
-step_items d s FlushOut o t u may eq i = refl
-step_items d s FlushIn o t u may eq i = refl
-step_items d s Stop o t u may eq i = refl
-step_items d s RestartEvent o t u may eq i = refl
+found_old : (shard run : ℕ) (before : List LogRecord) → MayServe shard run before → (u : TxId) → tx_in u (found_asked shard before) ≡ true → u.run < run
+found_old shard run before may u i =
+    let p : prepared_in before u ≡ true = ⊎_elim (λ e. e) (λ n. absurd (both_ways _ (order_out (λ t. tx_in t (in_doubt shard before)) before u n) i)) (cases_Bool (prepared_in before u)) in
+    let l = record_fits (greatest_run before) u (is_prepare_of u) (own_prepare u) before (in_order shard before may.0).runs p in
+    let m = may.1 in
+    omega (arith, l, m)
 
 in_with : (as_ : List TxId) (o : Option TxId) (u : TxId) → tx_in u as_ ≡ true → tx_in u (with_one as_ o) ≡ true
 in_with as_ None u i = i
 in_with as_ (Some t) u i = in_first as_ (t ∷ []) u i
 
 -- what was found stays as it was
-pub record Stays (shard run : ℕ) (before : List LogRecord) (items : List Item) (asked : List TxId) (met : List (TxId × TxId)) : Type 0 where
+pub record Stays (shard run : ℕ) (before : List LogRecord) (done : List Deed) (asked : List TxId) (met : List (TxId × TxId)) : Type 0 where
   pub may : MayServe shard run before
   pub there : (u : TxId) → tx_in u (found_asked shard before) ≡ true → tx_in u asked ≡ true
-  pub same : (u : TxId) → tx_in u (found_asked shard before) ≡ true → items_of u items ≡ items_of u (found_items shard before)
+  pub same : (u : TxId) → tx_in u (found_asked shard before) ≡ true → deeds_of u done ≡ deeds_of u (alone (found_items shard before))
   pub pairs : (t p : TxId) → is_pair (found_met shard before) t p ≡ true → is_pair met t p ≡ true
 
-pub found_stays : (shard run : ℕ) (before : List LogRecord) (d : Deeds) (s : Shard) → Leads shard run before d s → Stays shard run before d.items d.asked d.met
+pub found_stays : (shard run : ℕ) (before : List LogRecord) (d : Deeds) (s : Shard) → Leads shard run before d s → Stays shard run before d.done d.asked d.met
 found_stays shard run before _ _ (opens may) = record { may = may; there = λ u i. i; same = λ u i. refl; pairs = λ t p e. e }
 found_stays shard run before _ _ (happens {d} {s} e o t stamp walker leads may eq) =
     let k = found_stays shard run before d s leads in
     record {
       may = k.may;
       there = λ u i. in_with d.asked (new_asked s e) u (k.there u i);
-      same = λ u i. step_items d s e o t u may eq (k.there u i) ∙ k.same u i;
+      same = λ u i. deeds_with d.done (new_deed s e o) u (new_other d s e o u may (λ r. let l = found_old shard run before k.may u i in let q = ap (λ p. p.1) (stays_here shard run before d s leads) in absurd (omega (arith, l, q, r)))) ∙ k.same u i;
       pairs = λ v p i. pair_append (new_met s e o) d.met v p ∙ or_right (is_pair (new_met s e o) v p) _ (k.pairs v p i);
     }
 found_stays shard run before _ _ (lands {d} {s} n pushed o t stamp walker leads flies eq) = found_stays shard run before d s leads
@@ -161,8 +161,11 @@ module _ (shard run : ℕ) (before : List LogRecord) (may : MayServe shard run b
   picks_in : AllByRecursion (λ x. tx_in x.tx firsts ≡ true) picks
   picks_in = all_mono _ _ (λ x f. in_kept chosen (found_asked shard before) x.tx (doubt_asked shard run before may x.tx f.0) f.1) picks picks_doubted
 
-  firsts_run : (replay_answers start (ops_by firsts picks) ≡ answers_by firsts picks) × (replay_map start (ops_by firsts picks) ≡ after start picks)
-  firsts_run = serial_of firsts start picks (once_filter chosen (found_asked shard before) (order_once shard (λ t. tx_in t doubt) before (follows shard run before may))) start_rises picks_run picks_order picks_in
+  firsts_run : GoBackInOrder firsts (alone picks) → (replay_answers start (acts_by firsts (alone picks)) ≡ answers_by firsts (alone picks)) × (replay_map start (acts_by firsts (alone picks)) ≡ after start picks)
+  firsts_run back =
+      let run = serial_of firsts start (alone picks) (once_filter chosen (found_asked shard before) (order_once shard (λ t. tx_in t doubt) before (follows shard run before may))) start_rises (acts_alone start picks picks_run)
+      (subst (AllLater (λ x y. Clash x y → (x.tx ≡ y.tx) ⊎ (place firsts x.tx < place firsts y.tx))) (sym (items_alone picks)) picks_order) (between_alone [] picks) (all_alone _ picks picks_in) back in
+      (run.0, run.1 ∙ ap (after start) (held_alone picks))
 
   -- ---- their map
 
@@ -190,9 +193,6 @@ module _ (shard run : ℕ) (before : List LogRecord) (may : MayServe shard run b
   picked_wins : (t : TxId) → pick t ≡ true → is_winner shard before t ≡ true
   picked_wins t e = ⊎_elim (λ c. or_left _ _ c) (λ d. or_right (committed_in before t) _ (and_parts (tx_in t doubt) (chosen t) d).0) (or_cases (committed_in before t) (tx_in t doubt && chosen t) e)
 
-  undone_unpicked : (t : TxId) → undone_in before t ≡ true → pick t ≡ false
-  undone_unpicked t u = false_from_ne_true _ (λ e. both_ways _ ((found_self shard before (order shard run before may)).dead t u) (picked_wins t e))
-
   pub firsts_map : after start picks ≡ map_found shard before chosen
   firsts_map =
       same_map (after start picks) (map_found shard before chosen) (rising_all picks start start_rises) (fold_rises pick before [] tt)
@@ -201,55 +201,37 @@ module _ (shard run : ℕ) (before : List LogRecord) (may : MayServe shard run b
       ∙ sym (keys_top (filter (of_kept pick) (filter (of_kept (is_winner shard before)) (standing before))) (filter (of_kept pick) (pile (found_items shard before) base)) q
       (keys_filter (of_kept pick) (filter (of_kept (is_winner shard before)) (standing before)) (pile (found_items shard before) base) (split_start shard run before may)))
       ∙ ap (top_value q) (filter_within pick (is_winner shard before) (standing before) picked_wins)
-      ∙ sym (fold_values pick 0 before [] [] q (whole_log pick before undone_unpicked) (λ j. refl)))
+      ∙ sym (fold_values pick (standing before) q))
 
-  -- ---- with all that was answered
+  -- ---- with all that was done
 
-  module _ (all : List Item) (same : (t : TxId) → tx_in t (found_asked shard before) ≡ true → items_of t all ≡ items_of t (found_items shard before)) where
-    both_false : (a : Bool) → (a && false) ≡ false
-    both_false true = refl
-    both_false false = refl
+  module _ (all : List Deed) (same : (t : TxId) → tx_in t (found_asked shard before) ≡ true → deeds_of t all ≡ deeds_of t (alone (found_items shard before))) where
+    pub own_deeds : (t : TxId) → tx_in t (found_asked shard before) ≡ true → chosen t ≡ true → deeds_of t (alone picks) ≡ deeds_of t all
+    own_deeds t i k = ap (deeds_of t) (sym (alone_chosen chosen (found_items shard before))) ∙ own_chosen chosen t (alone (found_items shard before)) k ∙ sym (same t i)
 
-    own_items : (t : TxId) → tx_in t (found_asked shard before) ≡ true → chosen t ≡ true → items_of t picks ≡ items_of t all
-    own_items t i k =
-        filter_both (λ x. chosen x.tx) (λ x. tx_same x.tx t) (found_items shard before)
-        ∙ filter_same _ _ (found_items shard before) (λ x. at x (tx_same x.tx t) refl)
-        ∙ sym (same t i)
-      where
-        at : (x : Item) (b : Bool) → tx_same x.tx t ≡ b → (chosen x.tx && b) ≡ b
-        at x true f = and_from _ _ (ap chosen (tx_true x.tx t f) ∙ k) refl
-        at x false f = both_false _
+    firsts_same : AllByRecursion (SameDeeds (alone picks) all) firsts
+    firsts_same = all_mono _ _ (λ t f. own_deeds t f.0 f.1) firsts (all_filter (λ t. tx_in t (found_asked shard before) ≡ true) chosen (found_asked shard before) (each_in (found_asked shard before)))
 
-    same_ops : (ts : List TxId) → AllByRecursion (λ t. (tx_in t (found_asked shard before) ≡ true) × (chosen t ≡ true)) ts → ops_by ts picks ≡ ops_by ts all
-    same_ops [] a = refl
-    same_ops (t ∷ ts) a = ap (λ xs. map (λ x. x.op) xs ∷ ops_by ts picks) (own_items t a.0.0 a.0.1) ∙ ap (λ l. map (λ x. x.op) (items_of t all) ∷ l) (same_ops ts a.1)
-
-    same_answers : (ts : List TxId) → AllByRecursion (λ t. (tx_in t (found_asked shard before) ≡ true) × (chosen t ≡ true)) ts → answers_by ts picks ≡ answers_by ts all
-    same_answers [] a = refl
-    same_answers (t ∷ ts) a = ap (λ xs. map (λ x. x.answer) xs ∷ answers_by ts picks) (own_items t a.0.0 a.0.1) ∙ ap (λ l. map (λ x. x.answer) (items_of t all) ∷ l) (same_answers ts a.1)
-
-    firsts_chosen : AllByRecursion (λ t. (tx_in t (found_asked shard before) ≡ true) × (chosen t ≡ true)) firsts
-    firsts_chosen = all_filter (λ t. tx_in t (found_asked shard before) ≡ true) chosen (found_asked shard before) (each_in (found_asked shard before))
-
-    pub firsts_replay : (replay_answers start (ops_by firsts all) ≡ answers_by firsts all) × (replay_map start (ops_by firsts all) ≡ map_found shard before chosen)
-    firsts_replay =
-        let ops = same_ops firsts firsts_chosen in
-        (ap (replay_answers start) (sym ops) ∙ firsts_run.0 ∙ same_answers firsts firsts_chosen, ap (replay_map start) (sym ops) ∙ firsts_run.1 ∙ firsts_map)
+    pub firsts_replay : GoBackInOrder firsts all → (replay_answers start (acts_by firsts all) ≡ answers_by firsts all) × (replay_map start (acts_by firsts all) ≡ map_found shard before chosen)
+    firsts_replay back =
+        let run = firsts_run (same_backs (alone picks) all firsts firsts_same back) in
+        let acts = same_acts (alone picks) all firsts firsts_same in
+        (ap (replay_answers start) (sym acts) ∙ run.0 ∙ same_answers (alone picks) all firsts firsts_same, ap (replay_map start) (sym acts) ∙ run.1 ∙ firsts_map)
 
 pub later_replay : LaterReplay
-later_replay shard run before d s cut chosen later leads le may split =
+later_replay shard run before d s cut chosen later leads le may split back =
     let k = found_stays shard run before d s leads in
     let start = stands (before ∷ []) in
     let firsts = filter chosen (found_asked shard before) in
     let rest = filter chosen later in
     let whole : filter chosen d.asked ≡ firsts ++ rest = ap (filter chosen) split ∙ filter-append chosen (found_asked shard before) later in
-    let ops : ops_by (filter chosen d.asked) d.items ≡ ops_by firsts d.items ++ ops_by rest d.items = ap (λ ts. ops_by ts d.items) whole ∙ map-append (λ t. map (λ x. x.op) (items_of t d.items)) firsts rest in
-    let answers : answers_by (filter chosen d.asked) d.items ≡ answers_by firsts d.items ++ answers_by rest d.items = ap (λ ts. answers_by ts d.items) whole ∙ map-append (λ t. map (λ x. x.answer) (items_of t d.items)) firsts rest in
+    let acts : acts_by (filter chosen d.asked) d.done ≡ acts_by firsts d.done ++ acts_by rest d.done = ap (λ ts. acts_by ts d.done) whole ∙ map-append (λ t. map act_of_deed (deeds_of t d.done)) firsts rest in
+    let answers : answers_by (filter chosen d.asked) d.done ≡ answers_by firsts d.done ++ answers_by rest d.done = ap (λ ts. answers_by ts d.done) whole ∙ map-append (λ t. map (λ x. x.answer) (items_in (deeds_of t d.done))) firsts rest in
     let closed : (t p : TxId) → is_pair (found_met shard before) t p ≡ true → chosen t ≡ true → chosen p ≡ true = λ t p e c. (chosen_stand_before shard run before d s cut chosen t p leads le may (k.pairs t p e) c).0 in
-    let first = firsts_replay shard run before k.may chosen closed d.items k.same in
-    let r = chosen_replay shard run before d s cut chosen leads le may in (
-      append_cancel_left (answers_by firsts d.items) (replay_answers (map_found shard before chosen) (ops_by rest d.items)) (answers_by rest d.items)
-          (ap (λ a. a ++ replay_answers (map_found shard before chosen) (ops_by rest d.items)) (sym first.0) ∙ ap (λ m. replay_answers start (ops_by firsts d.items) ++ replay_answers m (ops_by rest d.items)) (sym first.1)
-          ∙ sym (replay_answers_append start (ops_by firsts d.items) (ops_by rest d.items)) ∙ ap (replay_answers start) (sym ops) ∙ r.0 ∙ answers),
-      ap (λ m. replay_map m (ops_by rest d.items)) (sym first.1) ∙ sym (replay_map_append start (ops_by firsts d.items) (ops_by rest d.items)) ∙ ap (replay_map start) (sym ops) ∙ r.1,
+    let first = firsts_replay shard run before k.may chosen closed d.done k.same (all_first _ firsts rest (subst (λ ts. GoBackInOrder ts d.done) whole back)) in
+    let r = chosen_replay shard run before d s cut chosen leads le may back in (
+      append_cancel_left (answers_by firsts d.done) (replay_answers (map_found shard before chosen) (acts_by rest d.done)) (answers_by rest d.done)
+          (ap (λ a. a ++ replay_answers (map_found shard before chosen) (acts_by rest d.done)) (sym first.0) ∙ ap (λ m. replay_answers start (acts_by firsts d.done) ++ replay_answers m (acts_by rest d.done)) (sym first.1)
+          ∙ sym (replay_answers_append start (acts_by firsts d.done) (acts_by rest d.done)) ∙ ap (replay_answers start) (sym acts) ∙ r.0 ∙ answers),
+      ap (λ m. replay_map m (acts_by rest d.done)) (sym first.1) ∙ sym (replay_map_append start (acts_by firsts d.done) (acts_by rest d.done)) ∙ ap (replay_map start) (sym acts) ∙ r.1,
     )

@@ -1,5 +1,4 @@
 -- What an operation needs, answers and writes.
-pub mod HoldersOfXWrote
 pub mod NeedsCoverKeys
 pub mod WritesAtEachKey
 pub mod AnswersByValues

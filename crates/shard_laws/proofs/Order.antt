@@ -1,6 +1,8 @@
 -- What a shard keeps for the order rules of its log.
 pub mod RecordByRecord
 pub mod RisingAreDistinct
+pub mod WhoseWritesStand
+pub mod NewestWritesOfOne
 pub mod UndoMayFollow
 pub mod ChangesKeepOrder
 pub mod ClosingKeepsOrder

@@ -1,6 +1,7 @@
 -- What a restart finds, makes and restores, and that it keeps what the shard keeps.
 pub mod RestoredLocksAndParts
 pub mod AddsFindNumbers
+pub mod OperationsAlone
 pub mod FoundDoubtedActedBefore
 pub mod WinnersKeepTheirWrites
 pub mod RestoredRequestsAndPairs

@@ -1,6 +1,6 @@
 -- Histories of one shard alone, with restarts; its members; and what is to be shown of them.
 use Rattle.std.specs.Prelude.{◌⊎◌, ◌≡◌, ⊤, ℕ, ◌+◌, ◌≤◌, ◌<◌, ◌&&◌, Bool, true, false, ◌||◌, not, List, [], ◌∷◌, ◌++◌, map, take, length, Option, Some, None, cond, zero, suc}
-use Rattle.std.specs.List.{list_any, list_all, filter}
+use Rattle.std.specs.List.{AllByRecursion, list_any, list_all, filter}
 use Rattle.clv_base.specs.declared.names.TxId.{TxId}
 use Rattle.clv_base.specs.declared.names.Birth.{Birth}
 use Rattle.clv_base.specs.declared.state.Stage.{Stage}
@@ -15,33 +15,33 @@ use Rattle.clv_base.specs.declared.ops.Answer.TheVariants.{Value, Added}
 use Rattle.clv_base.specs.declared.changes.Change.{Change}
 use Rattle.clv_base.specs.declared.changes.Change.TheVariants.{Sets, Adds}
 use Rattle.clv_base.specs.declared.events.Event.{Event}
-use Rattle.clv_base.specs.declared.events.Event.TheVariants.{Op as OpEvent, Request as RequestEvent, Look, Drop, Deliver, FlushIn, Restart as RestartEvent}
+use Rattle.clv_base.specs.declared.events.Event.TheVariants.{Op as OpEvent, RollTo, Request as RequestEvent, Look, Drop, Deliver, FlushIn, Restart as RestartEvent}
 use Rattle.clv_base.specs.declared.events.Outcome.{Outcome}
-use Rattle.clv_base.specs.declared.events.Outcome.TheVariants.{Answered, Acknowledged, Up}
+use Rattle.clv_base.specs.declared.events.Outcome.TheVariants.{Answered, Rolled, Acknowledged, Up}
 use Rattle.clv_base.specs.Orders.{tx_same, tx_in, tx_get}
-use Rattle.clv_base.specs.Maps.{KeyMap, replay_map, replay_answers}
-use Rattle.clv_base.specs.Logs.{StandingUpdate, standing, committed_in, prepared_in, aborted_in, wrote_in, in_doubt, fold_updates, value_in, stands}
+use Rattle.clv_base.specs.Maps.{KeyMap, Act, Operates, GoesBack, Acts, replay_map, replay_answers}
+use Rattle.clv_base.specs.Backs.{are_numbered}
+use Rattle.clv_base.specs.Logs.{StandingUpdate, standing, committed_in, prepared_in, aborted_in, wrote_in, has_standing, in_doubt, is_winner, fold_updates, value_in, stands}
 use Rattle.clv_base.specs.declared.messages.Message.{Message}
 use Rattle.clv_base.specs.declared.messages.Message.TheVariants.{Prepare, Vote as VoteMessage, Decide, Done, Ask}
 use Rattle.clv_base.specs.State.{Shard, Local, is_present}
 use Rattle.clv_base.specs.Facts.{predecessors_of}
-use Rattle.clv_base.specs.Locks.{violated}
-use Rattle.clv_base.specs.Needs.{needs_of, value_at, live_pairs}
+use Rattle.clv_base.specs.Needs.{value_at, live_pairs}
 use Rattle.clv_base.specs.History.{IsQuiet}
 use Rattle.clv_base.specs.declared.state.Voter.{Voter}
 use Rattle.clv_base.specs.declared.state.Request.{Request}
 use Rattle.clv_base.specs.declared.state.RequestState.TheVariants.{Undecided}
 use Rattle.clv_base.specs.Undo.{stage_of}
 use Rattle.clv_base.specs.Events.{Does, happen, landed, with_entry, epoch_in}
-use Rattle.clv_base.specs.OneShard.{seen_fits}
+use Rattle.clv_base.specs.OneShard.{seen_fits, violated_here}
 use Rattle.clv_base.specs.LogRules.{disorder, listed_in}
 use Rattle.clv_base.specs.Restarts.{greatest_run, restored_pairs, opened, log_left, revived, Restarts}
-use Rattle.law_base.specs.Items.{Item, Runs, after, AllLater, Clash}
+use Rattle.law_base.specs.Items.{Item, Deed, Did, WentBack, is_beyond, held, Acts as ActsOf, after, AllLater, Clash}
 
 -- what a shard did
 pub record Deeds : Type 0 where
-  -- all operations that were answered, in their order
-  pub items : List Item
+  -- all operations that were answered and all goings back, in their order
+  pub done : List Deed
   -- those that made a request, in that order
   pub asked : List TxId
   -- those that were told of success
@@ -52,21 +52,41 @@ pub record Deeds : Type 0 where
   pub fell : List TxId
 
 abbrev pub no_deeds : Deeds
-no_deeds = record { items = []; asked = []; told = []; met = []; fell = [] }
+no_deeds = record { done = []; asked = []; told = []; met = []; fell = [] }
 
-abbrev pub items_of : TxId → List Item → List Item
-items_of t all = filter (λ x. tx_same x.tx t) all
+-- whose deed it is, and its number
+abbrev pub doer : Deed → TxId
+doer (Did x) = x.tx
+doer (WentBack tx number upto) = tx
 
--- ---- what an event adds to all that was answered, and to those that asked
+abbrev pub number_of : Deed → ℕ
+number_of (Did x) = x.number
+number_of (WentBack tx number upto) = number
+
+abbrev pub deeds_of : TxId → List Deed → List Deed
+deeds_of t all = filter (λ d. tx_same (doer d) t) all
+
+abbrev pub deeds_by_chosen : (TxId → Bool) → List Deed → List Deed
+deeds_by_chosen chosen all = filter (λ d. chosen (doer d)) all
+
+-- the operations among deeds, those that were taken back later too
+abbrev pub items_in : List Deed → List Item
+items_in [] = []
+items_in (Did x ∷ ds) = x ∷ items_in ds
+items_in (WentBack tx number upto ∷ ds) = items_in ds
+
+-- ---- what an event adds to all that was done, and to those that asked
 
 abbrev pub with_one : {X : Type 0} → List X → Option X → List X
 with_one xs None = xs
 with_one xs (Some x) = xs ++ x ∷ []
 
-abbrev pub new_item : Shard → Event → Outcome → Option Item
-new_item s (OpEvent tx birth nth seen op) (Answered answer epoch) = Some (record { tx = tx; op = op; answer = answer; lsn = 0 + length s.local.log })
-new_item s (OpEvent tx birth nth seen op) _ = None
-new_item s _ o = None
+abbrev pub new_deed : Shard → Event → Outcome → Option Deed
+new_deed s (OpEvent tx birth nth seen op) (Answered answer epoch) = Some (Did (record { tx = tx; number = nth; op = op; answer = answer; lsn = 0 + length s.local.log }))
+new_deed s (OpEvent tx birth nth seen op) _ = None
+new_deed s (RollTo tx nth seen upto) Rolled = Some (WentBack tx nth upto)
+new_deed s (RollTo tx nth seen upto) _ = None
+new_deed s _ o = None
 
 abbrev pub asks_by_stage : TxId → Option Stage → Bool → Option TxId
 asks_by_stage tx (Some Active) true = Some tx
@@ -83,7 +103,7 @@ new_asked s _ = None
 
 -- those whose writes a grant violated
 abbrev pub new_met : Shard → Event → Outcome → List (TxId × TxId)
-new_met s (OpEvent tx birth nth seen op) (Answered answer epoch) = map (λ p. (tx, p)) (violated tx (needs_of op s.local.records) s.local.locks)
+new_met s (OpEvent tx birth nth seen op) (Answered answer epoch) = map (λ p. (tx, p)) (violated_here s.local tx op)
 new_met s (OpEvent tx birth nth seen op) _ = []
 new_met s _ o = []
 
@@ -101,17 +121,28 @@ pub record Fresh (d : Deeds) (s : Shard) (tx : TxId) : Type 0 where
   pub unprepared : prepared_in s.local.log tx ≡ false
   pub uncommitted : committed_in s.local.log tx ≡ false
   pub unaborted : aborted_in s.local.log tx ≡ false
-  pub idle : items_of tx d.items ≡ []
+  pub idle : deeds_of tx d.done ≡ []
   pub unmet : (p : TxId) → has_met d.met tx p ≡ true → ⊥
   pub unfallen : tx_in tx d.fell ≡ false
 
--- an operation is of this run's transaction, and none after a request; each transaction has one birth
-pub record MayTouch (d : Deeds) (s : Shard) (tx : TxId) (birth : Birth) (seen : Option ℕ) : Type 0 where
+-- a transaction's deeds so far have lower numbers
+abbrev pub AreBelow : TxId → ℕ → List Deed → Type 0
+AreBelow tx nth all = AllByRecursion (λ d. doer d ≡ tx → number_of d < nth) all
+
+-- an operation is of this run's transaction, with a number above those before, and none after a request; each transaction has one birth
+pub record MayTouch (d : Deeds) (s : Shard) (tx : TxId) (birth : Birth) (nth : ℕ) (seen : Option ℕ) : Type 0 where
   pub of_run : tx.run ≡ s.run
+  pub rises : AreBelow tx nth d.done
   pub not_closed : stage_of s.local tx ≡ Some Closed → ⊥
   pub not_asked : seen_fits s.local.epoch seen ≡ true → tx_in tx d.asked ≡ false
   pub fresh : seen_fits s.local.epoch seen ≡ true → tx_get tx s.local.parts ≡ None → Fresh d s tx
   pub same_birth : (h : Held) → tx_get tx s.local.parts ≡ Some h → h.birth ≡ birth
+
+-- so is a going back, of a transaction that this epoch knows
+pub record MayGoBack (d : Deeds) (s : Shard) (tx : TxId) (nth seen : ℕ) : Type 0 where
+  pub of_run : tx.run ≡ s.run
+  pub rises : AreBelow tx nth d.done
+  pub known : seen ≡ s.local.epoch → tx_get tx s.local.parts ≡ None → ⊥
 
 -- a request is the first of its transaction, which is of this run, and which no other shard has asked for its vote here
 abbrev pub MayAsk : Deeds → Shard → TxId → Type 0
@@ -122,19 +153,20 @@ abbrev pub predecessors_committed : Local → TxId → Bool
 predecessors_committed l tx = list_all (committed_in l.log) (predecessors_of l.pairs tx)
 
 -- what other shards and the transport owe of a message that is delivered here: a Prepare is of one that asked elsewhere, whose request doesn't
--- stand here, and who isn't committed here without a write; the first Decide(commit) finds the COMMITs of the predecessors, at a part that wrote
--- and did not fall, and no undecided request of it
+-- stand here, and who isn't committed here without a write that stands; the first Decide(commit) finds the COMMITs of the predecessors, at a part of which
+-- a write stands and that did not fall, and no undecided request of it
 abbrev pub MayDeliver : Deeds → Shard → Message → Type 0
-MayDeliver d s (Prepare to tx home seen) = (tx_in tx d.asked ≡ true) × (tx_get tx s.requests ≡ None) × (wrote_in s.local.log tx ≡ false → committed_in s.local.log tx ≡ false)
+MayDeliver d s (Prepare to tx home seen) = (tx_in tx d.asked ≡ true) × (tx_get tx s.requests ≡ None) × (has_standing s.local.log tx ≡ false → committed_in s.local.log tx ≡ false)
 MayDeliver d s (VoteMessage to tx from vote) = ⊤
-MayDeliver d s (Decide to tx home true) = committed_in s.local.log tx ≡ false → (predecessors_committed s.local tx ≡ true) × (wrote_in s.local.log tx ≡ true) × ((q : Request) → tx_get tx s.requests ≡ Some q → q.state ≡ Undecided → ⊥) × (tx_in tx d.fell ≡ false)
+MayDeliver d s (Decide to tx home true) = committed_in s.local.log tx ≡ false → (predecessors_committed s.local tx ≡ true) × (has_standing s.local.log tx ≡ true) × ((q : Request) → tx_get tx s.requests ≡ Some q → q.state ≡ Undecided → ⊥) × (tx_in tx d.fell ≡ false)
 MayDeliver d s (Decide to tx home false) = ⊤
 MayDeliver d s (Done to tx from) = ⊤
 MayDeliver d s (Ask to tx from) = ⊤
 
 -- and what sessions owe: who is closed and committed is not dropped
 abbrev pub MayHappen : Deeds → Shard → Event → Type 0
-MayHappen d s (OpEvent tx birth nth seen op) = MayTouch d s tx birth seen
+MayHappen d s (OpEvent tx birth nth seen op) = MayTouch d s tx birth nth seen
+MayHappen d s (RollTo tx nth seen upto) = MayGoBack d s tx nth seen
 MayHappen d s (Drop tx) = stage_of s.local tx ≡ Some Closed → committed_in s.local.log tx ≡ false
 MayHappen d s (RequestEvent tx touched) = MayAsk d s tx
 MayHappen d s (Deliver m stamp) = MayDeliver d s m
@@ -167,7 +199,7 @@ found_told (Sets before after) = Value before
 found_told (Adds by) = Added true
 
 abbrev pub found_item : StandingUpdate → Item
-found_item w = record { tx = w.tx; op = found_op w.key w.change; answer = found_told w.change; lsn = w.lsn }
+found_item w = record { tx = w.tx; number = 0; op = found_op w.key w.change; answer = found_told w.change; lsn = w.lsn }
 
 -- those of writes, which come the newest first, in the order of the log
 abbrev pub items_found : (TxId → Bool) → List StandingUpdate → List Item
@@ -204,11 +236,11 @@ left_out s t = filter (λ u. is_present (stage_of s.local u) && not (is_present 
 
 -- what those in doubt in the log did before: they acted and asked
 abbrev pub deeds_found : ℕ → List LogRecord → Deeds
-deeds_found shard log = record { items = found_items shard log; asked = found_asked shard log; told = []; met = found_met shard log; fell = [] }
+deeds_found shard log = record { done = map (λ x. Did x) (found_items shard log); asked = found_asked shard log; told = []; met = found_met shard log; fell = [] }
 
 -- with what an event does
 abbrev pub deeds_by : Deeds → Shard → Event → Outcome → Shard → Deeds
-deeds_by d s e o t = record { items = with_one d.items (new_item s e o); asked = with_one d.asked (new_asked s e); told = with_one d.told (new_told e o); met = new_met s e o ++ d.met; fell = doomed_in t ++ d.fell }
+deeds_by d s e o t = record { done = with_one d.done (new_deed s e o); asked = with_one d.asked (new_asked s e); told = with_one d.told (new_told e o); met = new_met s e o ++ d.met; fell = doomed_in t ++ d.fell }
 
 -- from the shard that opened such a log: what it did, and the state
 pub data Leads (shard run : ℕ) (before : List LogRecord) : Deeds → Shard → Type 0 where
@@ -232,30 +264,40 @@ is_member s cut told t = committed_in (take cut s.local.log) t || tx_in t told
 abbrev pub members_of : Shard → ℕ → Deeds → List TxId
 members_of s cut d = filter (is_member s cut d.told) d.asked
 
-abbrev pub ops_by : List TxId → List Item → List (List Op)
-ops_by ts all = map (λ t. map (λ x. x.op) (items_of t all)) ts
+-- a deed as a numbered act, and the answers of some
+abbrev pub act_of_deed : Deed → ℕ × Act
+act_of_deed (Did x) = (x.number, Operates x.op)
+act_of_deed (WentBack tx number upto) = (number, GoesBack upto)
 
-abbrev pub answers_by : List TxId → List Item → List (List Answer)
-answers_by ts all = map (λ t. map (λ x. x.answer) (items_of t all)) ts
+abbrev pub acts_by : List TxId → List Deed → List Acts
+acts_by ts all = map (λ t. map act_of_deed (deeds_of t all)) ts
+
+abbrev pub answers_by : List TxId → List Deed → List (List Answer)
+answers_by ts all = map (λ t. map (λ x. x.answer) (items_in (deeds_of t all))) ts
+
+-- each of these transactions goes back to where it stood after operations that it had not gone back over
+abbrev pub GoBackInOrder : List TxId → List Deed → Type 0
+GoBackInOrder ts all = AllByRecursion (λ t. are_numbered 0 [] (map act_of_deed (deeds_of t all)) ≡ true) ts
 
 -- replayed one after another in the order of their requests, from what the log found stands for, the members give their answers, and the map
 -- that the cut log stands for
 abbrev pub AnswersAndMap : Type 0
 AnswersAndMap =
     (shard run : ℕ) (before : List LogRecord) (d : Deeds) (s : Shard) (cut : ℕ) → Leads shard run before d s → s.durable ≤ cut
-    → (replay_answers (stands (before ∷ [])) (ops_by (members_of s cut d) d.items) ≡ answers_by (members_of s cut d) d.items)
-    × (replay_map (stands (before ∷ [])) (ops_by (members_of s cut d) d.items) ≡ stands (take cut s.local.log ∷ []))
+    → GoBackInOrder (members_of s cut d) d.done
+    → (replay_answers (stands (before ∷ [])) (acts_by (members_of s cut d) d.done) ≡ answers_by (members_of s cut d) d.done)
+    × (replay_map (stands (before ∷ [])) (acts_by (members_of s cut d) d.done) ≡ stands (take cut s.local.log ∷ []))
 
--- it asked, but wrote nothing here: it read and left, or did nothing here
+-- it asked, but no write of it stands here: it read or went back over all and left, or did nothing here
 pub record Passes (d : Deeds) (s : Shard) (tx : TxId) : Type 0 where
   pub has_asked : tx_in tx d.asked ≡ true
-  pub unwritten : wrote_in s.local.log tx ≡ false
+  pub unwritten : has_standing s.local.log tx ≡ false
   pub uncommitted : committed_in s.local.log tx ≡ false
   pub absent : is_present (stage_of s.local tx) ≡ false
   pub unfallen : tx_in tx d.fell ≡ false
 
 -- a choice of transactions as other shards' COMMITs make it: all that the cut commits are chosen, and each of the chosen is a member here, or
--- is in doubt in the cut, which commits all that its PREPARE lists, and did not fall, or it wrote nothing here and left
+-- is in doubt in the cut, which commits all that its PREPARE lists, and did not fall, or no write of it stands here and it left
 pub record MayChoose (s : Shard) (cut : ℕ) (d : Deeds) (chosen : TxId → Bool) : Type 0 where
   pub commits : (t : TxId) → committed_in (take cut s.local.log) t ≡ true → chosen t ≡ true
   pub are_here :
@@ -264,13 +306,18 @@ pub record MayChoose (s : Shard) (cut : ℕ) (d : Deeds) (chosen : TxId → Bool
       ⊎ (((tx_in t (in_doubt s.shard (take cut s.local.log)) ≡ true) × (list_all (committed_in (take cut s.local.log)) (listed_in (take cut s.local.log) t) ≡ true) × (tx_in t d.fell ≡ false))
       ⊎ Passes d s t)
 
--- then the chosen ones that asked give their answers, and the map of the chosen ones' UPDATEs in the cut
+-- the map of the standing writes in a cut of those chosen that are committed or in doubt there: of one that read alone, or went back over all, the
+-- cut may have writes whose undo it lacks
+abbrev pub map_chosen : ℕ → List LogRecord → (TxId → Bool) → KeyMap
+map_chosen shard log chosen = fold_updates (λ t. chosen t && is_winner shard log t) log []
+
+-- then the chosen ones that asked give their answers, and the map of the chosen ones' writes in the cut
 abbrev pub ChosenReplay : Type 0
 ChosenReplay =
     (shard run : ℕ) (before : List LogRecord) (d : Deeds) (s : Shard) (cut : ℕ) (chosen : TxId → Bool)
-    → Leads shard run before d s → s.durable ≤ cut → MayChoose s cut d chosen
-    → (replay_answers (stands (before ∷ [])) (ops_by (filter chosen d.asked) d.items) ≡ answers_by (filter chosen d.asked) d.items)
-    × (replay_map (stands (before ∷ [])) (ops_by (filter chosen d.asked) d.items) ≡ fold_updates chosen (take cut s.local.log) [])
+    → Leads shard run before d s → s.durable ≤ cut → MayChoose s cut d chosen → GoBackInOrder (filter chosen d.asked) d.done
+    → (replay_answers (stands (before ∷ [])) (acts_by (filter chosen d.asked) d.done) ≡ answers_by (filter chosen d.asked) d.done)
+    × (replay_map (stands (before ∷ [])) (acts_by (filter chosen d.asked) d.done) ≡ map_chosen s.shard (take cut s.local.log) chosen)
 
 -- the map of what a log commits, and of those in doubt in it that are chosen
 abbrev pub map_found : ℕ → List LogRecord → (TxId → Bool) → KeyMap
@@ -281,19 +328,36 @@ abbrev pub LaterReplay : Type 0
 LaterReplay =
     (shard run : ℕ) (before : List LogRecord) (d : Deeds) (s : Shard) (cut : ℕ) (chosen : TxId → Bool) (later : List TxId)
     → Leads shard run before d s → s.durable ≤ cut → MayChoose s cut d chosen → d.asked ≡ found_asked shard before ++ later
-    → (replay_answers (map_found shard before chosen) (ops_by (filter chosen later) d.items) ≡ answers_by (filter chosen later) d.items)
-    × (replay_map (map_found shard before chosen) (ops_by (filter chosen later) d.items) ≡ fold_updates chosen (take cut s.local.log) [])
+    → GoBackInOrder (filter chosen d.asked) d.done
+    → (replay_answers (map_found shard before chosen) (acts_by (filter chosen later) d.done) ≡ answers_by (filter chosen later) d.done)
+    × (replay_map (map_found shard before chosen) (acts_by (filter chosen later) d.done) ≡ map_chosen s.shard (take cut s.local.log) chosen)
 
--- in the order in which they were done, each operation of the chosen ones after the opening gives its answer from that map with the earlier ones'
--- writes, and all of them come to the map of the chosen ones' UPDATEs in the cut; and where two of them meet at a key that one writes, the earlier is
--- of the same transaction or of one that asked earlier
+-- of two operations that meet at a key that one of them writes the earlier is of the same transaction or of one that asked earlier; and while a
+-- transaction has not gone back over an operation, nobody else meets it at a key that one of them writes
+abbrev pub AskInOrder : List TxId → List Deed → Type 0
+AskInOrder asked all = AllLater (λ x y. Clash x y → (x.tx ≡ y.tx) ⊎ (place asked x.tx < place asked y.tx)) (items_in all)
+
+abbrev pub IsApartFrom : Item → Item → Type 0
+IsApartFrom x y = Clash x y → x.tx ≡ y.tx
+
+-- before a going back nobody else's operation behind one that it takes back clashes with it
+abbrev pub NobodyBetween : List Item → List Deed → Type 0
+NobodyBetween so_far [] = ⊤
+NobodyBetween so_far (Did x ∷ ds) = NobodyBetween (so_far ++ x ∷ []) ds
+NobodyBetween so_far (WentBack tx number upto ∷ ds) =
+    AllLater (λ x y. is_beyond tx upto x ≡ true → IsApartFrom x y) so_far × NobodyBetween so_far ds
+
+-- in the order in which they were done, each operation of the chosen ones after the opening gives its answer from that map with the writes of the
+-- earlier ones that nobody had gone back over by then, and those that hold at the end come to the map of the chosen ones' writes in the cut; and
+-- they met in the order of their requests
 abbrev pub ChosenAct : Type 0
 ChosenAct =
-    (shard run : ℕ) (before : List LogRecord) (d : Deeds) (s : Shard) (cut : ℕ) (chosen : TxId → Bool) (done : List Item)
-    → Leads shard run before d s → s.durable ≤ cut → MayChoose s cut d chosen → d.items ≡ found_items shard before ++ done
-    → Runs (map_found shard before chosen) (filter (λ x. chosen x.tx) done)
-    × (after (map_found shard before chosen) (filter (λ x. chosen x.tx) done) ≡ fold_updates chosen (take cut s.local.log) [])
-    × AllLater (λ x y. Clash x y → (x.tx ≡ y.tx) ⊎ (place (filter chosen d.asked) x.tx < place (filter chosen d.asked) y.tx)) (filter (λ x. chosen x.tx) done)
+    (shard run : ℕ) (before : List LogRecord) (d : Deeds) (s : Shard) (cut : ℕ) (chosen : TxId → Bool) (done : List Deed)
+    → Leads shard run before d s → s.durable ≤ cut → MayChoose s cut d chosen → d.done ≡ map (λ x. Did x) (found_items shard before) ++ done
+    → ActsOf (map_found shard before chosen) (deeds_by_chosen chosen done)
+    × (after (map_found shard before chosen) (held (deeds_by_chosen chosen done)) ≡ map_chosen s.shard (take cut s.local.log) chosen)
+    × AskInOrder (filter chosen d.asked) (deeds_by_chosen chosen done)
+    × NobodyBetween [] (deeds_by_chosen chosen done)
 
 -- whose writes a chosen one violated is chosen, at an earlier place
 abbrev pub ChosenStandBefore : Type 0

@@ -9,7 +9,7 @@ use Rattle.clv_base.specs.Events.{Reply, QuietBeforeWorn, QuietAfterWorn, Does, 
 use Rattle.clv_base.specs.Restarts.{log_left}
 use Rattle.protocol_laws.specs.Growth.{IsPrefixOf}
 use Rattle.protocol_laws.proofs.LogOnlyGrows.{log_only_grows}
-use Rattle.history_cases.proofs.Stepping.{Step, op_dies, op_answers, request_refused, request_doomed, request_again, request_new, request_closes, looks_well, looks_ill, drops, sends, prepare_closes, prepare_again, vote_counts, decision_comes, decision_again, done_counts, asked, reminds, flushes, Happens, finishes, stops, happened}
+use Rattle.history_cases.proofs.Stepping.{Step, op_dies, op_answers, request_refused, request_doomed, request_again, request_new, request_closes, looks_well, looks_ill, drops, sends, prepare_closes, prepare_again, vote_counts, decision_comes, decision_again, done_counts, asked, reminds, flushes, Happens, finishes, stops, happened, roll_refused, roll_doomed, roll_late, roll_unknown, rolls_back}
 use Rattle.history_cases.proofs.Durability.{framed_finish, happens_steps}
 use Rattle.crash_laws.specs.Fronts.{FrontsFit}
 use Rattle.law_base.proofs.Shards.{same_after, same_outcome}
@@ -38,6 +38,11 @@ entered stamp w e true (Does p u) o t h =
 step_flight : (s t : Shard) {e : Event} {o : Outcome} → Step s e o t → (e ≡ FlushOut → ⊥) → t.flight ≡ s.flight
 step_flight s t (op_dies tx birth nth seen op cause l h) f = refl
 step_flight s t (op_answers tx birth nth seen op answer l h) f = refl
+step_flight s t (roll_refused tx nth seen upto h) f = refl
+step_flight s t (roll_doomed tx nth seen upto doom h k) f = refl
+step_flight s t (roll_late tx nth seen upto h k) f = refl
+step_flight s t (roll_unknown tx nth seen upto h k) f = refl
+step_flight s t (rolls_back tx nth seen upto h k) f = refl
 step_flight s t (request_refused tx ts cause h) f = refl
 step_flight s t (request_doomed tx ts doom h) f = refl
 step_flight s t (request_again tx ts f0 h) f = refl

@@ -5,7 +5,7 @@ use Rattle.std.proofs.lemmas.Bool.{both_ways, and_from, and_parts}
 use Rattle.clv_base.specs.declared.events.CoreStep.{CoreStep}
 use Rattle.clv_base.specs.declared.logs.LogRecord.{LogRecord}
 use Rattle.clv_base.specs.declared.events.Event.{Event}
-use Rattle.clv_base.specs.declared.events.Event.TheVariants.{Op, Request, Look, Drop, Send, Deliver, Remind, FlushOut, FlushIn, Stop, Restart}
+use Rattle.clv_base.specs.declared.events.Event.TheVariants.{Op, Request, Look, Drop, Send, Deliver, Remind, FlushOut, FlushIn, Stop, Restart, RollTo}
 use Rattle.clv_base.specs.declared.events.Outcome.{Outcome}
 use Rattle.clv_base.specs.Shards.{are_splits}
 use Rattle.clv_base.specs.State.{Shard}
@@ -84,6 +84,7 @@ no_shard splits w c g = ap (run_on splits w c) g
 -- it makes its entry
 does_of : (s t : Shard) (e : Event) (o : Outcome) → BecomesBy s e o t → is_of_session e ≡ true → happen s e ≡ Does o t
 does_of s t (Op tx birth nth seen op) o b h = b.1
+does_of s t (RollTo tx nth seen upto) o b h = b
 does_of s t (Request tx ts) o b h = b
 does_of s t (Look tx) o b h = b
 does_of s t (Drop tx) o b h = b

@@ -6,9 +6,9 @@ use Rattle.std.proofs.lemmas.Bool.{both_ways, eq-eqb}
 use Rattle.clv_base.specs.declared.ops.Op.{Op as Operation}
 use Rattle.clv_base.specs.declared.ops.Answer.TheVariants.{Value}
 use Rattle.clv_base.specs.declared.events.Event.{Event}
-use Rattle.clv_base.specs.declared.events.Event.TheVariants.{Op, Request, Look, Drop, Send, Deliver, Remind, FlushOut, FlushIn, Stop, Restart}
+use Rattle.clv_base.specs.declared.events.Event.TheVariants.{Op, Request, Look, Drop, Send, Deliver, Remind, FlushOut, FlushIn, Stop, Restart, RollTo}
 use Rattle.clv_base.specs.declared.events.Outcome.{Outcome}
-use Rattle.clv_base.specs.declared.events.Outcome.TheVariants.{Answered}
+use Rattle.clv_base.specs.declared.events.Outcome.TheVariants.{Answered, Rolled}
 use Rattle.clv_base.specs.declared.events.Entry.{Entry}
 use Rattle.clv_base.specs.Orders.{tx_same}
 use Rattle.clv_base.specs.LogRules.{same_option}
@@ -17,7 +17,7 @@ use Rattle.clv_base.specs.Events.{Does, happen}
 use Rattle.clv_base.specs.Core.{World}
 use Rattle.clv_base.specs.Journals.{History, own}
 use Rattle.clv_base.specs.Runs.{goes_on_session}
-use Rattle.clv_base.specs.Sessions.{SessionState, is_number, lies_in, session_for, op_answered, op_in_session, is_touching, same_touched, is_lowest, requested, stands_at, looked, may_drop, after_drop, session_after, is_session, is_of_session, is_session_number}
+use Rattle.clv_base.specs.Sessions.{SessionState, is_number, lies_in, session_for, op_answered, op_in_session, is_touching, same_touched, is_lowest, requested, stands_at, looked, may_drop, after_drop, session_after, is_session, is_of_session, is_session_number, back_for, back_in_session, is_whole_now}
 use Rattle.journal_laws.specs.Offers.{hoped_for, may_make}
 use Rattle.journal_laws.proofs.EachOutcomeGoesOn.{each_outcome_goes_on}
 use Rattle.journal_laws.proofs.Entries.WalkersOwnEntries.{own_append, own_mine}
@@ -44,9 +44,15 @@ refused_if : (b : Bool) (x : SessionState) (y : Option SessionState) → is_some
 refused_if true x y k = absurd (both_ways true k refl)
 refused_if false x y k = refl
 
+refused_back : (b : Bool) (n upto : ℕ) (o : Outcome) (v : Option SessionState) → is_some (cond b (back_in_session n upto Rolled v) None) ≡ false → cond b (back_in_session n upto o v) None ≡ None
+refused_back true n upto o None k = refl
+refused_back true n upto o (Some t) k = absurd (both_ways true k refl)
+refused_back false n upto o v k = refl
+
 pub refused_after : (splits : List ℕ) (n : ℕ) (t : SessionState) (e : Event) (o : Outcome) → is_some (session_after splits n t e (hoped_for e)) ≡ false → session_after splits n t e o ≡ None
 refused_after splits n t (Op tx birth nth seen op) o h = refused_op splits n nth seen op o (session_for t tx birth) h
-refused_after splits n t (Request tx ts) o h = refused_if (tx_same tx t.tx && is_touching t.phase && same_touched ts t.touched && is_lowest n ts) _ (requested n t o) h
+refused_after splits n t (RollTo tx nth seen upto) o h = refused_back (tx_same tx t.tx && is_touching t.phase && same_option (Some seen) (lookup (◌==◌ n) t.touched)) n upto o (back_for t n nth upto) h
+refused_after splits n t (Request tx ts) o h = refused_if (tx_same tx t.tx && is_touching t.phase && is_whole_now t && same_touched ts t.touched && is_lowest n ts) _ (requested n t o) h
 refused_after splits n t (Look tx) o h = refused_if (tx_same tx t.tx && stands_at n t.phase) _ (looked t o) h
 refused_after splits n t (Drop tx) o h = refused_if (tx_same tx t.tx && may_drop t.phase && not ((t.tx).serial == 0)) _ (Some (record t { phase = after_drop t.phase })) h
 refused_after splits n t Send o h = absurd (both_ways true h refl)

@@ -40,7 +40,7 @@ use Rattle.law_base.proofs.Tables.{stage_by, stage_in, get_put}
 use Rattle.law_base.proofs.Stages.{stage_closed, closed_other, written_parts, stage_marked, other_part}
 use Rattle.shard_laws.proofs.Restarts.RestoredLocksAndParts.{restored_stage}
 use Rattle.history_laws.proofs.Entries.WhatOperationsDo.{OpIs, dies, rolls, performs, reply_is}
-use Rattle.history_cases.proofs.Stepping.{settled, Step, op_dies, op_answers, request_new, request_closes, drops, prepare_closes, vote_counts, decision_comes, done_counts, Happens, finishes, stops}
+use Rattle.history_cases.proofs.Stepping.{settled, Step, op_dies, op_answers, request_new, request_closes, drops, prepare_closes, vote_counts, decision_comes, done_counts, Happens, finishes, stops, rolls_back}
 use Rattle.history_cases.proofs.Entering.{Makes, by_event, by_flush, by_failure, by_restart}
 use Rattle.fate_laws.proofs.Homes.EventsKeepHomes.{awaits, put_get, counts_undecided}
 use Rattle.fate_laws.proofs.Logs.WhatPreparesOrCommits.{Commits, alone, decided, step_commits, new_active}
@@ -155,6 +155,7 @@ commit_stage s t v d (op_dies tx birth nth seen op cause l g) z h o c = no_commi
 commit_stage s t v d (op_answers tx birth nth seen op answer l g) z h o c = no_commits s refl v z
 commit_stage s t v d (request_closes u ts f0 g) z h o c =
     closed_not_gone (stage_in (closed_in u s.local.parts) u) d (stage_closed s.local.parts u g) (subst (λ x. stage_in (closed_in u s.local.parts) x ≡ Some (Gone (Some d))) (whose_request s v u ts z refl) h)
+commit_stage s t v d (rolls_back tx nth seen upto f g) z h o c = no_commits s refl v z
 commit_stage s t v d (drops tx stage g) z h o c = no_commits s refl v z
 commit_stage s t v d (prepare_closes tx home seen stamp g) z h o c = no_commits s refl v z
 commit_stage s t v d (decision_comes u home true stamp g) z h o c =
@@ -229,6 +230,7 @@ rows_step s t (op_dies u birth nth seen op cause l g) w p = plain_rows s t (op_d
 rows_step s t (op_answers u birth nth seen op answer l g) w p = plain_rows s t (op_answers u birth nth seen op answer l g) (no_commits s refl) p
 rows_step s t (request_new u ts f0 g) w p = put_rows s t u ts (λ v c. inl c) p
 rows_step s t (request_closes u ts f0 g) w p = put_rows s t u ts (λ v c. request_commits s t u v ts (request_closes u ts f0 g) refl c) p
+rows_step s t (rolls_back u nth seen upto f g) w p = plain_rows s t (rolls_back u nth seen upto f g) (no_commits s refl) p
 rows_step s t (drops u stage g) w p = plain_rows s t (drops u stage g) (no_commits s refl) p
 rows_step s t (prepare_closes u home seen stamp g) w p = plain_rows s t (prepare_closes u home seen stamp g) (no_commits s refl) p
 rows_step s t (vote_counts u from vote stamp q g c) w p = set_row s u (with_vote_of from vote q) (voted_keeps s u q from vote (counts_undecided s.shard from q q.state c) (w q g c)) p

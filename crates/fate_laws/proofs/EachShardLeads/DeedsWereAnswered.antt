@@ -1,4 +1,4 @@
--- What a shard did is of operations that it answered, by one entry more.
+-- What a shard did is of transactions that it answered, by one entry more.
 use Rattle.std.proofs.Common.{◌≡◌, inl, inr, ⊎_elim, refl, sym, ap, subst, ◌∙◌, ℕ, true, false, Bool, List, [], ◌∷◌, ◌++◌, map, Option, Some, None, append-nil, append_assoc, not, ◌&&◌}
 use Rattle.std.specs.List.{AllByRecursion}
 use Rattle.std.proofs.lemmas.Bool.{both_ways, or_cases, and_parts}
@@ -11,9 +11,9 @@ use Rattle.clv_base.specs.declared.logs.LogRecord.{LogRecord}
 use Rattle.clv_base.specs.declared.state.Stage.{Stage}
 use Rattle.clv_base.specs.declared.state.Held.{Held}
 use Rattle.clv_base.specs.declared.events.Event.{Event}
-use Rattle.clv_base.specs.declared.events.Event.TheVariants.{Op as OpEvent, Restart}
+use Rattle.clv_base.specs.declared.events.Event.TheVariants.{Op as OpEvent, RollTo, Restart}
 use Rattle.clv_base.specs.declared.events.Outcome.{Outcome}
-use Rattle.clv_base.specs.declared.events.Outcome.TheVariants.{Answered}
+use Rattle.clv_base.specs.declared.events.Outcome.TheVariants.{Answered, Rolled}
 use Rattle.clv_base.specs.declared.events.Entry.{Entry}
 use Rattle.clv_base.specs.Orders.{tx_same, tx_in, tx_get}
 use Rattle.clv_base.specs.Logs.{prepared_in, committed_in}
@@ -22,15 +22,15 @@ use Rattle.clv_base.specs.Undo.{stage_of}
 use Rattle.clv_base.specs.Restarts.{run_after}
 use Rattle.clv_base.specs.Journals.{History}
 use Rattle.clv_base.specs.History.{state_before}
-use Rattle.law_base.specs.Items.{Item}
+use Rattle.law_base.specs.Items.{Deed}
 use Rattle.law_base.proofs.Lists.{all_mono, all_push}
 use Rattle.law_base.proofs.Rows.{rows_get}
 use Rattle.law_base.proofs.Sets.{in_filter}
 use Rattle.law_base.proofs.Stages.{stage_of_some}
-use Rattle.shard_laws.specs.OneShard.{Deeds, with_one, new_item, new_met, has_met, is_doomed, doomed_in, left_out}
+use Rattle.shard_laws.specs.OneShard.{Deeds, doer, with_one, new_deed, new_met, has_met, is_doomed, doomed_in, left_out}
 use Rattle.shard_laws.proofs.AnswersAndMap.{named_doomed}
 use Rattle.shard_laws.proofs.Keeping.LeavingKeeps.{in_two}
-use Rattle.history_cases.proofs.Merging.{Placed, among_right}
+use Rattle.history_cases.proofs.Merging.{Placed, Among, among_left, among_right}
 use Rattle.history_laws.proofs.Entries.WhatEntriesAdd.{one_met}
 use Rattle.fate_laws.proofs.History.EntriesInTurn.{Requested}
 use Rattle.fate_laws.proofs.Origins.DueKeepsOrigins.{SomeRequest, BirthFrom, PartFrom}
@@ -39,7 +39,8 @@ use Rattle.fate_laws.proofs.EachShardLeads.CommitsSpareTheFallen.{FellOn, is_lef
 use Rattle.fate_laws.specs.Leading.{deeds_with, falling}
 use Rattle.fate_laws.proofs.EachShardLeads.RecordsTellTheirOrigin.{prepared_from}
 use Rattle.fate_laws.proofs.EachShardLeads.RestoredStayPrepared.{RestoredArePrepared}
-use Rattle.fate_laws.proofs.EachShardLeads.SessionsMayAsk.{Remembers}
+use Rattle.fate_laws.proofs.EachShardLeads.SessionsMayAsk.{WasDone, Remembers}
+use Rattle.fate_laws.proofs.EachShardLeads.NumbersRise.{DoneAs}
 
 -- ---- one entry more in the history
 
@@ -48,9 +49,16 @@ fell_more before after pre y n t (front, rest, q, inl d) = (front, rest ++ y ∷
 fell_more before after pre y n t (front, rest, q, inr (e, more, r, k, d)) =
     (front, rest ++ y ∷ [], sym (append_assoc front rest (y ∷ [])) ∙ ap (λ l. l ++ y ∷ []) q, inr (e, more ++ y ∷ [], ap (λ l. l ++ y ∷ []) r, k, d))
 
+any_more : (run : ℕ) (pre : History) (y : Placed) (n : ℕ) (t : TxId) → DidAny pre n t → DidAny (pre ++ y ∷ []) n t
+any_more run pre y n t (ep, (b, (z, i, p, a))) = (ep, (b, (z, among_left z pre (y ∷ []) i, p, a)))
+
+done_more : (run : ℕ) (pre : History) (y : Placed) (n : ℕ) (d : Deed) → WasDone run pre n d → WasDone run (pre ++ y ∷ []) n d
+done_more run pre y n d (inl (w, (z, i, p, k))) = inl (any_more run pre y n (doer d) w, (z, among_left z pre (y ∷ []) i, p, k))
+done_more run pre y n d (inr o) = inr o
+
 pub remembers_more : (before after : List (List LogRecord)) (pre : History) (y : Placed) (n : ℕ) (d : Deeds) → Remembers before after pre n d → Remembers before after (pre ++ y ∷ []) n d
 remembers_more before after pre y n d m = record {
-  items = all_mono (λ z. DidOrOld (run_after before) pre n z.tx) (λ z. DidOrOld (run_after before) (pre ++ y ∷ []) n z.tx) (λ z. old_more (run_after before) pre y n z.tx) d.items m.items;
+  done = all_mono (WasDone (run_after before) pre n) (WasDone (run_after before) (pre ++ y ∷ []) n) (done_more (run_after before) pre y n) d.done m.done;
   met = λ t p e. old_more (run_after before) pre y n t (m.met t p e);
   fell = λ t i. let f = m.fell t i in (old_more (run_after before) pre y n t f.0, fell_more before after pre y n t f.1);
 }
@@ -76,16 +84,25 @@ none_present o d e = both_ways false refl (sym (ap is_present e) ∙ d)
 -- ---- the shard's own entry
 
 module _ (before after : List (List LogRecord)) (pre : History) (n : ℕ) (x : Entry) (s t : Shard) (old : Traced (run_after before) pre n s) (now : Traced (run_after before) (pre ++ (n, x) ∷ []) n t) (rows : RestoredArePrepared s.local) (rows_now : RestoredArePrepared t.local)
-    (is_s : state_before before pre after n ≡ s) (is_t : state_before before (pre ++ (n, x) ∷ []) after n ≡ t) (d : Deeds) (m : Remembers before after pre n d) where
+    (is_s : state_before before pre after n ≡ s) (is_t : state_before before (pre ++ (n, x) ∷ []) after n ≡ t) (d : Deeds) (m : Remembers before after pre n d)
+    (backs : (tx : TxId) (nth seen upto : ℕ) → x.event ≡ RollTo tx nth seen upto → DidAny pre n tx) where
   did_now : (tx : TxId) (b : Birth) (nth : ℕ) (seen : Option ℕ) (op : Op) (a : Answer) (ep : ℕ) → x.event ≡ OpEvent tx b nth seen op → x.outcome ≡ Answered a ep → DidAny (pre ++ (n, x) ∷ []) n tx
   did_now tx b nth seen op a ep e f =
       let i = among_right (n, x) pre ((n, x) ∷ []) (inl refl) in
       let w = (now.epochs (n, x) tx b nth seen op a ep i refl e f).1 in
       (ep, (b, ((n, x), i, refl, record { seen = seen; answer = a; at = record { nth = nth; op = op; is = e }; outcome = f; saw = w })))
 
-  one_item : (e : Event) (o : Outcome) → x.event ≡ e → x.outcome ≡ o → (is : List Item) → AllByRecursion (λ z. DidOrOld (run_after before) (pre ++ (n, x) ∷ []) n z.tx) is → AllByRecursion (λ z. DidOrOld (run_after before) (pre ++ (n, x) ∷ []) n z.tx) (with_one is (new_item s e o))
-  one_item (OpEvent tx b nth seen op) (Answered a ep) q r is k = all_push (λ z. DidOrOld (run_after before) (pre ++ (n, x) ∷ []) n z.tx) is _ k (inl (did_now tx b nth seen op a ep q r))
-  one_item _ o q r is k = k
+  now_done : (tx : TxId) (k : ℕ) (e : Event) (o : Outcome) → x.event ≡ e → x.outcome ≡ o → DoneAs tx k e o → (y : Placed) × Among y (pre ++ (n, x) ∷ []) × (y.0 ≡ n) × DoneAs tx k (y.1).event (y.1).outcome
+  now_done tx k e o q r w = ((n, x), among_right (n, x) pre ((n, x) ∷ []) (inl refl), refl, subst (λ z. DoneAs tx k z x.outcome) (sym q) (subst (DoneAs tx k e) (sym r) w))
+
+  one_deed : (e : Event) (o : Outcome) → x.event ≡ e → x.outcome ≡ o → (ds : List Deed) → AllByRecursion (WasDone (run_after before) (pre ++ (n, x) ∷ []) n) ds → AllByRecursion (WasDone (run_after before) (pre ++ (n, x) ∷ []) n) (with_one ds (new_deed s e o))
+  one_deed (OpEvent tx b nth seen op) (Answered a ep) q r ds k =
+      all_push (WasDone (run_after before) (pre ++ (n, x) ∷ []) n) ds _ k
+      (inl (did_now tx b nth seen op a ep q r, now_done tx nth (OpEvent tx b nth seen op) (Answered a ep) q r (refl, refl)))
+  one_deed (RollTo tx nth seen upto) Rolled q r ds k =
+      all_push (WasDone (run_after before) (pre ++ (n, x) ∷ []) n) ds _ k
+      (inl (any_more (run_after before) pre (n, x) n tx (backs tx nth seen upto q), now_done tx nth (RollTo tx nth seen upto) Rolled q r (refl, refl)))
+  one_deed _ o q r ds k = k
 
   doomed_now : (u : TxId) → tx_in u (doomed_in t) ≡ true → DidOrOld (run_after before) (pre ++ (n, x) ∷ []) n u × FellOn before (pre ++ (n, x) ∷ []) after n u
   doomed_now u i =
@@ -110,7 +127,7 @@ module _ (before after : List (List LogRecord)) (pre : History) (n : ℕ) (x : E
   remembers_own =
       let k = remembers_more before after pre (n, x) n d m in
       record {
-        items = one_item x.event x.outcome refl refl d.items k.items;
+        done = one_deed x.event x.outcome refl refl d.done k.done;
         met = λ u p e. ⊎_elim
             (λ a. let o = one_met s x.event x.outcome u p a in inl (did_now u o.0 o.1 o.2 o.3 o.4 o.5 o.6 o.7))
             (λ a. k.met u p a)

@@ -1,5 +1,5 @@
 -- Whom a log leaves in doubt when it is opened is of an earlier run; what it did there stands before what the shard does.
-use Rattle.std.proofs.Common.{◌≡◌, ◌⊎◌, inl, inr, ⊎_elim, refl, sym, ap, subst, ◌∙◌, ℕ, ◌<◌, true, false, cond, Bool, List, [], ◌∷◌, ◌++◌, length, Option, Some, None, append_assoc}
+use Rattle.std.proofs.Common.{◌≡◌, ◌⊎◌, inl, inr, ⊎_elim, refl, sym, ap, subst, ◌∙◌, ℕ, ◌<◌, true, false, cond, Bool, List, [], ◌∷◌, ◌++◌, map, length, Option, Some, None, append_assoc}
 use Rattle.std.specs.List.{AllByRecursion}
 use Rattle.std.proofs.lemmas.Bool.{both_ways, or_cases}
 use Rattle.clv_base.specs.declared.names.TxId.{TxId}
@@ -13,8 +13,10 @@ use Rattle.clv_base.specs.FileRules.{may_open}
 use Rattle.clv_base.specs.State.{Shard}
 use Rattle.clv_base.specs.Restarts.{run_after}
 use Rattle.clv_base.proofs.SameNames.{tx_true}
+use Rattle.law_base.specs.Items.{Did}
 use Rattle.law_base.proofs.Lists.{all_mono}
-use Rattle.shard_laws.specs.OneShard.{Deeds, with_one, new_item, new_met, has_met, prepared_order, found_items, found_asked, found_met}
+use Rattle.shard_laws.specs.OneShard.{Deeds, doer, with_one, new_deed, new_met, has_met, prepared_order, found_items, found_asked, found_met}
+use Rattle.shard_laws.proofs.Restarts.OperationsAlone.{all_alone}
 use Rattle.shard_laws.proofs.Restarts.FoundDoubtedActedBefore.{found_doubted}
 use Rattle.shard_laws.proofs.Restarts.RestoredRequestsAndPairs.{pair_of}
 use Rattle.fate_laws.proofs.Origins.FrontsKeepOrigins.{IsOld}
@@ -41,8 +43,10 @@ ordered_is doubt (Add tx k by ∷ rs) t e = ordered_is doubt rs t e
 ordered_is doubt (Unadd tx u k by ∷ rs) t e = ordered_is doubt rs t e
 
 module _ (splits : List ℕ) (before : List (List LogRecord)) (n : ℕ) (m : may_open splits before ≡ true) (l : n < length before) where
-  pub items_are_old : AllByRecursion (λ x. IsOld (run_after before) x.tx) (found_items n (log_of before n))
-  items_are_old = all_mono _ _ (λ x i. doubted_is_old splits before n m l x.tx i) (found_items n (log_of before n)) (found_doubted (λ t. tx_in t (in_doubt n (log_of before n))) (standing (log_of before n)))
+  pub deeds_are_old : AllByRecursion (λ d. IsOld (run_after before) (doer d)) (map (λ x. Did x) (found_items n (log_of before n)))
+  deeds_are_old =
+      all_alone (λ d. IsOld (run_after before) (doer d)) (found_items n (log_of before n))
+      (all_mono _ _ (λ x i. doubted_is_old splits before n m l x.tx i) (found_items n (log_of before n)) (found_doubted (λ t. tx_in t (in_doubt n (log_of before n))) (standing (log_of before n))))
 
   pub asked_are_old : (t : TxId) → tx_in t (found_asked n (log_of before n)) ≡ true → IsOld (run_after before) t
   asked_are_old t i = doubted_is_old splits before n m l t (ordered_is (λ u. tx_in u (in_doubt n (log_of before n))) (log_of before n) t i)
@@ -59,5 +63,5 @@ one_after found xs (Some x) = append_assoc found xs (x ∷ [])
 pub found_with : (n : ℕ) (log : List LogRecord) (d : Deeds) (s t : Shard) (e : Entry) → deeds_with (with_found n log d) s t e ≡ with_found n log (deeds_with d s t e)
 found_with n log d s t e =
     let w = deeds_with d s t e in
-    ap (λ z. record { items = z; asked = found_asked n log ++ d.asked; told = w.told; met = new_met s e.event e.outcome ++ (d.met ++ found_met n log); fell = w.fell }) (one_after (found_items n log) d.items (new_item s e.event e.outcome))
-    ∙ ap (λ z. record { items = found_items n log ++ w.items; asked = found_asked n log ++ d.asked; told = w.told; met = z; fell = w.fell }) (sym (append_assoc (new_met s e.event e.outcome) d.met (found_met n log)))
+    ap (λ z. record { done = z; asked = found_asked n log ++ d.asked; told = w.told; met = new_met s e.event e.outcome ++ (d.met ++ found_met n log); fell = w.fell }) (one_after (map (λ x. Did x) (found_items n log)) d.done (new_deed s e.event e.outcome))
+    ∙ ap (λ z. record { done = map (λ x. Did x) (found_items n log) ++ w.done; asked = found_asked n log ++ d.asked; told = w.told; met = z; fell = w.fell }) (sym (append_assoc (new_met s e.event e.outcome) d.met (found_met n log)))

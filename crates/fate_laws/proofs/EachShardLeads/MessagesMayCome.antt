@@ -1,7 +1,7 @@
 -- What a message that comes owes the shard: a Prepare, and word of a commit.
-use Rattle.std.proofs.Common.{◌≡◌, ◌⊎◌, inl, inr, ⊎_elim, refl, sym, ap, subst, ◌∙◌, ℕ, true, false, cond, Bool, List, [], ◌∷◌, arith, eqb-true, ◌==◌, ◌&&◌}
+use Rattle.std.proofs.Common.{◌≡◌, ◌⊎◌, inl, inr, ⊎_elim, refl, sym, ap, subst, ◌∙◌, ℕ, true, false, cond, Bool, not, ◌||◌, List, [], ◌∷◌, arith, eqb-true, ◌==◌, ◌&&◌}
 use Rattle.std.specs.List.{list_any}
-use Rattle.std.proofs.lemmas.Bool.{both_ways, false_from_ne_true, or_cases, and_from}
+use Rattle.std.proofs.lemmas.Bool.{both_ways, false_from_ne_true, not-true, or_cases, and_from}
 use Rattle.clv_base.specs.declared.names.TxId.{TxId}
 use Rattle.clv_base.specs.declared.logs.LogRecord.{LogRecord}
 use Rattle.clv_base.specs.declared.logs.LogRecord.TheVariants.{Update, Clr, Prepare as PrepareRecord, Commit, Abort, End, Restart as RestartRecord, Add, Unadd}
@@ -15,8 +15,8 @@ use Rattle.clv_base.specs.declared.events.Outcome.{Outcome}
 use Rattle.clv_base.specs.declared.events.Outcome.TheVariants.{Taken, Stale, Down}
 use Rattle.clv_base.specs.declared.events.Entry.{Entry}
 use Rattle.clv_base.specs.Orders.{tx_same, tx_in, tx_get}
-use Rattle.clv_base.specs.Logs.{wrote_in, committed_in, is_update_of, is_commit_of}
-use Rattle.clv_base.specs.LogRules.{may_follow, some_parts}
+use Rattle.clv_base.specs.Logs.{has_standing, committed_in, prepared_in, aborted_in, is_commit_of, is_undo_of}
+use Rattle.clv_base.specs.LogRules.{may_follow, may_undo, some_parts}
 use Rattle.clv_base.specs.State.{Shard}
 use Rattle.clv_base.specs.Facts.{facts_of}
 use Rattle.clv_base.specs.Participant.{taken_by}
@@ -29,6 +29,8 @@ use Rattle.protocol_laws.proofs.LogsInOrder.OneRecordMore.{push_cases, push_righ
 use Rattle.protocol_laws.specs.SessionLaws.{tx_of}
 use Rattle.shard_laws.specs.OneShard.{Deeds, Leads, MayDeliver}
 use Rattle.shard_laws.proofs.Order.RecordByRecord.{Follows, from_disorder, through}
+use Rattle.shard_laws.proofs.Order.WhoseWritesStand.{has_still}
+use Rattle.shard_laws.proofs.Order.WritesLieOnListed.{order_of}
 use Rattle.shard_laws.proofs.OrderIsKept.{order_is_kept}
 use Rattle.history_laws.proofs.NeverTakenBack.{walker_of, one_request}
 use Rattle.fate_laws.proofs.History.EntriesInTurn.{Requested}
@@ -38,7 +40,7 @@ use Rattle.fate_laws.specs.Leading.{requests_of}
 use Rattle.fate_laws.proofs.History.DeedsOfOneEntry.{request_is_in}
 use Rattle.fate_laws.proofs.EachShardLeads.RecordsTellTheirOrigin.{any_from}
 use Rattle.fate_laws.proofs.EachShardLeads.SessionsMayAsk.{Here, none_of}
-use Rattle.law_base.proofs.Bools.{and_second as last}
+use Rattle.law_base.proofs.Bools.{and_first as front, and_second as last}
 use Rattle.law_base.proofs.Logs.{push_left}
 
 -- ---- where a message comes, and what it comes to
@@ -68,27 +70,40 @@ decide_taken s to tx home stamp o t f = when_up s (Deliver (Decide to tx home tr
     at IsDone g = cc
     at IsStale g = absurd cc
 
--- ---- who is committed in a log in order wrote there, or it is the home of its parts
+-- ---- of who is committed in a log in order a write stands there, or it is the home of its parts
 
 is_home_commit : TxId → LogRecord → Bool
 is_home_commit t (Commit u ps) = tx_same t u && some_parts ps
 is_home_commit t _ = false
 
-abbrev WroteOrHome : List LogRecord → Type 0
-WroteOrHome log = (t : TxId) → committed_in log t ≡ true → (wrote_in log t ≡ true) ⊎ (list_any (is_home_commit t) log ≡ true)
+abbrev StandsOrHome : List LogRecord → Type 0
+StandsOrHome log = (t : TxId) → committed_in log t ≡ true → (has_standing log t ≡ true) ⊎ (list_any (is_home_commit t) log ≡ true)
 
-new_commit : (shard : ℕ) (log : List LogRecord) (r : LogRecord) (t : TxId) → may_follow shard log r ≡ true → is_commit_of t r ≡ true → (wrote_in log t ≡ true) ⊎ (is_home_commit t r ≡ true)
+-- a COMMIT is the first record of its transaction that takes a write back no more
+new_commit : (shard : ℕ) (log : List LogRecord) (r : LogRecord) (t : TxId) → may_follow shard log r ≡ true → is_commit_of t r ≡ true → ((has_standing log t ≡ true) × (is_undo_of t r ≡ false)) ⊎ (is_home_commit t r ≡ true)
 unfolding is_home_commit
 new_commit shard log (Commit u ps) t m e =
-    ⊎_elim (λ w. inl (subst (λ v. wrote_in log v ≡ true) (sym (tx_true t u e)) w)) (λ p. inr (and_from (tx_same t u) (some_parts ps) e p)) (or_cases (wrote_in log u) (some_parts ps) (last _ _ m))
+    ⊎_elim (λ w. inl (subst (λ v. has_standing log v ≡ true) (sym (tx_true t u e)) w, refl)) (λ p. inr (and_from (tx_same t u) (some_parts ps) e p)) (or_cases (has_standing log u) (some_parts ps) (last _ _ m))
 new_commit shard log _ t m e = absurd (both_ways false refl e)
 
-wrote_or_home : (shard : ℕ) (log : List LogRecord) → Follows shard [] log → WroteOrHome log
-wrote_or_home shard log f =
-    through WroteOrHome shard [] log tt f (λ t c. absurd (both_ways false refl c))
+open_undo : (log : List LogRecord) (t u : TxId) → may_undo log u ≡ true → committed_in log t ≡ true → aborted_in log t ≡ false → tx_same t u ≡ false
+open_undo log t u m c a =
+    false_from_ne_true _ (λ e.
+    ⊎_elim (λ b. both_ways _ a b) (λ o. both_ways _ (not-true _ (last _ _ o)) c)
+    (or_cases (aborted_in log t) (not (prepared_in log t) && not (committed_in log t)) (subst (λ z. may_undo log z ≡ true) (sym (tx_true t u e)) m)))
+
+no_undo : (shard : ℕ) (log : List LogRecord) (r : LogRecord) (t : TxId) → may_follow shard log r ≡ true → committed_in log t ≡ true → aborted_in log t ≡ false → is_undo_of t r ≡ false
+no_undo shard log (Clr u next key after) t m c a = open_undo log t u (last _ _ (front _ _ m)) c a
+no_undo shard log (Unadd u next key by) t m c a = open_undo log t u (last _ _ (front _ _ m)) c a
+no_undo shard log _ t m c a = refl
+
+stands_or_home : (shard : ℕ) (log : List LogRecord) → Follows shard [] log → StandsOrHome log
+stands_or_home shard log f =
+    through StandsOrHome shard [] log tt f (λ t c. absurd (both_ways false refl c))
     (λ l r k p m t c.
-    ⊎_elim (λ old. ⊎_elim (λ w. inl (push_left (is_update_of t) l r w)) (λ w. inr (push_left (is_home_commit t) l r w)) (p t old))
-    (λ new. ⊎_elim (λ w. inl (push_left (is_update_of t) l r w)) (λ w. inr (push_right (is_home_commit t) l r w)) (new_commit shard l r t m new))
+    ⊎_elim
+    (λ old. ⊎_elim (λ w. inl (has_still l (r ∷ []) t (ap (λ b. b || false) (no_undo shard l r t m old ((order_of shard l k).apart t old))) w)) (λ w. inr (push_left (is_home_commit t) l r w)) (p t old))
+    (λ new. ⊎_elim (λ w. inl (has_still l (r ∷ []) t (ap (λ b. b || false) w.1) w.0)) (λ w. inr (push_right (is_home_commit t) l r w)) (new_commit shard l r t m new))
     (push_cases (is_commit_of t) l r c))
 
 home_from : (A : TxId → Type 0) (Q : TxId → ℕ → Type 0) (O : TxId → Type 0) (n : ℕ) (t : TxId) (r : LogRecord) → RecordFrom A Q O n r → is_home_commit t r ≡ true → OwnRequest Q O n t
@@ -112,9 +127,9 @@ home_from A Q O n t (RestartRecord rn ep) p e = absurd (both_ways false refl e)
 home_from A Q O n t (Add u k by) p e = absurd (both_ways false refl e)
 home_from A Q O n t (Unadd u k b by) p e = absurd (both_ways false refl e)
 
--- who is committed wrote there, or made its request there
-pub committed_wrote : (A : TxId → Type 0) (Q : TxId → ℕ → Type 0) (O : TxId → Type 0) (n : ℕ) (log : List LogRecord) (t : TxId) → AllFrom A Q O n log → Follows n [] log → committed_in log t ≡ true → (wrote_in log t ≡ true) ⊎ OwnRequest Q O n t
-committed_wrote A Q O n log t a f c = ⊎_elim (λ y. inl y) (λ y. inr (any_from (RecordFrom A Q O n) (is_home_commit t) log (home_from A Q O n t) a y)) (wrote_or_home n log f t c)
+-- a write of who is committed stands there, or it made its request there
+pub committed_stands : (A : TxId → Type 0) (Q : TxId → ℕ → Type 0) (O : TxId → Type 0) (n : ℕ) (log : List LogRecord) (t : TxId) → AllFrom A Q O n log → Follows n [] log → committed_in log t ≡ true → (has_standing log t ≡ true) ⊎ OwnRequest Q O n t
+committed_stands A Q O n log t a f c = ⊎_elim (λ y. inl y) (λ y. inr (any_from (RecordFrom A Q O n) (is_home_commit t) log (home_from A Q O n t) a y)) (stands_or_home n log f t c)
 
 -- ---- a Prepare
 
@@ -133,7 +148,7 @@ may_prepare splits before after h pre n x s d log0 to t home seen here leads amo
   (λ w. false_from_ne_true _ (λ c.
       ⊎_elim (λ y. both_ways _ w y)
       here_not
-      (committed_wrote (DidOrOld (run_after before) pre n) (Requested pre) (IsOld (run_after before)) n s.local.log t ((here.traced).origins).log (from_disorder n 0 [] s.local.log (order_is_kept n (run_after before) log0 d s leads)) c))),
+      (committed_stands (DidOrOld (run_after before) pre n) (Requested pre) (IsOld (run_after before)) n s.local.log t ((here.traced).origins).log (from_disorder n 0 [] s.local.log (order_is_kept n (run_after before) log0 d s leads)) c))),
 )
   where
     here_not : OwnRequest (Requested pre) (IsOld (run_after before)) n t → ⊥

@@ -34,7 +34,7 @@ use Rattle.law_base.proofs.Lists.{all_mono}
 use Rattle.law_base.proofs.Rows.{rows_put}
 use Rattle.protocol_laws.specs.Growth.{IsPrefixOf}
 use Rattle.protocol_laws.proofs.LogOnlyGrows.DueGrowsLogs.{more, more_twice}
-use Rattle.history_cases.proofs.Stepping.{commits, votes, rules, KeptByDue, settled, Step, op_dies, op_answers, request_closes, drops, prepare_closes, decision_comes, Happens, finishes, stops, happened}
+use Rattle.history_cases.proofs.Stepping.{commits, votes, rules, KeptByDue, settled, Step, op_dies, op_answers, rolls_back, request_closes, drops, prepare_closes, decision_comes, Happens, finishes, stops, happened}
 use Rattle.history_laws.proofs.Entries.WhatOperationsDo.{OpIs, dies, rolls, performs, reply_is}
 use Rattle.shard_laws.specs.OneShard.{Deeds, Leads, opens, happens, lands, others_ask, revives}
 
@@ -121,6 +121,7 @@ rolled_if l tx false a = a
 step : (s t : Shard) {e : Event} {o : Outcome} → Step s e o t → RestoredArePrepared s.local → RestoredArePrepared t.local
 step s _ (op_dies tx birth nth seen op cause l h) a = died s.local l tx birth seen op cause (reply_is s.shard s.local tx birth seen op _ h) a
 step s _ (op_answers tx birth nth seen op x l h) a = answered s.local l tx birth seen op x (reply_is s.shard s.local tx birth seen op _ h) a
+step s _ (rolls_back tx nth seen upto f h) a = grown s.local.log _ s.local.parts (more s.local.log _) a
 step s _ (request_closes tx ts f h) a = grown s.local.log _ _ (more s.local.log _) (closes s.local.log tx s.local.parts a)
 step s _ (drops tx stage h) a = let r = rolled_if s.local tx (is_present (stage_of s.local tx)) a in marks (rolled_back_if (is_present (stage_of s.local tx)) tx s.local).log tx (rolled_back_if (is_present (stage_of s.local tx)) tx s.local).parts r
 step s _ (prepare_closes tx home seen stamp h) a = grown s.local.log _ _ (more s.local.log _) (closes s.local.log tx s.local.parts a)

@@ -10,7 +10,7 @@ use Rattle.clv_base.specs.declared.events.Event.TheVariants.{Drop, Deliver}
 use Rattle.clv_base.specs.declared.events.Outcome.TheVariants.{Taken}
 use Rattle.clv_base.specs.declared.events.Entry.{Entry}
 use Rattle.clv_base.specs.Orders.{tx_get}
-use Rattle.clv_base.specs.Logs.{committed_in, wrote_in}
+use Rattle.clv_base.specs.Logs.{has_standing, committed_in}
 use Rattle.clv_base.specs.Journals.{History}
 use Rattle.clv_base.specs.History.{WasSent, state_before}
 use Rattle.law_base.proofs.Rows.{rows_get}
@@ -26,11 +26,11 @@ use Rattle.fate_laws.proofs.Parts.CommitsHaveTheirParts.{home_committed, due_at}
 use Rattle.fate_laws.proofs.AbortedAreCommittedNowhere.{spared_front, dropped_dead}
 use Rattle.fate_laws.proofs.EachShardLeads.CommitsSpareTheFallen.{FellOn, commits_spare_the_fallen}
 
--- at the first word of a commit its predecessors here are committed, it didn't fall here and isn't undecided, and it wrote here
+-- at the first word of a commit its predecessors here are committed, it didn't fall here and isn't undecided, and a write of it stands here
 pub record Found (before after : List (List LogRecord)) (pre : History) (n : ℕ) (tx : TxId) : Type 0 where
   pub due : predecessors_committed (state_before before pre after n).local tx ≡ true
   pub unfallen : FellOn before pre after n tx → ⊥
-  pub wrote : wrote_in (state_before before pre after n).local.log tx ≡ true
+  pub stands : has_standing (state_before before pre after n).local.log tx ≡ true
   pub decided : (q : Request) → tx_get tx (state_before before pre after n).requests ≡ Some q → q.state ≡ Undecided → ⊥
 
 abbrev pub AllFound : List (List LogRecord) → History → List (List LogRecord) → Type 0
@@ -63,7 +63,7 @@ module _ {splits : List ℕ} {before after : List (List LogRecord)} {h : History
       record {
         due = first.0;
         unfallen = commits_spare_the_fallen l pre n e later tx to home stamp q v o c;
-        wrote = first.1;
+        stands = first.1;
         decided = λ r x u. undecided_away splits before after h pre n e tx to home stamp r w b v c x u;
       }
 

@@ -17,9 +17,10 @@ use Rattle.clv_base.specs.declared.events.Event.TheVariants.{Request as RequestE
 use Rattle.clv_base.specs.declared.events.Outcome.{Outcome}
 use Rattle.clv_base.specs.declared.events.Outcome.TheVariants.{Sent}
 use Rattle.clv_base.specs.Orders.{Table, tx_in, tx_get, tx_put, nat_in}
-use Rattle.clv_base.specs.Logs.{committed_in, commit_lsn, prepared_in, prepare_of, wrote_in, in_doubt}
+use Rattle.clv_base.specs.Logs.{committed_in, commit_lsn, prepared_in, prepare_of, has_standing, in_doubt}
 use Rattle.clv_base.specs.State.{Shard, Local, with_local}
-use Rattle.clv_base.specs.Undo.{roll_back}
+use Rattle.clv_base.specs.Undo.{roll_back, roll_to}
+use Rattle.clv_base.specs.Backs.{count_after, standing_numbers}
 use Rattle.clv_base.specs.Facts.{facts_of, has_durable_commit, undecided_of}
 use Rattle.clv_base.specs.Participant.{asked_voter, ask_by, asks, restored_voters}
 use Rattle.clv_base.specs.Coordinator.{new_request, others, vote_from, with_vote_of, with_done_of, stands_open, ask_answer, prepare_for, prepares, missing_votes, missing_dones, each_request, home_reminders, restored_request}
@@ -30,12 +31,12 @@ use Rattle.clv_base.specs.Journals.{up_to_restart}
 use Rattle.law_base.proofs.Rows.{rows_get, rows_put}
 use Rattle.law_base.proofs.Lists.{all_mono, all_append, all_of}
 use Rattle.law_base.proofs.Sets.{in_filter}
-use Rattle.history_cases.proofs.Stepping.{Step, op_dies, op_answers, request_new, request_closes, drops, sends, prepare_closes, prepare_again, vote_counts, decision_comes, decision_again, done_counts, asked, reminds, flushes, Happens, finishes, stops}
+use Rattle.history_cases.proofs.Stepping.{Step, op_dies, op_answers, rolls_back, request_new, request_closes, drops, sends, prepare_closes, prepare_again, vote_counts, decision_comes, decision_again, done_counts, asked, reminds, flushes, Happens, finishes, stops}
 use Rattle.history_cases.proofs.Entering.{Makes, by_event, by_flush, by_failure, by_restart}
-use Rattle.history_cases.proofs.Uncommitting.{rolled, dropped, op_dying, op_answering, restarts_add, opening_adds}
+use Rattle.history_cases.proofs.Uncommitting.{rolled, gone_back as back_commits, dropped, op_dying, op_answering, restarts_add, opening_adds}
 use Rattle.history_cases.proofs.Telling.{all_map}
 use Rattle.history_cases.proofs.TellingEvents.{front_committed}
-use Rattle.fate_laws.proofs.Logs.WhatAddsNoPrepare.{front_prepare, opening_adds as opening_prepares, rolled as rolled_prepares, dropped as dropped_prepares, op_dying as dying_prepares, op_answering as answering_prepares, restarts_add as restarts_prepare}
+use Rattle.fate_laws.proofs.Logs.WhatAddsNoPrepare.{front_prepare, gone_back as back_prepares, opening_adds as opening_prepares, rolled as rolled_prepares, dropped as dropped_prepares, op_dying as dying_prepares, op_answering as answering_prepares, restarts_add as restarts_prepare}
 use Rattle.fate_laws.proofs.Homes.EventsKeepHomes.{none_committed}
 use Rattle.fate_laws.proofs.EarlierRuns.TellsOnlyFoundCommits.{MayHave, MayAnswer, Tells, Opens, Elder, elder_log, elder_same, elder_commit, elder_prepare, elder_send, elder_set, opens_at, elder_durable, elder_finish}
 use Rattle.history_laws.proofs.Logs.DoubtedAreUndecided.{doubt_prepared}
@@ -59,7 +60,7 @@ module _ (R O : TxId → Type 0) (H : ℕ → TxId → Type 0) where
   elder_closing s l tx home true false us e a p = elder_prepare R O H s l tx home us e a p
 
   elder_close : (s : Shard) (tx : TxId) (home : ℕ) (one : Bool) → R tx → Elder R O H s → Elder R O H (with_local (close_part tx home one) s)
-  elder_close s tx home one a p = elder_closing s (close_part tx home one s.local) tx home (wrote_in s.local.log tx) one (undecided_of s.local tx) refl a p
+  elder_close s tx home one a p = elder_closing s (close_part tx home one s.local) tx home (has_standing s.local.log tx) one (undecided_of s.local tx) refl a p
 
   elder_coordinate : (s : Shard) (tx : TxId) (ts : List (ℕ × ℕ)) → R tx → Elder R O H s → Elder R O H (coordinate tx ts s)
   elder_coordinate s tx ts a p =
@@ -144,6 +145,8 @@ module _ (R O : TxId → Type 0) (H : ℕ → TxId → Type 0) where
   elder_step : (s t : Shard) {e : Event} {o : Outcome} → ((u : TxId) → H s.shard u → committed_in s.local.log u ≡ true) → Step s e o t → Owes R O H e → Elder R O H s → Elder R O H t
   elder_step s _ found (op_dies tx birth nth seen op cause l g) w p = elder_log R O H s l (op_dying s.shard s.local l tx birth seen op cause g) (dying_prepares s.shard s.local l tx birth seen op cause g) p
   elder_step s _ found (op_answers tx birth nth seen op answer l g) w p = elder_log R O H s l (op_answering s.shard s.local l tx birth seen op answer g) (answering_prepares s.shard s.local l tx birth seen op answer g) p
+  elder_step s _ found (rolls_back tx nth seen upto f g) w p =
+      let n = count_after upto (standing_numbers tx s.journal) in elder_log R O H s (roll_to tx n s.local) (back_commits tx n s.local) (back_prepares tx n s.local) p
   elder_step s _ found (request_new tx ts f0 g) w p = elder_coordinate s tx ts w p
   elder_step s _ found (request_closes tx ts f0 g) w p =
       let one = is_alone (others s.shard ts) in elder_coordinate (with_local (close_part tx s.shard one) s) tx ts w (elder_close s tx s.shard one w p)

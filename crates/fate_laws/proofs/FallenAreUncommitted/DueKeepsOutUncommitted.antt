@@ -1,15 +1,12 @@
 -- What is due keeps that who is out is never committed.
 use Rattle.std.proofs.Common.{◌≡◌, ◌⊎◌, inl, inr, ⊎_elim, refl, sym, ap, subst, ◌∙◌, ℕ, true, false, cond, map, Bool, ◌&&◌, ◌==◌, List, [], ◌∷◌, ◌++◌, Option, Some, None}
-use Rattle.std.specs.List.{filter, list_all}
+use Rattle.std.specs.List.{filter, list_all, list_any}
 use Rattle.std.proofs.lemmas.Bool.{both_ways, and_parts, false_from_ne_true}
 use Rattle.clv_base.specs.declared.names.TxId.{TxId}
 use Rattle.clv_base.specs.declared.causes.AbortCause.{AbortCause}
 use Rattle.clv_base.specs.declared.causes.Vote.{Vote}
 use Rattle.clv_base.specs.declared.causes.Vote.TheVariants.{Yes, Read, No}
-use Rattle.clv_base.specs.declared.logs.LogRecord.{LogRecord}
 use Rattle.clv_base.specs.declared.logs.LogRecord.TheVariants.{Commit, Abort, End}
-use Rattle.clv_base.specs.declared.changes.Change.{Change as WriteChange}
-use Rattle.clv_base.specs.declared.changes.Change.TheVariants.{Sets, Adds}
 use Rattle.clv_base.specs.declared.parts.PartFacts.{PartFacts}
 use Rattle.clv_base.specs.declared.state.Voter.{Voter}
 use Rattle.clv_base.specs.declared.state.Request.{Request}
@@ -18,10 +15,10 @@ use Rattle.clv_base.specs.declared.state.RequestState.TheVariants.{Undecided, Co
 use Rattle.clv_base.specs.declared.state.Ruling.{Ruling}
 use Rattle.clv_base.specs.declared.state.Ruling.TheVariants.{Commit as CommitVerdict, Acknowledge, Abort as AbortVerdict, End as EndVerdict}
 use Rattle.clv_base.specs.declared.state.Stage.TheVariants.{Active, Closed}
-use Rattle.clv_base.specs.Orders.{Table, tx_same, tx_in, tx_get, tx_set}
-use Rattle.clv_base.specs.Logs.{StandingUpdate, standing, committed_in, prepared_in, wrote_in, prepare_of}
+use Rattle.clv_base.specs.Orders.{Table, tx_same, tx_get, tx_set}
+use Rattle.clv_base.specs.Logs.{StandingUpdate, standing, has_standing, committed_in, prepared_in, prepare_of, is_undo_of}
 use Rattle.clv_base.specs.State.{Shard, Local, is_present}
-use Rattle.clv_base.specs.Undo.{newest_lsn, stage_of, doomed_here, roll_back, aborts_of, clrs_of, compensation}
+use Rattle.clv_base.specs.Undo.{stage_of, gone_in, pairs_without, doomed_here, roll_back, aborts_of, clrs_by, clrs_of, is_of, is_at, newest_lsns, roll_to}
 use Rattle.clv_base.specs.Facts.{facts_of, is_waiting}
 use Rattle.clv_base.specs.Participant.{vote_by, voted}
 use Rattle.clv_base.specs.Coordinator.{others, vote_from, is_good, yes_shards, agreed_ruling, is_agreed, undecided_ruling, refusal, ruling_in, ruled_request}
@@ -35,7 +32,11 @@ use Rattle.history_cases.proofs.Stepping.{Due, commits, votes, rules, KeptByDue,
 use Rattle.history_cases.proofs.Uncommitting.{rolled as rolled_commits, with_more}
 use Rattle.shard_laws.proofs.Events.DueKeeps.{waiting_here}
 use Rattle.shard_laws.proofs.Order.ChangesKeepOrder.{prepare_some}
-use Rattle.shard_laws.proofs.Keeping.LeavingKeeps.{no_write_aborts, no_write_clrs}
+use Rattle.shard_laws.proofs.Keeping.RecordsOfAnUndo.{undo_prepares, undo_writes}
+use Rattle.shard_laws.proofs.Order.WhoseWritesStand.{has_still}
+use Rattle.law_base.proofs.Logs.{aborts_undo, clrs_undo_by}
+use Rattle.law_base.proofs.Standing.{stood_before}
+use Rattle.fate_laws.proofs.Logs.PreparedWritesStand.{rolled_stands, back_stands}
 use Rattle.fate_laws.proofs.Homes.ShardKnowsHomes.{set_there, new_commit}
 use Rattle.fate_laws.proofs.Logs.LogOnlyGrows.{inside_self, inside_due}
 use Rattle.fate_laws.proofs.Parts.CommittedAreVotedFor.{commit_agreed, abort_undecided}
@@ -55,50 +56,69 @@ ack_agreed f u (y ∷ ys) e = absurd cc
 ack_agreed f true [] e = absurd cc
 ack_agreed f false [] e = refl
 
-ack_undecided : (shard : ℕ) (tx : TxId) (q : Request) (f : PartFacts) (b : Bool) → undecided_ruling shard tx q f b ≡ Some Acknowledge → f.updates ≡ false
-ack_undecided shard tx q f true e = ack_agreed f f.updates (yes_shards shard q) e
-ack_undecided shard tx q f false e = absurd (ack_refused shard q (refusal tx q f) e)
+ack_undecided : (shard : ℕ) (tx : TxId) (q : Request) (f : PartFacts) (b : Bool) → is_agreed shard q f ≡ b → undecided_ruling shard tx q f b ≡ Some Acknowledge → (f.updates ≡ false) × (is_agreed shard q f ≡ true)
+ack_undecided shard tx q f true a e = (ack_agreed f f.updates (yes_shards shard q) e, a)
+ack_undecided shard tx q f false a e = absurd (ack_refused shard q (refusal tx q f) e)
 
-ack_in : (shard : ℕ) (tx : TxId) (q : Request) (f : PartFacts) (st : RequestState) → ruling_in shard tx q f st ≡ Some Acknowledge → f.updates ≡ false
-ack_in shard tx q f Undecided e = ack_undecided shard tx q f (is_agreed shard q f) e
+ack_in : (shard : ℕ) (tx : TxId) (q : Request) (f : PartFacts) (st : RequestState) → ruling_in shard tx q f st ≡ Some Acknowledge → (f.updates ≡ false) × (is_agreed shard q f ≡ true)
+ack_in shard tx q f Undecided e = ack_undecided shard tx q f (is_agreed shard q f) refl e
 ack_in shard tx q f (Committed parts) e = absurd (ack_end q parts e)
 ack_in shard tx q f Finished e = absurd (none_some Acknowledge e)
 ack_in shard tx q f (Refused c) e = absurd (none_some Acknowledge e)
 
+agreed_closed : (s : Shard) (u : TxId) (q : Request) → is_agreed s.shard q (facts_of s u) ≡ true → stage_of s.local u ≡ Some Closed
+agreed_closed s u q a =
+    let f = facts_of s u in
+    (waiting_here s u (and_parts (is_waiting f) (f.undecided == 0) (and_parts (is_waiting f && (f.undecided == 0)) (list_all (λ p. is_good (vote_from p q.votes)) (others s.shard q.touched)) a).0).0).0
+
 -- ---- records at the end of the log that are no PREPARE and no UPDATE
 
-pub plain_commit : (log : List LogRecord) (tx : TxId) (parts : List ℕ) → Plainly log (Commit tx parts ∷ [])
-plain_commit log tx parts = record { prepares = λ t. refl; updates = λ t. refl; ahead = (tt, tt) }
+pub plain_commit : (l : Local) (tx : TxId) (parts : List ℕ) → Plainly l (Commit tx parts ∷ [])
+plain_commit l tx parts = record { prepares = λ t. refl; updates = λ t. refl; keeps = λ t c h. has_still l.log (Commit tx parts ∷ []) t refl h; ahead = (tt, tt) }
 
-plain_end : (log : List LogRecord) (tx : TxId) → Plainly log (End tx ∷ [])
-plain_end log tx = record { prepares = λ t. refl; updates = λ t. refl; ahead = (tt, tt) }
+pub plain_end : (l : Local) (tx : TxId) → Plainly l (End tx ∷ [])
+plain_end l tx = record { prepares = λ t. refl; updates = λ t. refl; keeps = λ t c h. has_still l.log (End tx ∷ []) t refl h; ahead = (tt, tt) }
 
-no_prepare_aborts : (ts : List TxId) (t : TxId) → prepared_in (map (λ u. Abort u) ts) t ≡ false
-no_prepare_aborts [] t = refl
-no_prepare_aborts (u ∷ us) t = no_prepare_aborts us t
+no_undo_aborts : (ts : List TxId) (t : TxId) → list_any (is_undo_of t) (map (λ u. Abort u) ts) ≡ false
+no_undo_aborts [] t = refl
+no_undo_aborts (u ∷ us) t = no_undo_aborts us t
 
-no_prepare_clrs : (set : List TxId) (ws : List StandingUpdate) (t : TxId) → prepared_in (clrs_of set ws) t ≡ false
-no_prepare_clrs set [] t = refl
-no_prepare_clrs set (w ∷ ws) t = at (tx_in w.tx set) w.change (no_prepare_clrs set ws t)
-  where
-    at : (b : Bool) (c : WriteChange) → prepared_in (clrs_of set ws) t ≡ false → prepared_in (cond b (compensation w.tx (newest_lsn w.tx ws) w.key c ∷ clrs_of set ws) (clrs_of set ws)) t ≡ false
-    at true (Sets before after) k = k
-    at true (Adds by) k = k
-    at false c k = k
+plain_aborts : (l : Local) (ts : List TxId) → Plainly l (map (λ u. Abort u) ts)
+plain_aborts l ts = record {
+  prepares = λ t. undo_prepares t _ (aborts_undo ts);
+  updates = λ t. undo_writes t _ (aborts_undo ts);
+  keeps = λ t c h. has_still l.log (map (λ u. Abort u) ts) t (no_undo_aborts ts t) h;
+  ahead = aborts_ahead l.log ts;
+}
 
-plain_aborts : (log : List LogRecord) (set : List TxId) → Plainly log (aborts_of log set)
-plain_aborts log set = record { prepares = no_prepare_aborts (filter (wrote_in log) set); updates = λ t. no_write_aborts t (filter (wrote_in log) set); ahead = aborts_ahead log (filter (wrote_in log) set) }
+plain_clrs : (l : Local) (gone : StandingUpdate → Bool) (ws : List StandingUpdate) → ((t : TxId) → stage_of l t ≡ Some Closed → has_standing l.log t ≡ true → has_standing (l.log ++ clrs_by gone ws) t ≡ true) → Plainly l (clrs_by gone ws)
+plain_clrs l gone ws keeps = record {
+  prepares = λ t. undo_prepares t _ (clrs_undo_by gone ws);
+  updates = λ t. undo_writes t _ (clrs_undo_by gone ws);
+  keeps = keeps;
+  ahead = clrs_ahead l.log gone ws;
+}
 
-plain_clrs : (log front : List LogRecord) (set : List TxId) → Plainly front (clrs_of set (standing log))
-plain_clrs log front set = record { prepares = no_prepare_clrs set (standing log); updates = λ t. no_write_clrs set t (standing log); ahead = clrs_ahead front set (standing log) }
-
+-- an abort: parts go, then ABORTs and CLRs come
 pub lined_rolled : (u : TxId) (l : Local) → Lined l → Lined (roll_back u l)
 lined_rolled u l p =
     let set = doomed_here l u in
-    let one = record l { log = l.log ++ aborts_of l.log set } in
-    let two = record l { log = (l.log ++ aborts_of l.log set) ++ clrs_of set (standing l.log) } in
-    lined_gone two (roll_back u l) set (Some u) refl refl refl refl
-    (lined_more one (clrs_of set (standing l.log)) (plain_clrs l.log (l.log ++ aborts_of l.log set) set) (lined_more l (aborts_of l.log set) (plain_aborts l.log set) p))
+    let as_ = aborts_of l.log set in
+    let one = record l { parts = gone_in set (Some u) l.parts; pairs = pairs_without set l.pairs } in
+    let two = record one { log = l.log ++ as_ } in
+    let keeps : (t : TxId) → stage_of two t ≡ Some Closed → has_standing two.log t ≡ true → has_standing (two.log ++ clrs_of set (standing l.log)) t ≡ true =
+    λ t c h. rolled_stands u l t c ∙ stood_before l.log as_ t (undo_writes t as_ (aborts_undo (filter (has_standing l.log) set))) h in
+    let q =
+    lined_more two (clrs_of set (standing l.log)) (plain_clrs two (is_of set) (standing l.log) keeps)
+    (lined_more one as_ (plain_aborts one (filter (has_standing l.log) set)) (lined_gone l one set (Some u) refl refl refl p)) in
+    record { decided = q.decided; paired = q.paired; met = q.met; stands = q.stands; unprepared = q.unprepared; ahead = q.ahead }
+
+-- a going back of an active part
+pub lined_back : (u : TxId) (n : ℕ) (l : Local) → stage_of l u ≡ Some Active → Lined l → Lined (roll_to u n l)
+lined_back u n l a p =
+    let gone = is_at (newest_lsns n u (standing l.log)) in
+    let q = lined_more l (clrs_by gone (standing l.log)) (plain_clrs l gone (standing l.log) (λ t c h. back_stands u n l t a c h)) p in
+    record { decided = q.decided; paired = q.paired; met = q.met; stands = q.stands; unprepared = q.unprepared; ahead = q.ahead }
 
 -- ---- what is due
 
@@ -142,7 +162,7 @@ voted_readers K V O Q s u v vote b g e t w f r =
     own : (vote : Vote) → VoteIs s u v vote → vote ≡ Read → (prepared_in s.local.log u ≡ false) × (stage_of s.local u ≡ Some Active → ⊥)
     own vote (kept q) z = b.readers u v g (q ∙ ap (λ y. Some y) z)
     own vote (yes c d f) z = absurd cc
-    own vote (read c n) z = (false_from_ne_true _ (λ h. both_ways _ n ((b.lined).wrote u h)), (λ a. differ (sym c ∙ a)))
+    own vote (read c n f) z = (false_from_ne_true _ (λ h. both_ways _ n ((b.lined).stands u h c)), (λ a. differ (sym c ∙ a)))
     own vote (no y n) z = absurd (n z)
 
 read_unprepared : (K V O Q : TxId → Type 0) (s : Shard) (u : TxId) (v : Voter) → Barred K V O Q s → tx_get u s.voters ≡ Some v → vote_by (facts_of s u) v ≡ Some Read → prepared_in s.local.log u ≡ false
@@ -151,7 +171,7 @@ read_unprepared K V O Q s u v b g e = own Read (vote_is s u v Read e).0 refl
     own : (vote : Vote) → VoteIs s u v vote → vote ≡ Read → prepared_in s.local.log u ≡ false
     own vote (kept q) z = (b.readers u v g (q ∙ ap (λ y. Some y) z)).0
     own vote (yes c d f) z = absurd cc
-    own vote (read c n) z = false_from_ne_true _ (λ h. both_ways _ n ((b.lined).wrote u h))
+    own vote (read c n f) z = false_from_ne_true _ (λ h. both_ways _ n ((b.lined).stands u h c))
     own vote (no y n) z = absurd (n z)
 
 ruled_rows : (K V O Q : TxId → Type 0) (s : Shard) (u : TxId) (w : Request) → Barred K V O Q s → (w.state ≡ Undecided → Q u) → (t : TxId) (q : Request) → tx_get t (tx_set u w s.requests) ≡ Some q → q.state ≡ Undecided → Q t
@@ -207,7 +227,7 @@ refuses_due s x d (u, q, cause, g, e, c) = (u, q, cause, refuses_requests s x d 
 barred_due : (K V O Q : TxId → Type 0) (s x : Shard) → Due s (Some x) → Barred K V O Q s → Barred K V O Q x ⊎ Refuses x
 barred_due K V O Q s _ (commits u a c) b =
     inl (barred_next K V O Q s _ b
-    (due_change K V O Q s _ (commits u a c) b (lined_gone s.local (with_commit_done s u).local (u ∷ []) None refl refl refl refl b.lined) b.rows b.readers (λ t w k. k)
+    (due_change K V O Q s _ (commits u a c) b (lined_gone s.local (with_commit_done s u).local (u ∷ []) None refl refl refl b.lined) b.rows b.readers (λ t w k. k)
     (finished_goes K V O s (with_commit_done s u) u refl refl (inl (durable_committed s.local.log s.durable u c)))))
 barred_due K V O Q s _ (votes u v Yes g e) b =
     inl (barred_next K V O Q s _ b (due_change K V O Q s _ (votes u v Yes g e) b b.lined b.rows (voted_readers K V O Q s u v Yes b g e) (λ t w k. k) (here_still K V O s (with_vote s u v Yes) refl)))
@@ -215,20 +235,18 @@ barred_due K V O Q s _ (votes u v (No why) g e) b =
     inl (barred_next K V O Q s _ b (due_change K V O Q s _ (votes u v (No why) g e) b b.lined b.rows (voted_readers K V O Q s u v (No why) b g e) (λ t w k. k) (here_still K V O s (with_vote s u v (No why)) refl)))
 barred_due K V O Q s _ (votes u v Read g e) b =
     inl (barred_next K V O Q s _ b
-    (due_change K V O Q s _ (votes u v Read g e) b (lined_gone s.local (finish_reader u Read (with_vote s u v Read)).local (u ∷ []) None refl refl refl refl b.lined) b.rows (voted_readers K V O Q s u v Read b g e) (λ t w k. k)
+    (due_change K V O Q s _ (votes u v Read g e) b (lined_gone s.local (finish_reader u Read (with_vote s u v Read)).local (u ∷ []) None refl refl refl b.lined) b.rows (voted_readers K V O Q s u v Read b g e) (λ t w k. k)
     (finished_goes K V O s (finish_reader u Read (with_vote s u v Read)) u refl refl (inr (read_unprepared K V O Q s u v b g e)))))
 barred_due K V O Q s _ (rules u q (CommitVerdict parts) g e) b =
     inl (barred_next K V O Q s _ b
-    (due_change K V O Q s _ (rules u q (CommitVerdict parts) g e) b (lined_more s.local (Commit u parts ∷ []) (plain_commit s.local.log u parts) b.lined) (ruled_rows K V O Q s u (record q { state = Committed parts }) b (λ z. absurd cc)) b.readers
+    (due_change K V O Q s _ (rules u q (CommitVerdict parts) g e) b (lined_more s.local (Commit u parts ∷ []) (plain_commit s.local u parts) b.lined) (ruled_rows K V O Q s u (record q { state = Committed parts }) b (λ z. absurd cc)) b.readers
     (λ t w k. ⊎_elim (λ a. a) (λ a. absurd (never t w a)) (new_commit s.local.log u parts t k)) (λ t p h o f. absurd (both_ways _ o.0 h))))
   where
     agreed : (q.state ≡ Undecided) × (is_agreed s.shard q (facts_of s u) ≡ true)
     agreed = commit_agreed s.shard u q (facts_of s u) parts e
 
     closed : stage_of s.local u ≡ Some Closed
-    closed =
-        let f = facts_of s u in
-        (waiting_here s u (and_parts (is_waiting f) (f.undecided == 0) (and_parts (is_waiting f && (f.undecided == 0)) (list_all (λ p. is_good (vote_from p q.votes)) (others s.shard q.touched)) agreed.1).0).0).0
+    closed = agreed_closed s u q agreed.1
 
     never : (t : TxId) → V t ⊎ Out O s t → t ≡ u → ⊥
     never t (inl v) z =
@@ -237,9 +255,9 @@ barred_due K V O Q s _ (rules u q (CommitVerdict parts) g e) b =
     never t (inr o) z = both_ways _ (subst (Absent s) z o.0) (subst (λ o. is_present o ≡ true) (sym closed) refl)
 barred_due K V O Q s _ (rules u q Acknowledge g e) b =
     inl (barred_next K V O Q s _ b
-    (due_change K V O Q s _ (rules u q Acknowledge g e) b (lined_gone s.local (do_ruling u Acknowledge (with_ruling u q Acknowledge s)).local (u ∷ []) None refl refl refl refl b.lined) (ruled_rows K V O Q s u (record q { state = Finished }) b (λ z. absurd cc)) b.readers (λ t w k. k)
+    (due_change K V O Q s _ (rules u q Acknowledge g e) b (lined_gone s.local (do_ruling u Acknowledge (with_ruling u q Acknowledge s)).local (u ∷ []) None refl refl refl b.lined) (ruled_rows K V O Q s u (record q { state = Finished }) b (λ z. absurd cc)) b.readers (λ t w k. k)
     (finished_goes K V O s (do_ruling u Acknowledge (with_ruling u q Acknowledge s)) u refl refl
-    (inr (false_from_ne_true _ (λ h. both_ways _ (ack_in s.shard u q (facts_of s u) q.state e) ((b.lined).wrote u h)))))))
+    (inr (let k = ack_in s.shard u q (facts_of s u) q.state e in false_from_ne_true _ (λ h. both_ways _ k.0 ((b.lined).stands u h (agreed_closed s u q k.1))))))))
 barred_due K V O Q s _ (rules u q (AbortVerdict cause to) g e) b = by_commit (committed_in s.local.log u) refl
   where
     x : Shard
@@ -263,7 +281,7 @@ barred_due K V O Q s _ (rules u q (AbortVerdict cause to) g e) b = by_commit (co
         (due_change K V O Q s _ (rules u q (AbortVerdict cause to) g e) b (lined_rolled u s.local b.lined) (ruled_rows K V O Q s u (record q { state = Refused cause }) b (λ z. absurd cc)) b.readers (λ t w k. rolled_commits u s.local t k) (lost c)))
 barred_due K V O Q s _ (rules u q EndVerdict g e) b =
     inl (barred_next K V O Q s _ b
-    (due_change K V O Q s _ (rules u q EndVerdict g e) b (lined_more s.local (End u ∷ []) (plain_end s.local.log u) b.lined) (ruled_rows K V O Q s u (record q { is_ended = true }) b (λ z. b.rows u q g z)) b.readers
+    (due_change K V O Q s _ (rules u q EndVerdict g e) b (lined_more s.local (End u ∷ []) (plain_end s.local u) b.lined) (ruled_rows K V O Q s u (record q { is_ended = true }) b (λ z. b.rows u q g z)) b.readers
     (λ t w k. with_more s.local.log (End u ∷ []) ((λ t. refl), tt) t k) (λ t p h o f. absurd (both_ways _ o.0 h))))
 
 either_due : (K V O Q : TxId → Type 0) → KeptByDue (λ s. Barred K V O Q s ⊎ Refuses s)
@@ -277,7 +295,7 @@ barred_finish K V O Q s n b = ⊎_elim (λ q. purged q) (λ r. absurd (n r)) (se
     purged q =
         let l = q.lined in
         record {
-          lined = record { writers = l.writers; decided = l.decided; paired = l.paired; met = l.met; wrote = l.wrote; unprepared = l.unprepared; ahead = l.ahead };
+          lined = record { decided = l.decided; paired = l.paired; met = l.met; stands = l.stands; unprepared = l.unprepared; ahead = l.ahead };
           down = q.down;
           counted = q.counted;
           sought = q.sought;

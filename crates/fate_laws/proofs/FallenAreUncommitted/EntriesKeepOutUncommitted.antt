@@ -3,7 +3,7 @@ use Rattle.clv_base.specs.Coordinator.{restored_request, restored_requests}
 use Rattle.clv_base.specs.Due.{with_due_done}
 use Rattle.clv_base.specs.Events.{finish, with_durable, put_down}
 use Rattle.clv_base.specs.Journals.{up_to_restart}
-use Rattle.clv_base.specs.Logs.{committed_in, prepared_in, wrote_in, aborted_in, prepare_of, in_doubt}
+use Rattle.clv_base.specs.Logs.{committed_in, prepared_in, has_standing, aborted_in, prepare_of, in_doubt}
 use Rattle.clv_base.specs.Orders.{tx_in}
 use Rattle.clv_base.specs.Participant.{restored_voter, restored_voters}
 use Rattle.clv_base.specs.Restarts.{log_left, state_after, revived, restored_parts, homes_of, unended_in, Restarts}
@@ -43,7 +43,6 @@ use Rattle.protocol_laws.proofs.LogOnlyGrows.DueGrowsLogs.{chain}
 use Rattle.protocol_laws.specs.Growth.{IsPrefixOf}
 use Rattle.law_base.proofs.LockRows.{Rows}
 use Rattle.shard_laws.proofs.Restarts.RestoredLocksAndParts.{restored_closed, restored_stage, restored_none}
-use Rattle.shard_laws.proofs.Operations.HoldersOfXWrote.{writers_restored}
 use Rattle.shard_laws.proofs.Order.ChangesKeepOrder.{prepare_some}
 use Rattle.std.proofs.Common.{◌≡◌, ◌⊎◌, inl, inr, ⊎_elim, refl, sym, ap, subst, ◌∙◌, ℕ, ◌≤◌, true, false, Bool, List, [], ◌++◌, take, length, Some, arith}
 use Rattle.std.proofs.lemmas.Bool.{both_ways, false_from_ne_true}
@@ -79,18 +78,17 @@ barred_flushed K V O Q s n l m b = record {
 
 -- ---- a shard comes back
 
-pub barred_state : (K V O Q : TxId → Type 0) (shard own epoch : ℕ) (log : List LogRecord) (last : ℕ) (journal : List Entry) → Ahead [] log → ((t : TxId) → prepared_in log t ≡ true → wrote_in log t ≡ true)
+pub barred_state : (K V O Q : TxId → Type 0) (shard own epoch : ℕ) (log : List LogRecord) (last : ℕ) (journal : List Entry) → Ahead [] log → ((t : TxId) → tx_in t (in_doubt shard log) ≡ true → has_standing log t ≡ true)
     → ((t : TxId) (p : ℕ × List TxId) → prepare_of log t ≡ Some p → O t × (Q t → p.0 ≡ shard)) → ((t : TxId) → V t → committed_in log t ≡ false)
     → ((t : TxId) (p : ℕ × List TxId) → V t → tx_in t (in_doubt shard log) ≡ true → prepare_of log t ≡ Some p → Lost K V O (state_after shard own epoch log last journal) t p) → Barred K V O Q (state_after shard own epoch log last journal)
 barred_state K V O Q shard own epoch log last journal ahead wr sx vo vd =
     let ds = in_doubt shard log in
     record {
       lined = record {
-        writers = writers_restored (λ t. wrote_in log t ≡ true) ds log [] (λ t e. e) tt;
         decided = λ t c w. inl (doubt_prepared shard log t (restored_stage ds t Closed c).1);
         paired = λ t q i. let r = pair_from log ds t q i in listed_front log [] log t q r.0 refl ahead r.1 r.2;
         met = λ t q p i e. let r = pair_from log ds t q i in inl (subst (λ (z : ℕ × List TxId). tx_in q z.1 ≡ true) (some_same r.0 p (sym r.1 ∙ e)) r.2);
-        wrote = wr;
+        stands = λ t e c. wr t (restored_stage ds t Closed c).1;
         unprepared = λ t a. absurd (differ (restored_stage ds t Active a).0);
         ahead = ahead;
       };
@@ -137,7 +135,7 @@ barred_state K V O Q shard own epoch log last journal ahead wr sx vo vd =
     reason t p w e true i = in_doubt_now t p w i e
     reason t p w e false i = lost t p e i (not_in_doubt shard log t p ahead e i (uncommitted t w))
 
-barred_revived : (K V O O' Q : TxId → Type 0) (s : Shard) (kept : Bool) (epoch : ℕ) (log : List LogRecord) → Restarts s (log_left s kept) epoch log → Counted s → ((t : TxId) → Out O s t → V t) → ((t : TxId) → prepared_in log t ≡ true → wrote_in log t ≡ true)
+barred_revived : (K V O O' Q : TxId → Type 0) (s : Shard) (kept : Bool) (epoch : ℕ) (log : List LogRecord) → Restarts s (log_left s kept) epoch log → Counted s → ((t : TxId) → Out O s t → V t) → ((t : TxId) → tx_in t (in_doubt s.shard log) ≡ true → has_standing log t ≡ true)
     → ((t : TxId) (p : ℕ × List TxId) → prepare_of log t ≡ Some p → O' t × (Q t → p.0 ≡ s.shard)) → Barred K V O Q s → Barred K V O' Q (revived s epoch log)
 barred_revived K V O O' Q s kept epoch log g n now wr sx b =
     barred_state K V O' Q s.shard s.run epoch log s.last s.journal (restarts_ahead s (log_left s kept) epoch log g (ahead_take _ s.local.log (b.lined).ahead)) wr sx
@@ -169,7 +167,7 @@ pub record Frame (O Q : TxId → Type 0) (s t : Shard) (P : TxId → Birth → B
   pub rows : Rows P s.local.locks
   pub closed : (p : TxId) (b : Birth) → P p b true → stage_of s.local p ≡ Some Closed
   pub kept : Kept t
-  pub wrote : (u : TxId) → prepared_in t.local.log u ≡ true → wrote_in t.local.log u ≡ true
+  pub stands : (u : TxId) → prepared_in t.local.log u ≡ true → stage_of t.local u ≡ Some Closed → has_standing t.local.log u ≡ true
   pub sought : (u : TxId) (p : ℕ × List TxId) → prepare_of t.local.log u ≡ Some p → O u × (Q u → p.0 ≡ s.shard)
 
 -- b: with what is sought so far, which is of use at a restart; c: with what is sought after the entry
@@ -181,4 +179,5 @@ barred_made K V O O' Q log s _ P (by_event g (stops u)) f now wd w b c = barred_
 barred_made K V O O' Q log s _ P (by_flush n u g) f now wd w b c =
     let q = (f.counted).flying n g in barred_finish K V O' Q (with_durable n s) (never_refuses (with_durable n s) f.kept) (barred_flushed K V O' Q s n q.0 q.1 c)
 barred_made K V O O' Q log s _ P (by_failure n u g) f now wd w b c = barred_same K V O' Q s (put_down s) refl refl refl c.rows c.readers c
-barred_made K V O O' Q log s _ P (by_restart epoch kept u r) f now wd w b c = barred_revived K V O O' Q s kept epoch (up_to_restart s.run epoch log) r f.counted now f.wrote f.sought b
+barred_made K V O O' Q log s _ P (by_restart epoch kept u r) f now wd w b c = barred_revived K V O O' Q s kept epoch (up_to_restart s.run epoch log) r f.counted now
+    (λ t i. let after = up_to_restart s.run epoch log in f.stands t (doubt_prepared s.shard after t i) (restored_closed (in_doubt s.shard after) t i)) f.sought b

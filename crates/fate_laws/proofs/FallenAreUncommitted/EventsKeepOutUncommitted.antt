@@ -17,6 +17,7 @@ use Rattle.clv_base.specs.Undo.{stage_of, doomed_here, roll_back}
 use Rattle.clv_base.specs.Facts.{facts_of, has_durable_commit, is_waiting}
 use Rattle.clv_base.specs.Coordinator.{others, new_request, with_vote_of, with_done_of}
 use Rattle.clv_base.specs.Due.{append_log}
+use Rattle.clv_base.specs.Backs.{count_after, standing_numbers}
 use Rattle.clv_base.proofs.SameNames.{tx_true}
 use Rattle.law_base.proofs.Changed.{none_some, some_same, get_set}
 use Rattle.law_base.proofs.Commits.{committed_keeps}
@@ -36,7 +37,7 @@ use Rattle.clv_base.specs.declared.events.Outcome.TheVariants.{Answered, Asked}
 use Rattle.clv_base.specs.Participant.{asked_voter}
 use Rattle.clv_base.specs.OneShard.{OpDies, rolled_back_if, close_part, closed_in, without_part}
 use Rattle.clv_base.specs.Events.{is_alone, coordinate, owe_vote, with_votes, with_done}
-use Rattle.history_cases.proofs.Stepping.{Step, op_dies, op_answers, request_refused, request_doomed, request_again, request_new, request_closes, looks_well, looks_ill, drops, prepare_closes, prepare_again, vote_counts, decision_comes, done_counts}
+use Rattle.history_cases.proofs.Stepping.{Step, op_dies, op_answers, rolls_back, request_refused, request_doomed, request_again, request_new, request_closes, looks_well, looks_ill, drops, prepare_closes, prepare_again, vote_counts, decision_comes, done_counts}
 use Rattle.law_base.proofs.LockRows.{Rows}
 use Rattle.shard_laws.proofs.Order.ChangesKeepOrder.{prepare_some}
 use Rattle.history_laws.proofs.Entries.WhatOperationsDo.{OpIs, dies, rolls, reply_is}
@@ -50,7 +51,7 @@ use Rattle.fate_laws.proofs.AbortedAreCommittedNowhere.EventsKeepDoomedUncommitt
 use Rattle.fate_laws.proofs.FallenAreUncommitted.PreparedPairsAreListed.{Lined, lined_more, lined_closed}
 use Rattle.fate_laws.proofs.FallenAreUncommitted.OutIsLost.{Absent, Out, Lost, Barred, lost_inactive, barred_next}
 use Rattle.fate_laws.proofs.FallenAreUncommitted.DueKeepsOutUncommitted.{plain_commit, out_open}
-use Rattle.fate_laws.proofs.FallenAreUncommitted.StepsKeepOutUncommitted.{barred_same, barred_rolled, barred_marked, barred_performed}
+use Rattle.fate_laws.proofs.FallenAreUncommitted.StepsKeepOutUncommitted.{barred_same, barred_rolled, barred_back, barred_marked, barred_performed}
 use Rattle.protocol_laws.proofs.LogsInOrder.OneRecordMore.{prepared_there}
 
 abbrev pub Owes : (TxId → Type 0) → (TxId → Type 0) → (TxId → Type 0) → (TxId → Type 0) → Shard → Event → Outcome → Type 0
@@ -135,7 +136,7 @@ barred_committed K V O Q s u before out b =
     barred_next K V O Q s x b
     (record {
       inside = record { shard = refl; durable = refl; log = (more, refl) };
-      lined = lined_more s.local more (plain_commit s.local.log u []) b.lined;
+      lined = lined_more s.local more (plain_commit s.local u []) b.lined;
       down = λ a c k i. committed_keeps s.local.log more c (⊎_elim (λ z. b.down a c z i) (λ z. before c (subst (λ y. is_pair s.local.pairs y c ≡ true) z i)) (new_commit s.local.log u [] a k));
       found = λ t p h. inl (prepare_from s.local.log more t p refl h);
       sought = λ t p h. let g = prepare_from s.local.log more t p refl h in (b.sought t (prepared_there s.local.log t p g), (λ q. b.homes t p q g));
@@ -178,6 +179,7 @@ pub barred_step : (K V O Q : TxId → Type 0) (s x : Shard) {e : Event} {o : Out
 barred_step K V O Q s _ (op_dies u birth nth seen op cause l g) P rows closed wd sx w b = died K V O Q s u birth seen op cause l (reply_is s.shard s.local u birth seen op _ g) w.0 w.1 b
 barred_step K V O Q s _ (op_answers u birth nth seen op answer l g) P rows closed wd sx w b =
     barred_performed K V O Q s u birth nth seen op answer l (op_answers u birth nth seen op answer l g) g (reply_is s.shard s.local u birth seen op _ g) P rows closed w.1 w.0 (w.2 answer s.local.epoch refl) w.3 b
+barred_step K V O Q s _ (rolls_back u nth seen upto f g) P rows closed wd sx w b = barred_back K V O Q s u (count_after upto (standing_numbers u s.journal)) g b
 barred_step K V O Q s _ (request_refused u ts cause g) P rows closed wd sx w b = b
 barred_step K V O Q s _ (request_doomed u ts doom g) P rows closed wd sx w b = b
 barred_step K V O Q s _ (request_again u ts f0 g) P rows closed wd sx w b = b

@@ -20,7 +20,7 @@ use Rattle.clv_base.specs.declared.events.Outcome.TheVariants.{Answered, Down}
 use Rattle.clv_base.specs.Shards.{shard_count}
 use Rattle.clv_base.specs.FileRules.{may_open}
 use Rattle.clv_base.specs.Orders.{tx_in, tx_get}
-use Rattle.clv_base.specs.Logs.{committed_in, prepared_in, wrote_in, prepare_of, in_doubt}
+use Rattle.clv_base.specs.Logs.{committed_in, prepared_in, has_standing, prepare_of, in_doubt}
 use Rattle.clv_base.specs.LogRules.{log_of}
 use Rattle.clv_base.specs.State.{Shard, is_present}
 use Rattle.clv_base.specs.Undo.{stage_of}
@@ -56,7 +56,7 @@ use Rattle.fate_laws.proofs.Waits.PredecessorsAskedFirst.{Tied, LockOf, ListsAre
 use Rattle.fate_laws.proofs.History.EntryByEntry.{Next, next_at, stays_as_it_was, AskedIn, asked_later, one_home, DurableIn}
 use Rattle.fate_laws.proofs.Homes.FrontsKeepHomes.{Fated, DeadIn, delivered, dead_later, committed_asked}
 use Rattle.fate_laws.proofs.Parts.CommittedAreVotedFor.{VoterIs}
-use Rattle.fate_laws.proofs.Parts.YesVotesArePrepared.{Ordered, ordered_wrote}
+use Rattle.fate_laws.proofs.Logs.PreparedWritesStand.{doubt_stand}
 use Rattle.fate_laws.proofs.Parts.FrontsKeepParts.{Bindings, WasTaken, Sought, bindings_front, asked_not_own}
 use Rattle.fate_laws.proofs.Parts.CommitsHaveTheirParts.{due_at}
 use Rattle.fate_laws.proofs.CommitsGoDownwards.{owed as owed_down}
@@ -380,11 +380,10 @@ module _ (splits : List ℕ) (before after : List (List LogRecord)) (h pre : His
       let q = subst Kept ((x.next).split).next ((x.is).kept e.0 (x.next).inside) in
       record { down = q.down; gone = q.gone; rows = q.rows }
 
-  wrote_then : (u : TxId) → prepared_in T.local.log u ≡ true → wrote_in T.local.log u ≡ true
-  wrote_then u c =
+  stands_then : (u : TxId) → prepared_in T.local.log u ≡ true → stage_of T.local u ≡ Some Closed → has_standing T.local.log u ≡ true
+  stands_then u c d =
       let b = (((x.is).lowered).bindings).parted e.0 (x.next).inside in
-      let o = subst (λ (z : Shard). Ordered z.local.log) ((x.next).split).next (b.base).ordered in
-      ordered_wrote T.local.log u o c
+      subst (λ (z : Shard). (u : TxId) → prepared_in z.local.log u ≡ true → stage_of z.local u ≡ Some Closed → has_standing z.local.log u ≡ true) ((x.next).split).next (b.base).stands u c d
 
   sought_then : (u : TxId) (p : ℕ × List TxId) → prepare_of T.local.log u ≡ Some p → Met before New pre e.0 u × (HomeHere h e.0 u → p.0 ≡ S.shard)
   sought_then u p c =
@@ -398,7 +397,7 @@ module _ (splits : List ℕ) (before after : List (List LogRecord)) (h pre : His
     rows = (k.tied).rows;
     closed = lock_closed S;
     kept = kept_then;
-    wrote = wrote_then;
+    stands = stands_then;
     sought = sought_then;
   }
 
@@ -475,7 +474,7 @@ opens {splits} {before} {after} {h} l n i =
       tied = tied_opened (λ t p. ⊤) n (run_after before) (log_of before n) (all_tied (log_of before n));
       barred = barred_state (Denied before after []) (WasOut before after [] n) (Met before [] [] n) (HomeHere h n) n (run_after before) 0 log 0 []
           (whole_ahead n (log_of before n) (run_after before) 0 (log_ahead splits before n l.opens (log_found l n i)))
-          (λ u c. ordered_wrote log u ((bs.parted n i).base).ordered c)
+          (λ u j. doubt_stand n log u ((bs.parted n i).base).firm j)
           (λ u p c. let r = prepared_asked splits before after h [] n l.legal (λ y j. elim j [ ]) bs.fated i u p c in (inl r.0, r.1))
           (λ u v. (first u v).1) (λ u p v j c. absurd (both_ways _ (first u v).0 (ap is_present (restored_closed (in_doubt n log) u j))));
     }

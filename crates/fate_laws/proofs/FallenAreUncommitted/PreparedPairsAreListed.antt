@@ -1,35 +1,33 @@
 -- What a shard's PREPAREs list: predecessors that were prepared or committed before; and each pair of a prepared one is listed, or committed.
 use Rattle.std.proofs.Common.{◌≡◌, ◌⊎◌, inl, inr, ⊎_elim, refl, sym, ap, subst, ◌∙◌, ℕ, true, false, not, Bool, ◌||◌, List, [], ◌∷◌, ◌++◌, Option, Some, None}
+use Rattle.std.specs.List.{list_any}
 use Rattle.std.proofs.lemmas.Bool.{both_ways, and_parts, or_cases, or_left, or_right, or_from, false_from_ne_true}
-use Rattle.clv_base.specs.declared.values.Value.{Value as ValueType}
 use Rattle.clv_base.specs.declared.names.TxId.{TxId}
 use Rattle.clv_base.specs.declared.names.Birth.{Birth}
 use Rattle.clv_base.specs.declared.ops.Op.{Op}
 use Rattle.clv_base.specs.declared.ops.Op.TheVariants as ops
-use Rattle.clv_base.specs.declared.ops.Op.TheVariants.{Get, Put, Del, Scan}
 use Rattle.clv_base.specs.declared.logs.LogRecord.{LogRecord}
 use Rattle.clv_base.specs.declared.logs.LogRecord.TheVariants.{Update, Prepare, Commit, Add}
-use Rattle.clv_base.specs.declared.state.Held.{Held}
 use Rattle.clv_base.specs.declared.state.Stage.TheVariants.{Active, Closed}
-use Rattle.clv_base.specs.Orders.{Table, tx_same, tx_in, tx_get, pair_insert}
+use Rattle.clv_base.specs.Orders.{tx_same, tx_in, tx_get, pair_insert}
 use Rattle.clv_base.specs.declared.changes.Change.{Change}
 use Rattle.clv_base.specs.declared.changes.Change.TheVariants.{Sets, Adds}
-use Rattle.clv_base.specs.Logs.{committed_in, prepared_in, wrote_in, prepare_of}
-use Rattle.clv_base.specs.Locks.{violated, take_all, release, close_locks}
-use Rattle.clv_base.specs.Needs.{needs_of, writes_of, value_at, key_of, inserts, found_at, Records}
+use Rattle.clv_base.specs.Logs.{committed_in, prepared_in, wrote_in, has_standing, prepare_of, is_undo_of}
+use Rattle.clv_base.specs.Locks.{violated, close_locks}
+use Rattle.clv_base.specs.Needs.{needs_of, writes_of, value_at, key_of, Records}
 use Rattle.clv_base.specs.State.{Local}
 use Rattle.clv_base.specs.Undo.{stage_of, gone_in, pairs_without}
 use Rattle.clv_base.specs.Facts.{predecessors_of, undecided_of}
-use Rattle.clv_base.specs.OneShard.{written, locked, performed, add_pairs, new_part, closed_in, close_part, closing}
+use Rattle.clv_base.specs.OneShard.{written, locked, performed, violated_here, add_pairs, new_part, closed_in, close_part, closing}
 use Rattle.clv_base.proofs.SameNames.{tx_true, tx_self, tx_flip}
-use Rattle.law_base.proofs.Changed.{none_some, some_same}
+use Rattle.law_base.proofs.Changed.{some_same}
 use Rattle.law_base.proofs.Commits.{committed_keeps, committed_append}
 use Rattle.law_base.proofs.Tables.{stage_by, stage_in, is_pair, pair_in, in_pair, without_pairs, add_from, insert_from}
 use Rattle.law_base.proofs.Sets.{in_filter, filter_in}
 use Rattle.law_base.proofs.LockRows.{Rows, violated_row}
-use Rattle.shard_laws.proofs.Operations.HoldersOfXWrote.{Writers, writers_more, writers_all, writers_insert, writers_close, writers_release, needs_write, violated_wrote}
 use Rattle.shard_laws.proofs.Keeping.ChangesKeepPrepared.{prepared_append, prepare_here}
-use Rattle.shard_laws.proofs.Keeping.RecordsAndFrontsKeep.{wrote_keeps, wrote_append}
+use Rattle.shard_laws.proofs.Order.WhoseWritesStand.{has_still}
+use Rattle.law_base.proofs.Standing.{stood_before}
 use Rattle.law_base.proofs.Stages.{stage_closed, closed_other, closed_back, active_back, other_part}
 use Rattle.fate_laws.proofs.Logs.WhatAddsNoPrepare.{prepare_from, prepare_new}
 use Rattle.fate_laws.proofs.Logs.WhatPreparesOrCommits.{new_active}
@@ -41,11 +39,10 @@ abbrev pub Decided : List LogRecord → TxId → Type 0
 Decided log t = (prepared_in log t ≡ true) ⊎ (committed_in log t ≡ true)
 
 pub record Lined (l : Local) : Type 0 where
-  pub writers : Writers (λ t. wrote_in l.log t ≡ true) l.locks
-  pub decided : (t : TxId) → stage_of l t ≡ Some Closed → wrote_in l.log t ≡ true → Decided l.log t
+  pub decided : (t : TxId) → stage_of l t ≡ Some Closed → has_standing l.log t ≡ true → Decided l.log t
   pub paired : (t q : TxId) → is_pair l.pairs t q ≡ true → Decided l.log q
   pub met : (t q : TxId) (p : ℕ × List TxId) → is_pair l.pairs t q ≡ true → prepare_of l.log t ≡ Some p → (tx_in q p.1 ≡ true) ⊎ (committed_in l.log q ≡ true)
-  pub wrote : (t : TxId) → prepared_in l.log t ≡ true → wrote_in l.log t ≡ true
+  pub stands : (t : TxId) → prepared_in l.log t ≡ true → stage_of l t ≡ Some Closed → has_standing l.log t ≡ true
   pub unprepared : (t : TxId) → stage_of l t ≡ Some Active → prepared_in l.log t ≡ false
   pub ahead : Ahead [] l.log
 
@@ -53,23 +50,24 @@ pub decided_more : (log more : List LogRecord) (t : TxId) → Decided log t → 
 decided_more log more t (inl p) = inl (prepared_append log more t ∙ or_left _ _ p)
 decided_more log more t (inr c) = inr (committed_keeps log more t c)
 
--- ---- records that are neither PREPARE nor UPDATE, at the end of the log; parts and locks that go
+-- ---- records that are neither PREPARE nor UPDATE, at the end of the log; parts that go
 
-pub record Plainly (log more : List LogRecord) : Type 0 where
+-- what stands of a closed part goes on standing
+pub record Plainly (l : Local) (more : List LogRecord) : Type 0 where
   pub prepares : (t : TxId) → prepared_in more t ≡ false
   pub updates : (t : TxId) → wrote_in more t ≡ false
-  pub ahead : Ahead log more
+  pub keeps : (t : TxId) → stage_of l t ≡ Some Closed → has_standing l.log t ≡ true → has_standing (l.log ++ more) t ≡ true
+  pub ahead : Ahead l.log more
 
 or_first : (a b : Bool) → b ≡ false → (a || b) ≡ true → a ≡ true
 or_first a b e f = ⊎_elim (λ h. h) (λ h. absurd (both_ways _ e h)) (or_cases a b f)
 
-pub lined_more : (l : Local) (more : List LogRecord) → Plainly l.log more → Lined l → Lined (record l { log = l.log ++ more })
+pub lined_more : (l : Local) (more : List LogRecord) → Plainly l more → Lined l → Lined (record l { log = l.log ++ more })
 lined_more l more k p = record {
-  writers = writers_more (λ t. wrote_in l.log t ≡ true) (λ t. wrote_in (l.log ++ more) t ≡ true) (λ t w. wrote_keeps l.log more t w) l.locks p.writers;
-  decided = λ t c w. decided_more l.log more t (p.decided t c (or_first (wrote_in l.log t) (wrote_in more t) (k.updates t) (sym (wrote_append l.log more t) ∙ w)));
+  decided = λ t c w. decided_more l.log more t (p.decided t c (stood_before l.log more t (k.updates t) w));
   paired = λ t q i. decided_more l.log more q (p.paired t q i);
   met = λ t q o i e. ⊎_elim (λ h. inl h) (λ h. inr (committed_keeps l.log more q h)) (p.met t q o i (prepare_from l.log more t o (k.prepares t) e));
-  wrote = λ t e. wrote_keeps l.log more t (p.wrote t (back t e));
+  stands = λ t e c. k.keeps t c (p.stands t (back t e) c);
   unprepared = λ t a. false_from_ne_true _ (λ e. both_ways _ (p.unprepared t a) (back t e));
   ahead = ahead_append [] l.log more p.ahead k.ahead;
 }
@@ -77,17 +75,19 @@ lined_more l more k p = record {
     back : (t : TxId) → prepared_in (l.log ++ more) t ≡ true → prepared_in l.log t ≡ true
     back t e = or_first (prepared_in l.log t) (prepared_in more t) (k.prepares t) (sym (prepared_append l.log more t) ∙ e)
 
-pub lined_gone : (l m : Local) (set : List TxId) (d : Option TxId) → m.locks ≡ release set l.locks → m.parts ≡ gone_in set d l.parts → m.pairs ≡ pairs_without set l.pairs → m.log ≡ l.log → Lined l → Lined m
-lined_gone l m set d e f g h p = record {
-  writers = subst (λ z. Writers (λ t. wrote_in z t ≡ true) m.locks) (sym h) (subst (Writers (λ t. wrote_in l.log t ≡ true)) (sym e) (writers_release (λ t. wrote_in l.log t ≡ true) set l.locks p.writers));
-  decided = λ t c w. subst (λ z. Decided z t) (sym h) (p.decided t (closed_back set d t l.parts (subst (λ z. stage_in z t ≡ Some Closed) f c)) (subst (λ z. wrote_in z t ≡ true) h w));
+pub lined_gone : (l m : Local) (set : List TxId) (d : Option TxId) → m.parts ≡ gone_in set d l.parts → m.pairs ≡ pairs_without set l.pairs → m.log ≡ l.log → Lined l → Lined m
+lined_gone l m set d f g h p = record {
+  decided = λ t c w. subst (λ z. Decided z t) (sym h) (p.decided t (was_closed t c) (subst (λ z. has_standing z t ≡ true) h w));
   paired = λ t q i. subst (λ z. Decided z q) (sym h) (p.paired t q (old t q i));
   met = λ t q o i k. subst (λ z. (tx_in q o.1 ≡ true) ⊎ (committed_in z q ≡ true)) (sym h) (p.met t q o (old t q i) (subst (λ z. prepare_of z t ≡ Some o) h k));
-  wrote = λ t k. subst (λ z. wrote_in z t ≡ true) (sym h) (p.wrote t (subst (λ z. prepared_in z t ≡ true) h k));
+  stands = λ t k c. subst (λ z. has_standing z t ≡ true) (sym h) (p.stands t (subst (λ z. prepared_in z t ≡ true) h k) (was_closed t c));
   unprepared = λ t a. subst (λ z. prepared_in z t ≡ false) (sym h) (p.unprepared t (active_back set d t l.parts (subst (λ z. stage_in z t ≡ Some Active) f a)).1);
   ahead = subst (Ahead []) (sym h) p.ahead;
 }
   where
+    was_closed : (t : TxId) → stage_of m t ≡ Some Closed → stage_of l t ≡ Some Closed
+    was_closed t c = closed_back set d t l.parts (subst (λ z. stage_in z t ≡ Some Closed) f c)
+
     old : (t q : TxId) → is_pair m.pairs t q ≡ true → is_pair l.pairs t q ≡ true
     old t q i = (without_pairs set l.pairs t q (subst (λ z. is_pair z t q ≡ true) g i)).0
 
@@ -99,26 +99,10 @@ new_pair tx (q ∷ qs) pairs t p e =
     ⊎_elim (λ a. ⊎_elim (λ b. inl b) (λ b. let c = and_parts (tx_same t tx) (tx_same p q) b in inr (or_left (tx_same q p) (tx_in p qs) (tx_flip p q c.1))) (insert_from pairs (tx, q) t p a))
     (λ a. inr (or_right (tx_same q p) (tx_in p qs) a)) (new_pair tx qs (pair_insert (tx, q) pairs) t p e)
 
-inserting : (op : Op) (rs : Records) (b : Option ValueType) (k : ℕ) → inserts op (found_at (key_of op) rs) ≡ Some k → (w : ℕ × Change) × (writes_of op b ≡ Some w)
-inserting (Put j v) rs b k e = ((j, Sets b (Some v)), refl)
-inserting (Get j) rs b k e = absurd (none_some k e)
-inserting (Del j) rs b k e = absurd (none_some k e)
-inserting (Scan lo hi) rs b k e = absurd (none_some k e)
-inserting (ops.Add j by) rs b k e = absurd (none_some k e)
-
 pub lined_performed : (l : Local) (tx : TxId) (birth : Birth) (op : Op) (P : TxId → Birth → Bool → Type 0) → Rows P l.locks → ((p : TxId) (b : Birth) → P p b true → stage_of l p ≡ Some Closed)
     → (stage_of l tx ≡ None) ⊎ (stage_of l tx ≡ Some Active) → prepared_in l.log tx ≡ false → Lined l → Lined (performed tx birth op l)
-lined_performed l tx birth op P rows closed st u p = by_write (writes_of op (value_at (key_of op) l.records)) refl
+lined_performed l tx birth op P rows closed st u p = by_write (writes_of op (value_at (key_of op) l.records))
   where
-    vs : List TxId
-    vs = violated tx (needs_of op l.records) l.locks
-
-    pairs2 : List (TxId × TxId)
-    pairs2 = add_pairs tx (violated tx (needs_of op l.records) l.locks) l.pairs
-
-    parts2 : Table Held
-    parts2 = new_part tx birth (tx_get tx l.parts) l.parts
-
     differ : Some Active ≡ Some Closed → ⊥
     differ z = absurd cc
 
@@ -136,68 +120,60 @@ lined_performed l tx birth op P rows closed st u p = by_write (writes_of op (val
         at true e = subst (λ v. prepared_in l.log v ≡ false) (sym (tx_true t tx e)) u
         at false e = p.unprepared t (sym (ap stage_by (other_part tx birth l.parts t (tx_get tx l.parts) e)) ∙ a)
 
-    is_paired : (log : List LogRecord) → ((q : TxId) → Decided l.log q → Decided log q) → (t q : TxId) → is_pair (add_pairs tx (violated tx (needs_of op l.records) l.locks) l.pairs) t q ≡ true → Decided log q
+    is_paired : (log : List LogRecord) → ((q : TxId) → Decided l.log q → Decided log q) → (t q : TxId) → is_pair (add_pairs tx (violated_here l tx op) l.pairs) t q ≡ true → Decided log q
     is_paired log more t q i =
         more q (⊎_elim (λ k. p.paired t q k)
-        (λ k. let r = violated_row P tx q (needs_of op l.records) l.locks rows k in p.decided q (closed q r.0 r.1) (violated_wrote (λ t. wrote_in l.log t ≡ true) tx q (needs_of op l.records) l.locks p.writers k).1)
-        (new_pair tx (violated tx (needs_of op l.records) l.locks) l.pairs t q i))
+        (λ k.
+        let v = in_filter (has_standing l.log) q (violated tx (needs_of op l.records) l.locks) k in
+        let r = violated_row P tx q (needs_of op l.records) l.locks rows v.0 in
+        p.decided q (closed q r.0 r.1) v.1)
+        (new_pair tx (violated_here l tx op) l.pairs t q i))
 
-    is_met : (t q : TxId) (o : ℕ × List TxId) → is_pair (add_pairs tx (violated tx (needs_of op l.records) l.locks) l.pairs) t q ≡ true → prepare_of l.log t ≡ Some o → (tx_in q o.1 ≡ true) ⊎ (committed_in l.log q ≡ true)
+    is_met : (t q : TxId) (o : ℕ × List TxId) → is_pair (add_pairs tx (violated_here l tx op) l.pairs) t q ≡ true → prepare_of l.log t ≡ Some o → (tx_in q o.1 ≡ true) ⊎ (committed_in l.log q ≡ true)
     is_met t q o i e =
-        ⊎_elim (λ k. p.met t q o k e) (λ k. absurd (both_ways _ u (subst (λ z. prepared_in l.log z ≡ true) k (prepared_there l.log t o e)))) (add_from tx (violated tx (needs_of op l.records) l.locks) l.pairs t q i)
-
-    locks_by : (log : List LogRecord) → ((t : TxId) → wrote_in l.log t ≡ true → wrote_in log t ≡ true) → ((w : ℕ × Change) → writes_of op (value_at (key_of op) l.records) ≡ Some w → wrote_in log tx ≡ true)
-        → Writers (λ t. wrote_in log t ≡ true) (locked tx birth op l).locks
-    locks_by log more mine =
-        writers_insert (λ t. wrote_in log t ≡ true) tx birth l.records (inserts op (found_at (key_of op) l.records)) (take_all tx birth (needs_of op l.records) l.locks) (λ k e. insert_writes log mine k e)
-        (writers_all (λ t. wrote_in log t ≡ true) tx birth (needs_of op l.records) l.locks (needs_write (λ t. wrote_in log t ≡ true) tx op l.records mine) (writers_more (λ t. wrote_in l.log t ≡ true) (λ t. wrote_in log t ≡ true) more l.locks p.writers))
-      where
-        insert_writes : (log : List LogRecord) → ((w : ℕ × Change) → writes_of op (value_at (key_of op) l.records) ≡ Some w → wrote_in log tx ≡ true) → (k : ℕ) → inserts op (found_at (key_of op) l.records) ≡ Some k → wrote_in log tx ≡ true
-        insert_writes log mine k e = let w = inserting op l.records (value_at (key_of op) l.records) k e in mine w.0 w.1
+        ⊎_elim (λ k. p.met t q o k e) (λ k. absurd (both_ways _ u (subst (λ z. prepared_in l.log z ≡ true) k (prepared_there l.log t o e)))) (add_from tx (violated_here l tx op) l.pairs t q i)
 
     -- its UPDATE or ADD
-    by_more : (rs : Records) (more : List LogRecord) → ((t : TxId) → wrote_in more t ≡ (tx_same t tx || false)) → ((t : TxId) → prepared_in more t ≡ false) → Ahead l.log more
+    by_more : (rs : Records) (more : List LogRecord) → ((t : TxId) → wrote_in more t ≡ (tx_same t tx || false)) → ((t : TxId) → list_any (is_undo_of t) more ≡ false) → ((t : TxId) → prepared_in more t ≡ false) → Ahead l.log more
         → Lined (record (locked tx birth op l) { records = rs; log = l.log ++ more })
-    by_more rs more own none further = record {
-      writers = locks_by (l.log ++ more) (λ t k. wrote_keeps l.log more t k) (λ v f. wrote_append l.log more tx ∙ or_right (wrote_in l.log tx) _ (own tx ∙ or_left (tx_same tx tx) false (tx_self tx)));
-      decided = λ t c v. decided_more l.log more t (p.decided t (was_closed t c).1
-          (⊎_elim (λ k. k) (λ k. absurd (⊎_elim (λ s. (was_closed t c).0 (tx_true t tx s)) (λ s. both_ways false refl s) (or_cases (tx_same t tx) false (sym (own t) ∙ k)))) (or_cases (wrote_in l.log t) (wrote_in more t) (sym (wrote_append l.log more t) ∙ v))));
+    by_more rs more own undo none further = record {
+      decided = λ t c v. decided_more l.log more t
+          (p.decided t (was_closed t c).1 (stood_before l.log more t (own t ∙ ap (λ b. b || false) (false_from_ne_true _ (λ e. (was_closed t c).0 (tx_true t tx e)))) v));
       paired = λ t q i. is_paired (l.log ++ more) (λ q k. decided_more l.log more q k) t q i;
       met = λ t q o i f. ⊎_elim (λ h. inl h) (λ h. inr (committed_keeps l.log more q h)) (is_met t q o i (prepare_from l.log more t o (none t) f));
-      wrote = λ t k. wrote_keeps l.log more t (p.wrote t (or_first (prepared_in l.log t) (prepared_in more t) (none t) (sym (prepared_append l.log more t) ∙ k)));
+      stands = λ t k c. has_still l.log more t (undo t) (p.stands t (or_first (prepared_in l.log t) (prepared_in more t) (none t) (sym (prepared_append l.log more t) ∙ k)) (was_closed t c).1);
       unprepared = λ t a. prepared_append l.log more t ∙ or_from _ _ (was_active t a) (none t);
       ahead = ahead_append [] l.log more p.ahead further;
     }
 
-    by_write : (w : Option (ℕ × Change)) → writes_of op (value_at (key_of op) l.records) ≡ w → Lined (written tx w (locked tx birth op l))
-    by_write None e = record {
-      writers = locks_by l.log (λ t k. k) (λ w f. absurd (none_some w (sym e ∙ f)));
+    by_write : (w : Option (ℕ × Change)) → Lined (written tx w (locked tx birth op l))
+    by_write None = record {
       decided = λ t c w. p.decided t (was_closed t c).1 w;
       paired = λ t q i. is_paired l.log (λ q k. k) t q i;
       met = is_met;
-      wrote = p.wrote;
+      stands = λ t k c. p.stands t k (was_closed t c).1;
       unprepared = was_active;
       ahead = p.ahead;
     }
-    by_write (Some (key, Sets before after)) e = by_more _ (Update tx key before after ∷ []) (λ t. refl) (λ t. refl) (tt, tt)
-    by_write (Some (key, Adds by)) e = by_more _ (Add tx key by ∷ []) (λ t. refl) (λ t. refl) (tt, tt)
+    by_write (Some (key, Sets before after)) = by_more _ (Update tx key before after ∷ []) (λ t. refl) (λ t. refl) (λ t. refl) (tt, tt)
+    by_write (Some (key, Adds by)) = by_more _ (Add tx key by ∷ []) (λ t. refl) (λ t. refl) (λ t. refl) (tt, tt)
 
 -- ---- a part that closes
 
 record Closing (l : Local) (tx : TxId) (more : List LogRecord) : Type 0 where
-  mine : wrote_in l.log tx ≡ true → Decided (l.log ++ more) tx
+  mine : has_standing l.log tx ≡ true → Decided (l.log ++ more) tx
   prepares : (t : TxId) (p : ℕ × List TxId) → prepare_of (l.log ++ more) t ≡ Some p → (prepare_of l.log t ≡ Some p) ⊎ ((t ≡ tx) × (p.1 ≡ undecided_of l tx))
-  prepared : (t : TxId) → prepared_in (l.log ++ more) t ≡ true → (prepared_in l.log t ≡ true) ⊎ ((t ≡ tx) × (wrote_in l.log tx ≡ true))
+  prepared : (t : TxId) → prepared_in (l.log ++ more) t ≡ true → (prepared_in l.log t ≡ true) ⊎ ((t ≡ tx) × (has_standing l.log tx ≡ true))
   updates : (t : TxId) → wrote_in more t ≡ false
+  keeps : (t : TxId) → has_standing l.log t ≡ true → has_standing (l.log ++ more) t ≡ true
   ahead : Ahead l.log more
 
 closed_by : (l : Local) (tx : TxId) (more : List LogRecord) → stage_of l tx ≡ Some Active → Closing l tx more → Lined l → Lined (record l { locks = close_locks tx l.locks; parts = closed_in tx l.parts; log = l.log ++ more })
 closed_by l tx more a k p = record {
-  writers = writers_close (λ t. wrote_in (l.log ++ more) t ≡ true) tx l.locks (writers_more (λ t. wrote_in l.log t ≡ true) (λ t. wrote_in (l.log ++ more) t ≡ true) (λ t w. wrote_keeps l.log more t w) l.locks p.writers);
-  decided = λ t c w. is_decided t (tx_same tx t) refl c (or_first (wrote_in l.log t) (wrote_in more t) (k.updates t) (sym (wrote_append l.log more t) ∙ w));
+  decided = λ t c w. is_decided t (tx_same tx t) refl c (stood_before l.log more t (k.updates t) w);
   paired = λ t q i. decided_more l.log more q (p.paired t q i);
   met = λ t q o i e. ⊎_elim (λ f. ⊎_elim (λ h. inl h) (λ h. inr (committed_keeps l.log more q h)) (p.met t q o i f)) (λ f. new_met q o (subst (λ z. is_pair l.pairs z q ≡ true) f.0 i) f.1 (committed_in l.log q) refl) (k.prepares t o e);
-  wrote = λ t e. wrote_keeps l.log more t (⊎_elim (λ f. p.wrote t f) (λ f. subst (λ z. wrote_in l.log z ≡ true) (sym f.0) f.1) (k.prepared t e));
+  stands = λ t e c. k.keeps t (⊎_elim (λ f. old_stands t (tx_same tx t) refl f c) (λ f. subst (λ z. has_standing l.log z ≡ true) (sym f.0) f.1) (k.prepared t e));
   unprepared = λ t b. false_from_ne_true _ (λ e. by_name t (tx_same tx t) refl b e);
   ahead = ahead_append [] l.log more p.ahead k.ahead;
 }
@@ -205,9 +181,13 @@ closed_by l tx more a k p = record {
     differ : Some Active ≡ Some Closed → ⊥
     differ z = absurd cc
 
-    is_decided : (t : TxId) (b : Bool) → tx_same tx t ≡ b → stage_in (closed_in tx l.parts) t ≡ Some Closed → wrote_in l.log t ≡ true → Decided (l.log ++ more) t
-    is_decided t true e c w = subst (Decided (l.log ++ more)) (tx_true tx t e) (k.mine (subst (λ z. wrote_in l.log z ≡ true) (sym (tx_true tx t e)) w))
+    is_decided : (t : TxId) (b : Bool) → tx_same tx t ≡ b → stage_in (closed_in tx l.parts) t ≡ Some Closed → has_standing l.log t ≡ true → Decided (l.log ++ more) t
+    is_decided t true e c w = subst (Decided (l.log ++ more)) (tx_true tx t e) (k.mine (subst (λ z. has_standing l.log z ≡ true) (sym (tx_true tx t e)) w))
     is_decided t false e c w = decided_more l.log more t (p.decided t (sym (closed_other l.parts tx t e) ∙ c) w)
+
+    old_stands : (t : TxId) (b : Bool) → tx_same tx t ≡ b → prepared_in l.log t ≡ true → stage_in (closed_in tx l.parts) t ≡ Some Closed → has_standing l.log t ≡ true
+    old_stands t true e f c = absurd (both_ways _ (p.unprepared tx a) (subst (λ z. prepared_in l.log z ≡ true) (sym (tx_true tx t e)) f))
+    old_stands t false e f c = p.stands t f (sym (closed_other l.parts tx t e) ∙ c)
 
     new_met : (q : TxId) (o : ℕ × List TxId) → is_pair l.pairs tx q ≡ true → o.1 ≡ undecided_of l tx → (b : Bool) → committed_in l.log q ≡ b → (tx_in q o.1 ≡ true) ⊎ (committed_in (l.log ++ more) q ≡ true)
     new_met q o i f true e = inr (committed_keeps l.log more q e)
@@ -217,7 +197,7 @@ closed_by l tx more a k p = record {
     by_name t true e b h = differ (sym b ∙ subst (λ z. stage_in (closed_in tx l.parts) z ≡ Some Closed) (tx_true tx t e) (stage_closed l.parts tx a))
     by_name t false e b h = ⊎_elim (λ f. both_ways _ (p.unprepared t (sym (closed_other l.parts tx t e) ∙ b)) f) (λ f. both_ways _ e (subst (λ z. tx_same tx z ≡ true) (sym f.0) (tx_self tx))) (k.prepared t h)
 
-closing_prepare : (l : Local) (tx : TxId) (home : ℕ) (us : List TxId) → stage_of l tx ≡ Some Active → wrote_in l.log tx ≡ true → us ≡ undecided_of l tx → Lined l → Closing l tx (Prepare tx home us ∷ [])
+closing_prepare : (l : Local) (tx : TxId) (home : ℕ) (us : List TxId) → stage_of l tx ≡ Some Active → has_standing l.log tx ≡ true → us ≡ undecided_of l tx → Lined l → Closing l tx (Prepare tx home us ∷ [])
 closing_prepare l tx home us a w e p =
     let more = Prepare tx home us ∷ [] in
     let u = p.unprepared tx a in
@@ -226,27 +206,29 @@ closing_prepare l tx home us a w e p =
       prepares = λ t q f. ⊎_elim (λ h. inl h) (λ h. inr (h.0, own_list q (subst (λ z. prepare_of (l.log ++ Prepare tx home us ∷ []) z ≡ Some q) h.0 f) ∙ e)) (prepare_new l.log tx home us t q f);
       prepared = λ t f. ⊎_elim (λ h. inl h) (λ h. ⊎_elim (λ s. inr (tx_true t tx s, w)) (λ s. absurd (both_ways false refl s)) (or_cases (tx_same t tx) false h)) (or_cases (prepared_in l.log t) (prepared_in more t) (sym (prepared_append l.log more t) ∙ f));
       updates = λ t. refl;
+      keeps = λ t h. has_still l.log more t refl h;
       ahead = ((u, λ q i. p.paired tx q (in_pair l.pairs tx q (in_filter (λ z. not (committed_in l.log z)) q (predecessors_of l.pairs tx) (subst (λ z. tx_in q z ≡ true) e i)).0)), tt);
     }
   where
     own_list : (q : ℕ × List TxId) → prepare_of (l.log ++ Prepare tx home us ∷ []) tx ≡ Some q → q.1 ≡ us
     own_list q f = sym (ap (λ (z : ℕ × List TxId). z.1) (some_same (home, us) q (sym (prepare_here l.log [] tx home us (p.unprepared tx a)) ∙ f)))
 
-closing_plain : (l : Local) (tx : TxId) (more : List LogRecord) → (wrote_in l.log tx ≡ true → Decided (l.log ++ more) tx) → ((t : TxId) → prepared_in more t ≡ false) → ((t : TxId) → wrote_in more t ≡ false) → Ahead l.log more → Closing l tx more
-closing_plain l tx more m n w a = record {
+closing_plain : (l : Local) (tx : TxId) (more : List LogRecord) → (has_standing l.log tx ≡ true → Decided (l.log ++ more) tx) → ((t : TxId) → prepared_in more t ≡ false) → ((t : TxId) → wrote_in more t ≡ false) → ((t : TxId) → list_any (is_undo_of t) more ≡ false) → Ahead l.log more → Closing l tx more
+closing_plain l tx more m n w z a = record {
   mine = m;
   prepares = λ t p e. inl (prepare_from l.log more t p (n t) e);
   prepared = λ t e. inl (or_first (prepared_in l.log t) (prepared_in more t) (n t) (sym (prepared_append l.log more t) ∙ e));
   updates = w;
+  keeps = λ t h. has_still l.log more t (z t) h;
   ahead = a;
 }
 
-closing_kind : (l : Local) (tx : TxId) (home : ℕ) (b one : Bool) (us : List TxId) → stage_of l tx ≡ Some Active → wrote_in l.log tx ≡ b → us ≡ undecided_of l tx → Lined l → Closing l tx (closing b one tx home us)
-closing_kind l tx home false one us a w e p = closing_plain l tx [] (λ x. absurd (both_ways _ w x)) (λ t. refl) (λ t. refl) tt
+closing_kind : (l : Local) (tx : TxId) (home : ℕ) (b one : Bool) (us : List TxId) → stage_of l tx ≡ Some Active → has_standing l.log tx ≡ b → us ≡ undecided_of l tx → Lined l → Closing l tx (closing b one tx home us)
+closing_kind l tx home false one us a w e p = closing_plain l tx [] (λ x. absurd (both_ways _ w x)) (λ t. refl) (λ t. refl) (λ t. refl) tt
 closing_kind l tx home true true [] a w e p =
-    closing_plain l tx (Commit tx [] ∷ []) (λ x. inr (committed_append l.log (Commit tx [] ∷ []) tx ∙ or_right (committed_in l.log tx) _ (or_left (tx_same tx tx) false (tx_self tx)))) (λ t. refl) (λ t. refl) (tt, tt)
+    closing_plain l tx (Commit tx [] ∷ []) (λ x. inr (committed_append l.log (Commit tx [] ∷ []) tx ∙ or_right (committed_in l.log tx) _ (or_left (tx_same tx tx) false (tx_self tx)))) (λ t. refl) (λ t. refl) (λ t. refl) (tt, tt)
 closing_kind l tx home true true (v ∷ vs) a w e p = closing_prepare l tx home (v ∷ vs) a w e p
 closing_kind l tx home true false us a w e p = closing_prepare l tx home us a w e p
 
 pub lined_closed : (l : Local) (tx : TxId) (home : ℕ) (one : Bool) → stage_of l tx ≡ Some Active → Lined l → Lined (close_part tx home one l)
-lined_closed l tx home one a p = closed_by l tx (closing (wrote_in l.log tx) one tx home (undecided_of l tx)) a (closing_kind l tx home (wrote_in l.log tx) one (undecided_of l tx) a refl refl p) p
+lined_closed l tx home one a p = closed_by l tx (closing (has_standing l.log tx) one tx home (undecided_of l tx)) a (closing_kind l tx home (has_standing l.log tx) one (undecided_of l tx) a refl refl p) p

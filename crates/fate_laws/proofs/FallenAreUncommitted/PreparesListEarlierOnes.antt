@@ -12,7 +12,7 @@ use Rattle.clv_base.specs.Orders.{tx_same, tx_in, tx_insert}
 use Rattle.clv_base.specs.Logs.{StandingUpdate, standing, committed_in, prepared_in, aborted_in, is_prepare_of, prepare_of, doubt_by, in_doubt_from, in_doubt}
 use Rattle.clv_base.specs.LogRules.{may_follow}
 use Rattle.clv_base.specs.State.{Shard}
-use Rattle.clv_base.specs.Undo.{clrs_of, newest_lsn, compensation}
+use Rattle.clv_base.specs.Undo.{clrs_by, clrs_of, is_of, newest_lsn, compensation}
 use Rattle.clv_base.specs.Restarts.{restart_records, undo_records, log_after_restart, losers, next_epoch, FailedRestarts, Restarts, untouched, failed_first}
 use Rattle.clv_base.proofs.SameNames.{tx_true, tx_self, in_insert, insert_has}
 use Rattle.law_base.proofs.Changed.{none_some, some_same}
@@ -55,12 +55,12 @@ pub aborts_ahead : (front : List LogRecord) (ts : List TxId) → Ahead front (ma
 aborts_ahead front [] = tt
 aborts_ahead front (t ∷ ts) = (tt, aborts_ahead (front ++ Abort t ∷ []) ts)
 
-pub clrs_ahead : (front : List LogRecord) (set : List TxId) (ws : List StandingUpdate) → Ahead front (clrs_of set ws)
-clrs_ahead front set [] = tt
-clrs_ahead front set (w ∷ ws) = at (tx_in w.tx set) w.change (clrs_ahead (front ++ compensation w.tx (newest_lsn w.tx ws) w.key w.change ∷ []) set ws) (clrs_ahead front set ws)
+pub clrs_ahead : (front : List LogRecord) (gone : StandingUpdate → Bool) (ws : List StandingUpdate) → Ahead front (clrs_by gone ws)
+clrs_ahead front gone [] = tt
+clrs_ahead front gone (w ∷ ws) = at (gone w) w.change (clrs_ahead (front ++ compensation w.tx (newest_lsn w.tx ws) w.key w.change ∷ []) gone ws) (clrs_ahead front gone ws)
   where
-    at : (b : Bool) (c : Change) → Ahead (front ++ compensation w.tx (newest_lsn w.tx ws) w.key c ∷ []) (clrs_of set ws) → Ahead front (clrs_of set ws)
-        → Ahead front (cond b (compensation w.tx (newest_lsn w.tx ws) w.key c ∷ clrs_of set ws) (clrs_of set ws))
+    at : (b : Bool) (c : Change) → Ahead (front ++ compensation w.tx (newest_lsn w.tx ws) w.key c ∷ []) (clrs_by gone ws) → Ahead front (clrs_by gone ws)
+        → Ahead front (cond b (compensation w.tx (newest_lsn w.tx ws) w.key c ∷ clrs_by gone ws) (clrs_by gone ws))
     at true (Sets before after) k l = (tt, k)
     at true (Adds by) k l = (tt, k)
     at false c k l = l
@@ -69,7 +69,7 @@ records_ahead : (shard : ℕ) (front log : List LogRecord) (run epoch : ℕ) →
 records_ahead shard front log run epoch =
     let as_ = map (λ t. Abort t) (filter (λ t. not (aborted_in log t)) (losers shard log)) in
     let cs = clrs_of (losers shard log) (standing log) in
-    ahead_append front (undo_records shard log) (Restart run epoch ∷ []) (ahead_append front as_ cs (aborts_ahead front _) (clrs_ahead (front ++ as_) (losers shard log) (standing log))) (tt, tt)
+    ahead_append front (undo_records shard log) (Restart run epoch ∷ []) (ahead_append front as_ cs (aborts_ahead front _) (clrs_ahead (front ++ as_) (is_of (losers shard log)) (standing log))) (tt, tt)
 
 pub whole_ahead : (shard : ℕ) (log : List LogRecord) (run epoch : ℕ) → Ahead [] log → Ahead [] (log_after_restart shard log run epoch)
 whole_ahead shard log run epoch a = ahead_append [] log (restart_records shard log run epoch) a (records_ahead shard log log run epoch)

@@ -11,16 +11,17 @@ use Rattle.clv_base.specs.declared.state.Stage.TheVariants.{Active, Closed}
 use Rattle.clv_base.specs.Orders.{tx_same, tx_get}
 use Rattle.clv_base.specs.Logs.{committed_in, prepared_in, prepare_of}
 use Rattle.clv_base.specs.State.{Shard, Local, is_present, with_local}
-use Rattle.clv_base.specs.Undo.{stage_of, doomed_here, roll_back}
+use Rattle.clv_base.specs.Undo.{stage_of, doomed_here, roll_back, roll_to}
 use Rattle.clv_base.proofs.SameNames.{tx_true, tx_self}
 use Rattle.law_base.proofs.Changed.{none_some}
 use Rattle.law_base.proofs.Tables.{stage_in, is_pair, stage_by, get_put, without_pairs}
 use Rattle.protocol_laws.specs.Growth.{IsPrefixOf}
 use Rattle.history_laws.proofs.NeverTakenBack.LaterHistoriesHoldMembers.{committed_front}
-use Rattle.history_cases.proofs.Uncommitting.{rolled as rolled_commits}
+use Rattle.history_cases.proofs.Uncommitting.{rolled as rolled_commits, gone_back as back_commits}
+use Rattle.law_base.proofs.Commits.{committed_keeps}
 use Rattle.law_base.proofs.Stages.{was_present, written_parts, active_back, stage_marked, other_part}
 use Rattle.fate_laws.proofs.Homes.ShardKnowsHomes.{still_not}
-use Rattle.fate_laws.proofs.Logs.WhatAddsNoPrepare.{rolled, op_answering}
+use Rattle.fate_laws.proofs.Logs.WhatAddsNoPrepare.{rolled, gone_back, op_answering}
 use Rattle.fate_laws.proofs.CommitsGoDownwards.{Down, down_step}
 use Rattle.clv_base.specs.declared.names.Birth.{Birth}
 use Rattle.clv_base.specs.declared.ops.Op.{Op}
@@ -30,7 +31,7 @@ use Rattle.clv_base.specs.declared.events.Event.TheVariants.{Op as OpEvent}
 use Rattle.clv_base.specs.declared.events.Outcome.{Outcome}
 use Rattle.clv_base.specs.Needs.{writes_of, value_at, key_of}
 use Rattle.clv_base.specs.OneShard.{op_reply, OpAnswers, active_part, new_part, locked, performed, marked_in, mark_dropped}
-use Rattle.protocol_laws.proofs.LogOnlyGrows.DueGrowsLogs.{same, more_twice}
+use Rattle.protocol_laws.proofs.LogOnlyGrows.DueGrowsLogs.{same, more, more_twice}
 use Rattle.history_cases.proofs.Stepping.{Step}
 use Rattle.law_base.proofs.LockRows.{Rows}
 use Rattle.shard_laws.proofs.Order.ChangesKeepOrder.{prepare_some}
@@ -39,7 +40,7 @@ use Rattle.fate_laws.proofs.Logs.LogOnlyGrows.{inside_step}
 use Rattle.fate_laws.proofs.Logs.WhatPreparesOrCommits.{Commits, alone, decided, step_commits}
 use Rattle.fate_laws.proofs.FallenAreUncommitted.PreparedPairsAreListed.{Lined, lined_performed}
 use Rattle.fate_laws.proofs.FallenAreUncommitted.OutIsLost.{Out, Lost, Barred, barred_next, rolled_goes}
-use Rattle.fate_laws.proofs.FallenAreUncommitted.DueKeepsOutUncommitted.{lined_rolled, out_open}
+use Rattle.fate_laws.proofs.FallenAreUncommitted.DueKeepsOutUncommitted.{lined_rolled, lined_back, out_open}
 use Rattle.protocol_laws.proofs.LogsInOrder.OneRecordMore.{prepared_there}
 
 -- ---- only requests, voters, messages and the like change
@@ -89,15 +90,35 @@ barred_rolled K V O Q s u c root b =
       goes = λ t p h o f. rolled_goes K V O Q s x u refl b c root t p h o.0 f;
     })
 
+-- ---- a going back
+
+pub barred_back : (K V O Q : TxId → Type 0) (s : Shard) (u : TxId) (n : ℕ) → stage_of s.local u ≡ Some Active → Barred K V O Q s → Barred K V O Q (with_local (roll_to u n) s)
+barred_back K V O Q s u n act b =
+    let x = with_local (roll_to u n) s in
+    barred_next K V O Q s x b
+    (record {
+      inside = record { shard = refl; durable = refl; log = more s.local.log _ };
+      lined = lined_back u n s.local act b.lined;
+      down = λ a c k i. committed_keeps s.local.log _ c (b.down a c (back_commits u n s.local a k) i);
+      found = λ t p h. inl (gone_back u n s.local t p h);
+      sought = λ t p h. let g = gone_back u n s.local t p h in (b.sought t (prepared_there s.local.log t p g), (λ q. b.homes t p q g));
+      rows = b.rows;
+      readers = λ t v g r.
+          let k = b.readers t v g r in
+          (false_from_ne_true _ (λ h. let z = prepare_some x.local.log t h in both_ways _ k.0 (prepared_there s.local.log t z.0 (gone_back u n s.local t z.0 z.1))), k.1);
+      stay = λ t w. still_not (committed_in s.local.log t) (committed_in (roll_to u n s.local).log t) (back_commits u n s.local t) (out_open K V O Q s t b w);
+      away = λ t w h. h;
+      goes = λ t p h o f. absurd (both_ways _ o.0 h);
+    })
+
 -- ---- a part is marked
 
 lined_marked : (l : Local) (u : TxId) → Lined l → Lined (mark_dropped u l)
 lined_marked l u p = record {
-  writers = p.writers;
   decided = λ t c w. p.decided t (sym (stage_marked u t l.parts) ∙ c) w;
   paired = p.paired;
   met = p.met;
-  wrote = p.wrote;
+  stands = λ t e c. p.stands t e (sym (stage_marked u t l.parts) ∙ c);
   unprepared = λ t a. p.unprepared t (sym (stage_marked u t l.parts) ∙ a);
   ahead = p.ahead;
 }

@@ -6,7 +6,7 @@ use Rattle.clv_base.specs.declared.names.TxId.{TxId}
 use Rattle.clv_base.specs.declared.names.Birth.{Birth}
 use Rattle.clv_base.specs.declared.ops.Op.{Op}
 use Rattle.clv_base.specs.declared.logs.LogRecord.{LogRecord}
-use Rattle.clv_base.specs.declared.events.Event.TheVariants.{Op as OpEvent, Request as RequestEvent}
+use Rattle.clv_base.specs.declared.events.Event.TheVariants.{Op as OpEvent, Request as RequestEvent, RollTo}
 use Rattle.clv_base.specs.Sessions.{is_session, no_session, is_lowest}
 use Rattle.clv_base.specs.Restarts.{run_after}
 use Rattle.clv_base.specs.Journals.{History, own}
@@ -85,6 +85,11 @@ Requested pre t n = (r : Placed) × (ts : List (ℕ × ℕ)) × Among r pre × I
 -- an operation's transaction made none before it
 pub op_no_request : (splits : List ℕ) (before after : List (List LogRecord)) (h pre : History) (x : Placed) (t : TxId) (b : Birth) (nth : ℕ) (seen : Option ℕ) (op : Op) (n : ℕ) → Legal splits before h after → Behind h pre x → (x.1).event ≡ OpEvent t b nth seen op → Requested pre t n → ⊥
 op_no_request splits before after h pre x t b nth seen op n l k e (r, ts, i, q, z) =
+    no_work splits before after h r x t ts l (turn_of h pre x r k i) q (ap tx_of e) (subst (λ z. works_on t.serial z ≡ true) (sym e) (eq-eqb t.serial t.serial refl))
+
+-- nor a going back
+pub back_no_request : (splits : List ℕ) (before after : List (List LogRecord)) (h pre : History) (x : Placed) (t : TxId) (nth seen upto n : ℕ) → Legal splits before h after → Behind h pre x → (x.1).event ≡ RollTo t nth seen upto → Requested pre t n → ⊥
+back_no_request splits before after h pre x t nth seen upto n l k e (r, ts, i, q, z) =
     no_work splits before after h r x t ts l (turn_of h pre x r k i) q (ap tx_of e) (subst (λ z. works_on t.serial z ≡ true) (sym e) (eq-eqb t.serial t.serial refl))
 
 -- a request is the first

@@ -10,7 +10,7 @@ use Rattle.clv_base.specs.LogRules.{log_of}
 use Rattle.clv_base.specs.Restarts.{log_left}
 use Rattle.clv_base.specs.Journals.{History, final_of}
 use Rattle.clv_base.specs.declared.events.Event.TheVariants.{Request as RequestEvent}
-use Rattle.clv_base.specs.History.{Legal, Member, members, ops_in, request_of, acknowledged_in, logs_left}
+use Rattle.clv_base.specs.History.{Legal, Member, members, acts_in, request_of, acknowledged_in, logs_left}
 use Rattle.clv_base.proofs.SameNames.{tx_self}
 use Rattle.history_cases.proofs.Durability.{left_front}
 use Rattle.history_cases.proofs.Merging.{Placed, Among, among_is, is_among}
@@ -87,13 +87,13 @@ member_one logs h x es t ts r c = at (request_of (x.1).event (x.1).outcome) (ap 
   where
     at : (o : Option TxId) → o ≡ Some t
         → tx_in t (map (λ (m : Member). m.tx) (elim o [
-          | Some u ↦ cond (committed_in (log_of logs x.0) u || acknowledged_in h u) (record { tx = u; point = record { stamp = (x.1).stamp; shard = x.0 }; ops = ops_in u h } ∷ members logs h es) (members logs h es)
+          | Some u ↦ cond (committed_in (log_of logs x.0) u || acknowledged_in h u) (record { tx = u; point = record { stamp = (x.1).stamp; shard = x.0 }; acts = acts_in u h } ∷ members logs h es) (members logs h es)
           | None ↦ members logs h es
         ])) ≡ true
     at None e = absurd cc
     at (Some u) e =
         let q : t ≡ u = cc in
-        subst (λ b. tx_in t (map (λ (m : Member). m.tx) (cond b (record { tx = u; point = record { stamp = (x.1).stamp; shard = x.0 }; ops = ops_in u h } ∷ members logs h es) (members logs h es))) ≡ true)
+        subst (λ b. tx_in t (map (λ (m : Member). m.tx) (cond b (record { tx = u; point = record { stamp = (x.1).stamp; shard = x.0 }; acts = acts_in u h } ∷ members logs h es) (members logs h es))) ≡ true)
         (sym (subst (λ v. (committed_in (log_of logs x.0) v || acknowledged_in h v) ≡ true) q c))
         (or_left (tx_same u t) _ (subst (λ v. tx_same v t ≡ true) q (tx_self t)))
 
@@ -106,7 +106,7 @@ more_members logs h y es t i = at (request_of (y.1).event (y.1).outcome)
 
     at : (o : Option TxId)
         → tx_in t (map (λ (m : Member). m.tx) (elim o [
-          | Some u ↦ cond (committed_in (log_of logs y.0) u || acknowledged_in h u) (record { tx = u; point = record { stamp = (y.1).stamp; shard = y.0 }; ops = ops_in u h } ∷ members logs h es) (members logs h es)
+          | Some u ↦ cond (committed_in (log_of logs y.0) u || acknowledged_in h u) (record { tx = u; point = record { stamp = (y.1).stamp; shard = y.0 }; acts = acts_in u h } ∷ members logs h es) (members logs h es)
           | None ↦ members logs h es
         ])) ≡ true
     at None = i

@@ -19,10 +19,10 @@ use Rattle.clv_base.specs.declared.events.Event.TheVariants.{Request as RequestE
 use Rattle.clv_base.specs.declared.events.Outcome.{Outcome}
 use Rattle.clv_base.specs.declared.events.Outcome.TheVariants.{Asked, Taken}
 use Rattle.clv_base.specs.Orders.{Table, tx_same, tx_in, tx_get, tx_put, nat_in}
-use Rattle.clv_base.specs.Logs.{committed_in, commit_lsn, prepared_in, prepare_of, wrote_in, is_commit_of, in_doubt}
+use Rattle.clv_base.specs.Logs.{committed_in, commit_lsn, prepared_in, prepare_of, is_commit_of, in_doubt, has_standing}
 use Rattle.clv_base.specs.State.{Shard, Local, with_local}
 use Rattle.clv_base.specs.declared.state.Taken.TheVariants.{Waiting as IsAwaited}
-use Rattle.clv_base.specs.Undo.{roll_back}
+use Rattle.clv_base.specs.Undo.{roll_back, roll_to}
 use Rattle.clv_base.specs.Facts.{facts_of, has_durable_commit, undecided_of, is_waiting}
 use Rattle.clv_base.specs.Participant.{asked_voter, ask_by, asks, restored_voters, taken_by, taken_if}
 use Rattle.clv_base.specs.Coordinator.{new_request, others, vote_from, counts_vote, with_vote_of, counts_done, with_done_of, stands_open, ask_answer, prepare_for, prepares, missing_votes, missing_dones, each_request, home_reminders, restored_request, restored_requests}
@@ -30,6 +30,7 @@ use Rattle.clv_base.specs.OneShard.{closing, close_part, drop_part}
 use Rattle.clv_base.specs.Events.{is_alone, coordinate, owe_vote, decided, ask_messages, with_outbox, durable_requests, waiting_voters, reminders}
 use Rattle.clv_base.specs.Restarts.{log_left, revived, home_by, homes_of, unended_in, opened, log_after_restart, Restarts}
 use Rattle.clv_base.proofs.SameNames.{tx_true}
+use Rattle.clv_base.specs.Backs.{count_after, standing_numbers}
 use Rattle.law_base.proofs.Changed.{none_some, some_same}
 use Rattle.law_base.proofs.Rows.{rows_get, rows_put}
 use Rattle.law_base.proofs.Tables.{get_put}
@@ -38,11 +39,11 @@ use Rattle.law_base.proofs.Lists.{all_mono, all_append, all_of}
 use Rattle.shard_laws.proofs.Events.DueKeeps.{waiting_here}
 use Rattle.shard_laws.proofs.Order.ChangesKeepOrder.{prepare_some}
 use Rattle.law_base.proofs.Sets.{in_filter}
-use Rattle.history_cases.proofs.Stepping.{Step, op_dies, op_answers, request_new, request_closes, drops, sends, prepare_closes, prepare_again, vote_counts, decision_comes, decision_again, done_counts, asked, reminds, flushes}
-use Rattle.history_cases.proofs.Uncommitting.{with_more, rolled, dropped, op_dying, op_answering, restarts_add, opening_adds}
+use Rattle.history_cases.proofs.Stepping.{Step, op_dies, op_answers, request_new, request_closes, drops, sends, prepare_closes, prepare_again, vote_counts, decision_comes, decision_again, done_counts, asked, reminds, flushes, rolls_back}
+use Rattle.history_cases.proofs.Uncommitting.{with_more, rolled, dropped, op_dying, op_answering, restarts_add, opening_adds, gone_back}
 use Rattle.history_cases.proofs.Telling.{all_map}
 use Rattle.history_cases.proofs.TellingEvents.{front_committed}
-use Rattle.fate_laws.proofs.Logs.WhatAddsNoPrepare.{prepare_new, front_prepare, opening_adds as opening_prepares, rolled as rolled_prepares, dropped as dropped_prepares, op_dying as dying_prepares, op_answering as answering_prepares, restarts_add as restarts_prepare}
+use Rattle.fate_laws.proofs.Logs.WhatAddsNoPrepare.{prepare_new, front_prepare, opening_adds as opening_prepares, rolled as rolled_prepares, dropped as dropped_prepares, op_dying as dying_prepares, op_answering as answering_prepares, restarts_add as restarts_prepare, gone_back as back_prepares}
 use Rattle.fate_laws.proofs.Logs.RestoredRequestsAreCommitted.{unended_committed, restored_committed}
 use Rattle.fate_laws.proofs.Homes.ShardKnowsHomes.{Known, Tells, Alone, Opens, Homed, tells_on, words_on, MayCommit, homed_log, homed_same, homed_commit, homed_send, homed_set, durable_known, alone_log, still_not, open_undecided, open_committed}
 use Rattle.history_laws.proofs.Logs.DoubtedAreUndecided.{doubt_prepared}
@@ -91,7 +92,7 @@ homed_closing run A Z K D s l tx home true false us e a k p = homed_prepare run 
 
 homed_close : (run : ℕ) (A Z : TxId → ℕ → Type 0) (K : ℕ → TxId → Type 0) (D : TxId → Type 0) (s : Shard) (tx : TxId) (home : ℕ) (one : Bool)
     → (tx.run ≡ run → A tx home) → (one ≡ true → tx.run ≡ run → Fresh A Z s tx) → Homed run A Z K D s → Homed run A Z K D (with_local (close_part tx home one) s)
-homed_close run A Z K D s tx home one a k p = homed_closing run A Z K D s (close_part tx home one s.local) tx home (wrote_in s.local.log tx) one (undecided_of s.local tx) refl a k p
+homed_close run A Z K D s tx home one a k p = homed_closing run A Z K D s (close_part tx home one s.local) tx home (has_standing s.local.log tx) one (undecided_of s.local tx) refl a k p
 
 -- a COMMIT that closes a part is of one that touched no other shard
 closing_commit : (log : List LogRecord) (b one : Bool) (tx : TxId) (home : ℕ) (us : List TxId) → committed_in log tx ≡ false → committed_in (log ++ closing b one tx home us) tx ≡ true → one ≡ true
@@ -283,8 +284,10 @@ homed_step run A Z K D s _ za now (request_new tx ts f0 g) w p = homed_coordinat
 homed_step run A Z K D s _ za now (request_closes tx ts f0 g) w p =
     let one = is_alone (others s.shard ts) in
     homed_coordinate run A Z K D (with_local (close_part tx s.shard one) s) tx ts (λ r. (w r).here)
-    (λ r c. alone_none (others s.shard ts) (closing_commit s.local.log (wrote_in s.local.log tx) one tx s.shard (undecided_of s.local tx) (w r).uncommitted c)) (λ r. (w r).untold)
+    (λ r c. alone_none (others s.shard ts) (closing_commit s.local.log (has_standing s.local.log tx) one tx s.shard (undecided_of s.local tx) (w r).uncommitted c)) (λ r. (w r).untold)
     (homed_close run A Z K D s tx s.shard one (λ r. (w r).here) (λ q. w) p)
+homed_step run A Z K D s _ za now (rolls_back tx nth seen upto f g) w p =
+    let n = count_after upto (standing_numbers tx s.journal) in homed_log run A Z K D s (roll_to tx n s.local) (gone_back tx n s.local) (back_prepares tx n s.local) p
 homed_step run A Z K D s _ za now (drops tx stage g) w p = homed_log run A Z K D s (drop_part tx s.local) (dropped tx s.local) (dropped_prepares tx s.local) p
 homed_step run A Z K D s _ za now (sends m ms g) w p = homed_outbox run A Z K D s m ms g p
 homed_step run A Z K D s _ za now (prepare_closes tx home seen stamp g) w p =

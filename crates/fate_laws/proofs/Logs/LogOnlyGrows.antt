@@ -26,7 +26,7 @@ use Rattle.law_base.proofs.Commits.{place_keeps, place_some, commit_durable, dur
 use Rattle.protocol_laws.specs.Growth.{IsPrefixOf}
 use Rattle.protocol_laws.proofs.LogOnlyGrows.DueGrowsLogs.{same, more, more_twice, chain}
 use Rattle.protocol_laws.proofs.LogOnlyGrows.{writes, rolled_if}
-use Rattle.history_cases.proofs.Stepping.{commits, votes, rules, KeptByDue, Step, op_dies, op_answers, request_refused, request_doomed, request_again, request_closes, looks_well, looks_ill, drops, prepare_closes, decision_comes}
+use Rattle.history_cases.proofs.Stepping.{commits, votes, rules, KeptByDue, Step, op_dies, op_answers, request_refused, request_doomed, request_again, request_closes, looks_well, looks_ill, drops, prepare_closes, decision_comes, rolls_back}
 use Rattle.history_laws.proofs.Entries.WhatOperationsDo.{OpIs, dies, rolls, performs, reply_is}
 
 pub record Inside (s t : Shard) : Type 0 where
@@ -110,6 +110,7 @@ answering l _ tx birth seen op _ (performs f e) = writes (locked tx birth op l) 
 pub inside_step : (s t : Shard) {e : Event} {o : Outcome} → Step s e o t → Inside s t
 inside_step s _ (op_dies tx birth nth seen op cause l h) = record { shard = refl; durable = refl; log = dying s.local l tx birth seen op cause (reply_is s.shard s.local tx birth seen op _ h) }
 inside_step s _ (op_answers tx birth nth seen op answer l h) = record { shard = refl; durable = refl; log = answering s.local l tx birth seen op answer (reply_is s.shard s.local tx birth seen op _ h) }
+inside_step s _ (rolls_back tx nth seen upto f h) = record { shard = refl; durable = refl; log = more s.local.log _ }
 inside_step s _ (request_refused tx ts cause h) = inside_self s
 inside_step s _ (request_doomed tx ts doom h) = inside_self s
 inside_step s _ (request_again tx ts f0 h) = inside_self s

@@ -10,15 +10,18 @@ use Rattle.clv_base.specs.Logs.{standing, wrote_in, aborted_in}
 use Rattle.clv_base.specs.Undo.{clrs_of}
 use Rattle.clv_base.specs.Restarts.{losers, undo_records, restart_records}
 use Rattle.shard_laws.proofs.Keeping.RecordsAndFrontsKeep.{wrote_keeps, wrote_append}
-use Rattle.shard_laws.proofs.Keeping.LeavingKeeps.{no_write_aborts, no_write_clrs}
+use Rattle.shard_laws.proofs.Keeping.RecordsOfAnUndo.{undo_writes}
+use Rattle.law_base.proofs.Lists.{all_append}
+use Rattle.law_base.proofs.Logs.{IsUndo, aborts_undo, clrs_undo}
 use Rattle.protocol_laws.specs.Growth.{IsPrefixOf}
 
 pub restart_writes_none : (shard : ℕ) (log : List LogRecord) (run epoch : ℕ) (t : TxId) → wrote_in (restart_records shard log run epoch) t ≡ false
 restart_writes_none shard log run epoch t =
     wrote_append (undo_records shard log) (Restart run epoch ∷ []) t
     ∙ or_from _ _
-    (wrote_append (map (λ u. Abort u) (filter (λ u. not (aborted_in log u)) (losers shard log))) (clrs_of (losers shard log) (standing log)) t
-    ∙ or_from _ _ (no_write_aborts t (filter (λ u. not (aborted_in log u)) (losers shard log))) (no_write_clrs (losers shard log) t (standing log))) refl
+    (undo_writes t (undo_records shard log)
+    (all_append IsUndo (map (λ u. Abort u) (filter (λ u. not (aborted_in log u)) (losers shard log))) (clrs_of (losers shard log) (standing log))
+    (aborts_undo (filter (λ u. not (aborted_in log u)) (losers shard log))) (clrs_undo (losers shard log) (standing log)))) refl
 
 -- what a front of a log has stands in it
 pub wrote_take : (n : ℕ) (log : List LogRecord) (t : TxId) → wrote_in (take n log) t ≡ true → wrote_in log t ≡ true

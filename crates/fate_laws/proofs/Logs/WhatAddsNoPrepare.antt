@@ -11,12 +11,12 @@ use Rattle.clv_base.specs.declared.ops.Answer.{Answer}
 use Rattle.clv_base.specs.declared.causes.AbortCause.{AbortCause}
 use Rattle.clv_base.specs.declared.logs.LogRecord.{LogRecord}
 use Rattle.clv_base.specs.declared.logs.LogRecord.TheVariants.{Update, Clr, Prepare, Commit, Abort, End, Restart, Add, Unadd}
-use Rattle.clv_base.specs.Orders.{tx_same, tx_in}
+use Rattle.clv_base.specs.Orders.{tx_same}
 use Rattle.clv_base.specs.declared.changes.Change.{Change}
 use Rattle.clv_base.specs.declared.changes.Change.TheVariants.{Sets, Adds}
-use Rattle.clv_base.specs.Logs.{StandingUpdate, is_prepare_of, prepared_in, prepare_of, aborted_in, wrote_in, standing}
+use Rattle.clv_base.specs.Logs.{StandingUpdate, is_prepare_of, prepared_in, prepare_of, aborted_in, standing, has_standing}
 use Rattle.clv_base.specs.State.{Shard, Local, is_present}
-use Rattle.clv_base.specs.Undo.{stage_of, aborts_of, clrs_of, newest_lsn, doomed_here, roll_back, compensation}
+use Rattle.clv_base.specs.Undo.{stage_of, aborts_of, clrs_of, newest_lsn, doomed_here, roll_back, compensation, clrs_by, is_of, is_at, newest_lsns, roll_to}
 use Rattle.clv_base.specs.Needs.{writes_of, value_at, key_of}
 use Rattle.clv_base.specs.OneShard.{OpDies, OpAnswers, op_reply, written, locked, rolled_back_if, drop_part, closing}
 use Rattle.clv_base.specs.Restarts.{undo_records, restart_records, log_after_restart, next_epoch, losers, FailedRestarts, untouched, failed_first, Restarts}
@@ -74,20 +74,28 @@ unprepared (r ∷ rs) a t = or_from _ _ (a.0 t) (unprepared rs a.1 t)
 pub plain_more : (log more : List LogRecord) → AllByRecursion IsNoPrepare more → NoMorePrepares log (log ++ more)
 plain_more log more a t p e = prepare_from log more t p (unprepared more a t) e
 
--- what each CLR has, those of a rollback have
-pub all_clrs : (P : LogRecord → Type 0) → ((t : TxId) (n : Option ℕ) (k : ℕ) (v : Option ValueType) → P (Clr t n k v)) → ((t : TxId) (n : Option ℕ) (k by : ℕ) → P (Unadd t n k by)) → (set : List TxId) (ws : List StandingUpdate) → AllByRecursion P (clrs_of set ws)
-all_clrs P k m set [] = tt
-all_clrs P k m set (w ∷ ws) = at (tx_in w.tx set) w.change (all_clrs P k m set ws)
+-- what each CLR and UNADD has, those of an undo have
+pub all_clrs_by :
+    (P : LogRecord → Type 0) → ((t : TxId) (n : Option ℕ) (k : ℕ) (v : Option ValueType) → P (Clr t n k v)) → ((t : TxId) (n : Option ℕ) (k by : ℕ) → P (Unadd t n k by))
+    → (gone : StandingUpdate → Bool) (ws : List StandingUpdate) → AllByRecursion P (clrs_by gone ws)
+all_clrs_by P k m gone [] = tt
+all_clrs_by P k m gone (w ∷ ws) = at (gone w) w.change (all_clrs_by P k m gone ws)
   where
-    at : (b : Bool) (c : Change) → AllByRecursion P (clrs_of set ws) → AllByRecursion P (cond b (compensation w.tx (newest_lsn w.tx ws) w.key c ∷ clrs_of set ws) (clrs_of set ws))
+    at : (b : Bool) (c : Change) → AllByRecursion P (clrs_by gone ws) → AllByRecursion P (cond b (compensation w.tx (newest_lsn w.tx ws) w.key c ∷ clrs_by gone ws) (clrs_by gone ws))
     at true (Sets before after) a = (k w.tx (newest_lsn w.tx ws) w.key before, a)
     at true (Adds by) a = (m w.tx (newest_lsn w.tx ws) w.key by, a)
     at false c a = a
 
+pub all_clrs : (P : LogRecord → Type 0) → ((t : TxId) (n : Option ℕ) (k : ℕ) (v : Option ValueType) → P (Clr t n k v)) → ((t : TxId) (n : Option ℕ) (k by : ℕ) → P (Unadd t n k by)) → (set : List TxId) (ws : List StandingUpdate) → AllByRecursion P (clrs_of set ws)
+all_clrs P k m set ws = all_clrs_by P k m (is_of set) ws
+
 pub rolled : (tx : TxId) (l : Local) → NoMorePrepares l.log (roll_back tx l).log
 rolled tx l t p e =
-    plain_more l.log (aborts_of l.log (doomed_here l tx)) (all_map IsNoPrepare (λ u. Abort u) (filter (wrote_in l.log) (doomed_here l tx)) (λ u t. refl)) t p
+    plain_more l.log (aborts_of l.log (doomed_here l tx)) (all_map IsNoPrepare (λ u. Abort u) (filter (has_standing l.log) (doomed_here l tx)) (λ u t. refl)) t p
     (plain_more (l.log ++ aborts_of l.log (doomed_here l tx)) (clrs_of (doomed_here l tx) (standing l.log)) (all_clrs IsNoPrepare (λ t n k v u. refl) (λ t n k by u. refl) (doomed_here l tx) (standing l.log)) t p e)
+
+pub gone_back : (tx : TxId) (n : ℕ) (l : Local) → NoMorePrepares l.log (roll_to tx n l).log
+gone_back tx n l t p e = plain_more l.log (clrs_by (is_at (newest_lsns n tx (standing l.log))) (standing l.log)) (all_clrs_by IsNoPrepare (λ t n k v u. refl) (λ t n k by u. refl) _ (standing l.log)) t p e
 
 rolled_if : (b : Bool) (tx : TxId) (l : Local) → NoMorePrepares l.log (rolled_back_if b tx l).log
 rolled_if true tx l = rolled tx l

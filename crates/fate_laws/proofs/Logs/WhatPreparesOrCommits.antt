@@ -16,7 +16,7 @@ use Rattle.clv_base.specs.declared.events.Outcome.{Outcome}
 use Rattle.clv_base.specs.declared.events.Outcome.TheVariants.{Asked, Taken}
 use Rattle.clv_base.specs.Orders.{tx_same, tx_get, Table}
 use Rattle.clv_base.specs.declared.changes.Change.{Change}
-use Rattle.clv_base.specs.Logs.{committed_in, prepare_of, wrote_in}
+use Rattle.clv_base.specs.Logs.{committed_in, prepare_of, has_standing}
 use Rattle.clv_base.specs.Needs.{writes_of, value_at, key_of}
 use Rattle.clv_base.specs.State.{Shard, Local, is_present}
 use Rattle.clv_base.specs.Undo.{stage_of, doomed_here}
@@ -28,32 +28,33 @@ use Rattle.clv_base.proofs.SameNames.{tx_true, tx_self}
 use Rattle.law_base.proofs.Changed.{none_some}
 use Rattle.law_base.proofs.Tables.{stage_by, stage_in, get_put}
 use Rattle.clv_base.specs.declared.state.Held.{Held}
+use Rattle.clv_base.specs.Backs.{count_after, standing_numbers}
 use Rattle.law_base.proofs.Stages.{closed_back, stage_closed, closed_other, stage_marked, other_part}
 use Rattle.history_laws.proofs.Entries.WhatOperationsDo.{OpIs, dies, rolls, performs, reply_is}
-use Rattle.history_cases.proofs.Stepping.{Step, op_dies, op_answers, request_closes, drops, prepare_closes, decision_comes}
-use Rattle.history_cases.proofs.Uncommitting.{with_more, rolled as rolled_commits, dropped as dropped_commits, op_dying as dying_commits, op_answering as answering_commits}
-use Rattle.fate_laws.proofs.Logs.WhatAddsNoPrepare.{plain_more, prepare_new, rolled, dropped, op_dying, op_answering}
+use Rattle.history_cases.proofs.Stepping.{Step, op_dies, op_answers, request_closes, drops, prepare_closes, decision_comes, rolls_back}
+use Rattle.history_cases.proofs.Uncommitting.{with_more, rolled as rolled_commits, dropped as dropped_commits, op_dying as dying_commits, op_answering as answering_commits, gone_back as back_commits}
+use Rattle.fate_laws.proofs.Logs.WhatAddsNoPrepare.{plain_more, prepare_new, rolled, dropped, op_dying, op_answering, gone_back}
 use Rattle.fate_laws.proofs.Homes.ShardKnowsHomes.{new_commit}
 
 -- ---- a PREPARE
 
--- its part was active and is closed now, and it wrote: its PREPARE lists its undecided predecessors
+-- its part was active and is closed now, and a write of it stands: its PREPARE lists its undecided predecessors
 pub record ClosedNow (s t : Shard) (tx : TxId) : Type 0 where
   pub was : stage_of s.local tx ≡ Some Active
   pub now : stage_of t.local tx ≡ Some Closed
   pub home : ℕ
   pub log : t.local.log ≡ s.local.log ++ PrepareRecord tx home (undecided_of s.local tx) ∷ []
-  pub wrote : wrote_in s.local.log tx ≡ true
+  pub stands : has_standing s.local.log tx ≡ true
   pub pairs : t.local.pairs ≡ s.local.pairs
 
-closing_new : (s t : Shard) (tx u : TxId) (home : ℕ) (us : List TxId) (p : ℕ × List TxId) → stage_of s.local u ≡ Some Active → stage_of t.local u ≡ Some Closed → t.local.pairs ≡ s.local.pairs → wrote_in s.local.log u ≡ true → undecided_of s.local u ≡ us
+closing_new : (s t : Shard) (tx u : TxId) (home : ℕ) (us : List TxId) (p : ℕ × List TxId) → stage_of s.local u ≡ Some Active → stage_of t.local u ≡ Some Closed → t.local.pairs ≡ s.local.pairs → has_standing s.local.log u ≡ true → undecided_of s.local u ≡ us
     → t.local.log ≡ s.local.log ++ PrepareRecord u home us ∷ [] → prepare_of t.local.log tx ≡ Some p → (prepare_of s.local.log tx ≡ Some p) ⊎ ClosedNow s t tx
 closing_new s t tx u home us p a c e w f g h =
     ⊎_elim (λ x. inl x)
-    (λ x. inr (subst (ClosedNow s t) (sym x.0) (record { was = a; now = c; home = home; log = subst (λ l. t.local.log ≡ s.local.log ++ PrepareRecord u home l ∷ []) (sym f) g; wrote = w; pairs = e })))
+    (λ x. inr (subst (ClosedNow s t) (sym x.0) (record { was = a; now = c; home = home; log = subst (λ l. t.local.log ≡ s.local.log ++ PrepareRecord u home l ∷ []) (sym f) g; stands = w; pairs = e })))
     (prepare_new s.local.log u home us tx p (subst (λ l. prepare_of l tx ≡ Some p) g h))
 
-closing_is : (s t : Shard) (tx u : TxId) (home : ℕ) (b one : Bool) (us : List TxId) (p : ℕ × List TxId) → stage_of s.local u ≡ Some Active → stage_of t.local u ≡ Some Closed → t.local.pairs ≡ s.local.pairs → wrote_in s.local.log u ≡ b → undecided_of s.local u ≡ us
+closing_is : (s t : Shard) (tx u : TxId) (home : ℕ) (b one : Bool) (us : List TxId) (p : ℕ × List TxId) → stage_of s.local u ≡ Some Active → stage_of t.local u ≡ Some Closed → t.local.pairs ≡ s.local.pairs → has_standing s.local.log u ≡ b → undecided_of s.local u ≡ us
     → t.local.log ≡ s.local.log ++ closing b one u home us → prepare_of t.local.log tx ≡ Some p → (prepare_of s.local.log tx ≡ Some p) ⊎ ClosedNow s t tx
 closing_is s t tx u home false one us p a c e w f g h = inl (plain_more s.local.log [] tt tx p (subst (λ l. prepare_of l tx ≡ Some p) g h))
 closing_is s t tx u home true true [] p a c e w f g h = inl (plain_more s.local.log (Commit u [] ∷ []) ((λ v. refl), tt) tx p (subst (λ l. prepare_of l tx ≡ Some p) g h))
@@ -63,10 +64,11 @@ closing_is s t tx u home true false us p a c e w f g h = closing_new s t tx u ho
 pub step_prepares : (s t : Shard) {e : Event} {o : Outcome} (tx : TxId) (p : ℕ × List TxId) → Step s e o t → prepare_of t.local.log tx ≡ Some p → (prepare_of s.local.log tx ≡ Some p) ⊎ ClosedNow s t tx
 step_prepares s _ tx p (op_dies u birth nth seen op cause l g) h = inl (op_dying s.shard s.local l u birth seen op cause g tx p h)
 step_prepares s _ tx p (op_answers u birth nth seen op answer l g) h = inl (op_answering s.shard s.local l u birth seen op answer g tx p h)
+step_prepares s _ tx p (rolls_back u nth seen upto f g) h = inl (gone_back u (count_after upto (standing_numbers u s.journal)) s.local tx p h)
 step_prepares s t tx p (request_closes u ts f0 g) h =
-    closing_is s _ tx u s.shard (wrote_in s.local.log u) (is_alone (others s.shard ts)) (undecided_of s.local u) p g (stage_closed s.local.parts u g) refl refl refl refl h
+    closing_is s _ tx u s.shard (has_standing s.local.log u) (is_alone (others s.shard ts)) (undecided_of s.local u) p g (stage_closed s.local.parts u g) refl refl refl refl h
 step_prepares s _ tx p (drops u stage g) h = inl (dropped u s.local tx p h)
-step_prepares s t tx p (prepare_closes u home seen stamp g) h = closing_is s _ tx u home (wrote_in s.local.log u) false (undecided_of s.local u) p g (stage_closed s.local.parts u g) refl refl refl refl h
+step_prepares s t tx p (prepare_closes u home seen stamp g) h = closing_is s _ tx u home (has_standing s.local.log u) false (undecided_of s.local u) p g (stage_closed s.local.parts u g) refl refl refl refl h
 step_prepares s _ tx p (decision_comes u home true stamp g) h = inl (plain_more s.local.log (Commit u [] ∷ []) ((λ v. refl), tt) tx p h)
 step_prepares s _ tx p (decision_comes u home false stamp g) h = inl (rolled u s.local tx p h)
 step_prepares s _ tx p _ h = inl h
@@ -146,12 +148,13 @@ closing_commits log u tx home true false us c = inl (with_more log (PrepareRecor
 pub step_commits : (s t : Shard) {e : Event} {o : Outcome} (tx : TxId) → Step s e o t → committed_in t.local.log tx ≡ true → (committed_in s.local.log tx ≡ true) ⊎ Commits s tx e o
 step_commits s _ tx (op_dies u birth nth seen op cause l g) h = inl (dying_commits s.shard s.local l u birth seen op cause g tx h)
 step_commits s _ tx (op_answers u birth nth seen op answer l g) h = inl (answering_commits s.shard s.local l u birth seen op answer g tx h)
+step_commits s _ tx (rolls_back u nth seen upto f g) h = inl (back_commits u (count_after upto (standing_numbers u s.journal)) s.local tx h)
 step_commits s _ tx (request_closes u ts f0 g) h =
     ⊎_elim (λ x. inl x) (λ x. inr (subst (λ v. Commits s v (RequestEvent u ts) Asked) (sym x.0) (alone ts x.1 x.2)))
-    (closing_commits s.local.log u tx s.shard (wrote_in s.local.log u) (is_alone (others s.shard ts)) (undecided_of s.local u) h)
+    (closing_commits s.local.log u tx s.shard (has_standing s.local.log u) (is_alone (others s.shard ts)) (undecided_of s.local u) h)
 step_commits s _ tx (drops u stage g) h = inl (dropped_commits u s.local tx h)
 step_commits s _ tx (prepare_closes u home seen stamp g) h =
-    ⊎_elim (λ x. inl x) (λ x. absurd (both_ways false refl x.1)) (closing_commits s.local.log u tx home (wrote_in s.local.log u) false (undecided_of s.local u) h)
+    ⊎_elim (λ x. inl x) (λ x. absurd (both_ways false refl x.1)) (closing_commits s.local.log u tx home (has_standing s.local.log u) false (undecided_of s.local u) h)
 step_commits s _ tx (decision_comes u home true stamp g) h = ⊎_elim (λ x. inl x) (λ x. inr (subst (λ v. Commits s v (Deliver (Decide s.shard u home true) stamp) Taken) (sym x) (decided home stamp))) (new_commit s.local.log u [] tx h)
 step_commits s _ tx (decision_comes u home false stamp g) h = inl (rolled_commits u s.local tx h)
 step_commits s _ tx _ h = inl h

@@ -26,10 +26,11 @@ use Rattle.clv_base.specs.declared.events.Outcome.TheVariants.{Answered}
 use Rattle.clv_base.specs.Orders.{Table, tx_same, tx_in, tx_get}
 use Rattle.clv_base.specs.declared.changes.Change.{Change}
 use Rattle.clv_base.specs.declared.changes.Change.TheVariants.{Sets, Adds}
-use Rattle.clv_base.specs.Logs.{standing, writers, is_abort_of, wrote_in, committed_in, aborted_in, prepared_in, in_doubt, is_winner}
+use Rattle.clv_base.specs.Logs.{standing, writers, is_abort_of, has_standing, committed_in, aborted_in, prepared_in, in_doubt, is_winner}
 use Rattle.clv_base.specs.Needs.{writes_of, value_at, key_of}
 use Rattle.clv_base.specs.State.{Shard, Local, with_local, is_present}
-use Rattle.clv_base.specs.Undo.{stage_of, aborts_of, clrs_of, gone_part, doomed_here, roll_back}
+use Rattle.clv_base.specs.Undo.{stage_of, aborts_of, clrs_by, clrs_of, newest_lsns, is_at, gone_part, doomed_here, roll_back, roll_to}
+use Rattle.clv_base.specs.Backs.{standing_numbers, count_after}
 use Rattle.clv_base.specs.Facts.{undecided_of}
 use Rattle.clv_base.specs.OneShard.{OpDies, OpAnswers, active_part, new_part, written, locked, performed, rolled_back_if, without_part, closing, closed_part, close_part, dropped_part, mark_dropped, drop_part}
 use Rattle.clv_base.specs.Due.{finish_part, finish_reader, with_vote, do_ruling, with_ruling}
@@ -38,6 +39,7 @@ use Rattle.clv_base.specs.Coordinator.{others}
 use Rattle.clv_base.specs.Restarts.{losers, undo_records, restart_records, log_after_restart, next_epoch, log_left, restored_parts, opened, revived, FailedRestarts, untouched, failed_first, Restarts}
 use Rattle.clv_base.proofs.SameNames.{tx_true, tx_self, tx_flip}
 use Rattle.law_base.proofs.Changed.{none_some}
+use Rattle.law_base.proofs.Logs.{clrs_undo_by}
 use Rattle.law_base.proofs.Rows.{rows_get, rows_put}
 use Rattle.law_base.proofs.Tables.{stage_by}
 use Rattle.law_base.proofs.Sets.{filter_in}
@@ -46,12 +48,12 @@ use Rattle.protocol_laws.specs.Growth.{IsPrefixOf}
 use Rattle.protocol_laws.proofs.LogOnlyGrows.DueGrowsLogs.{chain, more}
 use Rattle.shard_laws.proofs.Cuts.WhoIsInDoubt.{prepared_cut}
 use Rattle.shard_laws.proofs.Order.RecordByRecord.{Follows}
-use Rattle.shard_laws.proofs.Keeping.LeavingKeeps.{no_prepares}
-use Rattle.shard_laws.proofs.Order.WritesLieOnListed.{order_of, prepared_wrote, wrote_stands}
+use Rattle.shard_laws.proofs.Keeping.RecordsOfAnUndo.{no_prepares, undo_prepares}
+use Rattle.shard_laws.proofs.Order.WhoseWritesStand.{has_writer, prepared_stands}
 use Rattle.shard_laws.proofs.Keeping.ChangesKeepPrepared.{prepared_append, prepared_from}
 use Rattle.shard_laws.proofs.Restarts.WinnersKeepTheirWrites.{none_prepare, plain_restart}
 use Rattle.history_laws.proofs.NeverTakenBack.LaterHistoriesHoldMembers.{committed_front}
-use Rattle.history_cases.proofs.Stepping.{commits, votes, rules, KeptByDue, settled, with_work, Step, op_dies, op_answers, request_refused, request_doomed, request_again, request_closes, looks_well, looks_ill, drops, prepare_closes, decision_comes, Happens, finishes, stops}
+use Rattle.history_cases.proofs.Stepping.{commits, votes, rules, KeptByDue, settled, with_work, Step, op_dies, op_answers, rolls_back, request_refused, request_doomed, request_again, request_closes, looks_well, looks_ill, drops, prepare_closes, decision_comes, Happens, finishes, stops}
 use Rattle.history_laws.proofs.Entries.WhatOperationsDo.{OpIs, dies, rolls, performs, reply_is}
 use Rattle.history_laws.proofs.Logs.DoubtedAreUndecided.{doubt_undecided}
 
@@ -92,8 +94,8 @@ was_in_doubt shard log run epoch t f p c a = at (tx_in t (in_doubt shard log)) r
     at : (b : Bool) → tx_in t (in_doubt shard log) ≡ b → tx_in t (in_doubt shard log) ≡ true
     at true d = d
     at false d =
-        absurd (both_ways _ a (⊎_elim (λ w. loser_aborted shard log run epoch t (loses d w)) (λ u. still_aborted shard log run epoch t ((order_of shard log f).undone t u))
-        (wrote_stands shard log f t (prepared_wrote shard log f t p))))
+        absurd (both_ways _ a (⊎_elim (λ h. loser_aborted shard log run epoch t (loses d (has_writer t (standing log) h))) (λ u. still_aborted shard log run epoch t u)
+        (prepared_stands shard log f t p)))
 
 -- who is in doubt in a log that goes on from the one that the shard opened, and was prepared in the one found, was in doubt there
 pub doubt_found : (shard : ℕ) (found log : List LogRecord) (run epoch : ℕ) (t : TxId) → Follows shard [] found → IsPrefixOf (log_after_restart shard found run epoch) log → tx_in t (in_doubt shard log) ≡ true → prepared_in found t ≡ true → tx_in t (in_doubt shard found) ≡ true
@@ -146,6 +148,12 @@ has_rolled P G s tx k =
       parts = same_keys P (λ x. cond (tx_in x.0 set) (gone_part (Some tx) x.1) x.1) s.local.parts k.parts;
       prepared = λ t e. k.prepared t (prepared_from log (as_ ++ cs) t (no_prepares set t log) (subst (λ l. prepared_in l t ≡ true) (append_assoc log as_ cs) e));
     }
+
+has_back : (P G : TxId → Type 0) (s : Shard) (tx : TxId) (i : ℕ) → Has P G s → Has P G (with_local (roll_to tx i) s)
+has_back P G s tx i k =
+    let ws = standing s.local.log in
+    let gone = is_at (newest_lsns i tx ws) in
+    record { parts = k.parts; prepared = λ t e. k.prepared t (prepared_from s.local.log (clrs_by gone ws) t (undo_prepares t (clrs_by gone ws) (clrs_undo_by gone ws)) e) }
 
 has_finished : (P G : TxId → Type 0) (s : Shard) (tx : TxId) → Has P G s → Has P G (finish_part tx s)
 has_finished P G s tx k = record { parts = same_keys P (λ x. cond (tx_in x.0 (tx ∷ [])) (gone_part None x.1) x.1) s.local.parts k.parts; prepared = k.prepared }
@@ -216,11 +224,11 @@ has_stage P G s t st k e = at (tx_get t s.local.parts) refl e
 has_close : (P G : TxId → Type 0) → ((t : TxId) → P t → G t) → (s : Shard) (tx : TxId) (home : ℕ) (one : Bool) → stage_of s.local tx ≡ Some Active → Has P G s → Has P G (with_local (close_part tx home one) s)
 has_close P G pg s tx home one a k =
     let log = s.local.log in
-    let rs = closing (wrote_in log tx) one tx home (undecided_of s.local tx) in
+    let rs = closing (has_standing log tx) one tx home (undecided_of s.local tx) in
     record {
       parts = same_keys P (λ x. cond (tx_same tx x.0) (closed_part x.1) x.1) s.local.parts k.parts;
       prepared = λ t e.
-          ⊎_elim (λ p. k.prepared t p) (λ p. subst G (sym (closing_prepares (wrote_in log tx) one tx home (undecided_of s.local tx) t p)) (pg tx (has_stage P G s tx Active k a)))
+          ⊎_elim (λ p. k.prepared t p) (λ p. subst G (sym (closing_prepares (has_standing log tx) one tx home (undecided_of s.local tx) t p)) (pg tx (has_stage P G s tx Active k a)))
           (or_cases (prepared_in log t) (prepared_in rs t) (sym (prepared_append log rs t) ∙ e));
     }
 
@@ -257,6 +265,7 @@ has_decided P G s tx false k = has_rolled P G s tx k
 has_step : (P G : TxId → Type 0) → ((t : TxId) → P t → G t) → (s t : Shard) {e : Event} {o : Outcome} → Step s e o t → AnswersOf P e o → Has P G s → Has P G t
 has_step P G pg s _ (op_dies tx birth nth seen op cause l g) w k = has_dies P G s tx birth seen op cause l (reply_is s.shard s.local tx birth seen op (OpDies cause l) g) k
 has_step P G pg s _ (op_answers tx birth nth seen op answer l g) w k = has_answers P G s tx birth seen op answer l (reply_is s.shard s.local tx birth seen op (OpAnswers answer l) g) w k
+has_step P G pg s _ (rolls_back tx nth seen upto f g) w k = has_back P G s tx (count_after upto (standing_numbers tx s.journal)) k
 has_step P G pg s _ (request_refused tx ts cause g) w k = k
 has_step P G pg s _ (request_doomed tx ts doom g) w k = k
 has_step P G pg s _ (request_again tx ts f g) w k = k

@@ -23,9 +23,9 @@ use Rattle.clv_base.specs.declared.state.RequestState.TheVariants.{Undecided, Co
 use Rattle.clv_base.specs.declared.state.Ruling.{Ruling}
 use Rattle.clv_base.specs.declared.state.Ruling.TheVariants.{Commit as CommitVerdict, Acknowledge, Abort as AbortVerdict, End as EndVerdict}
 use Rattle.clv_base.specs.Orders.{Table, tx_same, tx_in, tx_get, tx_set}
-use Rattle.clv_base.specs.Logs.{StandingUpdate, standing_from, standing, without_newest, wrote_in}
+use Rattle.clv_base.specs.Logs.{StandingUpdate, standing_from, standing, without_newest, wrote_in, has_standing}
 use Rattle.clv_base.specs.State.{Shard, with_local}
-use Rattle.clv_base.specs.Undo.{aborts_of, clrs_of, newest_lsn, gone_part, gone_in, doomed_here, roll_back, compensation}
+use Rattle.clv_base.specs.Undo.{is_of, aborts_of, clrs_by, clrs_of, newest_lsn, newest_lsns, is_at, gone_part, gone_in, doomed_here, roll_back, roll_to, compensation}
 use Rattle.clv_base.specs.declared.causes.AbortCause.{AbortCause}
 use Rattle.clv_base.specs.declared.parts.PartFacts.{PartFacts}
 use Rattle.clv_base.specs.Facts.{has_durable_predecessors, facts_of}
@@ -38,6 +38,7 @@ use Rattle.law_base.proofs.Rows.{rows_get, rows_set}
 use Rattle.law_base.proofs.Tables.{stage_in, get_changed}
 use Rattle.law_base.proofs.Lists.{all_append}
 use Rattle.law_base.proofs.Stages.{stage_of_some}
+use Rattle.law_base.proofs.Standing.{standing_wrote}
 use Rattle.history_cases.proofs.Stepping.{commits, votes, rules, KeptByDue, settled}
 use Rattle.history_cases.proofs.Telling.{all_map}
 
@@ -178,11 +179,11 @@ standing_all A Q O n i (RestartRecord run epoch ∷ rs) ws a b = standing_all A 
 standing_all A Q O n i (Add tx key by ∷ rs) ws a b = standing_all A Q O n (suc i) rs _ a.1 (a.0, b)
 standing_all A Q O n i (Unadd tx next key by ∷ rs) ws a b = standing_all A Q O n (suc i) rs _ a.1 (without_all A tx ws b)
 
-pub clrs_all : (A : TxId → Type 0) (Q : TxId → ℕ → Type 0) (O : TxId → Type 0) (n : ℕ) (set : List TxId) (ws : List StandingUpdate) → AllByRecursion (λ w. A w.tx) ws → AllFrom A Q O n (clrs_of set ws)
-clrs_all A Q O n set [] a = tt
-clrs_all A Q O n set (w ∷ ws) a = at (tx_in w.tx set) w.change (clrs_all A Q O n set ws a.1)
+pub clrs_all : (A : TxId → Type 0) (Q : TxId → ℕ → Type 0) (O : TxId → Type 0) (n : ℕ) (gone : StandingUpdate → Bool) (ws : List StandingUpdate) → AllByRecursion (λ w. A w.tx) ws → AllFrom A Q O n (clrs_by gone ws)
+clrs_all A Q O n gone [] a = tt
+clrs_all A Q O n gone (w ∷ ws) a = at (gone w) w.change (clrs_all A Q O n gone ws a.1)
   where
-    at : (b : Bool) (c : Change) → AllFrom A Q O n (clrs_of set ws) → AllFrom A Q O n (cond b (compensation w.tx (newest_lsn w.tx ws) w.key c ∷ clrs_of set ws) (clrs_of set ws))
+    at : (b : Bool) (c : Change) → AllFrom A Q O n (clrs_by gone ws) → AllFrom A Q O n (cond b (compensation w.tx (newest_lsn w.tx ws) w.key c ∷ clrs_by gone ws) (clrs_by gone ws))
     at true (Sets before after) k = (a.0, k)
     at true (Adds by) k = (a.0, k)
     at false c k = k
@@ -201,17 +202,17 @@ wrote_all A Q O n (Unadd u next key by ∷ rs) t a e = wrote_all A Q O n rs t a.
 
 pub aborts_all : (A : TxId → Type 0) (Q : TxId → ℕ → Type 0) (O : TxId → Type 0) (n : ℕ) (log : List LogRecord) (set : List TxId) → AllFrom A Q O n log → AllFrom A Q O n (aborts_of log set)
 aborts_all A Q O n log [] a = tt
-aborts_all A Q O n log (t ∷ ts) a = at (wrote_in log t) refl (aborts_all A Q O n log ts a)
+aborts_all A Q O n log (t ∷ ts) a = at (has_standing log t) refl (aborts_all A Q O n log ts a)
   where
-    at : (b : Bool) → wrote_in log t ≡ b → AllFrom A Q O n (aborts_of log ts) → AllFrom A Q O n (map (λ u. Abort u) (cond b (t ∷ filter (wrote_in log) ts) (filter (wrote_in log) ts)))
-    at true e k = (wrote_all A Q O n log t a e, k)
+    at : (b : Bool) → has_standing log t ≡ b → AllFrom A Q O n (aborts_of log ts) → AllFrom A Q O n (map (λ u. Abort u) (cond b (t ∷ filter (has_standing log) ts) (filter (has_standing log) ts)))
+    at true e k = (wrote_all A Q O n log t a (standing_wrote log t e), k)
     at false e k = k
 
 pub standing_of : (A : TxId → Type 0) (Q : TxId → ℕ → Type 0) (O : TxId → Type 0) (n : ℕ) (log : List LogRecord) → AllFrom A Q O n log → AllByRecursion (λ w. A w.tx) (standing log)
 standing_of A Q O n log a = standing_all A Q O n 0 log [] a tt
 
 undone_all : (A : TxId → Type 0) (Q : TxId → ℕ → Type 0) (O : TxId → Type 0) (n : ℕ) (log : List LogRecord) (set : List TxId) → AllFrom A Q O n log → AllFrom A Q O n (log ++ aborts_of log set ++ clrs_of set (standing log))
-undone_all A Q O n log set a = push_records A Q O n (log ++ aborts_of log set) (clrs_of set (standing log)) (push_records A Q O n log (aborts_of log set) a (aborts_all A Q O n log set a)) (clrs_all A Q O n set (standing log) (standing_of A Q O n log a))
+undone_all A Q O n log set a = push_records A Q O n (log ++ aborts_of log set) (clrs_of set (standing log)) (push_records A Q O n log (aborts_of log set) a (aborts_all A Q O n log set a)) (clrs_all A Q O n (is_of set) (standing log) (standing_of A Q O n log a))
 
 -- ---- changes
 
@@ -226,6 +227,22 @@ from_rolled n ep D A Q O K s tx p = record {
   log = undone_all A Q O n s.local.log (doomed_here s.local tx) p.log;
   requests = p.requests;
 }
+
+-- a going back adds CLRs and UNADDs of one that wrote
+pub from_back : (n ep : ℕ) (D : TxId → Birth → Type 0) (A : TxId → Type 0) (Q : TxId → ℕ → Type 0) (O K : TxId → Type 0) (s : Shard) (tx : TxId) (i : ℕ) → Origins n ep D A Q O K s → Origins n ep D A Q O K (with_local (roll_to tx i) s)
+from_back n ep D A Q O K s tx i p =
+    let ws = standing s.local.log in
+    let gone = is_at (newest_lsns i tx ws) in
+    record {
+      shard = p.shard;
+      epoch = p.epoch;
+      out = p.out;
+      voters = p.voters;
+      parts = p.parts;
+      known = p.known;
+      log = push_records A Q O n s.local.log (clrs_by gone ws) p.log (clrs_all A Q O n gone ws (standing_of A Q O n s.local.log p.log));
+      requests = p.requests;
+    }
 
 pub in_one : (t u : TxId) → tx_in t (u ∷ []) ≡ true → t ≡ u
 in_one t u e = ⊎_elim (λ a. sym (tx_true u t a)) (λ a. absurd (both_ways false refl a)) (or_cases (tx_same u t) false e)

@@ -27,9 +27,10 @@ use Rattle.clv_base.specs.declared.state.Taken.TheVariants.{Waiting as IsAwaited
 use Rattle.clv_base.specs.Orders.{Table, tx_same, tx_in, tx_get, tx_put, tx_insert}
 use Rattle.clv_base.specs.declared.changes.Change.{Change}
 use Rattle.clv_base.specs.declared.changes.Change.TheVariants.{Sets, Adds}
-use Rattle.clv_base.specs.Logs.{StandingUpdate, standing, wrote_in, aborted_in, ended_in, prepare_of, in_doubt_from, doubt_by, in_doubt, writers, committed_in}
+use Rattle.clv_base.specs.Logs.{StandingUpdate, standing, has_standing, aborted_in, ended_in, prepare_of, in_doubt_from, doubt_by, in_doubt, writers, committed_in}
 use Rattle.clv_base.specs.State.{Shard, Local, with_local, is_present}
-use Rattle.clv_base.specs.Undo.{stage_of, clrs_of}
+use Rattle.clv_base.specs.Undo.{stage_of, is_of, clrs_of}
+use Rattle.clv_base.specs.Backs.{standing_numbers, count_after}
 use Rattle.clv_base.specs.Facts.{facts_of, is_waiting, undecided_of}
 use Rattle.clv_base.specs.Needs.{writes_of, value_at, key_of}
 use Rattle.clv_base.specs.Participant.{asked_voter, taken_if, ask_by, asks, restored_voter}
@@ -44,10 +45,10 @@ use Rattle.law_base.proofs.Rows.{rows_get, rows_put}
 use Rattle.law_base.proofs.Tables.{get_changed, get_put}
 use Rattle.law_base.proofs.Stages.{written_parts}
 use Rattle.shard_laws.proofs.Events.DueKeeps.{waiting_here}
-use Rattle.history_cases.proofs.Stepping.{with_work, Step, op_dies, op_answers, request_new, request_closes, drops, sends, prepare_closes, prepare_again, vote_counts, decision_comes, decision_again, done_counts, asked, reminds, flushes, Happens, finishes, stops}
+use Rattle.history_cases.proofs.Stepping.{with_work, Step, op_dies, op_answers, rolls_back, request_new, request_closes, drops, sends, prepare_closes, prepare_again, vote_counts, decision_comes, decision_again, done_counts, asked, reminds, flushes, Happens, finishes, stops}
 use Rattle.history_cases.proofs.Telling.{all_map}
 use Rattle.history_laws.proofs.Entries.WhatOperationsDo.{OpIs, dies, rolls, performs, reply_is}
-use Rattle.fate_laws.proofs.Origins.DueKeepsOrigins.{SomeRequest, OwnRequest, AwayRequest, away_some, own_some, BirthFrom, StageFrom, PartFrom, CommitFrom, RecordFrom, StateFrom, RowFrom, MessageFrom, Origins, part_of, none_changed, AllFrom, push_records, clrs_all, standing_of, from_rolled, from_send, from_push, row_of, from_set, from_finish}
+use Rattle.fate_laws.proofs.Origins.DueKeepsOrigins.{SomeRequest, OwnRequest, AwayRequest, away_some, own_some, BirthFrom, StageFrom, PartFrom, CommitFrom, RecordFrom, StateFrom, RowFrom, MessageFrom, Origins, part_of, none_changed, AllFrom, push_records, clrs_all, standing_of, from_rolled, from_back, from_send, from_push, row_of, from_set, from_finish}
 use Rattle.history_laws.proofs.Entries.AllFromEach.{all_in}
 
 -- ---- what an entry owes: an operation that is answered, a request that is taken, a Prepare that comes
@@ -145,8 +146,8 @@ from_close n ep D A Q O K da s tx home one a r p =
       voters = p.voters;
       parts = closed_rows D (SomeRequest Q O) tx s.local.parts (own_some Q O home tx r) p.parts;
       known = λ t k e. p.known t k (closed_known tx s.local.parts t e);
-      log = push_records A Q O n s.local.log (closing (wrote_in s.local.log tx) one tx home (undecided_of s.local tx)) p.log
-          (closing_all A Q O n (wrote_in s.local.log tx) one tx home (undecided_of s.local tx) (da tx own.1 (active_done D own.0 tx own.1 own.2 own.3)) r);
+      log = push_records A Q O n s.local.log (closing (has_standing s.local.log tx) one tx home (undecided_of s.local tx)) p.log
+          (closing_all A Q O n (has_standing s.local.log tx) one tx home (undecided_of s.local tx) (da tx own.1 (active_done D own.0 tx own.1 own.2 own.3)) r);
       requests = p.requests;
     }
 
@@ -278,6 +279,7 @@ came_from Q O n to home tx e w = inl (home, (λ f. w.1 (e ∙ sym f)), w.0)
 pub from_step : (n ep : ℕ) (D : TxId → Birth → Type 0) (A : TxId → Type 0) (Q : TxId → ℕ → Type 0) (O K : TxId → Type 0) → ((t : TxId) (b : Birth) → D t b → A t) → (s t : Shard) {e : Event} {o : Outcome} → Step s e o t → Owes n D Q O e o → Origins n ep D A Q O K s → Origins n ep D A Q O K t
 from_step n ep D A Q O K da s _ (op_dies tx birth nth seen op cause l g) w p = dies_from n ep D A Q O K s tx birth seen op cause l (reply_is s.shard s.local tx birth seen op (OpDies cause l) g) p
 from_step n ep D A Q O K da s _ (op_answers tx birth nth seen op answer l g) w p = answers_from n ep D A Q O K da s tx birth seen op answer l (reply_is s.shard s.local tx birth seen op (OpAnswers answer l) g) w p
+from_step n ep D A Q O K da s _ (rolls_back tx nth seen upto f g) w p = from_back n ep D A Q O K s tx (count_after upto (standing_numbers tx s.journal)) p
 from_step n ep D A Q O K da s _ (request_new tx ts f g) w p = from_coordinate n ep D A Q O K s tx ts w p
 from_step n ep D A Q O K da s _ (request_closes tx ts f g) w p =
     from_coordinate n ep D A Q O K (with_local (close_part tx s.shard (is_alone (others s.shard ts))) s) tx ts w (from_close n ep D A Q O K da s tx s.shard (is_alone (others s.shard ts)) g (inl (subst (Q tx) (sym p.shard) w)) p)
@@ -377,7 +379,7 @@ restart_all A Q O n shard log run epoch a =
     let ls = all_kept A _ (writers (standing log)) (all_in A (writers (standing log)) (in_writers A (standing log) (standing_of A Q O n log a))) in
     push_records A Q O n (undo_records shard log) (RestartRecord run epoch ∷ [])
     (push_records A Q O n _ (clrs_of (losers shard log) (standing log)) (map_rows A (RecordFrom A Q O n) (λ t. Abort t) (filter (λ t. not (aborted_in log t)) (losers shard log)) (λ t x. x) (all_kept A (λ t. not (aborted_in log t)) (losers shard log) ls))
-    (clrs_all A Q O n (losers shard log) (standing log) (standing_of A Q O n log a)))
+    (clrs_all A Q O n (is_of (losers shard log)) (standing log) (standing_of A Q O n log a)))
     (tt, tt)
 
 pub opened_all : (A : TxId → Type 0) (Q : TxId → ℕ → Type 0) (O : TxId → Type 0) (n shard : ℕ) (log : List LogRecord) (run epoch : ℕ) → AllFrom A Q O n log → AllFrom A Q O n (log_after_restart shard log run epoch)

@@ -37,7 +37,7 @@ use Rattle.fate_laws.proofs.Homes.ShardKnowsHomes.{Known}
 use Rattle.fate_laws.proofs.History.EntryByEntry.{Next, next_at, AskedIn, one_home, DurableIn}
 use Rattle.fate_laws.proofs.Homes.FrontsKeepHomes.{Fated, delivered}
 use Rattle.fate_laws.proofs.Homes.DecidedStaysDecided.{left_committed}
-use Rattle.fate_laws.proofs.Parts.YesVotesArePrepared.{Bound, ordered_wrote}
+use Rattle.fate_laws.proofs.Parts.YesVotesArePrepared.{Bound}
 use Rattle.fate_laws.proofs.Parts.CommittedAreVotedFor.{Touched, Good, Base}
 use Rattle.fate_laws.proofs.Parts.FrontsKeepParts.{WasTaken, FineAt, Bindings, bound_message, bindings_front}
 use Rattle.protocol_laws.proofs.LogsInOrder.OneRecordMore.{prepared_there}
@@ -82,15 +82,15 @@ closed_made log s _ tx to home stamp (by_restart epoch kept u r) e n = absurd cc
 
 -- ---- it is due
 
-bound_due : (run : ℕ) (W : TxId → ℕ → List (ℕ × ℕ) → Type 0) (s : Shard) (tx : TxId) → Base run W s → Bound s tx → IsDue s tx
-bound_due run W s tx b k = (
+bound_due : (run : ℕ) (W : TxId → ℕ → List (ℕ × ℕ) → Type 0) (s : Shard) (tx : TxId) → Base run W s → stage_of s.local tx ≡ Some Closed → Bound s tx → IsDue s tx
+bound_due run W s tx b c k = (
   all_from (committed_in s.local.log) (predecessors_of s.local.pairs tx) (λ q i. k.pairs q (in_pair s.local.pairs tx q i)),
-  ordered_wrote s.local.log tx b.ordered (prepared_there s.local.log tx k.listed (front_prepare s.durable s.local.log tx k.listed k.prepare)),
+  b.stands tx (prepared_there s.local.log tx k.listed (front_prepare s.durable s.local.log tx k.listed k.prepare)) c,
 )
 
 fine_due : (splits : List ℕ) (before after : List (List LogRecord)) (h pre : History) (n : ℕ) (tx : TxId) → n < shard_count splits → Bindings splits before after h pre → stage_of (state_at before after n pre).local tx ≡ Some Closed
     → committed_in (state_at before after n pre).local.log tx ≡ false → FineAt before after pre n tx → IsDue (state_at before after n pre) tx
-fine_due splits before after h pre n tx i b c u (a, inl k) = bound_due (run_after before) (WasTaken h) (state_at before after n pre) tx (b.parted n i).base k
+fine_due splits before after h pre n tx i b c u (a, inl k) = bound_due (run_after before) (WasTaken h) (state_at before after n pre) tx (b.parted n i).base c k
 fine_due splits before after h pre n tx i b c u (a, inr (inl k)) = absurd (k.unclosed c)
 fine_due splits before after h pre n tx i b c u (a, inr (inr d)) = absurd (both_ways _ u (front_committed (state_at before after n pre).durable (state_at before after n pre).local.log tx d))
 

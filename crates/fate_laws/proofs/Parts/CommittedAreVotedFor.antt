@@ -1,11 +1,9 @@
 -- What a shard knows of parts: what its votes bind, who was asked, and of whose COMMIT all touched shards voted well.
-use Rattle.std.proofs.Common.{◌≡◌, ◌⊎◌, inl, inr, ⊎_elim, refl, sym, ap, subst, ◌∙◌, ℕ, ◌+◌, ◌≤◌, true, false, cond, Bool, not, ◌&&◌, ◌==◌, List, [], ◌∷◌, ◌++◌, Option, Some, None, length, arith, eqb-true}
-use Rattle.std.specs.Prelude.{⊤, take}
+use Rattle.std.proofs.Common.{◌≡◌, ◌⊎◌, inl, inr, ⊎_elim, refl, sym, ap, subst, ◌∙◌, ℕ, ◌≤◌, true, false, cond, Bool, not, ◌&&◌, ◌==◌, List, [], ◌∷◌, Option, Some, None, length, arith, eqb-true}
+use Rattle.std.specs.Prelude.{⊤}
 use Rattle.std.specs.List.{AllByRecursion, list_all, filter}
 use Rattle.std.proofs.lemmas.Bool.{both_ways, and_parts, or_cases, or_left, or_right, eq-eqb, false_from_ne_true}
-use Rattle.std.proofs.lemmas.List.{take-append-le, take_all}
 use Rattle.clv_base.specs.declared.names.TxId.{TxId}
-use Rattle.clv_base.specs.declared.logs.LogRecord.{LogRecord}
 use Rattle.clv_base.specs.declared.logs.LogRecord.TheVariants.{Prepare as PrepareRecord}
 use Rattle.clv_base.specs.declared.causes.AbortCause.{AbortCause}
 use Rattle.clv_base.specs.declared.causes.Vote.{Vote}
@@ -20,24 +18,25 @@ use Rattle.clv_base.specs.declared.state.RequestState.TheVariants.{Undecided, Co
 use Rattle.clv_base.specs.declared.state.Ruling.TheVariants.{Commit as CommitVerdict, Abort as AbortVerdict, End as EndVerdict}
 use Rattle.clv_base.specs.declared.parts.PartFacts.{PartFacts}
 use Rattle.clv_base.specs.Orders.{tx_in, nat_in}
-use Rattle.clv_base.specs.Logs.{committed_in, prepared_in, wrote_in, prepare_of, prepare_lsn, is_prepare_of}
+use Rattle.clv_base.specs.Logs.{committed_in, prepared_in, has_standing, prepare_of}
 use Rattle.clv_base.specs.State.{Shard}
 use Rattle.clv_base.specs.Undo.{stage_of}
 use Rattle.clv_base.specs.Facts.{undecided_of, predecessors_of, is_waiting}
 use Rattle.clv_base.specs.Coordinator.{others, vote_from, is_good, is_agreed, refused_ruling, refusal, end_ruling, undecided_ruling, ruling_in, ruling_by}
 use Rattle.law_base.proofs.Changed.{none_some, some_same}
-use Rattle.law_base.proofs.Commits.{commit_durable, durable_keeps, place_keeps, place_some, place_less, place_there, place_new}
+use Rattle.law_base.proofs.Commits.{commit_durable, durable_keeps}
 use Rattle.law_base.proofs.Tables.{is_pair, in_pair}
 use Rattle.law_base.proofs.Lists.{all_mono}
 use Rattle.shard_laws.proofs.Keeping.ChangesKeepPrepared.{prepare_here}
 use Rattle.shard_laws.proofs.Order.ChangesKeepOrder.{prepare_some}
-use Rattle.clv_base.proofs.SameNames.{tx_self}
-use Rattle.protocol_laws.specs.Growth.{IsPrefixOf}
 use Rattle.law_base.proofs.Sets.{in_filter}
+use Rattle.shard_laws.proofs.Order.WhoseWritesStand.{has_still}
+use Rattle.fate_laws.proofs.Logs.PreparedWritesStand.{AllFirm, firm_append}
+use Rattle.fate_laws.proofs.Parts.ClosedPartsKeepWrites.{GrowsFirmly}
 use Rattle.fate_laws.proofs.Logs.LogOnlyGrows.{Inside}
 use Rattle.fate_laws.proofs.Parts.OthersCloseOrGo.{Calm}
 use Rattle.fate_laws.proofs.Logs.WhatPreparesOrCommits.{ClosedNow}
-use Rattle.fate_laws.proofs.Parts.YesVotesArePrepared.{Bound, Reads, bound_calm, reads_calm, Ordered, Listed}
+use Rattle.fate_laws.proofs.Parts.YesVotesArePrepared.{Bound, Reads, bound_calm, reads_calm, Listed}
 use Rattle.fate_laws.proofs.Parts.PutVotesAreHeld.{votes_get}
 use Rattle.protocol_laws.proofs.LogsInOrder.OneRecordMore.{prepared_there}
 use Rattle.history_cases.proofs.Durability.{grown_length}
@@ -57,33 +56,15 @@ Good run W F tx = (m : ℕ) → (tx.run ≡ run → Touched W m tx) → F m tx
 
 pub record Base (run : ℕ) (W : TxId → ℕ → List (ℕ × ℕ) → Type 0) (s : Shard) : Type 0 where
   pub counted : s.durable ≤ length s.local.log
-  pub ordered : Ordered s.local.log
+  -- of who is prepared here and closed a write stands
+  pub firm : AllFirm [] s.local.log
+  pub stands : (tx : TxId) → prepared_in s.local.log tx ≡ true → stage_of s.local tx ≡ Some Closed → has_standing s.local.log tx ≡ true
   pub listed : (tx : TxId) → Listed s tx
   pub unprepared : (tx : TxId) → stage_of s.local tx ≡ Some Active → prepared_in s.local.log tx ≡ false
   pub seen : (tx : TxId) → prepared_in s.local.log tx ≡ true → tx.run ≡ run → HomeOr W s.shard tx
   pub closed : (tx : TxId) → stage_of s.local tx ≡ Some Closed → tx.run ≡ run → HomeOr W s.shard tx
 
 -- ---- the base is kept
-
--- where the first PREPARE stands in a longer log
-pub longer_ordered : (xs ys : List LogRecord) (t : TxId) (k : ℕ) → IsPrefixOf xs ys → Ordered xs → prepared_in xs t ≡ true → prepare_lsn ys t ≡ Some k → wrote_in (take k ys) t ≡ true
-longer_ordered xs ys t k (more_of, e) o p h =
-    let j = place_some 0 (is_prepare_of t) xs p in
-    let q : Some j.0 ≡ Some k = sym (subst (λ l. prepare_lsn l t ≡ Some j.0) e (place_keeps 0 (is_prepare_of t) xs more_of j.0 j.1)) ∙ h in
-    let r : j.0 ≡ k = some_same j.0 k q in
-    let l = place_less 0 (is_prepare_of t) xs j.0 j.1 in
-    let f : take k ys ≡ take j.0 xs = ap (take k) (sym e) ∙ ap (λ n. take n (xs ++ more_of)) (sym r) ∙ take-append-le j.0 xs more_of (omega (arith, l)) in
-    subst (λ z. wrote_in z t ≡ true) (sym f) (o t j.0 j.1)
-
-new_ordered : (s t : Shard) (tx : TxId) (k : ℕ) → ClosedNow s t tx → prepared_in s.local.log tx ≡ false → prepare_lsn t.local.log tx ≡ Some k → wrote_in (take k t.local.log) tx ≡ true
-new_ordered s t tx k c u h =
-    let us = undecided_of s.local tx in
-    let j = place_new 0 (is_prepare_of tx) s.local.log (PrepareRecord tx c.home us) u (tx_self tx) in
-    let q : Some (0 + length s.local.log) ≡ Some k = sym j ∙ subst (λ l. prepare_lsn l tx ≡ Some k) c.log h in
-    let r0 : 0 + length s.local.log ≡ k = some_same _ k q in
-    let r : length s.local.log ≡ k = omega (arith, r0) in
-    let f : take k t.local.log ≡ s.local.log = ap (take k) c.log ∙ ap (λ n. take n (s.local.log ++ PrepareRecord tx c.home us ∷ [])) (sym r) ∙ take-append-le (length s.local.log) s.local.log (PrepareRecord tx c.home us ∷ []) (omega arith) ∙ take_all (length s.local.log) s.local.log (omega arith) in
-    subst (λ z. wrote_in z tx ≡ true) (sym f) c.wrote
 
 new_list : (s t : Shard) (tx : TxId) (p : ℕ × List TxId) → ClosedNow s t tx → prepared_in s.local.log tx ≡ false → prepare_of t.local.log tx ≡ Some p → p.1 ≡ undecided_of s.local tx
 new_list s t tx p c u h =
@@ -95,12 +76,19 @@ pub base_next : (run : ℕ) (W : TxId → ℕ → List (ℕ × ℕ) → Type 0) 
     → ((tx : TxId) (p : ℕ × List TxId) → prepare_of t.local.log tx ≡ Some p → (prepare_of s.local.log tx ≡ Some p) ⊎ ClosedNow s t tx)
     → ((tx : TxId) → stage_of t.local tx ≡ Some Closed → (stage_of s.local tx ≡ Some Closed) ⊎ ((stage_of s.local tx ≡ Some Active) × (tx.run ≡ run → HomeOr W s.shard tx)))
     → ((tx q : TxId) → stage_of t.local tx ≡ Some Closed → is_pair s.local.pairs tx q ≡ true → is_pair t.local.pairs tx q ≡ true)
-    → ((tx : TxId) → stage_of t.local tx ≡ Some Active → prepared_in s.local.log tx ≡ false) → Base run W s → Base run W t
-base_next run W s t i prep clo keep act b = record {
+    → ((tx : TxId) → stage_of t.local tx ≡ Some Active → prepared_in s.local.log tx ≡ false) → GrowsFirmly s.local.log t.local.log
+    → ((tx : TxId) → stage_of s.local tx ≡ Some Closed → stage_of t.local tx ≡ Some Closed → has_standing s.local.log tx ≡ true → has_standing t.local.log tx ≡ true) → Base run W s → Base run W t
+base_next run W s t i prep clo keep act firmly stay b = record {
   counted = let l = grown_length s.local.log t.local.log i.log in let d = i.durable in omega (arith, l, d, b.counted);
-  ordered = λ tx k h.
-      let x = prepare_some t.local.log tx (place_there 0 (is_prepare_of tx) t.local.log k h) in
-      ⊎_elim (λ e. longer_ordered s.local.log t.local.log tx k i.log b.ordered (prepared_there s.local.log tx x.0 e) h) (λ c. new_ordered s t tx k c (b.unprepared tx c.was) h) (prep tx x.0 x.1);
+  firm = subst (AllFirm []) firmly.1 (firm_append [] s.local.log firmly.0 b.firm firmly.2);
+  stands = λ tx h c.
+      let x = prepare_some t.local.log tx h in
+      ⊎_elim
+      (λ e.
+      let p = prepared_there s.local.log tx x.0 e in
+      ⊎_elim (λ st. stay tx st c (b.stands tx p st)) (λ st. absurd (both_ways _ (b.unprepared tx st.0) p)) (clo tx c))
+      (λ n. subst (λ l. has_standing l tx ≡ true) (sym n.log) (has_still s.local.log (PrepareRecord tx n.home (undecided_of s.local tx) ∷ []) tx refl n.stands))
+      (prep tx x.0 x.1);
   listed = λ tx p q c h m.
       ⊎_elim
       (λ e. ⊎_elim

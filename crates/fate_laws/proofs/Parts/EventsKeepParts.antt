@@ -24,7 +24,7 @@ use Rattle.clv_base.specs.declared.events.Event.TheVariants.{Op as OpEvent, Requ
 use Rattle.clv_base.specs.declared.events.Outcome.{Outcome}
 use Rattle.clv_base.specs.declared.events.Outcome.TheVariants.{Asked, Taken}
 use Rattle.clv_base.specs.Orders.{Table, tx_same, tx_in, tx_get, tx_put, tx_set, nat_in}
-use Rattle.clv_base.specs.Logs.{committed_in, prepared_in, prepare_of, commit_lsn}
+use Rattle.clv_base.specs.Logs.{committed_in, prepared_in, has_standing, prepare_of, commit_lsn}
 use Rattle.clv_base.specs.State.{Shard}
 use Rattle.clv_base.specs.Undo.{stage_of}
 use Rattle.clv_base.specs.Facts.{facts_of, has_durable_commit}
@@ -46,8 +46,9 @@ use Rattle.history_cases.proofs.Uncommitting.{with_more, rolled}
 use Rattle.fate_laws.proofs.Logs.LogOnlyGrows.{Inside, inside_self, inside_step, inside_due}
 use Rattle.fate_laws.proofs.Parts.OthersCloseOrGo.{Calm, calm_same, calm_step, step_keeps, calm_one, due_closed, due_prepares, there_closed}
 use Rattle.fate_laws.proofs.Logs.WhatPreparesOrCommits.{step_prepares, Closes, by_request, by_prepare, step_closed, Commits, alone, decided, step_commits}
-use Rattle.fate_laws.proofs.Parts.YesVotesArePrepared.{ordered_wrote, VoteIs, kept, yes, read, no, vote_is, yes_binds}
+use Rattle.fate_laws.proofs.Parts.YesVotesArePrepared.{VoteIs, kept, yes, read, no, vote_is, yes_binds}
 use Rattle.fate_laws.proofs.Parts.CommittedAreVotedFor.{Touched, HomeOr, Good, Base, base_next, VotedIs, VoterIs, VoteTells, RowIs, Tells, Parted, voted_calm, voters_calm, tells_calm, agreed_good, commit_agreed, abort_undecided, others_all}
+use Rattle.fate_laws.proofs.Parts.ClosedPartsKeepWrites.{GrowsFirmly, nothing, step_firmly, step_stands, due_firmly, due_stands}
 use Rattle.fate_laws.proofs.Parts.PutVotesAreHeld.{votes_put}
 use Rattle.fate_laws.proofs.Homes.ShardKnowsHomes.{new_commit}
 
@@ -91,12 +92,12 @@ base_step run W S F s t h w b =
     base_next run W s t (inside_step s t h) (λ tx p. step_prepares s t tx p h)
     (λ tx c. ⊎_elim (λ x. inl x) (λ x. inr (closes_owed run W S F s tx x w)) (step_closed s t tx h c))
     (λ tx q c i. step_keeps s t tx q h (there_closed (stage_of t.local tx) c) i)
-    (λ tx a. active_step run W S F s t tx h w b a) b
+    (λ tx a. active_step run W S F s t tx h w b a) (step_firmly s t h b.unprepared) (λ tx c n k. step_stands s t tx h n k) b
 
 base_due : (run : ℕ) (W : TxId → ℕ → List (ℕ × ℕ) → Type 0) (s t : Shard) → Due s (Some t) → Base run W s → Base run W t
 base_due run W s t d b =
     base_next run W s t (inside_due s s t d (inside_self s)) (λ tx p h. inl (due_prepares s t d tx p h)) (λ tx c. inl (due_closed s t tx d c))
-    (λ tx q c i. (calm_one s t tx d).keeps q (there_closed (stage_of t.local tx) c) i) (λ tx a. b.unprepared tx ((calm_one s t tx d).active a)) b
+    (λ tx q c i. (calm_one s t tx d).keeps q (there_closed (stage_of t.local tx) c) i) (λ tx a. b.unprepared tx ((calm_one s t tx d).active a)) (due_firmly s t d) (λ tx c n k. due_stands s t tx d n k) b
 
 -- ---- what a step does to the tables
 
@@ -313,11 +314,11 @@ vote_binds : (run : ℕ) (W : TxId → ℕ → List (ℕ × ℕ) → Type 0) (S 
     → VotedIs S (finish_reader tx vote (with_vote s tx v vote)) tx (Some vote)
 vote_binds run W S F s tx v vote c a k (kept e) b = voted_calm S s (finish_reader tx vote (with_vote s tx v vote)) tx (Some vote) (λ z. c) b.counted (subst (VotedIs S s tx) e k)
 vote_binds run W S F s tx v _ c a k (yes st d e) b = voted_calm S s (finish_reader tx Yes (with_vote s tx v Yes)) tx (Some Yes) (λ z. c) b.counted (a, yes_binds s tx (b.listed tx) st d e)
-vote_binds run W S F s tx v _ c a k (read st f) b =
+vote_binds run W S F s tx v _ c a k (read st f g) b =
     let gone : stage_in (finish_reader tx Read (with_vote s tx v Read)).local.parts tx ≡ Some (Gone None) = stage_own (tx ∷ []) None tx s.local.parts (or_left (tx_same tx tx) false (tx_self tx)) ∙ ap (gone_by None) st in (
       a,
       record {
-        unprepared = false_from_ne_true _ (λ h. both_ways _ f (ordered_wrote s.local.log tx b.ordered h));
+        unprepared = false_from_ne_true _ (λ h. both_ways _ f (b.stands tx h st));
         inactive = λ h. differ (sym gone ∙ h);
         unclosed = λ h. differs (sym gone ∙ h);
       },
@@ -419,7 +420,8 @@ parted_same run W S F s t c i e f g a v o p =
     let l = (p.base).counted in
     record {
       base = base_next run W s t i (λ tx q h. inl (subst (λ z. prepare_of z tx ≡ Some q) e h)) (λ tx h. inl (subst (λ z. stage_in z tx ≡ Some Closed) f h)) (λ tx q h j. subst (λ z. is_pair z tx q ≡ true) (sym g) j)
-          (λ tx h. (p.base).unprepared tx (subst (λ z. stage_in z tx ≡ Some Active) f h)) p.base;
+          (λ tx h. (p.base).unprepared tx (subst (λ z. stage_in z tx ≡ Some Active) f h))
+          (subst (GrowsFirmly s.local.log) (sym e) (nothing s.local.log)) (λ tx d n h. subst (λ z. has_standing z tx ≡ true) (sym e) h) p.base;
       log = λ tx h. p.log tx (subst (λ z. committed_in z tx ≡ true) e h);
       rows = subst (λ n. RowsAre W F n t.requests) (sym i.shard) (subst (RowsAre W F s.shard) (sym a) p.rows);
       voters = subst (VotersAre S t) (sym v) (voters_calm S s t s.voters (λ tx z. c tx) l p.voters);

@@ -35,13 +35,13 @@ use Rattle.law_base.proofs.Commits.{committed_keeps, durable_further}
 use Rattle.law_base.proofs.Lists.{all_mono}
 use Rattle.protocol_laws.specs.SessionLaws.{tx_of, works_on, ended_by}
 use Rattle.protocol_laws.proofs.SessionsKeepOrder.{sessions_keep_order}
-use Rattle.protocol_laws.proofs.LogOnlyGrows.DueGrowsLogs.{same as same_log, more}
+use Rattle.protocol_laws.proofs.LogOnlyGrows.DueGrowsLogs.{same as same_log}
 use Rattle.history_cases.proofs.Stepping.{Step, sends, Happens, finishes, stops}
 use Rattle.history_cases.proofs.Entering.{Makes, by_event, by_flush, by_failure, by_restart, makes}
 use Rattle.history_cases.proofs.Durability.{Counted}
 use Rattle.history_cases.proofs.Merging.{Placed, in_order, not_before_itself, before_then, Among, among_append, is_among, in_turn, precedes_before, own_in_order}
 use Rattle.history_laws.specs.Openings.{LegalFrom}
-use Rattle.history_laws.proofs.Logs.FoundLogsInOrder.{log_found}
+use Rattle.history_laws.proofs.Logs.FoundLogsInOrder.{found_in_order, log_found}
 use Rattle.history_laws.proofs.Entries.NothingFollowsRequests.{nothing_follows}
 use Rattle.history_cases.proofs.Telling.{IsRequest}
 use Rattle.history_cases.proofs.OldRuns.{none_of_this_run}
@@ -56,8 +56,10 @@ use Rattle.fate_laws.proofs.Parts.OthersCloseOrGo.{calm_same}
 use Rattle.fate_laws.proofs.Parts.YesVotesArePrepared.{Bound, Reads}
 use Rattle.fate_laws.proofs.Parts.CommittedAreVotedFor.{Touched, Good, VotedIs, VoterIs, VoteTells, RowIs, Tells, Parted}
 use Rattle.fate_laws.proofs.Parts.EventsKeepParts.{Owes, Once, parted_step, parted_same, parted_finish}
-use Rattle.fate_laws.proofs.Parts.RestartsKeepParts.{parted_state, parted_revived, bound_state, reads_state, added_ordered}
-use Rattle.fate_laws.proofs.Parts.FoundCommitsAreBound.{ordered_opening, opening_settled}
+use Rattle.fate_laws.proofs.Parts.RestartsKeepParts.{parted_state, parted_revived, bound_state, reads_state}
+use Rattle.fate_laws.proofs.Parts.FoundCommitsAreBound.{opening_settled}
+use Rattle.fate_laws.proofs.Logs.PreparedWritesStand.{firm_opened, follows_firm}
+use Rattle.shard_laws.proofs.Order.RecordByRecord.{from_disorder}
 use Rattle.fate_laws.proofs.Parts.BoundStaysBound.{NotOwn, bound_flushed, bound_made, reads_made}
 use Rattle.protocol_laws.proofs.LogsInOrder.OneRecordMore.{prepared_there}
 use Rattle.shard_laws.proofs.Order.ChangesKeepOrder.{prepare_some}
@@ -122,7 +124,8 @@ parted_flushed run W S F s n l m p =
     record {
       base = record {
         counted = m;
-        ordered = b.ordered;
+        firm = b.firm;
+        stands = b.stands;
         listed = λ tx x q c e i. ⊎_elim (λ d. inl (durable_further s.local.log s.durable n q l d)) (λ r. inr r) (b.listed tx x q c e i);
         unprepared = b.unprepared;
         seen = b.seen;
@@ -421,7 +424,7 @@ module _ {splits : List ℕ} {before after : List (List LogRecord)} {h : History
         let log = log_of before n in
         let run = run_after before in
         parted_state run (WasTaken h) (Sought before []) (FineAt before after []) n run 0 (log_after_restart n log run 0) 0 []
-        (added_ordered log (log_after_restart n log run 0) (more log _) (λ t p e. opening_prepares n log run 0 t p e) (ordered_opening splits before n l.opens (log_found l n i)))
+        (firm_opened n log run 0 (follows_firm n [] log (from_disorder n 0 [] log (found_in_order splits before n l.opens (log_found l n i)))))
         (λ tx p r. let x = prepare_some (log_after_restart n log run 0) tx p in absurd (none_prepared splits before n tx l.opens (log_found l n i) (prepared_there log tx x.0 (opening_prepares n log run 0 tx x.0 x.1)) r))
         (λ tx c m d. let b = opening_adds n log run 0 tx c in opening_fine splits before after n m tx l.opens b (λ r. none_of_this_run splits before n tx l.opens (log_found l n i) b r));
     said = λ x i. elim i [ ];

@@ -21,24 +21,24 @@ use Rattle.clv_base.specs.declared.events.Event.TheVariants.{Op as OpEvent}
 use Rattle.clv_base.specs.declared.events.Outcome.{Outcome}
 use Rattle.clv_base.specs.Orders.{tx_same, tx_in, tx_get}
 use Rattle.clv_base.specs.declared.changes.Change.{Change}
-use Rattle.clv_base.specs.Logs.{prepare_of, wrote_in}
-use Rattle.clv_base.specs.Locks.{violated}
-use Rattle.clv_base.specs.Needs.{needs_of, writes_of, value_at, key_of}
+use Rattle.clv_base.specs.Logs.{prepare_of, has_standing}
+use Rattle.clv_base.specs.Needs.{writes_of, value_at, key_of}
 use Rattle.clv_base.specs.State.{Shard, Local, is_present, with_local}
 use Rattle.clv_base.specs.Undo.{stage_of, gone_in, pairs_without, doomed_here, roll_back}
 use Rattle.clv_base.specs.Facts.{undecided_of}
 use Rattle.clv_base.specs.Coordinator.{others}
-use Rattle.clv_base.specs.OneShard.{OpDies, OpAnswers, written, locked, performed, rolled_back_if, close_part, closed_in, marked_in}
+use Rattle.clv_base.specs.OneShard.{OpDies, OpAnswers, written, locked, performed, rolled_back_if, close_part, closed_in, marked_in, violated_here}
 use Rattle.clv_base.specs.Due.{finish_reader, with_vote, do_ruling, with_ruling, with_due_done}
 use Rattle.clv_base.specs.Events.{is_alone, finish}
 use Rattle.clv_base.proofs.SameNames.{tx_true, tx_self}
+use Rattle.clv_base.specs.Backs.{count_after, standing_numbers}
 use Rattle.law_base.proofs.Tables.{stage_by, stage_in, is_pair, add_from, add_keeps, without_pairs, pairs_stay}
 use Rattle.law_base.proofs.Stages.{stage_own, active_back, closed_back, gone_out, stage_closed, closed_other, stage_marked, other_part}
 use Rattle.history_laws.proofs.Entries.WhatOperationsDo.{OpIs, dies, rolls, performs, reply_is}
-use Rattle.history_cases.proofs.Stepping.{Due, commits, votes, rules, KeptByDue, settled, Step, op_dies, op_answers, request_closes, drops, prepare_closes, decision_comes}
+use Rattle.history_cases.proofs.Stepping.{Due, commits, votes, rules, KeptByDue, settled, Step, op_dies, op_answers, request_closes, drops, prepare_closes, decision_comes, rolls_back}
 use Rattle.protocol_laws.proofs.LogOnlyGrows.DueGrowsLogs.{same}
 use Rattle.fate_laws.proofs.Logs.LogOnlyGrows.{Inside, inside_self, inside_then, inside_due, inside_step}
-use Rattle.fate_laws.proofs.Logs.WhatAddsNoPrepare.{NoMorePrepares, plain_more, rolled, op_answering, closes_with}
+use Rattle.fate_laws.proofs.Logs.WhatAddsNoPrepare.{NoMorePrepares, plain_more, rolled, op_answering, closes_with, gone_back}
 
 -- its part was active, and is not
 abbrev pub Newly : Shard → Shard → TxId → Type 0
@@ -134,7 +134,7 @@ close_case s t tx u home one false e a i f g k =
 calm_close : (s : Shard) (tx u : TxId) (home : ℕ) (one : Bool) → stage_of s.local u ≡ Some Active → Inside s (with_local (close_part u home one) s) → Calm s (with_local (close_part u home one) s) tx
 calm_close s tx u home one a i =
     close_case s (with_local (close_part u home one) s) tx u home one (tx_same u tx) refl a i refl refl
-    (λ p h. ⊎_elim (λ x. inl x) (λ x. inr x.0) (closes_with s.local.log (wrote_in s.local.log u) one u home (undecided_of s.local u) tx p h))
+    (λ p h. ⊎_elim (λ x. inl x) (λ x. inr x.0) (closes_with s.local.log (has_standing s.local.log u) one u home (undecided_of s.local u) tx p h))
 
 -- another's operation
 written_parts : (tx : TxId) (w : Option (ℕ × Change)) (l : Local) → ((written tx w l).parts ≡ l.parts) × ((written tx w l).pairs ≡ l.pairs)
@@ -150,8 +150,8 @@ calm_performed s tx u birth op n i k =
     let st : stage_of t.local tx ≡ stage_of s.local tx = ap (λ l. stage_in l tx) w.0 ∙ ap stage_by (other_part u birth s.local.parts tx (tx_get u s.local.parts) no) in
     record {
       inside = i;
-      pairs = λ q h. ⊎_elim (λ x. x) (λ x. absurd (n (sym x))) (add_from u (violated u (needs_of op s.local.records) s.local.locks) s.local.pairs tx q (subst (λ l. is_pair l tx q ≡ true) w.1 h));
-      keeps = λ q c h. subst (λ l. is_pair l tx q ≡ true) (sym w.1) (add_keeps u (violated u (needs_of op s.local.records) s.local.locks) s.local.pairs tx q h);
+      pairs = λ q h. ⊎_elim (λ x. x) (λ x. absurd (n (sym x))) (add_from u (violated_here s.local u op) s.local.pairs tx q (subst (λ l. is_pair l tx q ≡ true) w.1 h));
+      keeps = λ q c h. subst (λ l. is_pair l tx q ≡ true) (sym w.1) (add_keeps u (violated_here s.local u op) s.local.pairs tx q h);
       prepares = λ p h. inl (k tx p h);
       active = λ h. sym st ∙ h;
       closed = λ h. inl (sym st ∙ h);
@@ -193,6 +193,7 @@ step_at s _ tx (request_closes u ts f0 g) i n =
     let x = with_local (close_part u s.shard one) s in
     let c = calm_close s tx u s.shard one g (record { shard = refl; durable = refl; log = i.log }) in
     calm_then s x _ tx c (calm_same x _ tx (record { shard = refl; durable = refl; log = same x.local.log }) refl refl (λ t p h. h))
+step_at s _ tx (rolls_back u nth seen upto f g) i n = calm_same s _ tx i refl refl (gone_back u (count_after upto (standing_numbers u s.journal)) s.local)
 step_at s _ tx (drops u stage g) i n =
     calm_marked s tx u (rolled_back_if (is_present (stage_of s.local u)) u s.local) (calm_without s tx u (is_present (stage_of s.local u)) (record { shard = refl; durable = refl; log = i.log }))
 step_at s _ tx (prepare_closes u home seen stamp g) i n =
@@ -210,7 +211,7 @@ calm_step s t tx h n = step_at s t tx h (inside_step s t h) n
 performed_keeps : (s : Shard) (tx u q : TxId) (birth : Birth) (op : Op) → is_pair s.local.pairs tx q ≡ true → is_pair (performed u birth op s.local).pairs tx q ≡ true
 performed_keeps s tx u q birth op i =
     let w = written_parts u (writes_of op (value_at (key_of op) s.local.records)) (locked u birth op s.local) in
-    subst (λ l. is_pair l tx q ≡ true) (sym w.1) (add_keeps u (violated u (needs_of op s.local.records) s.local.locks) s.local.pairs tx q i)
+    subst (λ l. is_pair l tx q ≡ true) (sym w.1) (add_keeps u (violated_here s.local u op) s.local.pairs tx q i)
 
 answers_keeps : (s : Shard) (tx u q : TxId) (birth : Birth) (seen : Option ℕ) (op : Op) (a : Answer) (l : Local) → OpIs s.local u birth seen op (OpAnswers a l) → is_pair s.local.pairs tx q ≡ true → is_pair l.pairs tx q ≡ true
 answers_keeps s tx u q birth seen op _ _ (performs f e) i = performed_keeps s tx u q birth op i

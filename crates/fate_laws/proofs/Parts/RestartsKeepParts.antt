@@ -1,24 +1,21 @@
 -- What a shard knows of parts after a restart, and when it opens.
-use Rattle.std.proofs.Common.{◌≡◌, inl, inr, ⊎_elim, refl, sym, ap, subst, ◌∙◌, ℕ, zero, suc, ◌≤◌, true, false, Bool, not, ◌&&◌, List, [], ◌∷◌, map, Option, Some, None, length, arith, take-append-drop}
-use Rattle.std.specs.Prelude.{take, drop}
+use Rattle.std.proofs.Common.{◌≡◌, inl, inr, ⊎_elim, refl, sym, ap, subst, ◌∙◌, ℕ, true, false, Bool, not, ◌&&◌, List, [], ◌∷◌, map, Option, Some, None, length, arith}
 use Rattle.std.specs.List.{filter}
 use Rattle.std.proofs.lemmas.Bool.{both_ways, and_parts, or_cases, or_left, or_right, cases_Bool, not-true}
-use Rattle.std.proofs.lemmas.List.{take-take, take_all}
+use Rattle.std.proofs.lemmas.List.{take_all}
 use Rattle.clv_base.specs.declared.names.TxId.{TxId}
 use Rattle.clv_base.specs.declared.logs.LogRecord.{LogRecord}
 use Rattle.clv_base.specs.declared.events.Entry.{Entry}
 use Rattle.clv_base.specs.declared.state.Stage.TheVariants.{Active, Closed}
 use Rattle.clv_base.specs.Orders.{tx_same, tx_in}
-use Rattle.clv_base.specs.Logs.{committed_in, prepared_in, wrote_in, prepare_of, prepare_lsn, is_prepare_of, in_doubt}
+use Rattle.clv_base.specs.Logs.{committed_in, prepared_in, prepare_of, in_doubt}
 use Rattle.clv_base.specs.State.{Shard}
 use Rattle.clv_base.specs.Participant.{restored_voter}
 use Rattle.clv_base.specs.Coordinator.{restored_request}
 use Rattle.clv_base.specs.Restarts.{state_after, log_left, revived, pairs_of_listed, restored_pairs, homes_of, unended_in, Restarts}
 use Rattle.clv_base.proofs.SameNames.{tx_true, tx_self, tx_flip}
-use Rattle.law_base.proofs.Commits.{place_keeps, place_less, place_there}
 use Rattle.law_base.proofs.Tables.{is_pair}
 use Rattle.law_base.proofs.Changed.{some_same}
-use Rattle.protocol_laws.specs.Growth.{IsPrefixOf}
 use Rattle.law_base.proofs.Sets.{in_filter, filter_in}
 use Rattle.shard_laws.proofs.Restarts.RestoredLocksAndParts.{restored_stage}
 use Rattle.shard_laws.proofs.Restarts.UnrestoredFell.{all_durable}
@@ -26,11 +23,11 @@ use Rattle.shard_laws.proofs.Order.ChangesKeepOrder.{prepare_some}
 use Rattle.shard_laws.proofs.Restarts.RestoredRequestsAndPairs.{pair_append}
 use Rattle.history_cases.proofs.Telling.{all_map}
 use Rattle.history_cases.proofs.TellingEvents.{front_committed}
-use Rattle.history_cases.proofs.Durability.{restarts_front}
 use Rattle.history_cases.proofs.Uncommitting.{restarts_add}
 use Rattle.fate_laws.proofs.Logs.WhatAddsNoPrepare.{front_prepare, restarts_add as restarts_prepare}
-use Rattle.fate_laws.proofs.Parts.YesVotesArePrepared.{Bound, Reads, Ordered}
-use Rattle.fate_laws.proofs.Parts.CommittedAreVotedFor.{HomeOr, Good, Parted, longer_ordered}
+use Rattle.fate_laws.proofs.Logs.PreparedWritesStand.{AllFirm, firm_take, firm_restarted, doubt_stand}
+use Rattle.fate_laws.proofs.Parts.YesVotesArePrepared.{Bound, Reads}
+use Rattle.fate_laws.proofs.Parts.CommittedAreVotedFor.{HomeOr, Good, Parted}
 use Rattle.history_laws.proofs.Logs.DoubtedAreUndecided.{doubt_prepared}
 use Rattle.protocol_laws.proofs.LogsInOrder.OneRecordMore.{prepared_there}
 use Rattle.law_base.proofs.Names.{own_pairs}
@@ -71,14 +68,15 @@ pair_from log (x ∷ xs) t q i =
 
 -- ---- the state of a shard that comes back
 
-pub parted_state : (run : ℕ) (W : TxId → ℕ → List (ℕ × ℕ) → Type 0) (S : TxId → Type 0) (F : ℕ → TxId → Type 0) (shard own epoch : ℕ) (log : List LogRecord) (last : ℕ) (journal : List Entry) → Ordered log
+pub parted_state : (run : ℕ) (W : TxId → ℕ → List (ℕ × ℕ) → Type 0) (S : TxId → Type 0) (F : ℕ → TxId → Type 0) (shard own epoch : ℕ) (log : List LogRecord) (last : ℕ) (journal : List Entry) → AllFirm [] log
     → ((tx : TxId) → prepared_in log tx ≡ true → tx.run ≡ run → HomeOr W shard tx) → ((tx : TxId) → committed_in log tx ≡ true → Good run W F tx) → Parted run W S F (state_after shard own epoch log last journal)
 parted_state run W S F shard own epoch log last journal o k g =
     let t = state_after shard own epoch log last journal in
     record {
       base = record {
         counted = omega arith;
-        ordered = o;
+        firm = o;
+        stands = λ tx e c. doubt_stand shard log tx o (restored_stage (in_doubt shard log) tx Closed c).1;
         listed = λ tx p q c e i. ⊎_elim (λ x. inl (all_durable log q x)) (λ x. inr (pair_there log (in_doubt shard log) tx q p (restored_stage (in_doubt shard log) tx Closed c).1 e i x)) (cases_Bool (committed_in log q));
         unprepared = λ tx a. absurd (differ (restored_stage (in_doubt shard log) tx Active a).0);
         seen = k;
@@ -95,24 +93,6 @@ parted_state run W S F shard own epoch log last journal o k g =
 
 -- ---- a restart
 
-take_less : {A : Type 0} (n : ℕ) (xs : List A) → length (take n xs) ≤ n
-take_less zero xs = omega arith
-take_less (suc n) [] = omega arith
-take_less (suc n) (x ∷ xs) = let l = take_less n xs in omega (arith, l)
-
-front_ordered : (n : ℕ) (log : List LogRecord) → Ordered log → Ordered (take n log)
-front_ordered n log o t k e =
-    let whole = subst (λ l. prepare_lsn l t ≡ Some k) (take-append-drop n log) (place_keeps 0 (is_prepare_of t) (take n log) (drop n log) k e) in
-    let l = place_less 0 (is_prepare_of t) (take n log) k e in
-    let m = take_less n log in
-    subst (λ z. wrote_in z t ≡ true) (sym (take-take k n log (omega (arith, l, m)))) (o t k whole)
-
-longer : (xs ys : List LogRecord) → IsPrefixOf xs ys → ((t : TxId) → prepared_in ys t ≡ true → prepared_in xs t ≡ true) → Ordered xs → Ordered ys
-longer xs ys p k o t j e = longer_ordered xs ys t j p o (k t (place_there 0 (is_prepare_of t) ys j e)) e
-
-pub added_ordered : (xs ys : List LogRecord) → IsPrefixOf xs ys → ((t : TxId) (p : ℕ × List TxId) → prepare_of ys t ≡ Some p → prepare_of xs t ≡ Some p) → Ordered xs → Ordered ys
-added_ordered xs ys p k o = longer xs ys p (λ t h. let q = prepare_some ys t h in prepared_there xs t q.0 (k t q.0 q.1)) o
-
 pub revived_prepares : (s : Shard) (kept : Bool) (epoch : ℕ) (log : List LogRecord) → Restarts s (log_left s kept) epoch log → (t : TxId) → prepared_in log t ≡ true → prepared_in s.local.log t ≡ true
 revived_prepares s kept epoch log g t h =
     let q = prepare_some log t h in prepared_there s.local.log t q.0 (front_prepare _ s.local.log t q.0 (restarts_prepare s (log_left s kept) epoch log g t q.0 q.1))
@@ -121,7 +101,7 @@ pub parted_revived : (run : ℕ) (W : TxId → ℕ → List (ℕ × ℕ) → Typ
     → Parted run W S F (revived s epoch log)
 parted_revived run W S F s kept epoch log g p =
     parted_state run W S F s.shard s.run epoch log s.last s.journal
-    (added_ordered (log_left s kept) log (restarts_front s (log_left s kept) epoch log g) (restarts_prepare s (log_left s kept) epoch log g) (front_ordered _ s.local.log (p.base).ordered))
+    (firm_restarted s (log_left s kept) epoch log g (firm_take _ s.local.log (p.base).firm))
     (λ tx h r. (p.base).seen tx (revived_prepares s kept epoch log g tx h) r)
     (λ tx h. p.log tx (front_committed _ s.local.log tx (restarts_add s (log_left s kept) epoch log g tx h)))
 

@@ -7,7 +7,6 @@ use Rattle.shard_laws.proofs.Order.ChangesKeepOrder.{prepare_some}
 use Rattle.std.proofs.lemmas.List.{take-append-le}
 use Rattle.std.proofs.lemmas.Option.{same_Some}
 use Rattle.clv_base.specs.declared.names.TxId.{TxId}
-use Rattle.clv_base.specs.declared.logs.LogRecord.{LogRecord}
 use Rattle.clv_base.specs.declared.causes.NoWhy.TheVariants.{Doomed, Restarted}
 use Rattle.clv_base.specs.declared.causes.Vote.{Vote}
 use Rattle.clv_base.specs.declared.causes.Vote.TheVariants.{Yes, Read, No}
@@ -15,14 +14,14 @@ use Rattle.clv_base.specs.declared.state.Stage.{Stage}
 use Rattle.clv_base.specs.declared.state.Stage.TheVariants.{Active, Closed, Gone}
 use Rattle.clv_base.specs.declared.state.Voter.{Voter}
 use Rattle.clv_base.specs.Orders.{tx_in}
-use Rattle.clv_base.specs.Logs.{committed_in, prepared_in, wrote_in, prepare_of, prepare_lsn, is_prepare_of}
+use Rattle.clv_base.specs.Logs.{committed_in, prepared_in, prepare_of, prepare_lsn, is_prepare_of, has_standing}
 use Rattle.clv_base.specs.State.{Shard}
 use Rattle.clv_base.specs.Undo.{stage_of}
-use Rattle.clv_base.specs.Facts.{facts_of, state_by, doom_by, has_durable_predecessors, has_durable_prepare}
-use Rattle.clv_base.specs.Participant.{gone_vote, vote_in_state, first_vote, vote_owed, vote_by}
+use Rattle.clv_base.specs.Facts.{facts_of, state_by, doom_by, has_durable_predecessors, has_durable_prepare, has_durable_undo}
+use Rattle.clv_base.specs.Participant.{gone_vote, vote_in_state, first_vote, vote_owed, vote_by, vote_by_writes}
 use Rattle.clv_base.specs.Restarts.{log_left}
 use Rattle.law_base.proofs.Changed.{none_some}
-use Rattle.law_base.proofs.Commits.{commit_durable, durable_committed, place_some, below_some}
+use Rattle.law_base.proofs.Commits.{commit_durable, durable_committed, below_some}
 use Rattle.law_base.proofs.Tables.{is_pair}
 use Rattle.protocol_laws.proofs.PredecessorsByFacts.{durable_before}
 use Rattle.history_laws.proofs.NeverTakenBack.LaterHistoriesHoldMembers.{committed_front}
@@ -30,7 +29,6 @@ use Rattle.fate_laws.proofs.Logs.LogOnlyGrows.{Inside}
 use Rattle.fate_laws.proofs.Logs.WhatAddsNoPrepare.{front_prepare}
 use Rattle.fate_laws.proofs.Homes.EntriesKeepHomes.{durable_front}
 use Rattle.fate_laws.proofs.Parts.OthersCloseOrGo.{Calm}
-use Rattle.fate_laws.proofs.Logs.RestartsWriteNoUpdate.{wrote_take}
 use Rattle.protocol_laws.proofs.LogsInOrder.OneRecordMore.{prepared_there}
 
 -- ---- what binds
@@ -69,30 +67,31 @@ reads_calm s t tx c r = record {
   unclosed = λ h. ⊎_elim (λ k. r.unclosed k) (λ k. r.inactive k) (c.closed h);
 }
 
--- ---- a PREPARE stands behind a write of its transaction
-
-abbrev pub Ordered : List LogRecord → Type 0
-Ordered log = (t : TxId) (k : ℕ) → prepare_lsn log t ≡ Some k → wrote_in (take k log) t ≡ true
-
-pub ordered_wrote : (log : List LogRecord) (t : TxId) → Ordered log → prepared_in log t ≡ true → wrote_in log t ≡ true
-ordered_wrote log t o p =
-    let k = place_some 0 (is_prepare_of t) log p in
-    wrote_take k.0 log t (o t k.0 k.1)
-
 -- ---- the vote that is given
 
 pub data VoteIs (s : Shard) (tx : TxId) (v : Voter) : Vote → Type 0 where
   kept : {vote : Vote} → v.vote ≡ Some vote → VoteIs s tx v vote
   yes : stage_of s.local tx ≡ Some Closed → has_durable_predecessors (facts_of s tx) ≡ true → has_durable_prepare (facts_of s tx) ≡ true → VoteIs s tx v Yes
-  read : stage_of s.local tx ≡ Some Closed → wrote_in s.local.log tx ≡ false → VoteIs s tx v Read
+  read : stage_of s.local tx ≡ Some Closed → has_standing s.local.log tx ≡ false → has_durable_undo (facts_of s tx) ≡ true → VoteIs s tx v Read
   no : {vote : Vote} → ((vote ≡ Yes) → ⊥) → ((vote ≡ Read) → ⊥) → VoteIs s tx v vote
 
-closed_is : (s : Shard) (tx : TxId) (v : Voter) (a b c : Bool) (vote : Vote) → stage_of s.local tx ≡ Some Closed → has_durable_predecessors (facts_of s tx) ≡ a → wrote_in s.local.log tx ≡ b → has_durable_prepare (facts_of s tx) ≡ c
-    → cond a (cond b (cond c (Some Yes) None) (Some Read)) None ≡ Some vote → VoteIs s tx v vote
-closed_is s tx v false b c vote st e f g h = absurd (none_some vote h)
-closed_is s tx v true true false vote st e f g h = absurd (none_some vote h)
-closed_is s tx v true true true vote st e f g h = subst (VoteIs s tx v) (same_Some Yes vote h) (yes st e g)
-closed_is s tx v true false c vote st e f g h = subst (VoteIs s tx v) (same_Some Read vote h) (read st f)
+stands_is : (s : Shard) (tx : TxId) (v : Voter) (b : Bool) (vote : Vote) → stage_of s.local tx ≡ Some Closed → has_durable_predecessors (facts_of s tx) ≡ true → has_standing s.local.log tx ≡ b
+    → vote_by_writes (facts_of s tx) b ≡ Some vote → VoteIs s tx v vote
+stands_is s tx v true vote st e f h = at (has_durable_prepare (facts_of s tx)) refl h
+  where
+    at : (c : Bool) → has_durable_prepare (facts_of s tx) ≡ c → cond c (Some Yes) None ≡ Some vote → VoteIs s tx v vote
+    at true g k = subst (VoteIs s tx v) (same_Some Yes vote k) (yes st e g)
+    at false g k = absurd (none_some vote k)
+stands_is s tx v false vote st e f h = at (has_durable_undo (facts_of s tx)) refl h
+  where
+    at : (c : Bool) → has_durable_undo (facts_of s tx) ≡ c → cond c (Some Read) None ≡ Some vote → VoteIs s tx v vote
+    at true g k = subst (VoteIs s tx v) (same_Some Read vote k) (read st f g)
+    at false g k = absurd (none_some vote k)
+
+closed_is : (s : Shard) (tx : TxId) (v : Voter) (a : Bool) (vote : Vote) → stage_of s.local tx ≡ Some Closed → has_durable_predecessors (facts_of s tx) ≡ a
+    → cond a (vote_by_writes (facts_of s tx) (has_standing s.local.log tx)) None ≡ Some vote → VoteIs s tx v vote
+closed_is s tx v false vote st e h = absurd (none_some vote h)
+closed_is s tx v true vote st e h = stands_is s tx v (has_standing s.local.log tx) vote st e refl h
 
 gone_is : (s : Shard) (tx : TxId) (v : Voter) (d : Option TxId) (vote : Vote) → gone_vote d ≡ Some vote → VoteIs s tx v vote
 gone_is s tx v None vote h = absurd (none_some vote h)
@@ -101,7 +100,7 @@ gone_is s tx v (Some d) vote h = subst (VoteIs s tx v) (same_Some (No (Doomed d)
 new_is : (s : Shard) (tx : TxId) (v : Voter) (st : Option Stage) (vote : Vote) → stage_of s.local tx ≡ st → vote_in_state (facts_of s tx) v.seen (state_by st) ≡ Some vote → VoteIs s tx v vote
 new_is s tx v None vote e h = subst (VoteIs s tx v) (same_Some (No (Restarted v.seen s.local.epoch)) vote h) (no (λ z. absurd cc) (λ z. absurd cc))
 new_is s tx v (Some Active) vote e h = absurd (none_some vote h)
-new_is s tx v (Some Closed) vote e h = closed_is s tx v (has_durable_predecessors (facts_of s tx)) (wrote_in s.local.log tx) (has_durable_prepare (facts_of s tx)) vote e refl refl refl h
+new_is s tx v (Some Closed) vote e h = closed_is s tx v (has_durable_predecessors (facts_of s tx)) vote e refl h
 new_is s tx v (Some (Gone d)) vote e h = gone_is s tx v (doom_by (stage_of s.local tx)) vote h
 
 first_is : (s : Shard) (tx : TxId) (v : Voter) (o : Option Vote) (vote : Vote) → v.vote ≡ o → first_vote (facts_of s tx) v.seen o ≡ Some vote → VoteIs s tx v vote

@@ -5,13 +5,14 @@ use Rattle.clv_base.specs.declared.names.TxId.{TxId}
 use Rattle.clv_base.specs.declared.names.Birth.{Birth}
 use Rattle.clv_base.specs.declared.ops.Op.{Op}
 use Rattle.clv_base.specs.declared.events.Event.{Event}
-use Rattle.clv_base.specs.declared.events.Event.TheVariants.{Op as OpEvent, Request as RequestEvent, Look, Drop}
+use Rattle.clv_base.specs.declared.events.Event.TheVariants.{Op as OpEvent, RollTo, Request as RequestEvent, Look, Drop}
 use Rattle.clv_base.specs.declared.events.Outcome.{Outcome}
 use Rattle.clv_base.specs.declared.events.Outcome.TheVariants.{Answered, Dead, Asked, Acknowledged, Aborted}
 use Rattle.clv_base.specs.Orders.{tx_same}
 use Rattle.clv_base.specs.Sessions.{SessionState, is_number, lies_in, begun, session_for, op_answered, op_in_session, requested, looked, session_after, makes_from}
 use Rattle.clv_base.specs.LogRules.{same_option}
 use Rattle.history_cases.proofs.Merging.{Placed, Among, Precedes}
+use Rattle.history_laws.proofs.Entries.GoingsBackOfSessions.{Same, Back, no_back, went, died, back_after}
 use Rattle.history_laws.proofs.RequestsNameWhatAnswered.SessionsFollowTheirOperations.{For, the_same, a_new_one, for_by, epoch_at}
 
 -- the session's transaction is this one, of this birth, or a later one
@@ -52,8 +53,18 @@ look_in tx b t Acknowledged h = is_in h
 look_in tx b t (Aborted cause) h = is_in h
 look_in tx b t _ h = gone
 
+same_is : (tx : TxId) (b : Birth) (u t : SessionState) → Same u t → Is tx b t → Is tx b u
+same_is tx b u t s (inl p) = inl (s.tx ∙ p.0, s.birth ∙ p.1)
+same_is tx b u t s (inr l) = inr (subst (λ z. tx.serial < z.serial) (sym s.tx) l)
+
+back_in : (tx : TxId) (b : Birth) (t : SessionState) (u : TxId) (n : ℕ) (o : Outcome) (v : Option SessionState) → Is tx b t → Back t u n o v → IsIn tx b v
+back_in tx b t u n o _ h no_back = gone
+back_in tx b t u n _ _ h (went m s p) = is_in (same_is tx b _ t s h)
+back_in tx b t u n _ _ h (died cause m s p) = is_in (same_is tx b _ t s h)
+
 next_in : (splits : List ℕ) (tx : TxId) (b : Birth) (n : ℕ) (t : SessionState) (e : Event) (o : Outcome) → Is tx b t → IsIn tx b (session_after splits n t e o)
 next_in splits tx b n t (OpEvent u birth nth seen op) o h = op_in splits tx u b birth t n nth seen op o (session_for t u birth) h (for_by t u birth (tx_same u t.tx) refl)
+next_in splits tx b n t (RollTo u nth seen upto) o h = back_in tx b t u n o _ h (back_after splits n t u nth seen upto o)
 next_in splits tx b n t (RequestEvent u ts) o h = if_in tx b _ _ (request_in tx b t n o h)
 next_in splits tx b n t (Look u) o h = if_in tx b _ _ (look_in tx b t o h)
 next_in splits tx b n t (Drop u) o h = if_in tx b _ _ (is_in h)

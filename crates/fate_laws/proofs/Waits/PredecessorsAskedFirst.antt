@@ -13,7 +13,7 @@ use Rattle.clv_base.specs.declared.causes.Vote.TheVariants.{Yes, Read, No}
 use Rattle.clv_base.specs.declared.logs.LogRecord.{LogRecord}
 use Rattle.clv_base.specs.declared.logs.LogRecord.TheVariants.{Update, Clr, Prepare, Commit, Abort, End, Restart as RestartRecord, Add, Unadd}
 use Rattle.clv_base.specs.declared.modes.Anchor.TheVariants.{At}
-use Rattle.clv_base.specs.declared.modes.Part.TheVariants.{I, X}
+use Rattle.clv_base.specs.declared.modes.Part.TheVariants.{X}
 use Rattle.clv_base.specs.declared.state.Stage.{Stage}
 use Rattle.clv_base.specs.declared.state.Stage.TheVariants.{Active, Closed}
 use Rattle.clv_base.specs.declared.state.Held.{Held}
@@ -27,25 +27,27 @@ use Rattle.clv_base.specs.Orders.{Table, tx_same, tx_in, tx_get}
 use Rattle.clv_base.specs.Modes.{on_key}
 use Rattle.clv_base.specs.declared.changes.Change.{Change}
 use Rattle.clv_base.specs.declared.changes.Change.TheVariants.{Sets, Adds}
-use Rattle.clv_base.specs.Logs.{StandingUpdate, standing, wrote_in, committed_in, aborted_in, prepare_of, in_doubt}
-use Rattle.clv_base.specs.Locks.{Locks, take_one, take_all, split_gap, release, violated}
+use Rattle.clv_base.specs.Logs.{StandingUpdate, standing, has_standing, committed_in, aborted_in, prepare_of, in_doubt}
+use Rattle.clv_base.specs.Locks.{Locks, take_all, split_gap, release, violated}
 use Rattle.clv_base.specs.Needs.{Records, needs_of, need, writes_of, value_at, key_of, lower_anchor}
 use Rattle.clv_base.specs.State.{Shard, Local, with_local, is_present}
-use Rattle.clv_base.specs.Undo.{stage_of, aborts_of, clrs_of, newest_lsn, gone_in, doomed_here, roll_back, compensation}
+use Rattle.clv_base.specs.Undo.{stage_of, is_of, aborts_of, clrs_by, clrs_of, newest_lsn, newest_lsns, is_at, gone_in, doomed_here, roll_back, roll_to, compensation}
+use Rattle.clv_base.specs.Backs.{standing_numbers, count_after}
 use Rattle.clv_base.specs.Facts.{predecessors_of, undecided_of}
-use Rattle.clv_base.specs.OneShard.{OpDies, OpAnswers, active_part, new_part, inserted_locks, written, locked, performed, rolled_back_if, without_part, closing, closed_part, closed_in, close_part, dropped_part, marked_in, mark_dropped, drop_part}
+use Rattle.clv_base.specs.OneShard.{OpDies, OpAnswers, active_part, new_part, inserted_locks, written, violated_here, locked, performed, rolled_back_if, without_part, closing, closed_part, closed_in, close_part, dropped_part, marked_in, mark_dropped, drop_part}
 use Rattle.clv_base.specs.Due.{finish_part, finish_reader, with_vote, do_ruling, with_ruling}
 use Rattle.clv_base.specs.Events.{finish, is_alone, decided, with_durable, put_down}
 use Rattle.clv_base.specs.Coordinator.{others}
-use Rattle.clv_base.specs.Restarts.{losers, undo_records, restart_records, log_after_restart, next_epoch, log_left, restored_part, restored_parts, restored_locks, old_birth, restored_pairs, pairs_of_listed, opened, revived, FailedRestarts, untouched, failed_first, Restarts}
+use Rattle.clv_base.specs.Restarts.{losers, undo_records, restart_records, log_after_restart, next_epoch, log_left, restored_part, restored_parts, restored_lock, restored_locks, part_of, old_birth, restored_pairs, pairs_of_listed, opened, revived, FailedRestarts, untouched, failed_first, Restarts}
 use Rattle.clv_base.proofs.SameNames.{tx_true, tx_self}
 use Rattle.law_base.proofs.Changed.{some_same, none_some}
 use Rattle.law_base.proofs.Lists.{all_mono, all_append}
 use Rattle.law_base.proofs.Tables.{stage_by, get_changed, get_put, is_pair, in_pair, without_pairs}
 use Rattle.law_base.proofs.LockRows.{Rows, rows_take, rows_all, rows_split, rows_close, rows_release, violated_row}
+use Rattle.law_base.proofs.Sets.{in_filter}
 use Rattle.law_base.proofs.Stages.{get_other, get_closed_own}
 use Rattle.shard_laws.proofs.Order.OperationsKeepOrder.{add_which}
-use Rattle.history_cases.proofs.Stepping.{commits, votes, rules, KeptByDue, settled, with_work, Step, op_dies, op_answers, request_refused, request_doomed, request_again, request_closes, looks_well, looks_ill, drops, prepare_closes, decision_comes, Happens, finishes, stops}
+use Rattle.history_cases.proofs.Stepping.{commits, votes, rules, KeptByDue, settled, with_work, Step, op_dies, op_answers, rolls_back, request_refused, request_doomed, request_again, request_closes, looks_well, looks_ill, drops, prepare_closes, decision_comes, Happens, finishes, stops}
 use Rattle.history_laws.proofs.Entries.WhatOperationsDo.{OpIs, dies, rolls, performs, reply_is}
 use Rattle.law_base.proofs.Names.{restored_there, MayStand}
 
@@ -80,11 +82,11 @@ none_aborts : (E : TxId → TxId → Type 0) (ts : List TxId) → AllByRecursion
 none_aborts E [] = tt
 none_aborts E (t ∷ ts) = (tt, none_aborts E ts)
 
-none_clrs : (E : TxId → TxId → Type 0) (set : List TxId) (ws : List StandingUpdate) → AllByRecursion (ListsAre E) (clrs_of set ws)
-none_clrs E set [] = tt
-none_clrs E set (w ∷ ws) = at (tx_in w.tx set) w.change (none_clrs E set ws)
+none_clrs : (E : TxId → TxId → Type 0) (gone : StandingUpdate → Bool) (ws : List StandingUpdate) → AllByRecursion (ListsAre E) (clrs_by gone ws)
+none_clrs E gone [] = tt
+none_clrs E gone (w ∷ ws) = at (gone w) w.change (none_clrs E gone ws)
   where
-    at : (b : Bool) (c : Change) → AllByRecursion (ListsAre E) (clrs_of set ws) → AllByRecursion (ListsAre E) (cond b (compensation w.tx (newest_lsn w.tx ws) w.key c ∷ clrs_of set ws) (clrs_of set ws))
+    at : (b : Bool) (c : Change) → AllByRecursion (ListsAre E) (clrs_by gone ws) → AllByRecursion (ListsAre E) (cond b (compensation w.tx (newest_lsn w.tx ws) w.key c ∷ clrs_by gone ws) (clrs_by gone ws))
     at true (Sets before after) k = (tt, k)
     at true (Adds by) k = (tt, k)
     at false c k = k
@@ -101,8 +103,15 @@ tied_rolled E s tx k =
       rows = rows_left set (Some tx) s.local.parts s.local.locks k.rows;
       pairs = λ t p e. k.pairs t p (without_pairs set s.local.pairs t p e).0;
       listed = all_append (ListsAre E) (s.local.log ++ aborts_of s.local.log set) (clrs_of set (standing s.local.log))
-          (all_append (ListsAre E) s.local.log (aborts_of s.local.log set) k.listed (none_aborts E (filter (wrote_in s.local.log) set))) (none_clrs E set (standing s.local.log));
+          (all_append (ListsAre E) s.local.log (aborts_of s.local.log set) k.listed (none_aborts E (filter (has_standing s.local.log) set))) (none_clrs E (is_of set) (standing s.local.log));
     }
+
+-- a going back leaves locks, pairs and parts
+tied_back : (E : TxId → TxId → Type 0) (s : Shard) (tx : TxId) (i : ℕ) → Tied E s → Tied E (with_local (roll_to tx i) s)
+tied_back E s tx i k =
+    let ws = standing s.local.log in
+    let gone = is_at (newest_lsns i tx ws) in
+    record { rows = k.rows; pairs = k.pairs; listed = all_append (ListsAre E) s.local.log (clrs_by gone ws) k.listed (none_clrs E gone ws) }
 
 tied_finished : (E : TxId → TxId → Type 0) (s : Shard) (tx : TxId) → Tied E s → Tied E (finish_part tx s)
 tied_finished E s tx k = record {
@@ -188,8 +197,8 @@ tied_performed E s tx birth op m closed k =
     record {
       rows = subst (λ z. Rows (LockOf z) (written tx w l).locks) (sym r.0) (subst (λ z. Rows q z) (sym r.1) rows0);
       pairs = λ t p e. ⊎_elim (λ a. k.pairs t p a)
-          (λ a. subst (λ z. E z p) (sym a.0) (closed p (closed_row p (violated_row (LockOf s.local.parts) tx p ns s.local.locks k.rows a.1))))
-          (add_which tx (violated tx ns s.local.locks) s.local.pairs t p (subst (λ z. is_pair z t p ≡ true) r.2 e));
+          (λ a. subst (λ z. E z p) (sym a.0) (closed p (closed_row p (violated_row (LockOf s.local.parts) tx p ns s.local.locks k.rows (in_filter (has_standing s.local.log) p (violated tx ns s.local.locks) a.1).0))))
+          (add_which tx (violated_here s.local tx op) s.local.pairs t p (subst (λ z. is_pair z t p ≡ true) r.2 e));
       listed = written_listed E tx w l k.listed;
     }
   where
@@ -222,8 +231,8 @@ tied_close E s tx home one k = record {
       (λ u b c h e. (closed_part h.0, get_closed_own tx u s.local.parts h.0 e h.1, h.2, refl))
       (λ u b c h e. (h.0, closed_other tx u s.local.parts h.0 e h.1, h.2, h.3)) k.rows;
   pairs = k.pairs;
-  listed = all_append (ListsAre E) s.local.log (closing (wrote_in s.local.log tx) one tx home (undecided_of s.local tx)) k.listed
-      (closing_listed E (wrote_in s.local.log tx) one tx home (undecided_of s.local tx) (all_pred (E tx) (λ p. not (committed_in s.local.log p)) (predecessors_of s.local.pairs tx) (λ p i. k.pairs tx p (in_pair s.local.pairs tx p i))));
+  listed = all_append (ListsAre E) s.local.log (closing (has_standing s.local.log tx) one tx home (undecided_of s.local tx)) k.listed
+      (closing_listed E (has_standing s.local.log tx) one tx home (undecided_of s.local tx) (all_pred (E tx) (λ p. not (committed_in s.local.log p)) (predecessors_of s.local.pairs tx) (λ p i. k.pairs tx p (in_pair s.local.pairs tx p i))));
 }
 
 -- ---- a drop
@@ -273,6 +282,7 @@ tied_decided E s tx false k = tied_rolled E s tx k
 tied_step : (E : TxId → TxId → Type 0) (s t : Shard) {e : Event} {o : Outcome} → Step s e o t → OpOwes E s e o → Tied E s → Tied E t
 tied_step E s _ (op_dies tx birth nth seen op cause l g) w k = tied_dies E s tx birth seen op cause l (reply_is s.shard s.local tx birth seen op (OpDies cause l) g) k
 tied_step E s _ (op_answers tx birth nth seen op answer l g) w k = tied_answers E s tx birth seen op answer l (reply_is s.shard s.local tx birth seen op (OpAnswers answer l) g) w.0 w.1 k
+tied_step E s _ (rolls_back tx nth seen upto f g) w k = tied_back E s tx (count_after upto (standing_numbers tx s.journal)) k
 tied_step E s _ (request_refused tx ts cause g) w k = k
 tied_step E s _ (request_doomed tx ts doom g) w k = k
 tied_step E s _ (request_again tx ts f g) w k = k
@@ -296,25 +306,15 @@ tied_down E s k = tied_as E s (put_down s) refl k
 
 -- ---- a restart
 
-rows_of_restored : (txs : List TxId) (log : List LogRecord) (locks : Locks) → Rows (LockOf (restored_parts txs)) locks → Rows (LockOf (restored_parts txs)) (restored_locks txs log locks)
+rows_of_restored : (txs : List TxId) (ws : List StandingUpdate) (locks : Locks) → Rows (LockOf (restored_parts txs)) locks → Rows (LockOf (restored_parts txs)) (restored_locks txs ws locks)
 rows_of_restored txs [] locks h = h
-rows_of_restored txs (Update tx key b a ∷ rs) locks h = rows_of_restored txs rs (cond (tx_in tx txs) (take_one (At key) (record { tx = tx; birth = old_birth tx; mode = on_key X; closed = true }) locks) locks) (at (tx_in tx txs) refl)
+rows_of_restored txs (w ∷ ws) locks h = rows_of_restored txs ws (cond (tx_in w.tx txs) (restored_lock w.tx w.key (part_of w.change) locks) locks) (at (tx_in w.tx txs) refl)
   where
-    at : (c : Bool) → tx_in tx txs ≡ c → Rows (LockOf (restored_parts txs)) (cond c (take_one (At key) (record { tx = tx; birth = old_birth tx; mode = on_key X; closed = true }) locks) locks)
-    at true i = rows_take (LockOf (restored_parts txs)) (At key) (record { tx = tx; birth = old_birth tx; mode = on_key X; closed = true }) locks (restored_part tx, restored_there txs tx i, refl, refl) h
+    at : (c : Bool) → tx_in w.tx txs ≡ c → Rows (LockOf (restored_parts txs)) (cond c (restored_lock w.tx w.key (part_of w.change) locks) locks)
+    at true i =
+        rows_take (LockOf (restored_parts txs)) (At w.key) (record { tx = w.tx; birth = old_birth w.tx; mode = on_key (part_of w.change); closed = true }) locks
+        (restored_part w.tx, restored_there txs w.tx i, refl, refl) h
     at false i = h
-rows_of_restored txs (Clr tx u k a ∷ rs) locks h = rows_of_restored txs rs locks h
-rows_of_restored txs (Prepare tx home ps ∷ rs) locks h = rows_of_restored txs rs locks h
-rows_of_restored txs (Commit tx ps ∷ rs) locks h = rows_of_restored txs rs locks h
-rows_of_restored txs (Abort tx ∷ rs) locks h = rows_of_restored txs rs locks h
-rows_of_restored txs (End tx ∷ rs) locks h = rows_of_restored txs rs locks h
-rows_of_restored txs (RestartRecord run epoch ∷ rs) locks h = rows_of_restored txs rs locks h
-rows_of_restored txs (Add tx key by ∷ rs) locks h = rows_of_restored txs rs (cond (tx_in tx txs) (take_one (At key) (record { tx = tx; birth = old_birth tx; mode = on_key I; closed = true }) locks) locks) (at (tx_in tx txs) refl)
-  where
-    at : (c : Bool) → tx_in tx txs ≡ c → Rows (LockOf (restored_parts txs)) (cond c (take_one (At key) (record { tx = tx; birth = old_birth tx; mode = on_key I; closed = true }) locks) locks)
-    at true i = rows_take (LockOf (restored_parts txs)) (At key) (record { tx = tx; birth = old_birth tx; mode = on_key I; closed = true }) locks (restored_part tx, restored_there txs tx i, refl, refl) h
-    at false i = h
-rows_of_restored txs (Unadd tx u k by ∷ rs) locks h = rows_of_restored txs rs locks h
 
 -- whom a PREPARE lists
 prepare_listed : (E : TxId → TxId → Type 0) (t : TxId) (log : List LogRecord) (q : ℕ × List TxId) → AllByRecursion (ListsAre E) log → prepare_of log t ≡ Some q → AllByRecursion (E t) q.1
@@ -366,7 +366,7 @@ front_listed E (suc n) (r ∷ rs) a = (a.0, front_listed E n rs a.1)
 restart_listed : (E : TxId → TxId → Type 0) (shard : ℕ) (log : List LogRecord) (run epoch : ℕ) → AllByRecursion (ListsAre E) (restart_records shard log run epoch)
 restart_listed E shard log run epoch =
     all_append (ListsAre E) (undo_records shard log) (RestartRecord run epoch ∷ [])
-    (all_append (ListsAre E) _ (clrs_of (losers shard log) (standing log)) (none_aborts E (filter (λ t. not (aborted_in log t)) (losers shard log))) (none_clrs E (losers shard log) (standing log))) (tt, tt)
+    (all_append (ListsAre E) _ (clrs_of (losers shard log) (standing log)) (none_aborts E (filter (λ t. not (aborted_in log t)) (losers shard log))) (none_clrs E (is_of (losers shard log)) (standing log))) (tt, tt)
 
 opened_listed : (E : TxId → TxId → Type 0) (shard : ℕ) (log : List LogRecord) (run epoch : ℕ) → AllByRecursion (ListsAre E) log → AllByRecursion (ListsAre E) (log_after_restart shard log run epoch)
 opened_listed E shard log run epoch a = all_append (ListsAre E) log (restart_records shard log run epoch) a (restart_listed E shard log run epoch)
@@ -382,7 +382,7 @@ restarts_listed E s found epoch after (left, f, e, q) a = subst (AllByRecursion 
 
 tied_log : (E : TxId → TxId → Type 0) (s : Shard) (epoch : ℕ) (log : List LogRecord) → AllByRecursion (ListsAre E) log → Tied E (revived s epoch log)
 tied_log E s epoch log a = record {
-  rows = rows_of_restored (in_doubt s.shard log) log [] tt;
+  rows = rows_of_restored (in_doubt s.shard log) (standing log) [] tt;
   pairs = λ t p e. tie_of E (restored_pairs log (in_doubt s.shard log)) t p (restored_ties E log (in_doubt s.shard log) a) e;
   listed = a;
 }

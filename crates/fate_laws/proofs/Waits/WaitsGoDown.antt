@@ -18,7 +18,7 @@ use Rattle.clv_base.specs.declared.events.Event.{Event}
 use Rattle.clv_base.specs.declared.events.Event.TheVariants.{Op as OpEvent, Request as RequestEvent}
 use Rattle.clv_base.specs.declared.events.Outcome.TheVariants.{Wait, Down}
 use Rattle.clv_base.specs.Orders.{Table, tx_same, tx_in, tx_get, tx_union, birth_cmp, is_older}
-use Rattle.clv_base.specs.Logs.{committed_in}
+use Rattle.clv_base.specs.Logs.{has_standing, committed_in}
 use Rattle.clv_base.specs.Shards.{shard_count}
 use Rattle.clv_base.specs.LogRules.{log_of}
 use Rattle.clv_base.specs.State.{Shard, Local, is_active_stage}
@@ -26,7 +26,7 @@ use Rattle.clv_base.specs.Undo.{stage_of}
 use Rattle.clv_base.specs.Locks.{decide, violated}
 use Rattle.clv_base.specs.Needs.{needs_of}
 use Rattle.clv_base.specs.Facts.{predecessors_of}
-use Rattle.clv_base.specs.OneShard.{OpReply, OpWaits, OpCrowded, OpDies, OpAnswers, op_granted, op_decided, op_by_stage, op_seen, op_reply, seen_fits, undecided_after}
+use Rattle.clv_base.specs.OneShard.{OpReply, OpWaits, OpCrowded, OpDies, OpAnswers, op_granted, op_decided, op_by_stage, op_seen, op_reply, seen_fits, violated_here, undecided_after}
 use Rattle.clv_base.specs.Events.{QuietBeforeWorn, QuietAfterWorn, op_event, happen_up, happen}
 use Rattle.clv_base.specs.Sessions.{is_session, no_session}
 use Rattle.clv_base.specs.Restarts.{run_after, opened}
@@ -238,8 +238,8 @@ in_filtered test u (x ∷ xs) e = at (test x) e (in_filtered test u xs)
 
 crowding : (splits : List ℕ) (before : List (List LogRecord)) (h : History) (n : ℕ) (s : Shard) (t u : TxId) (op : Op) → n < shard_count splits → t.run ≡ run_after before → Depends splits before h n s → tx_in u (undecided_after s.local t op) ≡ true → (has_request u h ≡ true) ⊎ OpenedInDoubt splits before u
 crowding splits before h n s t u op l r k i =
-    let v = violated t (needs_of op s.local.records) s.local.locks in
-    ⊎_elim (λ a. closed (violated_row (LockOf s.local.parts) t u (needs_of op s.local.records) s.local.locks (k.tied).rows a))
+    let v = violated_here s.local t op in
+    ⊎_elim (λ a. closed (violated_row (LockOf s.local.parts) t u (needs_of op s.local.records) s.local.locks (k.tied).rows (in_filtered (has_standing s.local.log) u (violated t (needs_of op s.local.records) s.local.locks) a)))
     (λ a. asked_or_doubted splits before h t u r ((k.tied).pairs t u (in_pair s.local.pairs t u a)))
     (in_union u v (predecessors_of s.local.pairs t) (in_filtered (λ p. not (committed_in s.local.log p)) u (tx_union v (predecessors_of s.local.pairs t)) i))
   where

@@ -1,4 +1,4 @@
--- Within an entry: a request is finished only where its part was here and wrote nothing, and each other shard that it names voted read.
+-- Within an entry: a request is finished only where its part was here and no write of it stood, and each other shard that it names voted read.
 use Rattle.std.proofs.Common.{◌≡◌, ◌⊎◌, inl, inr, refl, sym, ap, subst, ◌∙◌, ℕ, true, false, cond, Bool, ◌&&◌, ◌==◌, List, [], ◌∷◌, Option, Some, None, eqb-true}
 use Rattle.std.specs.Prelude.{⊤}
 use Rattle.std.specs.List.{AllByRecursion, filter, list_all}
@@ -6,7 +6,6 @@ use Rattle.std.proofs.lemmas.Bool.{both_ways, and_parts, or_cases, or_left, fals
 use Rattle.clv_base.specs.declared.names.TxId.{TxId}
 use Rattle.clv_base.specs.declared.causes.Vote.{Vote}
 use Rattle.clv_base.specs.declared.causes.Vote.TheVariants.{Yes, Read, No}
-use Rattle.clv_base.specs.declared.logs.LogRecord.{LogRecord}
 use Rattle.clv_base.specs.declared.parts.PartFacts.{PartFacts}
 use Rattle.clv_base.specs.declared.state.Request.{Request}
 use Rattle.clv_base.specs.declared.state.RequestState.{RequestState}
@@ -15,7 +14,7 @@ use Rattle.clv_base.specs.declared.state.Ruling.{Ruling}
 use Rattle.clv_base.specs.declared.state.Ruling.TheVariants.{Commit as CommitVerdict, Acknowledge, Abort as AbortVerdict, End as EndVerdict}
 use Rattle.clv_base.specs.declared.state.Stage.TheVariants.{Closed}
 use Rattle.clv_base.specs.Orders.{tx_same, tx_get, nat_in}
-use Rattle.clv_base.specs.Logs.{wrote_in, prepared_in, committed_in}
+use Rattle.clv_base.specs.Logs.{has_standing, prepared_in, committed_in}
 use Rattle.clv_base.specs.State.{Shard, Local}
 use Rattle.clv_base.specs.Undo.{stage_of, release_parts}
 use Rattle.clv_base.specs.Facts.{facts_of, is_waiting}
@@ -26,7 +25,6 @@ use Rattle.clv_base.specs.Due.{with_due_done, with_ruling, do_ruling}
 use Rattle.clv_base.specs.Events.{finish}
 use Rattle.clv_base.proofs.SameNames.{tx_self}
 use Rattle.law_base.proofs.Changed.{none_some, Set_or_old, get_set}
-use Rattle.protocol_laws.specs.Growth.{IsPrefixOf}
 use Rattle.law_base.proofs.Stages.{gone_by, stage_own}
 use Rattle.shard_laws.proofs.Order.ChangesKeepOrder.{prepare_some}
 use Rattle.history_cases.proofs.Stepping.{Due, commits, votes, rules, KeptByDue, settled}
@@ -34,7 +32,7 @@ use Rattle.fate_laws.proofs.Parts.OthersCloseOrGo.{due_closed, due_prepares}
 use Rattle.fate_laws.proofs.Logs.LogOnlyGrows.{inside_self, inside_due}
 use Rattle.fate_laws.proofs.Parts.PutVotesAreHeld.{votes_get}
 use Rattle.fate_laws.proofs.FallenAreUncommitted.RulingsThatEndNothing.{ack_refused, ack_end, no_end_undecided}
-use Rattle.fate_laws.proofs.Logs.RestartsWriteNoUpdate.{wrote_grown}
+use Rattle.fate_laws.proofs.Parts.ClosedPartsKeepWrites.{due_stands}
 use Rattle.headline_laws.proofs.AcknowledgedStand.NonWritersStayGone.{Quiet, agreed_closed, quiet_due, quiet_purged}
 use Rattle.protocol_laws.proofs.LogsInOrder.OneRecordMore.{prepared_there}
 
@@ -68,10 +66,10 @@ pub record Agreed (s : Shard) (t : TxId) (q : Request) : Type 0 where
   pub open_ : q.state ≡ Undecided
   pub closed : stage_of s.local t ≡ Some Closed
   pub uncommitted : committed_in s.local.log t ≡ false
-  pub unwritten : wrote_in s.local.log t ≡ false
+  pub unwritten : has_standing s.local.log t ≡ false
   pub read : (m : ℕ) → nat_in m (others s.shard q.touched) ≡ true → vote_from m q.votes ≡ Some Read
 
-by_votes : (s : Shard) (t : TxId) (q : Request) (u : Bool) (ys : List ℕ) → q.state ≡ Undecided → is_agreed s.shard q (facts_of s t) ≡ true → wrote_in s.local.log t ≡ u → yes_shards s.shard q ≡ ys → agreed_ruling (facts_of s t) u ys ≡ Some Acknowledge → Agreed s t q
+by_votes : (s : Shard) (t : TxId) (q : Request) (u : Bool) (ys : List ℕ) → q.state ≡ Undecided → is_agreed s.shard q (facts_of s t) ≡ true → has_standing s.local.log t ≡ u → yes_shards s.shard q ≡ ys → agreed_ruling (facts_of s t) u ys ≡ Some Acknowledge → Agreed s t q
 by_votes s t q u (y ∷ ys) o a w f e = absurd cc
 by_votes s t q true [] o a w f e = absurd cc
 by_votes s t q false [] o a w f e =
@@ -85,7 +83,7 @@ by_votes s t q false [] o a w f e =
     }
 
 by_agreement : (s : Shard) (t : TxId) (q : Request) (b : Bool) → q.state ≡ Undecided → is_agreed s.shard q (facts_of s t) ≡ b → undecided_ruling s.shard t q (facts_of s t) b ≡ Some Acknowledge → Agreed s t q
-by_agreement s t q true o a e = by_votes s t q (wrote_in s.local.log t) (yes_shards s.shard q) o a refl refl e
+by_agreement s t q true o a e = by_votes s t q (has_standing s.local.log t) (yes_shards s.shard q) o a refl refl e
 by_agreement s t q false o a e = absurd (ack_refused s.shard q (refusal t q (facts_of s t)) e)
 
 by_state : (s : Shard) (t : TxId) (q : Request) (st : RequestState) → q.state ≡ st → ruling_in s.shard t q (facts_of s t) st ≡ Some Acknowledge → Agreed s t q
@@ -103,7 +101,7 @@ end_in shard t q f (Committed parts) o e = (parts, o)
 end_in shard t q f Finished o e = absurd (none_some EndVerdict e)
 end_in shard t q f (Refused c) o e = absurd (none_some EndVerdict e)
 
--- ---- what holds within an entry of the home. F: whose request was finished before; P: whose part was here before, and had written nothing;
+-- ---- what holds within an entry of the home. F: whose request was finished before; P: whose part was here before, and no write stood;
 -- W: whose request was taken here, with which touched shards; V: who voted what on whom
 
 pub record Ends (P : TxId → Type 0) (W : TxId → List (ℕ × ℕ) → Type 0) (V : TxId → ℕ → Vote → Type 0) (home : ℕ) (l : Local) (t : TxId) : Type 0 where
@@ -121,12 +119,9 @@ RowIs F P W V home l t q (Refused cause) = ⊤
 
 pub record Within (F P : TxId → Type 0) (W : TxId → List (ℕ × ℕ) → Type 0) (V : TxId → ℕ → Vote → Type 0) (home : ℕ) (s : Shard) : Type 0 where
   pub shard : s.shard ≡ home
-  pub closed : (t : TxId) → stage_of s.local t ≡ Some Closed → wrote_in s.local.log t ≡ false → P t
-  pub wrote : (t : TxId) → prepared_in s.local.log t ≡ true → wrote_in s.local.log t ≡ true
+  pub closed : (t : TxId) → stage_of s.local t ≡ Some Closed → has_standing s.local.log t ≡ false → P t
+  pub stands : (t : TxId) → prepared_in s.local.log t ≡ true → stage_of s.local t ≡ Some Closed → has_standing s.local.log t ≡ true
   pub rows : (t : TxId) (q : Request) → tx_get t s.requests ≡ Some q → RowIs F P W V home s.local t q q.state
-
-pub unwritten_before : (xs ys : List LogRecord) (t : TxId) → IsPrefixOf xs ys → wrote_in ys t ≡ false → wrote_in xs t ≡ false
-unwritten_before xs ys t p n = false_from_ne_true _ (λ w. both_ways _ n (wrote_grown xs ys t p w))
 
 module _ (F P : TxId → Type 0) (W : TxId → List (ℕ × ℕ) → Type 0) (V : TxId → ℕ → Vote → Type 0) (home : ℕ) where
   pub row_on : (l m : Local) (t : TxId) (q : Request) (st : RequestState) → (Quiet l t → Quiet m t) → RowIs F P W V home l t q st → RowIs F P W V home m t q st
@@ -143,7 +138,7 @@ module _ (F P : TxId → Type 0) (W : TxId → List (ℕ × ℕ) → Type 0) (V 
         quiet = record {
           out = inr (stage_own (u ∷ []) None u s.local.parts (or_left (tx_same u u) false (tx_self u)) ∙ ap (gone_by None) a.closed);
           unwritten = a.unwritten;
-          unprepared = false_from_ne_true _ (λ h. both_ways _ a.unwritten (k.wrote u h));
+          unprepared = false_from_ne_true _ (λ h. both_ways _ a.unwritten (k.stands u h a.closed));
           uncommitted = a.uncommitted;
         };
         was = k.closed u a.closed a.unwritten;
@@ -184,8 +179,8 @@ module _ (F P : TxId → Type 0) (W : TxId → List (ℕ × ℕ) → Type 0) (V 
       let i = inside_due s s x d (inside_self s) in
       record {
         shard = i.shard ∙ k.shard;
-        closed = λ t h n. k.closed t (due_closed s x t d h) (unwritten_before s.local.log x.local.log t i.log n);
-        wrote = λ t h. let p = prepare_some x.local.log t h in wrote_grown s.local.log x.local.log t i.log (k.wrote t (prepared_there s.local.log t p.0 (due_prepares s x d t p.0 p.1)));
+        closed = λ t h n. k.closed t (due_closed s x t d h) (false_from_ne_true _ (λ w. both_ways _ n (due_stands s x t d h w)));
+        stands = λ t h c. let p = prepare_some x.local.log t h in due_stands s x t d c (k.stands t (prepared_there s.local.log t p.0 (due_prepares s x d t p.0 p.1)) (due_closed s x t d c));
         rows = rows_due s x d (λ t h. quiet_due s x t d h) k;
       }
 
@@ -193,4 +188,4 @@ module _ (F P : TxId → Type 0) (W : TxId → List (ℕ × ℕ) → Type 0) (V 
   within_finish x k =
       let y = with_due_done x in
       let q = settled (Within F P W V home) x within_due k in
-      record { shard = q.shard; closed = q.closed; wrote = q.wrote; rows = λ t r g. row_on y.local (purge y.local) t r r.state (quiet_purged y.local t) (q.rows t r g) }
+      record { shard = q.shard; closed = q.closed; stands = q.stands; rows = λ t r g. row_on y.local (purge y.local) t r r.state (quiet_purged y.local t) (q.rows t r g) }

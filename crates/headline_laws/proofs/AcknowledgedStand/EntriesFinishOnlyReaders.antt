@@ -1,6 +1,7 @@
--- Each entry: where a request is finished after it and was not before, its part was here before it, and had written nothing.
+-- Each entry: where a request is finished after it and was not before, its part was here before it, and no write of it stood.
 use Rattle.std.proofs.Common.{◌≡◌, ◌⊎◌, inl, inr, ⊎_elim, refl, sym, subst, ◌∙◌, ℕ, true, false, Bool, List, Some}
 use Rattle.std.specs.Prelude.{⊤}
+use Rattle.std.proofs.lemmas.Bool.{both_ways, false_from_ne_true}
 use Rattle.clv_base.specs.declared.names.TxId.{TxId}
 use Rattle.clv_base.specs.declared.causes.Vote.{Vote}
 use Rattle.clv_base.specs.declared.logs.LogRecord.{LogRecord}
@@ -8,13 +9,13 @@ use Rattle.clv_base.specs.declared.messages.Message.TheVariants.{Vote as VoteMes
 use Rattle.clv_base.specs.declared.state.Request.{Request}
 use Rattle.clv_base.specs.declared.state.RequestState.{RequestState}
 use Rattle.clv_base.specs.declared.state.RequestState.TheVariants.{Undecided, Committed, Finished, Refused}
-use Rattle.clv_base.specs.declared.state.Stage.TheVariants.{Closed}
+use Rattle.clv_base.specs.declared.state.Stage.TheVariants.{Active, Closed}
 use Rattle.clv_base.specs.declared.events.Event.{Event}
 use Rattle.clv_base.specs.declared.events.Event.TheVariants.{Request as RequestEvent, Deliver, FlushIn, Restart}
 use Rattle.clv_base.specs.declared.events.Outcome.{Outcome}
 use Rattle.clv_base.specs.declared.events.Outcome.TheVariants.{Asked, Down}
 use Rattle.clv_base.specs.Orders.{tx_same, tx_get}
-use Rattle.clv_base.specs.Logs.{wrote_in, prepared_in}
+use Rattle.clv_base.specs.Logs.{has_standing, prepared_in}
 use Rattle.clv_base.specs.State.{Shard, Local, is_present}
 use Rattle.clv_base.specs.Undo.{stage_of}
 use Rattle.clv_base.specs.Coordinator.{new_request, with_vote_of, with_done_of, restored_request, restored_requests}
@@ -31,9 +32,9 @@ use Rattle.fate_laws.proofs.Logs.WhatPreparesOrCommits.{Closes, by_request, by_p
 use Rattle.fate_laws.proofs.Homes.EventsKeepHomes.{put_get, counts_undecided}
 use Rattle.fate_laws.proofs.Logs.LogOnlyGrows.{inside_step}
 use Rattle.fate_laws.proofs.Parts.PutVotesAreHeld.{votes_put}
-use Rattle.fate_laws.proofs.Logs.RestartsWriteNoUpdate.{wrote_grown}
+use Rattle.fate_laws.proofs.Parts.ClosedPartsKeepWrites.{step_stands}
 use Rattle.headline_laws.proofs.AcknowledgedStand.NonWritersStayGone.{active_here, closed_here}
-use Rattle.headline_laws.proofs.AcknowledgedStand.DueFinishesOnlyReaders.{Told, RowIs, Within, unwritten_before, within_finish}
+use Rattle.headline_laws.proofs.AcknowledgedStand.DueFinishesOnlyReaders.{Told, RowIs, Within, within_finish}
 use Rattle.protocol_laws.proofs.LogsInOrder.OneRecordMore.{prepared_there}
 use Rattle.shard_laws.proofs.Order.ChangesKeepOrder.{prepare_some}
 
@@ -43,13 +44,14 @@ use Rattle.shard_laws.proofs.Order.ChangesKeepOrder.{prepare_some}
 abbrev pub IsFinished : Shard → TxId → Type 0
 IsFinished s t = (q : Request) × (tx_get t s.requests ≡ Some q) × (q.state ≡ Finished)
 
--- its part is here and wrote nothing, where the entry is no restart
+-- its part is here and no write of it stands, where the entry is no restart
 abbrev pub IsIdle : Event → Shard → TxId → Type 0
-IsIdle e s t = (e ≡ Restart → ⊥) × (is_present (stage_of s.local t) ≡ true) × (wrote_in s.local.log t ≡ false)
+IsIdle e s t = (e ≡ Restart → ⊥) × (is_present (stage_of s.local t) ≡ true) × (has_standing s.local.log t ≡ false)
 
 pub record Begins (W : TxId → List (ℕ × ℕ) → Type 0) (V : TxId → ℕ → Vote → Type 0) (home : ℕ) (s : Shard) : Type 0 where
   pub shard : s.shard ≡ home
-  pub wrote : (t : TxId) → prepared_in s.local.log t ≡ true → wrote_in s.local.log t ≡ true
+  pub stands : (t : TxId) → prepared_in s.local.log t ≡ true → stage_of s.local t ≡ Some Closed → has_standing s.local.log t ≡ true
+  pub unprepared : (t : TxId) → stage_of s.local t ≡ Some Active → prepared_in s.local.log t ≡ false
   pub open_ : (t : TxId) (q : Request) → tx_get t s.requests ≡ Some q → q.state ≡ Undecided → W t q.touched × Told (V t) q.votes
 
 abbrev pub Owes : (TxId → List (ℕ × ℕ) → Type 0) → (TxId → ℕ → Vote → Type 0) → Event → Outcome → Type 0
@@ -116,15 +118,21 @@ module _ (W : TxId → List (ℕ × ℕ) → Type 0) (V : TxId → ℕ → Vote 
       set_row P s x.local u (with_done_of from p) (done_row (IsFinished s) P x.local u p from p.state (old_row P s x.local u p f b)) b t q (get_set u t (with_done_of from p) q s.requests g)
   step_rows P s x _ w b t q g = old_row P s x.local t q g b
 
+  -- of who is prepared a write stood, where it was closed
+  stood : (s : Shard) {e : Event} {o : Outcome} (t : TxId) → Begins W V home s → prepared_in s.local.log t ≡ true → (stage_of s.local t ≡ Some Closed) ⊎ Closes s t e o → has_standing s.local.log t ≡ true
+  stood s t b p (inl c) = b.stands t p c
+  stood s t b p (inr (by_request ts a)) = absurd (both_ways _ (b.unprepared t a) p)
+  stood s t b p (inr (by_prepare to seen stamp a)) = absurd (both_ways _ (b.unprepared t a) p)
+
   within_step : (s x : Shard) {e : Event} {o : Outcome} → Step s e o x → (e ≡ Restart → ⊥) → Owes W V e o → Begins W V home s → Within (IsFinished s) (IsIdle e s) W V home x
   within_step s x {e} {o} h n w b =
       let i = inside_step s x h in
       record {
         shard = i.shard ∙ b.shard;
-        closed = λ t c u. (n, here s t (step_closed s x t h c), unwritten_before s.local.log x.local.log t i.log u);
-        wrote = λ t c.
-            let p = prepare_some x.local.log t c in
-            wrote_grown s.local.log x.local.log t i.log (⊎_elim (λ f. b.wrote t (prepared_there s.local.log t p.0 f)) (λ f. f.wrote) (step_prepares s x t p.0 h p.1));
+        closed = λ t c u. (n, here s t (step_closed s x t h c), false_from_ne_true _ (λ f. both_ways _ u (step_stands s x t h c f)));
+        stands = λ t p c.
+            let q = prepare_some x.local.log t p in
+            step_stands s x t h c (⊎_elim (λ f. stood s t b (prepared_there s.local.log t q.0 f) (step_closed s x t h c)) (λ f. f.stands) (step_prepares s x t q.0 h q.1));
         rows = step_rows (IsIdle e s) s x h w b;
       }
 
@@ -134,7 +142,7 @@ module _ (W : TxId → List (ℕ × ℕ) → Type 0) (V : TxId → ℕ → Vote 
   flush_begins s n b = record {
     shard = b.shard;
     closed = λ t c u. ((λ q. absurd (differ q)), closed_here s.local t c, u);
-    wrote = b.wrote;
+    stands = b.stands;
     rows = λ t q g. old_row (IsIdle FlushIn s) s s.local t q g b;
   }
     where

@@ -1,5 +1,6 @@
--- Along a history: whose request was finished on a shard wrote nothing there, is gone and never fell, and each other shard that it names voted read.
-use Rattle.std.proofs.Common.{◌≡◌, ◌⊎◌, inl, inr, refl, sym, ap, subst, ◌∙◌, ℕ, ◌<◌, true, false, Bool, ◌==◌, List, [], ◌∷◌, ◌++◌, Some, eqb-true, append_assoc, append-nil}
+-- Along a history: of whose request was finished on a shard no write stands there; it is gone and never fell, and each other shard that it names
+-- voted read.
+use Rattle.std.proofs.Common.{◌≡◌, ◌⊎◌, inl, inr, ⊎_elim, refl, sym, ap, subst, ◌∙◌, ℕ, ◌<◌, true, false, Bool, ◌==◌, List, [], ◌∷◌, ◌++◌, Some, eqb-true, append_assoc, append-nil}
 use Rattle.std.proofs.lemmas.Bool.{both_ways}
 use Rattle.clv_base.specs.declared.names.TxId.{TxId}
 use Rattle.clv_base.specs.declared.causes.Vote.{Vote}
@@ -29,7 +30,7 @@ use Rattle.history_cases.proofs.Entering.{Makes, makes}
 use Rattle.history_cases.proofs.Merging.{Placed, Among, among_left, among_right, is_among}
 use Rattle.history_cases.proofs.Telling.{IsRequest, all_map}
 use Rattle.history_cases.proofs.Worlds.{state_at}
-use Rattle.fate_laws.proofs.Parts.YesVotesArePrepared.{ordered_wrote}
+use Rattle.law_base.proofs.Stages.{present_is}
 use Rattle.fate_laws.proofs.Parts.FrontsKeepParts.{asked_not_own, bindings_front}
 use Rattle.fate_laws.proofs.History.EntryByEntry.{Next, next_at, stays_as_it_was}
 use Rattle.fate_laws.proofs.Parts.BoundStaysBound.{NotOwn}
@@ -120,7 +121,8 @@ module _ {splits : List ℕ} {before after : List (List LogRecord)} {h : History
   begins : Begins (TakenIn New e.0) (VotedIn New) e.0 S
   begins = record {
     shard = (w.split).shard;
-    wrote = λ t c. ordered_wrote S.local.log t (((bindings_front l pre (e ∷ post) q).parted e.0 w.inside).base).ordered c;
+    stands = (((bindings_front l pre (e ∷ post) q).parted e.0 w.inside).base).stands;
+    unprepared = (((bindings_front l pre (e ∷ post) q).parted e.0 w.inside).base).unprepared;
     open_ = λ t r g u. let p = k.open_ e.0 w.inside t r g u in (taken_later pre e e.0 t r.touched p.0, told_later pre e t r.votes p.1);
   }
 
@@ -148,7 +150,8 @@ module _ {splits : List ℕ} {before after : List (List LogRecord)} {h : History
   idle_unfallen t d f =
       let b = (stands_front l pre (e ∷ post) q e.0 w.inside).barred in
       let x = b.here t (fell_out l pre (e ∷ post) e.0 t q w.inside f) d.1 in
-      both_ways _ d.2 ((b.lined).wrote t (prepared_there S.local.log t x.0 x.1))
+      let p = prepared_there S.local.log t x.0 x.1 in
+      ⊎_elim (λ a. both_ways _ ((b.lined).unprepared t a) p) (λ c. both_ways _ d.2 ((b.lined).stands t p c)) (present_is (stage_of S.local t) d.1)
 
   -- who is finished by this entry
   fresh : (t : TxId) → Ends (IsIdle (e.1).event S) (TakenIn New e.0) (VotedIn New) e.0 T.local t → Finishes splits before after New e.0 t

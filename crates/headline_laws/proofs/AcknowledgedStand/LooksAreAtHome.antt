@@ -7,18 +7,19 @@ use Rattle.clv_base.specs.declared.names.Birth.{Birth}
 use Rattle.clv_base.specs.declared.ops.Op.{Op}
 use Rattle.clv_base.specs.declared.logs.LogRecord.{LogRecord}
 use Rattle.clv_base.specs.declared.events.Event.{Event}
-use Rattle.clv_base.specs.declared.events.Event.TheVariants.{Op as OpEvent, Request as RequestEvent, Look, Drop}
+use Rattle.clv_base.specs.declared.events.Event.TheVariants.{Op as OpEvent, RollTo, Request as RequestEvent, Look, Drop}
 use Rattle.clv_base.specs.declared.events.Outcome.{Outcome}
 use Rattle.clv_base.specs.declared.events.Outcome.TheVariants.{Answered, Asked, Acknowledged, Aborted, Dead}
 use Rattle.clv_base.specs.declared.events.Entry.{Entry}
 use Rattle.clv_base.specs.Orders.{tx_same}
 use Rattle.clv_base.specs.LogRules.{same_option}
 use Rattle.clv_base.specs.Restarts.{run_after}
-use Rattle.clv_base.specs.Sessions.{Phase, Touching, Ended, Standing, Told, Refused, SessionState, no_session, is_number, lies_in, is_touching, same_birth, goes_on, begins, begun, session_for, op_answered, op_in_session, same_touched, is_lowest, requested, looked, stands_at, after_drop, session_after, makes_from}
+use Rattle.clv_base.specs.Sessions.{Phase, Touching, Ended, Standing, Told, Refused, SessionState, no_session, is_number, lies_in, is_touching, same_birth, goes_on, begins, begun, session_for, op_answered, op_in_session, is_whole_now, same_touched, is_lowest, requested, looked, stands_at, after_drop, session_after, makes_from}
 use Rattle.clv_base.specs.Journals.{History, own}
 use Rattle.clv_base.specs.History.{Legal, is_acknowledgement}
 use Rattle.clv_base.proofs.SameNames.{tx_true}
 use Rattle.history_cases.proofs.Merging.{Placed, Among, among_left, among_right, among_is, in_own}
+use Rattle.history_laws.proofs.Entries.GoingsBackOfSessions.{Back, no_back, went, died, back_after}
 use Rattle.history_laws.proofs.NeverTakenBack.{session_of}
 use Rattle.history_cases.proofs.Telling.{IsRequest}
 use Rattle.fate_laws.specs.Decisions.{IsHome}
@@ -97,6 +98,12 @@ next_op : (splits : List ℕ) (es : List Placed) (n nth : ℕ) (seen : Option �
 next_op splits es n nth seen op o None k = gone
 next_op splits es n nth seen op o (Some s) (some h) = next_if es (is_number s n nth op && lies_in splits n op && same_option seen (lookup (◌==◌ n) s.touched)) (op_answered n nth op s o) (λ e. next_answered es n nth op s o h)
 
+-- a going back leaves a session that may have operations, or that is over
+next_back : (es : List Placed) (s : SessionState) (tx : TxId) (n : ℕ) (o : Outcome) (v : Option SessionState) → Back s tx n o v → Next es v
+next_back es s tx n o _ no_back = gone
+next_back es s tx n _ _ (went m q f) = on (λ k e. absurd (touching_not s.phase k m.touching (sym f ∙ e)))
+next_back es s tx n _ _ (died cause m q f) = on (λ k e. absurd (ended_not k (sym f ∙ e)))
+
 next_request : (es : List Placed) (x : Placed) (tx : TxId) (ts : List (ℕ × ℕ)) (s : SessionState) (o : Outcome) → tx ≡ s.tx → (x.1).event ≡ RequestEvent tx ts → (x.1).outcome ≡ o → Next (es ++ x ∷ []) (requested x.0 s o)
 next_request es x tx ts s Asked q ev out = on (λ m e. subst (AskedAmong (es ++ x ∷ []) s.tx) (named e) (x.1, ts, among_right x es (x ∷ []) (inl refl), (ev ∙ ap (λ z. RequestEvent z ts) q, out)))
   where
@@ -112,12 +119,14 @@ next_look es s _ = gone
 
 next : (splits : List ℕ) (es : List Placed) (x : Placed) (s : SessionState) (ev : Event) (o : Outcome) → (x.1).event ≡ ev → (x.1).outcome ≡ o → Asks es s → Next (es ++ x ∷ []) (session_after splits x.0 s ev o)
 next splits es x s (OpEvent tx birth nth seen op) o ev out k = next_op splits (es ++ x ∷ []) x.0 nth seen op o (session_for s tx birth) (touches s tx birth (tx_same tx s.tx))
+next splits es x s (RollTo tx nth seen upto) o ev out k = next_back (es ++ x ∷ []) s tx x.0 o _ (back_after splits x.0 s tx nth seen upto o)
 next splits es x s (RequestEvent tx ts) o ev out k =
-    next_if (es ++ x ∷ []) (tx_same tx s.tx && is_touching s.phase && same_touched ts s.touched && is_lowest x.0 ts) (requested x.0 s o)
+    next_if (es ++ x ∷ []) (tx_same tx s.tx && is_touching s.phase && is_whole_now s && same_touched ts s.touched && is_lowest x.0 ts) (requested x.0 s o)
     (λ e.
-    let p = and_parts (tx_same tx s.tx && is_touching s.phase && same_touched ts s.touched) (is_lowest x.0 ts) e in
-    let q = and_parts (tx_same tx s.tx && is_touching s.phase) (same_touched ts s.touched) p.0 in
-    next_request es x tx ts s o (tx_true tx s.tx (and_parts (tx_same tx s.tx) (is_touching s.phase) q.0).0) ev out)
+    let p = and_parts (tx_same tx s.tx && is_touching s.phase && is_whole_now s && same_touched ts s.touched) (is_lowest x.0 ts) e in
+    let q = and_parts (tx_same tx s.tx && is_touching s.phase && is_whole_now s) (same_touched ts s.touched) p.0 in
+    let r = and_parts (tx_same tx s.tx && is_touching s.phase) (is_whole_now s) q.0 in
+    next_request es x tx ts s o (tx_true tx s.tx (and_parts (tx_same tx s.tx) (is_touching s.phase) r.0).0) ev out)
 next splits es x s (Look tx) o ev out k = next_if (es ++ x ∷ []) (tx_same tx s.tx && stands_at x.0 s.phase) (looked s o) (λ e. next_look (es ++ x ∷ []) s o)
 next splits es x s (Drop tx) o ev out k =
     next_if (es ++ x ∷ []) _ (Some (record s { phase = after_drop s.phase })) (λ e. on (λ m z. asked_on es x s.tx m (k m (drop_back s.phase m z))))

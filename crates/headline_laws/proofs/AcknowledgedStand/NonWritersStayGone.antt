@@ -1,8 +1,7 @@
--- Who wrote nothing on a shard and is gone there, by no abort, stays so.
-use Rattle.std.proofs.Common.{◌≡◌, ◌⊎◌, inl, inr, ⊎_elim, refl, sym, ap, subst, ◌∙◌, ℕ, true, false, Bool, ◌&&◌, ◌==◌, List, [], ◌∷◌, ◌++◌, Option, Some, None}
-use Rattle.std.specs.Prelude.{take}
-use Rattle.std.specs.List.{filter, list_all}
-use Rattle.std.proofs.lemmas.Bool.{both_ways, and_parts, or_cases, false_from_ne_true, or_from}
+-- Of whom no write stands on a shard and who is gone there, by no abort, stays so.
+use Rattle.std.proofs.Common.{◌≡◌, ◌⊎◌, inl, inr, ⊎_elim, refl, sym, ap, subst, ◌∙◌, ℕ, true, false, Bool, ◌&&◌, ◌==◌, List, [], ◌∷◌, ◌++◌, Option, Some, None, append_assoc}
+use Rattle.std.specs.List.{list_all}
+use Rattle.std.proofs.lemmas.Bool.{both_ways, and_parts, or_cases, or_left, false_from_ne_true, or_from}
 use Rattle.clv_base.specs.declared.names.TxId.{TxId}
 use Rattle.clv_base.specs.declared.names.Birth.{Birth}
 use Rattle.clv_base.specs.declared.ops.Op.{Op}
@@ -22,43 +21,42 @@ use Rattle.clv_base.specs.declared.events.Outcome.{Outcome}
 use Rattle.clv_base.specs.Orders.{Table, tx_same, tx_in, tx_get}
 use Rattle.clv_base.specs.declared.changes.Change.{Change}
 use Rattle.clv_base.specs.declared.changes.Change.TheVariants.{Sets, Adds}
-use Rattle.clv_base.specs.Logs.{wrote_in, prepared_in, committed_in, standing, in_doubt}
+use Rattle.clv_base.specs.Backs.{standing_numbers, count_after}
+use Rattle.clv_base.specs.Logs.{wrote_in, has_standing, prepared_in, committed_in, standing, in_doubt, is_winner}
 use Rattle.clv_base.specs.Needs.{writes_of, value_at, key_of}
 use Rattle.clv_base.specs.State.{Shard, Local, is_present}
-use Rattle.clv_base.specs.Undo.{stage_of, gone_in, doomed_by, doomed_here, roll_back, aborts_of, clrs_of, release_parts}
+use Rattle.clv_base.specs.Undo.{stage_of, gone_in, doomed_by, doomed_here, roll_back, roll_to, aborts_of, clrs_by, clrs_of, newest_lsns, is_at, release_parts}
 use Rattle.clv_base.specs.Facts.{facts_of, is_waiting, undecided_of, has_durable_commit}
 use Rattle.clv_base.specs.Coordinator.{others, is_agreed, is_good, vote_from}
 use Rattle.clv_base.specs.OneShard.{OpDies, OpAnswers, purge, update_of, written, locked, performed, rolled_back_if, closing, close_part, mark_dropped}
 use Rattle.clv_base.specs.Due.{with_due_done}
 use Rattle.clv_base.specs.Events.{is_alone, finish, with_durable}
-use Rattle.clv_base.specs.Restarts.{restart_records, next_epoch, log_left, revived, FailedRestarts, untouched, failed_first, Restarts}
+use Rattle.clv_base.specs.Restarts.{restart_records, log_after_restart, log_left, revived, Restarts}
 use Rattle.clv_base.specs.Journals.{up_to_restart}
 use Rattle.clv_base.proofs.SameNames.{tx_ne}
-use Rattle.law_base.proofs.Commits.{committed_append}
+use Rattle.law_base.proofs.Commits.{committed_append, committed_keeps}
+use Rattle.law_base.proofs.Logs.{clrs_undo_by}
+use Rattle.law_base.proofs.Standing.{has_write, has_filter, stood_before}
 use Rattle.law_base.proofs.Tables.{stage_by, stage_in}
 use Rattle.law_base.proofs.Sets.{in_filter}
 use Rattle.shard_laws.specs.OneShard.{is_doomed}
-use Rattle.shard_laws.proofs.Keeping.RecordsAndFrontsKeep.{wrote_append}
 use Rattle.law_base.proofs.Stages.{closed_other, other_part, gone_by, stage_own, stage_other, stage_marked}
-use Rattle.shard_laws.proofs.Keeping.LeavingKeeps.{no_write_aborts, no_write_clrs}
+use Rattle.shard_laws.proofs.Keeping.RecordsOfAnUndo.{no_commits, no_writes, no_prepares, undo_commits, undo_writes, undo_prepares}
 use Rattle.shard_laws.proofs.Keeping.ChangesKeepPrepared.{prepared_append}
 use Rattle.shard_laws.proofs.Restarts.RestoredLocksAndParts.{restored_none}
+use Rattle.shard_laws.proofs.Restarts.WinnersKeepTheirWrites.{standing_whole}
 use Rattle.shard_laws.proofs.Events.DueKeeps.{waiting_here}
-use Rattle.shard_laws.proofs.Order.ChangesKeepOrder.{prepare_some}
 use Rattle.history_laws.proofs.Entries.WhatOperationsDo.{OpIs, dies, rolls, performs, reply_is}
-use Rattle.history_cases.proofs.Stepping.{Due, commits, votes, rules, settled, Step, op_dies, op_answers, request_closes, drops, prepare_closes, decision_comes, finishes, stops}
+use Rattle.history_cases.proofs.Stepping.{Due, commits, votes, rules, settled, Step, op_dies, op_answers, rolls_back, request_closes, drops, prepare_closes, decision_comes, finishes, stops}
 use Rattle.history_cases.proofs.Entering.{Makes, by_event, by_flush, by_failure, by_restart}
 use Rattle.history_cases.proofs.TellingEvents.{front_committed}
-use Rattle.history_cases.proofs.Uncommitting.{rolled as rolled_commits, restarts_add}
+use Rattle.history_cases.proofs.Uncommitting.{restarts_add}
 use Rattle.fate_laws.proofs.Parts.CommitsHaveTheirParts.{taken_closed}
 use Rattle.fate_laws.proofs.Homes.ShardKnowsHomes.{still_not}
 use Rattle.fate_laws.proofs.Parts.CommittedAreVotedFor.{commit_agreed}
-use Rattle.fate_laws.proofs.Logs.WhatAddsNoPrepare.{rolled as rolled_prepares}
 use Rattle.fate_laws.proofs.Parts.RestartsKeepParts.{revived_prepares}
 use Rattle.fate_laws.proofs.Parts.BoundStaysBound.{NotOwn}
-use Rattle.fate_laws.proofs.Logs.RestartsWriteNoUpdate.{restart_writes_none, wrote_take}
 use Rattle.history_laws.proofs.Logs.DoubtedAreUndecided.{doubt_prepared}
-use Rattle.protocol_laws.proofs.LogsInOrder.OneRecordMore.{prepared_there}
 
 -- its part was never known here since the shard came up, or it is finished
 abbrev pub IsOut : Option Stage → Type 0
@@ -66,7 +64,7 @@ IsOut o = (o ≡ None) ⊎ (o ≡ Some (Gone None))
 
 pub record Quiet (l : Local) (t : TxId) : Type 0 where
   pub out : IsOut (stage_of l t)
-  pub unwritten : wrote_in l.log t ≡ false
+  pub unwritten : has_standing l.log t ≡ false
   pub unprepared : prepared_in l.log t ≡ false
   pub uncommitted : committed_in l.log t ≡ false
 
@@ -104,7 +102,7 @@ record Foreign (rs : List LogRecord) (t : TxId) : Type 0 where
 quiet_more : (l m : Local) (more : List LogRecord) (t : TxId) → m.log ≡ l.log ++ more → Foreign more t → IsOut (stage_of m t) → Quiet l t → Quiet m t
 quiet_more l m more t e f o k = record {
   out = o;
-  unwritten = subst (λ z. wrote_in z t ≡ false) (sym e) (wrote_append l.log more t ∙ or_from _ _ k.unwritten f.writes);
+  unwritten = subst (λ z. has_standing z t ≡ false) (sym e) (still_not (has_standing l.log t) (has_standing (l.log ++ more) t) (stood_before l.log more t f.writes) k.unwritten);
   unprepared = subst (λ z. prepared_in z t ≡ false) (sym e) (prepared_append l.log more t ∙ or_from _ _ k.unprepared f.prepares);
   uncommitted = subst (λ z. committed_in z t ≡ false) (sym e) (committed_append l.log more t ∙ or_from _ _ k.uncommitted f.commits);
 }
@@ -148,18 +146,23 @@ quiet_finished l u t k =
 quiet_rolled : (l : Local) (u t : TxId) → Quiet l t → Quiet (roll_back u l) t
 quiet_rolled l u t k =
     let set = doomed_here l u in
-    record {
-      out = out_gone set (Some u) t l.parts (λ i. absurd (both_ways _ (quiet_absent l t k) (in_filter (λ v. is_present (stage_of l v)) t (doomed_by l u) i).1)) k.out;
-      unwritten = wrote_append (l.log ++ aborts_of l.log set) (clrs_of set (standing l.log)) t
-          ∙ or_from _ _ (wrote_append l.log (aborts_of l.log set) t ∙ or_from _ _ k.unwritten (no_write_aborts t (filter (wrote_in l.log) set))) (no_write_clrs set t (standing l.log));
-      unprepared = still_not (prepared_in l.log t) (prepared_in (roll_back u l).log t) (λ h. let p = prepare_some (roll_back u l).log t h in prepared_there l.log t p.0 (rolled_prepares u l t p.0 p.1)) k.unprepared;
-      uncommitted = still_not (committed_in l.log t) (committed_in (roll_back u l).log t) (rolled_commits u l t) k.uncommitted;
-    }
+    let more = aborts_of l.log set ++ clrs_of set (standing l.log) in
+    quiet_more l (roll_back u l) more t (append_assoc l.log (aborts_of l.log set) (clrs_of set (standing l.log)))
+    (record { writes = no_writes set t l.log; prepares = no_prepares set t l.log; commits = no_commits set t l.log })
+    (out_gone set (Some u) t l.parts (λ i. absurd (both_ways _ (quiet_absent l t k) (in_filter (λ v. is_present (stage_of l v)) t (doomed_by l u) i).1)) k.out) k
+
+-- a going back
+quiet_back : (l : Local) (u t : TxId) (n : ℕ) → Quiet l t → Quiet (roll_to u n l) t
+quiet_back l u t n k =
+    let gone = is_at (newest_lsns n u (standing l.log)) in
+    let more = clrs_by gone (standing l.log) in
+    let undo = clrs_undo_by gone (standing l.log) in
+    quiet_more l (roll_to u n l) more t refl (record { writes = undo_writes t more undo; prepares = undo_prepares t more undo; commits = undo_commits t more undo }) k.out k
 
 quiet_closed : (l : Local) (u t : TxId) (home : ℕ) (one : Bool) → stage_of l u ≡ Some Active → Quiet l t → Quiet (close_part u home one l) t
 quiet_closed l u t home one a k =
     let n = another l t u (active_here l u a) k in
-    quiet_more l (close_part u home one l) (closing (wrote_in l.log u) one u home (undecided_of l u)) t refl (foreign_closing t u home (wrote_in l.log u) one (undecided_of l u) (tx_ne t u n))
+    quiet_more l (close_part u home one l) (closing (has_standing l.log u) one u home (undecided_of l u)) t refl (foreign_closing t u home (has_standing l.log u) one (undecided_of l u) (tx_ne t u n))
     (subst IsOut (sym (closed_other l.parts u t (tx_ne u t (λ e. n (sym e))))) k.out) k
 
 quiet_written : (l : Local) (u t : TxId) (w : Option (ℕ × Change)) → tx_same t u ≡ false → Quiet l t → Quiet (written u w l) t
@@ -195,6 +198,7 @@ pub quiet_step : (s x : Shard) {e : Event} {o : Outcome} (t : TxId) → Step s e
 quiet_step s _ t (op_dies u birth nth seen op cause l g) n k = quiet_dies s.local l u t birth seen op cause (reply_is s.shard s.local u birth seen op _ g) k
 quiet_step s _ t (op_answers u birth nth seen op answer l g) n k =
     quiet_answers s.local l u t birth seen op answer (reply_is s.shard s.local u birth seen op _ g) (tx_ne t u (λ e. n birth nth seen op (ap (λ v. OpEvent v birth nth seen op) (sym e)))) k
+quiet_step s _ t (rolls_back u nth seen upto f g) n k = quiet_back s.local u t (count_after upto (standing_numbers u s.journal)) k
 quiet_step s _ t (request_closes u ts f g) n k = quiet_closed s.local u t s.shard (is_alone (others s.shard ts)) g k
 quiet_step s _ t (drops u stage g) n k =
     let b = is_present (stage_of s.local u) in quiet_marked (rolled_back_if b u s.local) u t (quiet_without s.local u t b k)
@@ -227,28 +231,30 @@ quiet_purged l t k = record { out = k.out; unwritten = k.unwritten; unprepared =
 quiet_finish : (x : Shard) (t : TxId) → Quiet x.local t → Quiet (finish x).local t
 quiet_finish x t k = quiet_purged (with_due_done x).local t (settled (λ z. Quiet z.local t) x (λ a b d h. quiet_due a b t d h) k)
 
--- ---- a restart writes no UPDATE
+-- ---- behind a restart a write stands of those alone that are committed or prepared
 
-wrote_first : (log more : List LogRecord) (t : TxId) → (wrote_in more t ≡ true → ⊥) → wrote_in (log ++ more) t ≡ true → wrote_in log t ≡ true
-wrote_first log more t n h = ⊎_elim (λ a. a) (λ a. absurd (n a)) (or_cases (wrote_in log t) (wrote_in more t) (sym (wrote_append log more t) ∙ h))
+won : (shard : ℕ) (log : List LogRecord) (run epoch : ℕ) (t : TxId) → has_standing (log_after_restart shard log run epoch) t ≡ true → is_winner shard log t ≡ true
+won shard log run epoch t h =
+    (and_parts (is_winner shard log t) (has_standing log t)
+    (sym (has_filter (is_winner shard log) (standing log) t) ∙ sym (ap (λ ws. has_write ws t) (standing_whole shard log run epoch)) ∙ h)).0
 
-failed_writes : (s : Shard) (found left : List LogRecord) (t : TxId) → FailedRestarts s found left → wrote_in left t ≡ true → wrote_in found t ≡ true
-failed_writes s found _ t untouched h = h
-failed_writes s found left t (failed_first n f) h =
-    let rs = restart_records s.shard found s.run (next_epoch s found) in
-    wrote_first found (take n rs) t (λ w. both_ways _ (restart_writes_none s.shard found s.run (next_epoch s found) t) (wrote_take n rs t w)) (failed_writes s (found ++ take n rs) left t f h)
-
-restarts_write : (s : Shard) (found : List LogRecord) (epoch : ℕ) (log : List LogRecord) (t : TxId) → Restarts s found epoch log → wrote_in log t ≡ true → wrote_in found t ≡ true
-restarts_write s found epoch log t (left, f, e, a) h =
-    failed_writes s found left t f (wrote_first left (restart_records s.shard left s.run epoch) t (λ w. both_ways _ (restart_writes_none s.shard left s.run epoch t) w) (subst (λ z. wrote_in z t ≡ true) a h))
+pub restarted_stands : (s : Shard) (found : List LogRecord) (epoch : ℕ) (log : List LogRecord) (t : TxId) → Restarts s found epoch log → has_standing log t ≡ true → (committed_in log t ≡ true) ⊎ (prepared_in log t ≡ true)
+restarted_stands s found epoch log t (left, f, e, a) h =
+    let more = restart_records s.shard left s.run epoch in
+    let w = or_cases (committed_in left t) (tx_in t (in_doubt s.shard left)) (won s.shard left s.run epoch t (subst (λ z. has_standing z t ≡ true) a h)) in
+    ⊎_elim (λ c. inl (subst (λ z. committed_in z t ≡ true) (sym a) (committed_keeps left more t c)))
+    (λ d. inr (subst (λ z. prepared_in z t ≡ true) (sym a) (prepared_append left more t ∙ or_left _ _ (doubt_prepared s.shard left t d)))) w
 
 quiet_revived : (s : Shard) (kept : Bool) (epoch : ℕ) (log : List LogRecord) (t : TxId) → Restarts s (log_left s kept) epoch log → Quiet s.local t → Quiet (revived s epoch log).local t
-quiet_revived s kept epoch log t r k = record {
-  out = inl (restored_none (in_doubt s.shard log) t (false_from_ne_true _ (λ i. both_ways _ k.unprepared (revived_prepares s kept epoch log r t (doubt_prepared s.shard log t i)))));
-  unwritten = still_not (wrote_in s.local.log t) (wrote_in log t) (λ h. wrote_take _ s.local.log t (restarts_write s (log_left s kept) epoch log t r h)) k.unwritten;
-  unprepared = still_not (prepared_in s.local.log t) (prepared_in log t) (revived_prepares s kept epoch log r t) k.unprepared;
-  uncommitted = still_not (committed_in s.local.log t) (committed_in log t) (λ h. front_committed _ s.local.log t (restarts_add s (log_left s kept) epoch log r t h)) k.uncommitted;
-}
+quiet_revived s kept epoch log t r k =
+    let prepared = still_not (prepared_in s.local.log t) (prepared_in log t) (revived_prepares s kept epoch log r t) k.unprepared in
+    let committed = still_not (committed_in s.local.log t) (committed_in log t) (λ h. front_committed _ s.local.log t (restarts_add s (log_left s kept) epoch log r t h)) k.uncommitted in
+    record {
+      out = inl (restored_none (in_doubt s.shard log) t (false_from_ne_true _ (λ i. both_ways _ k.unprepared (revived_prepares s kept epoch log r t (doubt_prepared s.shard log t i)))));
+      unwritten = false_from_ne_true _ (λ h. ⊎_elim (λ c. both_ways _ committed c) (λ p. both_ways _ prepared p) (restarted_stands s (log_left s kept) epoch log t r h));
+      unprepared = prepared;
+      uncommitted = committed;
+    }
 
 -- ---- each entry that is no operation of it
 

@@ -1,18 +1,19 @@
 -- Of the transactions of earlier runs: what is left of them stood in the logs at opening.
 use Rattle.std.proofs.Common.{◌≡◌, ⊎_elim, refl, sym, ap, subst, ◌∙◌, ℕ, ◌≤◌, ◌<◌, true, false, Bool, ◌&&◌, ◌||◌, ◌==◌, nat_lt, List, [], ◌∷◌, ◌++◌, Option, Some, None, length, arith, append-nil, append_assoc, eqb-true, ltb-true}
-use Rattle.std.proofs.lemmas.Bool.{both_ways, and_parts, or_cases, false_from_ne_true}
+use Rattle.std.proofs.lemmas.Bool.{and_parts, or_cases, or_from, false_from_ne_true}
 use Rattle.std.proofs.lemmas.List.{take_all}
 use Rattle.clv_base.specs.declared.names.TxId.{TxId}
 use Rattle.clv_base.specs.declared.logs.LogRecord.{LogRecord}
 use Rattle.clv_base.specs.declared.logs.LogRecord.TheVariants.{Update, Clr, Prepare, Commit, Abort, End, Restart, Add, Unadd}
 use Rattle.clv_base.specs.Orders.{tx_same}
-use Rattle.clv_base.specs.Logs.{is_update_of, wrote_in, committed_in, committed_somewhere}
+use Rattle.clv_base.specs.Logs.{is_update_of, wrote_in, has_standing, committed_in, committed_somewhere}
 use Rattle.clv_base.specs.LogRules.{log_of, last_restart, above_restarts, in_last_run, may_write, may_follow, disorder}
 use Rattle.clv_base.specs.Shards.{shard_count}
 use Rattle.clv_base.specs.Restarts.{run_after, log_left, undo_records, restart_records, log_after_restart}
 use Rattle.clv_base.specs.Journals.{History, start_of, final_of, journal_of}
 use Rattle.clv_base.specs.History.{Legal, logs_left}
 use Rattle.clv_base.proofs.SameNames.{tx_true}
+use Rattle.law_base.proofs.Standing.{stood_before}
 use Rattle.law_base.proofs.Changed.{none_some, some_same}
 use Rattle.protocol_laws.specs.Growth.{IsPrefixOf}
 use Rattle.protocol_laws.proofs.LogOnlyGrows.DueGrowsLogs.{chain, more}
@@ -112,23 +113,28 @@ opened_last before n =
     let found = log_of before n in
     ((run_after before, 0), ap last_restart (sym (append_assoc found (undo_records n found) (Restart (run_after before) 0 ∷ []))) ∙ last_new (found ++ undo_records n found) (run_after before) 0, omega arith)
 
-pub none_of_earlier : (splits : List ℕ) (before : List (List LogRecord)) (n : ℕ) (left : List LogRecord) (t : TxId) → t.run < run_after before → disorder n left ≡ None → IsPrefixOf (log_after_restart n (log_of before n) (run_after before) 0) left → wrote_in left t ≡ true
-    → wrote_in (log_of before n) t ≡ true
-none_of_earlier splits before n left t o d p w =
+-- what goes on from such a log has no UPDATE or ADD of an earlier one behind the log found
+pub more_of_earlier : (splits : List ℕ) (before : List (List LogRecord)) (n : ℕ) (left : List LogRecord) (t : TxId) → t.run < run_after before → disorder n left ≡ None → IsPrefixOf (log_after_restart n (log_of before n) (run_after before) 0) left
+    → (more : List LogRecord) × (log_of before n ++ more ≡ left) × (wrote_in more t ≡ false)
+more_of_earlier splits before n left t o d p =
     let found = log_of before n in
     let records = restart_records n found (run_after before) 0 in
     let opened = log_after_restart n found (run_after before) 0 in
     let whole : Follows n [] (opened ++ p.0) = subst (Follows n []) (sym p.1) (from_disorder n 0 [] left d) in
     let none = none_behind n (run_after before) opened p.0 t o (opened_last before n) (follows_behind n [] opened p.0 whole) in
-    ⊎_elim (λ a. ⊎_elim (λ b. b) (λ b. absurd (both_ways _ (restart_writes_none n found (run_after before) 0 t) b)) (or_cases (wrote_in found t) (wrote_in records t) (sym (wrote_append found records t) ∙ a))) (λ a. absurd (both_ways _ none a))
-    (or_cases (wrote_in opened t) (wrote_in p.0 t) (sym (wrote_append opened p.0 t) ∙ ap (λ z. wrote_in z t) p.1 ∙ w))
+    (records ++ p.0, sym (append_assoc found records p.0) ∙ p.1, wrote_append records p.0 t ∙ or_from _ _ (restart_writes_none n found (run_after before) 0 t) none)
 
--- who is of an earlier run and wrote in what is left on a shard wrote there in the log found at opening
-pub wrote_at_opening : {splits : List ℕ} {before after : List (List LogRecord)} {h : History} → LegalFrom splits before h after → (choice : ℕ → Bool) (n : ℕ) (t : TxId)
-    → n < shard_count splits → t.run < run_after before → wrote_in (log_of (logs_left splits before h after choice) n) t ≡ true → wrote_in (log_of before n) t ≡ true
-wrote_at_opening {splits} {before} {after} {h} l choice n t i o w =
-    none_of_earlier splits before n (log_of (logs_left splits before h after choice) n) t o (logs_left_are_in_order splits before h after choice n l i)
-    (subst (IsPrefixOf (log_after_restart n (log_of before n) (run_after before) 0)) (sym (log_now splits before h after choice n i)) (left_begins splits before h after (choice n) n l.legal i)) w
+pub left_more : {splits : List ℕ} {before after : List (List LogRecord)} {h : History} → LegalFrom splits before h after → (choice : ℕ → Bool) (n : ℕ) (t : TxId)
+    → n < shard_count splits → t.run < run_after before → (more : List LogRecord) × (log_of before n ++ more ≡ log_of (logs_left splits before h after choice) n) × (wrote_in more t ≡ false)
+left_more {splits} {before} {after} {h} l choice n t i o =
+    more_of_earlier splits before n (log_of (logs_left splits before h after choice) n) t o (logs_left_are_in_order splits before h after choice n l i)
+    (subst (IsPrefixOf (log_after_restart n (log_of before n) (run_after before) 0)) (sym (log_now splits before h after choice n i)) (left_begins splits before h after (choice n) n l.legal i))
+
+-- of whom, of an earlier run, a write stands in what is left on a shard, one stood there in the log found at opening
+pub stood_at_opening : {splits : List ℕ} {before after : List (List LogRecord)} {h : History} → LegalFrom splits before h after → (choice : ℕ → Bool) (n : ℕ) (t : TxId)
+    → n < shard_count splits → t.run < run_after before → has_standing (log_of (logs_left splits before h after choice) n) t ≡ true → has_standing (log_of before n) t ≡ true
+stood_at_opening {splits} {before} {after} {h} l choice n t i o w =
+    let m = left_more l choice n t i o in stood_before (log_of before n) m.0 t m.2 (subst (λ z. has_standing z t ≡ true) (sym m.1) w)
 
 -- who is committed in the log found at opening is so in what is left
 pub committed_still : (splits : List ℕ) (before : List (List LogRecord)) (h : History) (after : List (List LogRecord)) (choice : ℕ → Bool) (n : ℕ) (t : TxId) → Legal splits before h after → n < shard_count splits → committed_in (log_of before n) t ≡ true

@@ -1,13 +1,13 @@
 -- Who is committed somewhere in logs that may be opened, and has a record in a log, is committed there, or in doubt.
 use Rattle.std.proofs.Common.{◌≡◌, ◌⊎◌, inl, inr, refl, sym, subst, ℕ, ◌<◌, true, false, cond, Bool, not, ◌&&◌, ◌||◌, ◌==◌, List, [], ◌∷◌, Option, Some, None, is_some, length, eqb-true}
-use Rattle.std.specs.List.{list_any, list_all}
+use Rattle.std.specs.List.{list_all}
 use Rattle.std.proofs.lemmas.Bool.{both_ways, and_parts, and_from, or_left, not-true}
 use Rattle.clv_base.specs.declared.names.TxId.{TxId}
 use Rattle.clv_base.specs.declared.logs.LogRecord.{LogRecord}
 use Rattle.clv_base.specs.declared.logs.LogRecord.TheVariants.{Update, Clr, Prepare, Commit, Abort, End, Restart, Add, Unadd}
 use Rattle.clv_base.specs.Orders.{tx_same, tx_in, tx_insert}
-use Rattle.clv_base.specs.Logs.{is_record_of, committed_in, aborted_in, prepare_of, commit_parts, doubt_by, in_doubt_from, in_doubt}
-use Rattle.clv_base.specs.LogRules.{log_of, home_is, agrees_at}
+use Rattle.clv_base.specs.Logs.{committed_in, aborted_in, prepare_of, commit_parts, doubt_by, in_doubt_from, in_doubt}
+use Rattle.clv_base.specs.LogRules.{log_of, home_is, agrees_at, is_undone_in}
 use Rattle.clv_base.specs.FileRules.{may_open}
 use Rattle.clv_base.proofs.SameNames.{tx_true, insert_has}
 use Rattle.law_base.proofs.Changed.{none_some, some_same}
@@ -63,13 +63,13 @@ part_doubted t h n log (Some p) e b c a =
     let y = and_parts _ (not (aborted_in log t)) x.0 in
     doubted log n log [] t p e (subst (λ k. (n == k) ≡ false) (sym (eqb-true p.0 h y.0)) b) c (not-true _ y.1) x.1
 
--- ---- one that has a record in a log
+-- ---- one of which a log has something that isn't undone
 
 -- its COMMIT is there, or it is in doubt
 abbrev pub Known : List (List LogRecord) → ℕ → TxId → Type 0
 Known logs n t = (committed_in (log_of logs n) t ≡ true) ⊎ (tx_in t (in_doubt n (log_of logs n)) ≡ true)
 
-part_known : (logs : List (List LogRecord)) (t : TxId) (h n : ℕ) (ps : List ℕ) → n < length logs → commit_parts (log_of logs h) t ≡ Some ps → agrees_at logs t h (log_of logs h) ps ≡ true → list_any (is_record_of t) (log_of logs n) ≡ true → Known logs n t
+part_known : (logs : List (List LogRecord)) (t : TxId) (h n : ℕ) (ps : List ℕ) → n < length logs → commit_parts (log_of logs h) t ≡ Some ps → agrees_at logs t h (log_of logs h) ps ≡ true → is_undone_in (log_of logs n) t ≡ false → Known logs n t
 part_known logs t h n ps l c a r = at (n == h) refl
   where
     away : (b : Bool) → committed_in (log_of logs n) t ≡ b → (n == h) ≡ false → Known logs n t
@@ -80,9 +80,9 @@ part_known logs t h n ps l c a r = at (n == h) refl
     at true q = inl (subst (λ k. committed_in (log_of logs k) t ≡ true) (sym (eqb-true n h q)) (committed_there (log_of logs h) t ps c))
     at false q = away (committed_in (log_of logs n) t) refl q
 
-by_home : (logs : List (List LogRecord)) (t : TxId) (h n : ℕ) (o : Option (List ℕ)) → n < length logs → commit_parts (log_of logs h) t ≡ o → elim o [ Some ps ↦ agrees_at logs t h (log_of logs h) ps | None ↦ false ] ≡ true → list_any (is_record_of t) (log_of logs n) ≡ true → Known logs n t
+by_home : (logs : List (List LogRecord)) (t : TxId) (h n : ℕ) (o : Option (List ℕ)) → n < length logs → commit_parts (log_of logs h) t ≡ o → elim o [ Some ps ↦ agrees_at logs t h (log_of logs h) ps | None ↦ false ] ≡ true → is_undone_in (log_of logs n) t ≡ false → Known logs n t
 by_home logs t h n None l c a r = absurd (both_ways false refl a)
 by_home logs t h n (Some ps) l c a r = part_known logs t h n ps l c a r
 
-pub known_here : (splits : List ℕ) (logs : List (List LogRecord)) (n m : ℕ) (t : TxId) → may_open splits logs ≡ true → n < length logs → list_any (is_record_of t) (log_of logs n) ≡ true → committed_in (log_of logs m) t ≡ true → Known logs n t
+pub known_here : (splits : List ℕ) (logs : List (List LogRecord)) (n m : ℕ) (t : TxId) → may_open splits logs ≡ true → n < length logs → is_undone_in (log_of logs n) t ≡ false → committed_in (log_of logs m) t ≡ true → Known logs n t
 known_here splits logs n m t o l r c = let a = home_of splits logs m t o c in by_home logs t a.0 n (commit_parts (log_of logs a.0) t) l refl a.1 r

@@ -14,24 +14,25 @@ use Rattle.clv_base.specs.declared.events.Event.{Event}
 use Rattle.clv_base.specs.declared.events.Outcome.{Outcome}
 use Rattle.clv_base.specs.declared.logs.LogRecord.{LogRecord}
 use Rattle.clv_base.specs.declared.logs.LogRecord.TheVariants.{Update, Clr, Prepare, Commit, Abort, End, Restart, Add, Unadd}
-use Rattle.clv_base.specs.Orders.{tx_same, tx_in, nat_in}
+use Rattle.clv_base.specs.Orders.{tx_same, nat_in}
 use Rattle.clv_base.specs.declared.changes.Change.{Change}
 use Rattle.clv_base.specs.declared.changes.Change.TheVariants.{Sets, Adds}
-use Rattle.clv_base.specs.Logs.{StandingUpdate, is_end_of, ended_in, committed_in, aborted_in, wrote_in, commit_parts, standing}
+use Rattle.clv_base.specs.Logs.{StandingUpdate, is_end_of, ended_in, committed_in, aborted_in, commit_parts, standing, has_standing}
 use Rattle.clv_base.specs.State.{Shard, Local, is_present}
-use Rattle.clv_base.specs.Undo.{stage_of, aborts_of, clrs_of, newest_lsn, doomed_here, roll_back, compensation}
+use Rattle.clv_base.specs.Undo.{stage_of, aborts_of, clrs_of, newest_lsn, doomed_here, roll_back, compensation, is_of, clrs_by, newest_lsns, is_at, roll_to}
 use Rattle.clv_base.specs.Facts.{undecided_of}
 use Rattle.clv_base.specs.Coordinator.{others}
 use Rattle.clv_base.specs.Needs.{writes_of, value_at, key_of}
 use Rattle.clv_base.specs.OneShard.{OpDies, OpAnswers, written, locked, rolled_back_if, drop_part, closing, close_part}
 use Rattle.clv_base.specs.Events.{is_alone}
 use Rattle.clv_base.specs.Restarts.{undo_records, restart_records, log_after_restart, next_epoch, losers, FailedRestarts, untouched, failed_first, Restarts}
+use Rattle.clv_base.specs.Backs.{standing_numbers, count_after}
 use Rattle.clv_base.proofs.SameNames.{tx_true}
 use Rattle.law_base.proofs.Changed.{some_same}
 use Rattle.law_base.proofs.Commits.{committed_keeps, parts_keep}
 use Rattle.law_base.proofs.Lists.{all_append}
 use Rattle.history_laws.proofs.Entries.WhatOperationsDo.{OpIs, dies, rolls, performs, reply_is}
-use Rattle.history_cases.proofs.Stepping.{Step, op_dies, op_answers, request_closes, drops, prepare_closes, decision_comes}
+use Rattle.history_cases.proofs.Stepping.{Step, op_dies, op_answers, request_closes, drops, prepare_closes, decision_comes, rolls_back}
 
 -- ---- the parts that a COMMIT names: those of the first one, in a longer log too
 
@@ -114,11 +115,11 @@ aborts_none : (ts : List TxId) → HaveNoEnd (map (λ t. Abort t) ts)
 aborts_none [] = tt
 aborts_none (t ∷ ts) = ((λ u. refl), aborts_none ts)
 
-clrs_none : (set : List TxId) (ws : List StandingUpdate) → HaveNoEnd (clrs_of set ws)
-clrs_none set [] = tt
-clrs_none set (w ∷ ws) = at (tx_in w.tx set) w.change (clrs_none set ws)
+clrs_none : (gone : StandingUpdate → Bool) (ws : List StandingUpdate) → HaveNoEnd (clrs_by gone ws)
+clrs_none gone [] = tt
+clrs_none gone (w ∷ ws) = at (gone w) w.change (clrs_none gone ws)
   where
-    at : (b : Bool) (c : Change) → HaveNoEnd (clrs_of set ws) → HaveNoEnd (cond b (compensation w.tx (newest_lsn w.tx ws) w.key c ∷ clrs_of set ws) (clrs_of set ws))
+    at : (b : Bool) (c : Change) → HaveNoEnd (clrs_by gone ws) → HaveNoEnd (cond b (compensation w.tx (newest_lsn w.tx ws) w.key c ∷ clrs_by gone ws) (clrs_by gone ws))
     at true (Sets before after) a = ((λ u. refl), a)
     at true (Adds by) a = ((λ u. refl), a)
     at false c a = a
@@ -146,8 +147,8 @@ on_then a b c p q = (p.0 ++ q.0, sym (append_assoc a p.0 q.0) ∙ ap (λ l. l ++
 pub on_rolled : (tx : TxId) (l : Local) → GoesOn l.log (roll_back tx l).log
 on_rolled tx l =
     let set = doomed_here l tx in
-    on_then l.log (l.log ++ aborts_of l.log set) (roll_back tx l).log (on_more l.log (aborts_of l.log set) (aborts_none (filter (wrote_in l.log) set)))
-    (on_more (l.log ++ aborts_of l.log set) (clrs_of set (standing l.log)) (clrs_none set (standing l.log)))
+    on_then l.log (l.log ++ aborts_of l.log set) (roll_back tx l).log (on_more l.log (aborts_of l.log set) (aborts_none (filter (has_standing l.log) set)))
+    (on_more (l.log ++ aborts_of l.log set) (clrs_of set (standing l.log)) (clrs_none (is_of set) (standing l.log)))
 
 rolled_if : (b : Bool) (tx : TxId) (l : Local) → GoesOn l.log (rolled_back_if b tx l).log
 rolled_if true tx l = on_rolled tx l
@@ -169,12 +170,16 @@ answering : (l m : Local) (tx : TxId) (birth : Birth) (seen : Option ℕ) (op : 
 answering l _ tx birth seen op _ (performs f e) = writes tx (writes_of op (value_at (key_of op) l.records)) (locked tx birth op l)
 
 pub on_closed : (tx : TxId) (home : ℕ) (one : Bool) (l : Local) → GoesOn l.log (close_part tx home one l).log
-on_closed tx home one l = on_more l.log (closing (wrote_in l.log tx) one tx home (undecided_of l tx)) (closing_none (wrote_in l.log tx) one tx home (undecided_of l tx))
+on_closed tx home one l = on_more l.log (closing (has_standing l.log tx) one tx home (undecided_of l tx)) (closing_none (has_standing l.log tx) one tx home (undecided_of l tx))
+
+pub on_back : (tx : TxId) (n : ℕ) (l : Local) → GoesOn l.log (roll_to tx n l).log
+on_back tx n l = let gone = is_at (newest_lsns n tx (standing l.log)) in on_more l.log (clrs_by gone (standing l.log)) (clrs_none gone (standing l.log))
 
 -- no event writes one before what is due is done
 pub step_on : (s t : Shard) {e : Event} {o : Outcome} → Step s e o t → GoesOn s.local.log t.local.log
 step_on s _ (op_dies tx birth nth seen op cause l g) = dying s.local l tx birth seen op cause (reply_is s.shard s.local tx birth seen op _ g)
 step_on s _ (op_answers tx birth nth seen op answer l g) = answering s.local l tx birth seen op answer (reply_is s.shard s.local tx birth seen op _ g)
+step_on s _ (rolls_back tx nth seen upto f g) = on_back tx (count_after upto (standing_numbers tx s.journal)) s.local
 step_on s _ (request_closes tx ts f g) = on_closed tx s.shard (is_alone (others s.shard ts)) s.local
 step_on s _ (drops tx stage g) = on_dropped tx s.local
 step_on s _ (prepare_closes tx home seen stamp g) = on_closed tx home false s.local
@@ -187,7 +192,7 @@ step_on s _ _ = on_same s.local.log
 restart_none : (shard : ℕ) (log : List LogRecord) (run epoch : ℕ) → HaveNoEnd (restart_records shard log run epoch)
 restart_none shard log run epoch =
     all_append IsNoEnd (undo_records shard log) (Restart run epoch ∷ [])
-    (all_append IsNoEnd _ _ (aborts_none (filter (λ t. not (aborted_in log t)) (losers shard log))) (clrs_none (losers shard log) (standing log))) ((λ u. refl), tt)
+    (all_append IsNoEnd _ _ (aborts_none (filter (λ t. not (aborted_in log t)) (losers shard log))) (clrs_none (is_of (losers shard log)) (standing log))) ((λ u. refl), tt)
 
 pub on_opened : (shard : ℕ) (log : List LogRecord) (run epoch : ℕ) → GoesOn log (log_after_restart shard log run epoch)
 on_opened shard log run epoch = on_more log (restart_records shard log run epoch) (restart_none shard log run epoch)

@@ -23,7 +23,7 @@ use Rattle.clv_base.specs.declared.events.Outcome.TheVariants.{Sent}
 use Rattle.clv_base.specs.declared.events.Entry.{Entry}
 use Rattle.clv_base.specs.Orders.{Table, tx_in, tx_get, tx_put, nat_in}
 use Rattle.clv_base.specs.State.{Shard, with_local}
-use Rattle.clv_base.specs.Undo.{roll_back}
+use Rattle.clv_base.specs.Undo.{roll_back, roll_to}
 use Rattle.clv_base.specs.Facts.{facts_of, has_durable_commit, is_waiting}
 use Rattle.clv_base.specs.Participant.{ask_by, asks, taken_by, taken_if}
 use Rattle.clv_base.specs.Coordinator.{new_request, others, vote_from, with_vote_of, with_done_of, ask_answer, prepare_for, prepares, missing_votes, missing_dones, each_request, home_reminders, restored_requests}
@@ -31,16 +31,17 @@ use Rattle.clv_base.specs.OneShard.{close_part, drop_part}
 use Rattle.clv_base.specs.Events.{finish, is_alone, coordinate, decided, ask_messages, durable_requests, waiting_voters, reminders, with_durable}
 use Rattle.clv_base.specs.Restarts.{log_left, revived, opened, unended_in, log_after_restart, Restarts}
 use Rattle.clv_base.specs.Journals.{event_state, after_entry, up_to_restart}
+use Rattle.clv_base.specs.Backs.{standing_numbers, count_after}
 use Rattle.law_base.proofs.Lists.{all_mono, all_append, insert_in as in_inserted}
 use Rattle.law_base.proofs.Commits.{commit_durable, durable_keeps}
 use Rattle.protocol_laws.proofs.LogOnlyGrows.DueGrowsLogs.{grows_settled}
 use Rattle.shard_laws.proofs.Restarts.RestoredRequestsAndPairs.{request_from}
-use Rattle.history_cases.proofs.Stepping.{Step, op_dies, op_answers, request_new, request_closes, drops, sends, prepare_closes, prepare_again, vote_counts, decision_comes, decision_again, done_counts, asked, reminds, flushes, Happens, finishes, stops}
+use Rattle.history_cases.proofs.Stepping.{Step, op_dies, op_answers, request_new, request_closes, drops, sends, prepare_closes, prepare_again, vote_counts, decision_comes, decision_again, done_counts, asked, reminds, flushes, Happens, finishes, stops, rolls_back}
 use Rattle.history_cases.proofs.Entering.{Makes, by_event, by_flush, by_failure, by_restart}
 use Rattle.history_cases.proofs.Durability.{Counted, framed_finish}
 use Rattle.history_cases.proofs.Telling.{all_map}
 use Rattle.fate_laws.proofs.Logs.LogOnlyGrows.{inside_self, inside_step}
-use Rattle.headline_laws.proofs.EndedAreCommitted.EndsStandBehindCommits.{on_more, on_rolled, on_dropped, on_closed, on_opened, on_restarted, step_on, Tell, tell_on, tell_front, tell_mono}
+use Rattle.headline_laws.proofs.EndedAreCommitted.EndsStandBehindCommits.{on_more, on_rolled, on_dropped, on_closed, on_opened, on_restarted, step_on, Tell, tell_on, tell_front, tell_mono, on_back}
 use Rattle.headline_laws.proofs.EndedAreCommitted.RestoredAreUnended.{unended}
 use Rattle.headline_laws.proofs.EndedAreCommitted.DueKeepsTheHeard.{Says, Row, Hears, hears_local, hears_set, hears_put, hears_send, hears_finish}
 
@@ -137,6 +138,8 @@ hears_coordinate K s tx ts p =
 hears_step : (K : ℕ → TxId → Type 0) (s t : Shard) {e : Event} {o : Outcome} → ((u : TxId) → commit_durable s.local.log s.durable u ≡ true → K s.shard u) → Step s e o t → Brings K e → Hears K s → Hears K t
 hears_step K s _ now (op_dies tx birth nth seen op cause l g) b p = hears_local K s l (step_on s _ (op_dies tx birth nth seen op cause l g)) p
 hears_step K s _ now (op_answers tx birth nth seen op answer l g) b p = hears_local K s l (step_on s _ (op_answers tx birth nth seen op answer l g)) p
+hears_step K s _ now (rolls_back tx nth seen upto f g) b p =
+    let i = count_after upto (standing_numbers tx s.journal) in hears_local K s (roll_to tx i s.local) (on_back tx i s.local) p
 hears_step K s _ now (request_new tx ts f g) b p = hears_coordinate K s tx ts p
 hears_step K s _ now (request_closes tx ts f g) b p =
     let one = is_alone (others s.shard ts) in

@@ -20,8 +20,7 @@ use Rattle.shard_laws.proofs.Order.WhatRulingsMayWrite.{parts_new}
 use Rattle.history_cases.proofs.Uncommitting.{with_more}
 use Rattle.fate_laws.proofs.History.EntryByEntry.{DurableIn}
 use Rattle.fate_laws.proofs.Logs.WhatAddsNoPrepare.{plain_more, prepare_new}
-use Rattle.fate_laws.proofs.Homes.FoundCommitsHaveHomes.{part_agreed, home_of, nat_at}
-use Rattle.fate_laws.proofs.Logs.RecordNamesItsTransaction.{commit_is}
+use Rattle.fate_laws.proofs.Homes.FoundCommitsHaveHomes.{part_agreed, home_of, nat_at, committed_stays}
 use Rattle.fate_laws.proofs.Homes.ShardKnowsHomes.{new_commit}
 use Rattle.headline_laws.proofs.EndedAreCommitted.EndsStandBehindCommits.{parts_back, EndsFrom, Tell}
 use Rattle.law_base.proofs.Bools.{and_first as front, and_second as last}
@@ -101,7 +100,7 @@ only_home logs t n h q ps qs l k c a = at (n == h) refl
     at true e = eqb-true n h e
     at false e =
         let log = log_of logs n in
-        let g = part_agreed logs t h n ps l a e (commit_is log t (committed_there log t (q ∷ qs) c)) in
+        let g = part_agreed logs t h n ps l a e (committed_stays log t (committed_there log t (q ∷ qs) c)) in
         let g1 = and_parts (is_some (prepare_of log t) && home_is h (prepare_of log t) && not (aborted_in log t)) (list_all (committed_in log) (listed_in log t)) g in
         let g2 = and_parts (is_some (prepare_of log t) && home_is h (prepare_of log t)) (not (aborted_in log t)) g1.0 in
         prepared_home t h n log q qs (prepare_of log t) refl g2.0 k c

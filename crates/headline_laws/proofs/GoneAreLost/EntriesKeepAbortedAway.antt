@@ -1,5 +1,5 @@
 -- Whose ABORT stands in a shard's log is not here, and has no COMMIT there: each entry keeps it so.
-use Rattle.std.proofs.Common.{◌≡◌, ◌⊎◌, inl, ⊎_elim, refl, sym, ap, subst, ◌∙◌, ℕ, true, false, cond, Bool, not, ◌&&◌, List, [], ◌∷◌, ◌++◌, map, take, Option, Some, None, append_assoc, take-append-drop}
+use Rattle.std.proofs.Common.{◌≡◌, ◌⊎◌, inl, ⊎_elim, refl, sym, ap, subst, ◌∙◌, ℕ, true, false, Bool, not, ◌&&◌, List, [], ◌∷◌, ◌++◌, map, take, Option, Some, None, append_assoc, take-append-drop}
 use Rattle.std.specs.Prelude.{drop}
 use Rattle.std.specs.List.{filter}
 use Rattle.std.proofs.lemmas.Bool.{both_ways, or_cases, or_left, or_right, false_from_ne_true}
@@ -22,10 +22,10 @@ use Rattle.clv_base.specs.declared.events.Entry.{Entry}
 use Rattle.clv_base.specs.Orders.{tx_same, tx_in}
 use Rattle.clv_base.specs.declared.changes.Change.{Change}
 use Rattle.clv_base.specs.declared.changes.Change.TheVariants.{Sets, Adds}
-use Rattle.clv_base.specs.Logs.{StandingUpdate, standing, committed_in, wrote_in, aborted_in, is_abort_of, in_doubt}
+use Rattle.clv_base.specs.Logs.{standing, committed_in, aborted_in, is_abort_of, in_doubt, has_standing}
 use Rattle.clv_base.specs.Needs.{writes_of, value_at, key_of}
 use Rattle.clv_base.specs.State.{Shard, Local, is_present, with_local}
-use Rattle.clv_base.specs.Undo.{newest_lsn, stage_of, gone_in, doomed_here, roll_back, aborts_of, clrs_of, compensation}
+use Rattle.clv_base.specs.Undo.{stage_of, gone_in, doomed_here, roll_back, aborts_of, clrs_of, is_of, clrs_by, newest_lsns, is_at, roll_to}
 use Rattle.clv_base.specs.Facts.{facts_of, is_waiting, has_durable_commit, undecided_of}
 use Rattle.clv_base.specs.Coordinator.{others}
 use Rattle.clv_base.specs.OneShard.{OpDies, OpAnswers, written, locked, performed, closing, close_part, closed_in, rolled_back_if, drop_part}
@@ -33,18 +33,20 @@ use Rattle.clv_base.specs.Due.{append_log}
 use Rattle.clv_base.specs.Events.{is_alone, finish, with_durable}
 use Rattle.clv_base.specs.Restarts.{losers, undo_records, restart_records, log_after_restart, next_epoch, state_after, revived, FailedRestarts, untouched, failed_first, Restarts}
 use Rattle.clv_base.specs.Journals.{up_to_restart}
+use Rattle.clv_base.specs.Backs.{standing_numbers, count_after}
 use Rattle.clv_base.proofs.SameNames.{tx_true, tx_flip}
 use Rattle.law_base.proofs.Tables.{stage_in}
 use Rattle.law_base.proofs.Sets.{in_filter}
-use Rattle.history_cases.proofs.Stepping.{Due, commits, votes, rules, KeptByDue, settled, Step, op_dies, op_answers, request_closes, drops, prepare_closes, decision_comes, Happens, finishes, stops}
+use Rattle.history_cases.proofs.Stepping.{Due, commits, votes, rules, KeptByDue, settled, Step, op_dies, op_answers, request_closes, drops, prepare_closes, decision_comes, Happens, finishes, stops, rolls_back}
 use Rattle.history_cases.proofs.Entering.{Makes, by_event, by_flush, by_failure, by_restart}
 use Rattle.history_laws.proofs.NeverTakenBack.LaterHistoriesHoldMembers.{committed_front}
 use Rattle.history_cases.proofs.TellingEvents.{front_committed}
-use Rattle.history_cases.proofs.Uncommitting.{NoMoreCommits, rolled as rolled_commits, with_more, op_answering, opening_adds}
+use Rattle.history_cases.proofs.Uncommitting.{NoMoreCommits, rolled as rolled_commits, with_more, op_answering, opening_adds, gone_back}
 use Rattle.shard_laws.proofs.Events.DueKeeps.{waiting_here}
 use Rattle.law_base.proofs.Stages.{closed_other, absent_go, own_go, stage_marked}
 use Rattle.shard_laws.proofs.Restarts.WinnersKeepTheirWrites.{loser_out}
 use Rattle.shard_laws.proofs.Restarts.RestoredLocksAndParts.{restored_none}
+use Rattle.shard_laws.proofs.Keeping.RecordsOfAnUndo.{no_abort_clrs, aborted_here}
 use Rattle.history_laws.proofs.Entries.WhatOperationsDo.{OpIs, dies, rolls, performs, reply_is}
 use Rattle.fate_laws.proofs.Homes.ShardKnowsHomes.{still_not, new_commit}
 use Rattle.fate_laws.proofs.Homes.EventsKeepHomes.{awaits}
@@ -78,15 +80,6 @@ aborts_in : (ts : List TxId) (t : TxId) → aborted_in (map (λ u. Abort u) ts) 
 aborts_in [] t h = h
 aborts_in (u ∷ us) t h = ⊎_elim (λ e. or_left (tx_same u t) (tx_in t us) (tx_flip t u e)) (λ k. or_right (tx_same u t) (tx_in t us) (aborts_in us t k)) (or_cases (tx_same t u) (aborted_in (map (λ v. Abort v) us) t) h)
 
-clrs_abort_none : (set : List TxId) (ws : List StandingUpdate) (t : TxId) → aborted_in (clrs_of set ws) t ≡ false
-clrs_abort_none set [] t = refl
-clrs_abort_none set (w ∷ ws) t = at (tx_in w.tx set) w.change (clrs_abort_none set ws t)
-  where
-    at : (b : Bool) (c : Change) → aborted_in (clrs_of set ws) t ≡ false → aborted_in (cond b (compensation w.tx (newest_lsn w.tx ws) w.key c ∷ clrs_of set ws) (clrs_of set ws)) t ≡ false
-    at true (Sets before after) k = k
-    at true (Adds by) k = k
-    at false c k = k
-
 closing_aborts : (log : List LogRecord) (b one : Bool) (tx : TxId) (home : ℕ) (us : List TxId) (t : TxId) → aborted_in (log ++ closing b one tx home us) t ≡ true → aborted_in log t ≡ true
 closing_aborts log false one tx home us t h = aborted_back log [] t refl h
 closing_aborts log true true tx home [] t h = aborted_back log (Commit tx [] ∷ []) t refl h
@@ -118,18 +111,23 @@ struck_gone s x t set d e f k =
 struck_rolled : (s : Shard) (u t : TxId) → committed_in s.local.log u ≡ false → Down s → Struck s t → Struck (with_local (roll_back u) s) t
 struck_rolled s u t o d k h =
     ⊎_elim
-    (λ a. ⊎_elim
     (λ b. let p = k b in (absent_go set (Some u) t s.local.parts p.0, open_ p.1))
-    (λ b. let i = (in_filter (wrote_in s.local.log) t set (aborts_in (filter (wrote_in s.local.log) set) t b)).0 in (own_go set (Some u) t s.local.parts i, open_ (doomed_open s u d o t i)))
-    (aborted_case s.local.log (aborts_of s.local.log set) t a))
-    (λ a. absurd (both_ways _ (clrs_abort_none set (standing s.local.log) t) a))
-    (aborted_case (s.local.log ++ aborts_of s.local.log set) (clrs_of set (standing s.local.log)) t h)
+    (λ b. let i = aborted_here set t s.local.log b in (own_go set (Some u) t s.local.parts i, open_ (doomed_open s u d o t i)))
+    (aborted_case s.local.log (aborts_of s.local.log set ++ clrs_of set (standing s.local.log)) t
+    (subst (λ z. aborted_in z t ≡ true) (append_assoc s.local.log (aborts_of s.local.log set) (clrs_of set (standing s.local.log))) h))
   where
     set : List TxId
     set = doomed_here s.local u
 
     open_ : committed_in s.local.log t ≡ false → committed_in (roll_back u s.local).log t ≡ false
     open_ n = still_not (committed_in s.local.log t) (committed_in (roll_back u s.local).log t) (rolled_commits u s.local t) n
+
+-- a going back leaves parts as they are
+struck_back : (s : Shard) (u t : TxId) (i : ℕ) → Struck s t → Struck (with_local (roll_to u i) s) t
+struck_back s u t i k =
+    let ws = standing s.local.log in
+    let gone = is_at (newest_lsns i u ws) in
+    struck_on s (with_local (roll_to u i) s) t (λ h. aborted_back s.local.log (clrs_by gone ws) t (no_abort_clrs gone t ws) h) (λ n. n) (λ n c. gone_back u i s.local t c) k
 
 -- a COMMIT comes to a closed part
 struck_commit : (s : Shard) (u t : TxId) (parts : List ℕ) → stage_of s.local u ≡ Some Closed → Struck s t → Struck (with_local (append_log (Commit u parts ∷ [])) s) t
@@ -140,8 +138,8 @@ struck_commit s u t parts c k =
 -- a part closes
 struck_close : (s : Shard) (u t : TxId) (home : ℕ) (one : Bool) → stage_of s.local u ≡ Some Active → Struck s t → Struck (with_local (close_part u home one) s) t
 struck_close s u t home one a k =
-    struck_on s (with_local (close_part u home one) s) t (λ h. closing_aborts s.local.log (wrote_in s.local.log u) one u home (undecided_of s.local u) t h) (λ n. by_name (tx_same u t) refl n)
-    (λ n h. ⊎_elim (λ z. z) (λ z. absurd (other n z)) (closing_commits s.local.log (wrote_in s.local.log u) one u home (undecided_of s.local u) t h)) k
+    struck_on s (with_local (close_part u home one) s) t (λ h. closing_aborts s.local.log (has_standing s.local.log u) one u home (undecided_of s.local u) t h) (λ n. by_name (tx_same u t) refl n)
+    (λ n h. ⊎_elim (λ z. z) (λ z. absurd (other n z)) (closing_commits s.local.log (has_standing s.local.log u) one u home (undecided_of s.local u) t h)) k
   where
     other : Absent s t → t ≡ u → ⊥
     other n z = both_ways _ (subst (Absent s) z n) (subst (λ o. is_present o ≡ true) (sym a) refl)
@@ -196,6 +194,7 @@ struck_step : (s x : Shard) {e : Event} {o : Outcome} (t : TxId) → Step s e o 
 struck_step s _ t (op_dies u birth nth seen op cause l g) w n d k = died s u t birth seen op cause l (reply_is s.shard s.local u birth seen op _ g) w d k
 struck_step s _ t (op_answers u birth nth seen op answer l g) w n d k =
     answered s u t birth seen op answer l (reply_is s.shard s.local u birth seen op _ g) (n u birth nth seen op answer s.local.epoch refl refl) (op_answering s.shard s.local l u birth seen op answer g) k
+struck_step s _ t (rolls_back u nth seen upto f g) w n d k = struck_back s u t (count_after upto (standing_numbers u s.journal)) k
 struck_step s _ t (request_closes u ts f0 g) w n d k = struck_close s u t s.shard (is_alone (others s.shard ts)) g k
 struck_step s _ t (drops u stage g) w n d k =
     let b = is_present (stage_of s.local u) in
@@ -211,7 +210,7 @@ losers_open : (shard : ℕ) (log : List LogRecord) (run epoch : ℕ) (t : TxId) 
 losers_open shard log run epoch t h =
     let ts = filter (λ u. not (aborted_in log u)) (losers shard log) in
     let a : aborted_in (undo_records shard log) t ≡ true = aborted_back (undo_records shard log) (RestartRecord run epoch ∷ []) t refl h in
-    let b : aborted_in (map (λ u. Abort u) ts) t ≡ true = aborted_back (map (λ u. Abort u) ts) (clrs_of (losers shard log) (standing log)) t (clrs_abort_none (losers shard log) (standing log) t) a in
+    let b : aborted_in (map (λ u. Abort u) ts) t ≡ true = aborted_back (map (λ u. Abort u) ts) (clrs_of (losers shard log) (standing log)) t (no_abort_clrs (is_of (losers shard log)) t (standing log)) a in
     or_false_left (committed_in log t) (tx_in t (in_doubt shard log)) (loser_out shard log t (in_filter (λ u. not (aborted_in log u)) t (losers shard log) (aborts_in ts t b)).0)
 
 apart_whole : (shard : ℕ) (log : List LogRecord) (run epoch : ℕ) (t : TxId) → Apart log t → Apart (log_after_restart shard log run epoch) t

@@ -28,7 +28,7 @@ use Rattle.headline_laws.proofs.GoneAreLost.EntriesKeepAbortedAway.{Struck, NoAn
 use Rattle.fate_laws.proofs.Origins.OldPartsWereDoubted.{found_follows as log_follows}
 
 -- whose ABORT stands in a log did an operation there, or is of an earlier run
-aborts_from : (A : TxId → Type 0) (Q : TxId → ℕ → Type 0) (O : TxId → Type 0) (n : ℕ) (rs : List LogRecord) (t : TxId) → AllFrom A Q O n rs → aborted_in rs t ≡ true → A t
+pub aborts_from : (A : TxId → Type 0) (Q : TxId → ℕ → Type 0) (O : TxId → Type 0) (n : ℕ) (rs : List LogRecord) (t : TxId) → AllFrom A Q O n rs → aborted_in rs t ≡ true → A t
 aborts_from A Q O n [] t a h = absurd (both_ways _ refl h)
 aborts_from A Q O n (Abort u ∷ rs) t a h = ⊎_elim (λ e. subst A (sym (tx_true t u e)) a.0) (λ k. aborts_from A Q O n rs t a.1 k) (or_cases (tx_same t u) (aborted_in rs t) h)
 aborts_from A Q O n (Update u x y z ∷ rs) t a h = aborts_from A Q O n rs t a.1 h

@@ -1,13 +1,13 @@
 -- A transaction of an earlier run that is committed in the logs left has the home that it had at opening.
-use Rattle.std.proofs.Common.{◌≡◌, inl, ⊎_elim, refl, sym, ap, subst, ◌∙◌, ℕ, ◌<◌, true, false, Bool, ◌==◌, List, [], ◌∷◌, ◌++◌, Option, Some, None, length, arith, append-nil, append_assoc, eqb-true}
-use Rattle.std.specs.List.{list_any, list_all}
+use Rattle.std.proofs.Common.{◌≡◌, inl, inr, ⊎_elim, refl, sym, ap, subst, ◌∙◌, ℕ, ◌<◌, true, false, Bool, ◌==◌, List, [], ◌∷◌, ◌++◌, Option, Some, None, length, arith, append-nil, append_assoc, eqb-true}
+use Rattle.std.specs.List.{list_all}
 use Rattle.std.proofs.lemmas.Bool.{both_ways, false_from_ne_true, or_cases, or_left}
 use Rattle.std.proofs.lemmas.List.Folds.{list_any-append}
 use Rattle.clv_base.specs.declared.names.TxId.{TxId}
 use Rattle.clv_base.specs.declared.logs.LogRecord.{LogRecord}
 use Rattle.clv_base.specs.declared.logs.LogRecord.TheVariants.{Commit}
 use Rattle.clv_base.specs.Shards.{shard_count}
-use Rattle.clv_base.specs.Logs.{is_record_of, is_commit_of, is_prepare_of, wrote_in, committed_in, prepared_in, aborted_in, prepare_of, commit_parts}
+use Rattle.clv_base.specs.Logs.{is_commit_of, is_prepare_of, has_standing, committed_in, prepared_in, aborted_in, prepare_of, commit_parts}
 use Rattle.clv_base.specs.LogRules.{log_of, home_is, may_follow, commit_by_prepare}
 use Rattle.clv_base.specs.Restarts.{run_after, log_after_restart}
 use Rattle.clv_base.specs.Journals.{History, final_of}
@@ -19,19 +19,21 @@ use Rattle.history_cases.proofs.Uncommitting.{opening_adds}
 use Rattle.history_laws.specs.Openings.{LegalFrom}
 use Rattle.history_laws.proofs.Logs.FoundLogsInOrder.{log_found}
 use Rattle.shard_laws.proofs.Order.RecordByRecord.{Follows, from_disorder}
-use Rattle.shard_laws.proofs.Order.WritesLieOnListed.{prepared_wrote}
+use Rattle.shard_laws.proofs.Order.WritesLieOnListed.{ended_committed}
+use Rattle.shard_laws.proofs.Order.WhoseWritesStand.{prepared_stands}
+use Rattle.shard_laws.proofs.Keeping.RecordsAndFrontsKeep.{aborted_append}
 use Rattle.fate_laws.proofs.Homes.DecidedStaysDecided.{left_committed}
 use Rattle.fate_laws.proofs.Logs.WhatAddsNoPrepare.{prepare_more, front_prepare}
 use Rattle.fate_laws.proofs.Homes.FoundCommitsHaveHomes.{home_of}
-use Rattle.fate_laws.proofs.Logs.RecordNamesItsTransaction.{update_is, commit_is}
 use Rattle.fate_laws.specs.Earlier.{IsEarlier, WasCommitted}
 use Rattle.fate_laws.proofs.EarlierRuns.EarlierFatesAreKnown.{earlier_commits_are_of_opening}
 use Rattle.headline_laws.proofs.GoneAreLost.FrontsKeepAbortedAway.{struck_front}
 use Rattle.headline_laws.proofs.EarlierMembersNeverFell.{never_out, committed_within}
 use Rattle.headline_laws.proofs.EndedAreCommitted.{part_below, ended_are_committed}
-use Rattle.headline_laws.proofs.AtOpening.EarlierOnesStoodThere.{LastFrom, last_next, opened_last, follows_behind, none_of_earlier}
+use Rattle.headline_laws.proofs.AtOpening.EarlierOnesStoodThere.{LastFrom, last_next, opened_last, follows_behind, left_more, stood_at_opening}
+use Rattle.headline_laws.proofs.ReadersPass.FrontsWithoutWrites.{aborted_stood}
 use Rattle.headline_laws.proofs.LogsLeftMayBeOpened.LogsAgreeByHomes.{HomeIs, HasHome, PartIs, home_from, part_here, part_from}
-use Rattle.headline_laws.proofs.LogsLeftMayBeOpened.FrontsTellHomes.{wrote_or_committed, home_behind, all_committed}
+use Rattle.headline_laws.proofs.LogsLeftMayBeOpened.FrontsTellHomes.{Marked, marks_of, marks_stay, home_behind, all_committed}
 use Rattle.headline_laws.proofs.LogsLeftMayBeOpened.LeftLogsGoOn.{InOrder, left_opened, left_grows, left_aborted}
 use Rattle.history_laws.proofs.LogsLeftPass.{left_length}
 use Rattle.law_base.proofs.Bools.{and_first as front, and_second as last}
@@ -71,22 +73,36 @@ module _ {splits : List ℕ} {before after : List (List LogRecord)} {h : History
   follows : (n : ℕ) → n < shard_count splits → Follows n [] (log_of left n)
   follows n i = from_disorder n 0 [] (log_of left n) (orders n i)
 
-  -- ---- whose record is left had one at opening
+  -- ---- who isn't undone in what is left was not at opening
 
-  by_write : (n : ℕ) → n < shard_count splits → wrote_in (log_of left n) t ≡ true → list_any (is_record_of t) (log_of before n) ≡ true
-  by_write n i w = update_is (log_of before n) t (none_of_earlier splits before n (log_of left n) t old (orders n i) (left_opened splits before h after choice n l.legal i) w)
+  stood : (n : ℕ) → n < shard_count splits → has_standing (log_of left n) t ≡ true → Marked (log_of before n) t
+  stood n i w = inl (stood_at_opening l choice n t i old w)
 
-  by_commit : (n : ℕ) → n < shard_count splits → committed_in (log_of left n) t ≡ true → list_any (is_record_of t) (log_of before n) ≡ true
-  by_commit n i w =
+  aborted : (n : ℕ) → n < shard_count splits → aborted_in (log_of left n) t ≡ true → Marked (log_of before n) t
+  aborted n i a =
+      let m = left_more l choice n t i old in
+      let behind = follows_behind n [] (log_of before n) m.0 (subst (Follows n []) (sym m.1) (follows n i)) in
+      ⊎_elim (λ x. inr (inr (inr (inl x)))) (λ x. inl (aborted_stood n (log_of before n) m.0 t behind m.2 x))
+      (or_cases (aborted_in (log_of before n) t) (aborted_in m.0 t) (sym (aborted_append (log_of before n) m.0 t) ∙ ap (λ z. aborted_in z t) m.1 ∙ a))
+
+  prepared : (n : ℕ) → n < shard_count splits → prepared_in (log_of left n) t ≡ true → Marked (log_of before n) t
+  prepared n i p = ⊎_elim (stood n i) (aborted n i) (prepared_stands n (log_of left n) (follows n i) t p)
+
+  committed : (n : ℕ) → n < shard_count splits → committed_in (log_of left n) t ≡ true → Marked (log_of before n) t
+  committed n i w =
       let opened = log_after_restart n (log_of before n) (run_after before) 0 in
       let p = left_opened splits before h after choice n l.legal i in
       let behind = follows_behind n [] opened p.0 (subst (Follows n []) (sym p.1) (follows n i)) in
-      ⊎_elim (λ a. commit_is (log_of before n) t (opening_adds n (log_of before n) (run_after before) 0 t a))
-      (λ a. by_write n i (prepared_wrote n (log_of left n) (follows n i) t (subst (λ z. prepared_in z t ≡ true) p.1 (commits_behind n (run_after before) opened p.0 t old (opened_last before n) behind a))))
+      ⊎_elim (λ a. inr (inr (inl (opening_adds n (log_of before n) (run_after before) 0 t a))))
+      (λ a. prepared n i (subst (λ z. prepared_in z t ≡ true) p.1 (commits_behind n (run_after before) opened p.0 t old (opened_last before n) behind a)))
       (or_cases (committed_in opened t) (committed_in p.0 t) (sym (committed_append opened p.0 t) ∙ subst (λ z. committed_in z t ≡ true) (sym p.1) w))
 
-  recorded : (n : ℕ) → n < shard_count splits → list_any (is_record_of t) (log_of left n) ≡ true → list_any (is_record_of t) (log_of before n) ≡ true
-  recorded n i r = ⊎_elim (by_write n i) (by_commit n i) (wrote_or_committed n (log_of left n) (follows n i) t r)
+  recorded : (n : ℕ) → n < shard_count splits → Marked (log_of left n) t → Marked (log_of before n) t
+  recorded n i (inl w) = stood n i w
+  recorded n i (inr (inl p)) = prepared n i p
+  recorded n i (inr (inr (inl c))) = committed n i c
+  recorded n i (inr (inr (inr (inl a)))) = aborted n i a
+  recorded n i (inr (inr (inr (inr e)))) = committed n i (ended_committed n (log_of left n) (follows n i) t e)
 
   -- ---- its home at opening is so still
 
@@ -131,7 +147,7 @@ module _ {splits : List ℕ} {before after : List (List LogRecord)} {h : History
     home_still = record {
       commits = commits_left;
       home = home_left;
-      named = λ n i a r. let j = in_left n i in at_opening.named n (log_found l n j) a (recorded n j r);
+      named = λ n i a r. let j = in_left n i in at_opening.named n (log_found l n j) a (marks_stay (log_of before n) t (recorded n j (marks_of (log_of left n) t r)));
       parts = λ n i. part_here (log_of left n) t k (part_left n (part_below l choice k n t ps inside commits_left i) (part_from (log_of before n) t k (at_opening.parts n i)));
       ended = λ e n i. ended_are_committed splits before h after choice k n t ps l inside e commits_left i;
     }

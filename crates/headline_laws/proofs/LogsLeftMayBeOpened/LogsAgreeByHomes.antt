@@ -1,13 +1,13 @@
 -- Logs that agree: each transaction that is committed in some of them has a home there.
 use Rattle.std.proofs.Common.{◌≡◌, ⊎_elim, refl, sym, ap, subst, ◌∙◌, ℕ, zero, suc, ◌+◌, ◌<◌, true, false, Bool, not, ◌&&◌, ◌||◌, ◌==◌, List, [], ◌∷◌, Option, Some, None, is_some, length, arith, eqb-true}
-use Rattle.std.specs.List.{list_any, list_all}
+use Rattle.std.specs.List.{list_all}
 use Rattle.std.proofs.lemmas.Bool.{both_ways, and_parts, and_from, or_left, or_right, eq-eqb, not_from_false}
 use Rattle.clv_base.specs.declared.names.TxId.{TxId}
 use Rattle.clv_base.specs.declared.logs.LogRecord.{LogRecord}
 use Rattle.clv_base.specs.declared.logs.LogRecord.TheVariants.{Update, Clr, Prepare, Commit, Abort, End, Restart, Add, Unadd}
 use Rattle.clv_base.specs.Orders.{tx_same, tx_in, nat_in}
-use Rattle.clv_base.specs.Logs.{is_record_of, committed_in, aborted_in, ended_in, prepare_of, commit_parts}
-use Rattle.clv_base.specs.LogRules.{log_of, any_log_from, home_is, part_agrees, agrees_at, is_home_of, committed_of, committed_of_all, first_apart, apart}
+use Rattle.clv_base.specs.Logs.{committed_in, aborted_in, ended_in, prepare_of, commit_parts}
+use Rattle.clv_base.specs.LogRules.{log_of, any_log_from, home_is, is_undone_in, part_agrees, agrees_at, is_home_of, committed_of, committed_of_all, first_apart, apart}
 use Rattle.clv_base.proofs.SameNames.{tx_self, in_insert}
 use Rattle.fate_laws.proofs.Homes.FoundCommitsHaveHomes.{nat_at, named_part}
 use Rattle.fate_laws.proofs.Waits.WaitsGoDown.{in_union}
@@ -15,12 +15,12 @@ use Rattle.law_base.proofs.Logs.{all_logs}
 
 -- ---- a home
 
--- the shard is a home of the transaction in the logs: it has the COMMIT with these parts; each other shard with records of it is a part; and
+-- the shard is a home of the transaction in the logs: it has the COMMIT with these parts; each other shard where it isn't undone is a part; and
 -- each part is prepared for it, and committed where the transaction is ended
 pub record HomeIs (logs : List (List LogRecord)) (t : TxId) (h : ℕ) (ps : List ℕ) : Type 0 where
   pub commits : commit_parts (log_of logs h) t ≡ Some ps
   pub home : home_is h (prepare_of (log_of logs h) t) ≡ true
-  pub named : (n : ℕ) → n < length logs → (n == h) ≡ false → list_any (is_record_of t) (log_of logs n) ≡ true → nat_in n ps ≡ true
+  pub named : (n : ℕ) → n < length logs → (n == h) ≡ false → is_undone_in (log_of logs n) t ≡ false → nat_in n ps ≡ true
   pub parts : (n : ℕ) → nat_in n ps ≡ true → part_agrees t h (log_of logs n) ≡ true
   pub ended : ended_in (log_of logs h) t ≡ true → (n : ℕ) → nat_in n ps ≡ true → committed_in (log_of logs n) t ≡ true
 
@@ -36,19 +36,20 @@ any_log test i (suc n) (log ∷ logs) l e = or_right (test i log) _ (any_log tes
 agrees : (logs : List (List LogRecord)) (t : TxId) (h : ℕ) (ps : List ℕ) → HomeIs logs t h ps → agrees_at logs t h (log_of logs h) ps ≡ true
 agrees logs t h ps k =
     and_from _ _
-    (and_from _ _ (and_from _ _ k.home (all_logs (λ s other. (s == h) || not (list_any (is_record_of t) other) || nat_in s ps) 0 logs named))
+    (and_from _ _ (and_from _ _ k.home (all_logs (λ s other. (s == h) || nat_in s ps || is_undone_in other t) 0 logs named))
     (all_numbers (λ s. part_agrees t h (log_of logs s)) ps k.parts))
     (either (ended_in (log_of logs h) t) _ (λ e. all_numbers (λ s. committed_in (log_of logs s) t) ps (k.ended e)))
   where
-    passes : (a b c : Bool) → (a ≡ false → b ≡ true → c ≡ true) → (a || not b || c) ≡ true
+    passes : (a b c : Bool) → (a ≡ false → c ≡ false → b ≡ true) → (a || b || c) ≡ true
     passes true b c k = refl
-    passes false true c k = k refl refl
-    passes false false c k = refl
+    passes false true c k = refl
+    passes false false true k = refl
+    passes false false false k = k refl refl
 
-    named : (n : ℕ) → n < length logs → ((0 + n == h) || not (list_any (is_record_of t) (log_of logs n)) || nat_in (0 + n) ps) ≡ true
+    named : (n : ℕ) → n < length logs → ((0 + n == h) || nat_in (0 + n) ps || is_undone_in (log_of logs n) t) ≡ true
     named n l =
-        subst (λ z. ((z == h) || not (list_any (is_record_of t) (log_of logs n)) || nat_in z ps) ≡ true) (omega arith)
-        (passes (n == h) (list_any (is_record_of t) (log_of logs n)) (nat_in n ps) (λ a b. k.named n l a b))
+        subst (λ z. ((z == h) || nat_in z ps || is_undone_in (log_of logs n) t) ≡ true) (omega arith)
+        (passes (n == h) (nat_in n ps) (is_undone_in (log_of logs n) t) (λ a b. k.named n l a b))
 
     either : (b c : Bool) → (b ≡ true → c ≡ true) → (not b || c) ≡ true
     either true c k = k refl

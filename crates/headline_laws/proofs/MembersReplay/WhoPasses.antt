@@ -10,7 +10,7 @@ use Rattle.clv_base.specs.declared.events.Outcome.TheVariants.{Asked, Sent}
 use Rattle.clv_base.specs.declared.events.Entry.{Entry}
 use Rattle.clv_base.specs.Orders.{tx_in, nat_in}
 use Rattle.clv_base.specs.Shards.{shard_count}
-use Rattle.clv_base.specs.Logs.{wrote_in, committed_in}
+use Rattle.clv_base.specs.Logs.{has_standing, committed_in}
 use Rattle.clv_base.specs.LogRules.{log_of, disorder}
 use Rattle.clv_base.specs.State.{Shard, is_present}
 use Rattle.clv_base.specs.Undo.{stage_of}
@@ -21,6 +21,7 @@ use Rattle.protocol_laws.specs.SessionLaws.{tx_of}
 use Rattle.history_cases.proofs.Merging.{is_among}
 use Rattle.history_laws.specs.Openings.{LegalFrom}
 use Rattle.history_laws.proofs.NeverTakenBack.{walker_of}
+use Rattle.law_base.proofs.Standing.{standing_wrote}
 use Rattle.shard_laws.specs.OneShard.{Passes}
 use Rattle.shard_laws.proofs.Order.RecordByRecord.{from_disorder}
 use Rattle.shard_laws.proofs.OrderIsKept.{order_is_kept}
@@ -32,7 +33,7 @@ use Rattle.fate_laws.proofs.VotesBind.{votes_bind}
 use Rattle.fate_laws.specs.Falls.{Fell}
 use Rattle.fate_laws.specs.Leading.{deeds_before, with_found, requests_of}
 use Rattle.fate_laws.proofs.History.DeedsOfOneEntry.{request_is_in}
-use Rattle.fate_laws.proofs.EachShardLeads.MessagesMayCome.{committed_wrote}
+use Rattle.fate_laws.proofs.EachShardLeads.MessagesMayCome.{committed_stands}
 use Rattle.fate_laws.proofs.EachShardLeads.CommitsSpareTheFallen.{fell_is}
 use Rattle.fate_laws.proofs.EachShardLeads.{at_front, each_shard_leads, restored_front}
 use Rattle.fate_laws.proofs.EachShardLeads.RecordsTellTheirOrigin.{wrote_from}
@@ -73,7 +74,7 @@ module _ {splits : List ℕ} {before after : List (List LogRecord)} {h : History
   pub home_passes : n ≡ home → OnlyRead before h after home touched t → Passes (deeds_before before h after n) (final_of before h after n) t
   home_passes z r = record {
     has_asked = asked;
-    unwritten = subst (λ m. wrote_in (final_of before h after m).local.log t ≡ false) (sym z) r.unwritten;
+    unwritten = subst (λ m. has_standing (final_of before h after m).local.log t ≡ false) (sym z) r.unwritten;
     uncommitted = subst (λ m. committed_in (final_of before h after m).local.log t ≡ false) (sym z) r.uncommitted;
     absent = subst (λ m. is_present (stage_of (final_of before h after m).local t) ≡ false) (sym z) r.absent;
     unfallen = uncounted (subst (λ m. Fell before h after m t → ⊥) (sym z) r.unfallen);
@@ -114,14 +115,17 @@ module _ {splits : List ℕ} {before after : List (List LogRecord)} {h : History
     not_its_home (inl (r, us, j, q, z)) = away (sym z ∙ one_home splits before after h t r.0 home r.1 e us touched l.legal j q (is_among home e h a) (ev, out))
     not_its_home (inr old) = let r = run_is in omega (arith, old, r)
 
+    stood_there : has_standing (final_of before h after n).local.log t ≡ true → DidOrOld (run_after before) h n t
+    stood_there w = wrote_from A Q O n s.local.log (traced.origins).log t (standing_wrote s.local.log t w)
+
     pub unnamed_passes : Passes (deeds_before before h after n) (final_of before h after n) t
     unnamed_passes =
         let log = (traced.origins).log in
         record {
           has_asked = asked;
-          unwritten = false_from_ne_true _ (λ w. not_there (wrote_from A Q O n s.local.log log t w));
-          uncommitted = false_from_ne_true _ (λ k. ⊎_elim (λ w. not_there (wrote_from A Q O n s.local.log log t w)) (λ r. not_its_home r)
-              (committed_wrote A Q O n s.local.log t log (from_disorder n 0 [] s.local.log ordered) k));
+          unwritten = false_from_ne_true _ (λ w. not_there (stood_there w));
+          uncommitted = false_from_ne_true _ (λ k. ⊎_elim (λ w. not_there (stood_there w)) (λ r. not_its_home r)
+              (committed_stands A Q O n s.local.log t log (from_disorder n 0 [] s.local.log ordered) k));
           absent = false_from_ne_true _ (λ p. not_there (part_did (run_after before) h n s t (stage_of s.local t) traced (restored_front l h [] n (append-nil h) i) refl (none_present (stage_of s.local t) p)));
           unfallen = false_from_ne_true _ (λ f. not_there (((at_front l h [] n (append-nil h) i).remembers).fell t f).0);
         }

@@ -20,9 +20,10 @@ use Rattle.clv_base.specs.declared.events.Outcome.{Outcome}
 use Rattle.clv_base.specs.declared.events.Outcome.TheVariants.{Asked, Taken}
 use Rattle.clv_base.specs.declared.events.Entry.{Entry}
 use Rattle.clv_base.specs.Orders.{tx_get, tx_put, tx_set, nat_in}
-use Rattle.clv_base.specs.Logs.{committed_in, commit_parts, wrote_in}
+use Rattle.clv_base.specs.Logs.{committed_in, commit_parts, has_standing}
 use Rattle.clv_base.specs.State.{Shard, Local, with_local}
-use Rattle.clv_base.specs.Undo.{roll_back}
+use Rattle.clv_base.specs.Backs.{standing_numbers, count_after}
+use Rattle.clv_base.specs.Undo.{roll_back, roll_to}
 use Rattle.clv_base.specs.OneShard.{closing, close_part, drop_part}
 use Rattle.clv_base.specs.Facts.{facts_of, undecided_of, has_durable_predecessors, is_waiting}
 use Rattle.clv_base.specs.Participant.{is_yes_vote}
@@ -38,9 +39,9 @@ use Rattle.protocol_laws.specs.Growth.{IsPrefixOf}
 use Rattle.protocol_laws.proofs.LogOnlyGrows.DueGrowsLogs.{same, more, more_twice}
 use Rattle.shard_laws.proofs.Restarts.RestoredRequestsAndPairs.{request_from}
 use Rattle.shard_laws.proofs.Order.WhatRulingsMayWrite.{parts_new}
-use Rattle.history_cases.proofs.Stepping.{commits, votes, rules, KeptByDue, settled, Step, op_dies, op_answers, request_refused, request_doomed, request_again, request_new, request_closes, looks_well, looks_ill, drops, prepare_closes, vote_counts, decision_comes, done_counts, Happens, finishes, stops}
+use Rattle.history_cases.proofs.Stepping.{commits, votes, rules, KeptByDue, settled, Step, op_dies, op_answers, rolls_back, request_refused, request_doomed, request_again, request_new, request_closes, looks_well, looks_ill, drops, prepare_closes, vote_counts, decision_comes, done_counts, Happens, finishes, stops}
 use Rattle.history_cases.proofs.Entering.{Makes, by_event, by_flush, by_failure, by_restart}
-use Rattle.history_cases.proofs.Uncommitting.{NoMoreCommits, with_more, rolled, dropped, op_dying, op_answering, restarts_add, opening_adds}
+use Rattle.history_cases.proofs.Uncommitting.{NoMoreCommits, with_more, rolled, gone_back, dropped, op_dying, op_answering, restarts_add, opening_adds}
 use Rattle.fate_laws.proofs.Logs.LogOnlyGrows.{inside_step}
 use Rattle.fate_laws.proofs.Homes.EventsKeepHomes.{awaits}
 use Rattle.fate_laws.proofs.Parts.CommittedAreVotedFor.{commit_agreed}
@@ -117,7 +118,7 @@ polls_closing W V s l tx home true false us g k p =
 
 polls_close : (W : TxId → ℕ → List (ℕ × ℕ) → Type 0) (V : ℕ → TxId → ℕ → Vote → Type 0) (s : Shard) (tx : TxId) (home : ℕ) (one : Bool)
     → (one ≡ true → (ts : List (ℕ × ℕ)) → W tx s.shard ts → Chosen V s.shard tx ts []) → Polls W V s → Polls W V (with_local (close_part tx home one) s)
-polls_close W V s tx home one k p = polls_closing W V s (close_part tx home one s.local) tx home (wrote_in s.local.log tx) one (undecided_of s.local tx) refl k p
+polls_close W V s tx home one k p = polls_closing W V s (close_part tx home one s.local) tx home (has_standing s.local.log tx) one (undecided_of s.local tx) refl k p
 
 plain_rolled : (tx : TxId) (l : Local) → Plain l.log (roll_back tx l).log
 plain_rolled tx l = (more_twice l.log _ _, rolled tx l)
@@ -243,6 +244,9 @@ module _ (run : ℕ) (W : TxId → ℕ → List (ℕ × ℕ) → Type 0) (V : �
   polls_step : (s t : Shard) {e : Event} {o : Outcome} → Step s e o t → Owes W V s e o → Polls W V s → Polls W V t
   polls_step s _ (op_dies tx birth nth seen op cause l g) w p = polls_local W V s l ((inside_step s _ (op_dies tx birth nth seen op cause l g)).log, op_dying s.shard s.local l tx birth seen op cause g) p
   polls_step s _ (op_answers tx birth nth seen op answer l g) w p = polls_local W V s l ((inside_step s _ (op_answers tx birth nth seen op answer l g)).log, op_answering s.shard s.local l tx birth seen op answer g) p
+  polls_step s _ (rolls_back tx nth seen upto f g) w p =
+      let n = count_after upto (standing_numbers tx s.journal) in
+      polls_local W V s (roll_to tx n s.local) ((inside_step s _ (rolls_back tx nth seen upto f g)).log, gone_back tx n s.local) p
   polls_step s _ (request_refused tx ts cause g) w p = p
   polls_step s _ (request_doomed tx ts doom g) w p = p
   polls_step s _ (request_again tx ts f g) w p = p

@@ -1,5 +1,6 @@
--- Along a history: who voted read on a shard was asked for its vote by another, wrote nothing there, isn't there any more, and never fell there.
-use Rattle.std.proofs.Common.{◌≡◌, inl, inr, ⊎_elim, refl, sym, ap, subst, ◌∙◌, ℕ, ◌<◌, true, false, List, [], ◌∷◌, ◌++◌, append-nil, append_assoc}
+-- Along a history: who voted read on a shard was asked for its vote by another; no write of it stands there, also in what is durable; and it isn't
+-- there any more, and never fell there.
+use Rattle.std.proofs.Common.{◌≡◌, inl, inr, ⊎_elim, refl, sym, ap, subst, ◌∙◌, ℕ, ◌<◌, true, false, None, List, [], ◌∷◌, ◌++◌, append-nil, append_assoc}
 use Rattle.std.specs.Prelude.{⊤}
 use Rattle.std.specs.List.{AllByRecursion}
 use Rattle.std.proofs.lemmas.Bool.{both_ways, false_from_ne_true}
@@ -8,12 +9,13 @@ use Rattle.clv_base.specs.declared.causes.Vote.TheVariants.{Read}
 use Rattle.clv_base.specs.declared.logs.LogRecord.{LogRecord}
 use Rattle.clv_base.specs.declared.messages.Message.TheVariants.{Prepare, Vote as VoteMessage}
 use Rattle.clv_base.specs.declared.events.Event.{Event}
-use Rattle.clv_base.specs.declared.events.Event.TheVariants.{Deliver, Restart}
+use Rattle.clv_base.specs.declared.events.Event.TheVariants.{Op as OpEvent, Request as RequestEvent, Deliver, Restart}
 use Rattle.clv_base.specs.declared.events.Outcome.{Outcome}
 use Rattle.clv_base.specs.declared.events.Outcome.TheVariants.{Sent}
 use Rattle.clv_base.specs.Shards.{shard_count}
-use Rattle.clv_base.specs.LogRules.{log_of}
-use Rattle.clv_base.specs.Logs.{wrote_in}
+use Rattle.clv_base.specs.LogRules.{log_of, disorder}
+use Rattle.clv_base.specs.Logs.{prepared_in, aborted_in}
+use Rattle.law_base.proofs.Stages.{present_is}
 use Rattle.clv_base.specs.State.{Shard, is_present}
 use Rattle.clv_base.specs.Undo.{stage_of}
 use Rattle.clv_base.specs.Restarts.{run_after, log_after_restart}
@@ -21,6 +23,7 @@ use Rattle.clv_base.specs.Journals.{History, event_state, after_entry}
 use Rattle.protocol_laws.specs.SessionLaws.{tx_of}
 use Rattle.history_laws.specs.Openings.{LegalFrom}
 use Rattle.shard_laws.specs.OneShard.{is_doomed}
+use Rattle.history_cases.proofs.Durability.{Counted}
 use Rattle.history_cases.proofs.Stepping.{Step, sends, finishes, stops}
 use Rattle.history_cases.proofs.Entering.{Makes, by_event, by_flush, by_failure, by_restart, makes}
 use Rattle.history_cases.proofs.Merging.{Placed, Among, among_append}
@@ -29,18 +32,24 @@ use Rattle.history_cases.proofs.Worlds.{state_at}
 use Rattle.history_laws.proofs.Entries.WalkedEntryByEntry.{behind_of}
 use Rattle.fate_laws.proofs.History.EntriesInTurn.{Requested}
 use Rattle.fate_laws.proofs.Origins.FrontsKeepOrigins.{IsOld, Brings, traced_front, brought, requested_more}
-use Rattle.fate_laws.proofs.Parts.YesVotesArePrepared.{Reads, ordered_wrote}
+use Rattle.fate_laws.proofs.Parts.YesVotesArePrepared.{Reads}
 use Rattle.fate_laws.proofs.Parts.FrontsKeepParts.{WasTaken, Sought, FineAt, SaysOut, says_made, Bindings, bindings_front, asked_not_own, noted_reads}
 use Rattle.fate_laws.proofs.History.EntryByEntry.{Next, next_at, each_shard}
 use Rattle.fate_laws.proofs.Parts.BoundStaysBound.{NotOwn, reads_made}
 use Rattle.fate_laws.proofs.VotesBind.{absent}
+use Rattle.shard_laws.proofs.Order.RecordByRecord.{Follows, from_disorder}
+use Rattle.shard_laws.proofs.OrderIsKept.{order_is_kept}
+use Rattle.fate_laws.specs.Leading.{deeds_before, with_found}
+use Rattle.fate_laws.proofs.EachShardLeads.{each_shard_leads}
 use Rattle.fate_laws.specs.Falls.{Fell}
 use Rattle.fate_laws.proofs.FallenAreUncommitted.FrontsKeepOutUncommitted.{walk_on, same_last, last_front}
 use Rattle.fate_laws.proofs.FallenAreUncommitted.{fell_out}
 use Rattle.headline_laws.proofs.ReadersPass.AbortedWereHere.{doomed_was}
 use Rattle.headline_laws.proofs.ReadersPass.ReturnedArePrepared.{out_prepared}
-use Rattle.headline_laws.proofs.ReadersPass.OnlyOwnOperationsUpdate.{made_updates}
-use Rattle.headline_laws.proofs.ReadersPass.ReadVotersWroteNothing.{OutIs, Voters, voters_on, voters_mono, Casts, Asks, ReadAt, voters_made, voters_restored}
+use Rattle.headline_laws.proofs.GoneAreLost.FrontsKeepAbortedAway.{struck_front}
+use Rattle.headline_laws.proofs.ReadersPass.FrontsWithoutWrites.{NoneStandsFrom, none_whole}
+use Rattle.headline_laws.proofs.ReadersPass.OnlyOwnOperationsUpdate.{none_left, Goes, made_on, none_made, unaborted_made}
+use Rattle.headline_laws.proofs.ReadersPass.ReadVotersWroteNothing.{OutIs, Voters, voters_on, voters_mono, Casts, Asks, ReadAt, Begins, voters_made, voters_restored}
 
 -- ---- what is known of who voted read
 
@@ -50,7 +59,8 @@ Away before pre n t = (t.run ≡ run_after before) × ((m : ℕ) × (m ≡ n →
 
 pub record Passed (splits : List ℕ) (before after : List (List LogRecord)) (pre : History) (n : ℕ) (t : TxId) : Type 0 where
   pub asked : Away before pre n t
-  pub unwritten : wrote_in (state_at before after n pre).local.log t ≡ false
+  pub unwritten : NoneStandsFrom (state_at before after n pre).durable (state_at before after n pre).local.log t
+  pub unaborted : aborted_in (state_at before after n pre).local.log t ≡ false
   pub reads : Reads (state_at before after n pre) t
   pub unfallen : Fell before pre after n t → ⊥
 
@@ -94,9 +104,6 @@ module _ {splits : List ℕ} {before after : List (List LogRecord)} {h : History
   abbrev T : Shard
   T = event_state (log_of after e.0) (state_at before after e.0 pre) (e.1).event (e.1).outcome
 
-  later : (pre ++ e ∷ []) ++ post ≡ h
-  later = append_assoc pre (e ∷ []) post ∙ q
-
   w : Next splits before after h pre e
   w = next_at splits before after h pre e post l.legal q
 
@@ -106,8 +113,8 @@ module _ {splits : List ℕ} {before after : List (List LogRecord)} {h : History
   was : Bindings splits before after h pre
   was = bindings_front l pre (e ∷ post) q
 
-  is : Bindings splits before after h (pre ++ e ∷ [])
-  is = bindings_front l (pre ++ e ∷ []) post later
+  begins : Begins (state_at before after e.0 pre)
+  begins = let b = (was.parted e.0 w.inside).base in record { stands = b.stands; unprepared = b.unprepared }
 
   away_more : (n : ℕ) (t : TxId) → Away before pre n t → Away before (pre ++ e ∷ []) n t
   away_more n t (r, (m, d, k)) = (r, (m, d, requested_more pre e t m k))
@@ -115,10 +122,39 @@ module _ {splits : List ℕ} {before after : List (List LogRecord)} {h : History
   not_own : (n : ℕ) (t : TxId) → Away before pre n t → NotOwn t (e.1).event
   not_own n t (r, (m, d, (y, ts, i, a, z))) birth nth seen op g = asked_not_own splits before after h pre e t birth nth seen op y.0 w g (y.1, ts, i, a)
 
-  unwritten_on : (n : ℕ) (t : TxId) → NotOwn t (e.1).event → wrote_in (state_at before after n pre).local.log t ≡ false → wrote_in (state_at before after n (pre ++ e ∷ [])).local.log t ≡ false
-  unwritten_on n t x =
-      each_shard (λ m z. wrote_in (state_at before after m pre).local.log t ≡ false → wrote_in z.local.log t ≡ false) before after e pre
-      (subst (λ (z : Shard). wrote_in S.local.log t ≡ false → wrote_in z.local.log t ≡ false) (sym (w.split).next) (λ k. false_from_ne_true _ (λ y. both_ways _ k (made_updates (log_of after e.0) S T t made x y)))) n (λ k. k)
+  -- nor whose request this entry is
+  not_own_now : (t : TxId) → Away before (pre ++ e ∷ []) e.0 t → NotOwn t (e.1).event
+  not_own_now t (r, (m, d, (y, ts, i, a, z))) birth nth seen op g = ⊎_elim (λ j. asked_not_own splits before after h pre e t birth nth seen op y.0 w g (y.1, ts, j, a)) (λ j. here j) (among_append y pre (e ∷ []) i)
+    where
+      here : Among y (e ∷ []) → ⊥
+      here (inl x) = differ (sym a.0 ∙ ap (λ (v : Placed). (v.1).event) (sym x) ∙ g)
+        where
+          differ : RequestEvent t ts ≡ OpEvent t birth nth seen op → ⊥
+          differ v = absurd cc
+      here (inr x) = elim x [ ]
+
+  counted : Counted (state_at before after e.0 pre)
+  counted = ((was.fated).counts).counted e.0 w.inside
+
+  goes : (t : TxId) → NotOwn t (e.1).event → Goes t (state_at before after e.0 pre) (event_state (log_of after e.0) (state_at before after e.0 pre) (e.1).event (e.1).outcome) (e.1).event
+  goes t x = made_on (log_of after e.0) S T t made x counted
+
+  -- the log is in order behind the entry
+  ordered : Follows e.0 [] (event_state (log_of after e.0) (state_at before after e.0 pre) (e.1).event (e.1).outcome).local.log
+  ordered =
+      let found = log_of before e.0 in
+      let leads = each_shard_leads splits before h after (pre ++ e ∷ []) post e.0 l (append_assoc pre (e ∷ []) post ∙ q) w.inside in
+      let order = order_is_kept e.0 (run_after before) found (with_found e.0 found (deeds_before before (pre ++ e ∷ []) after e.0)) (state_at before after e.0 (pre ++ e ∷ [])) leads in
+      from_disorder e.0 0 [] T.local.log (subst (λ (z : Shard). disorder e.0 z.local.log ≡ None) (w.split).next order)
+
+  abbrev Bare : Shard → TxId → Type 0
+  Bare s t = NoneStandsFrom s.durable s.local.log t × (aborted_in s.local.log t ≡ false)
+
+  bare_on : (n : ℕ) (t : TxId) → NotOwn t (e.1).event → Bare (state_at before after n pre) t → Bare (state_at before after n (pre ++ e ∷ [])) t
+  bare_on n t x =
+      each_shard (λ m z. Bare (state_at before after m pre) t → Bare z t) before after e pre
+      (subst (λ (z : Shard). Bare S t → Bare z t) (sym (w.split).next)
+      (λ k. (none_made S T t (e.1).event (goes t x) counted k.0, unaborted_made e.0 S T t (e.1).event (goes t x) (λ r kept. none_left S t kept counted k.0) (none_whole S.durable S.local.log t counted.within k.0) ordered k.1))) n (λ k. k)
 
   reads_on : (n : ℕ) (t : TxId) → NotOwn t (e.1).event → Reads (state_at before after n pre) t → Reads (state_at before after n (pre ++ e ∷ [])) t
   reads_on n t x =
@@ -138,7 +174,8 @@ module _ {splits : List ℕ} {before after : List (List LogRecord)} {h : History
   kept : (n : ℕ) (t : TxId) → n < shard_count splits → Passed splits before after pre n t → Passed splits before after (pre ++ e ∷ []) n t
   kept n t i p = record {
     asked = away_more n t p.asked;
-    unwritten = unwritten_on n t (not_own n t p.asked) p.unwritten;
+    unwritten = (bare_on n t (not_own n t p.asked) (p.unwritten, p.unaborted)).0;
+    unaborted = (bare_on n t (not_own n t p.asked) (p.unwritten, p.unaborted)).1;
     reads = reads_on n t (not_own n t p.asked) p.reads;
     unfallen = unfallen_by n t p.unfallen (λ d. ⊎_elim (λ y. p.unfallen (inr (pre, [], append-nil pre, y))) (λ y. both_ways _ gone y) (doomed_was l pre e post q n i t d)) (λ y z. both_ways _ gone y);
   }
@@ -150,17 +187,18 @@ module _ {splits : List ℕ} {before after : List (List LogRecord)} {h : History
   cast : (t : TxId) → Casts (Away before (pre ++ e ∷ []) e.0) S T t → ((e.1).event ≡ Restart → ⊥) → Passed splits before after (pre ++ e ∷ []) e.0 t
   cast t c n = record {
     asked = c.asked;
-    unwritten = unwritten;
+    unwritten = subst (λ (z : Shard). NoneStandsFrom z.durable z.local.log t) (sym (w.split).next) c.unwritten;
+    unaborted = subst (λ (z : Shard). aborted_in z.local.log t ≡ false) (sym (w.split).next) (unaborted_made e.0 S T t (e.1).event (goes t other) (λ r. absurd (n r)) c.fresh ordered (false_from_ne_true _ (λ a. both_ways _ (struck_front l pre (e ∷ post) q e.0 w.inside t a).0 c.here)));
     reads = record {
-      unprepared = false_from_ne_true _ (λ y. both_ways _ unwritten (ordered_wrote (state_at before after e.0 (pre ++ e ∷ [])).local.log t ((is.parted e.0 w.inside).base).ordered y));
+      unprepared = subst (λ (z : Shard). prepared_in z.local.log t ≡ false) (sym (w.split).next) c.unprepared;
       inactive = λ y. both_ways _ gone (subst (λ z. is_present z ≡ true) (sym y) refl);
       unclosed = λ y. both_ways _ gone (subst (λ z. is_present z ≡ true) (sym y) refl);
     };
     unfallen = unfallen_by e.0 t past (λ d. both_ways _ undoomed d) (λ y z. n z);
   }
     where
-      unwritten : wrote_in (state_at before after e.0 (pre ++ e ∷ [])).local.log t ≡ false
-      unwritten = subst (λ (z : Shard). wrote_in z.local.log t ≡ false) (sym (w.split).next) c.unwritten
+      other : NotOwn t (e.1).event
+      other = not_own_now t c.asked
 
       gone : is_present (stage_of (state_at before after e.0 (pre ++ e ∷ [])).local t) ≡ false
       gone = subst (λ (z : Shard). is_present (stage_of z.local t) ≡ false) (sym (w.split).next) c.absent
@@ -169,7 +207,9 @@ module _ {splits : List ℕ} {before after : List (List LogRecord)} {h : History
       undoomed = subst (λ (z : Shard). is_doomed (stage_of z.local t) ≡ false) (sym (w.split).next) c.undoomed
 
       past : Fell before pre after e.0 t → ⊥
-      past f = both_ways _ c.fresh (ordered_wrote S.local.log t ((was.parted e.0 w.inside).base).ordered (out_prepared l pre (e ∷ post) q e.0 w.inside t (fell_out l pre (e ∷ post) e.0 t q w.inside f) c.here))
+      past f =
+          let p = out_prepared l pre (e ∷ post) q e.0 w.inside t (fell_out l pre (e ∷ post) e.0 t q w.inside f) c.here in
+          ⊎_elim (λ a. both_ways _ (begins.unprepared t a) p) (λ k. both_ways _ c.fresh (begins.stands t p k)) (present_is (stage_of S.local t) c.here)
 
   asks_of : (ev : Event) → Brings (Requested pre) (IsOld (run_after before)) ev → Asks (Away before (pre ++ e ∷ []) e.0) S ev
   asks_of (Deliver (Prepare to t home seen) stamp) b = λ z. from b.0 (λ y. b.1 (z ∙ (w.split).shard ∙ sym y))
@@ -184,7 +224,7 @@ module _ {splits : List ℕ} {before after : List (List LogRecord)} {h : History
       let P = Passed splits before after pre e.0 in
       let Q = Passed splits before after (pre ++ e ∷ []) e.0 in
       let b = brought splits before after h pre e (behind_of splits before after h pre e post l.legal q) (traced_front l pre (e ∷ post) q) (e.1).event w.sent in
-      let m = voters_made R P (log_of after e.0) S T made (asks_of (e.1).event b) (voters_mono (Away before pre e.0) R P P S (away_more e.0) (λ t p. p) k) in
+      let m = voters_made R P (log_of after e.0) S T made begins (asks_of (e.1).event b) (voters_mono (Away before pre e.0) R P P S (away_more e.0) (λ t p. p) k) in
       let x = voters_mono R R (ReadAt R P S T (e.1).event) Q T (λ t r. r) (λ t y. ⊎_elim (λ p. kept e.0 t w.inside p) (λ c. cast t c.0 c.1) y) m in
       subst (Voters R Q) (sym (w.split).next) (voters_on R R Q Q T (after_entry (log_of after e.0) S e.1) refl x.out (λ t r. r) (λ t p. p) x)
 

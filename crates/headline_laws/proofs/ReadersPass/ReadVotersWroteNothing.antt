@@ -1,4 +1,4 @@
--- Within one entry: who votes read by it had a part here before, wrote nothing, and is finished by its vote.
+-- Within one entry: who votes read by it had a part here before, of which no write stands, also in what is durable, and is finished by its vote.
 use Rattle.std.proofs.Common.{◌≡◌, ◌⊎◌, inl, inr, ⊎_elim, refl, sym, ap, subst, ◌∙◌, ℕ, true, false, not, Bool, ◌&&◌, ◌==◌, List, [], ◌∷◌, ◌++◌, map, Option, Some, None, is_some}
 use Rattle.std.specs.Prelude.{⊤}
 use Rattle.std.specs.List.{AllByRecursion, filter}
@@ -22,7 +22,7 @@ use Rattle.clv_base.specs.declared.state.RequestState.{RequestState}
 use Rattle.clv_base.specs.declared.state.RequestState.TheVariants.{Undecided, Committed, Finished, Refused}
 use Rattle.clv_base.specs.declared.state.Ruling.TheVariants.{Commit as CommitVerdict, Acknowledge, Abort as AbortVerdict, End as EndVerdict}
 use Rattle.clv_base.specs.Orders.{Table, tx_same, tx_in, nat_in, tx_get, tx_set}
-use Rattle.clv_base.specs.Logs.{wrote_in, in_doubt}
+use Rattle.clv_base.specs.Logs.{has_standing, prepared_in, in_doubt}
 use Rattle.clv_base.specs.State.{Shard, is_present}
 use Rattle.clv_base.specs.Undo.{stage_of, doomed_here}
 use Rattle.clv_base.specs.Facts.{facts_of}
@@ -42,16 +42,19 @@ use Rattle.law_base.proofs.Lists.{all_append}
 use Rattle.history_cases.proofs.Telling.{all_map}
 use Rattle.history_cases.proofs.Stepping.{Due, commits, votes, rules, KeptByDue, settled, Step, finishes, stops}
 use Rattle.history_cases.proofs.Entering.{Makes, by_event, by_flush, by_failure, by_restart}
-use Rattle.fate_laws.proofs.Logs.LogOnlyGrows.{inside_self, inside_due, inside_step}
+use Rattle.fate_laws.proofs.Logs.LogOnlyGrows.{inside_self, inside_due}
+use Rattle.protocol_laws.proofs.LogsInOrder.OneRecordMore.{prepared_there}
+use Rattle.shard_laws.proofs.Order.ChangesKeepOrder.{prepare_some}
 use Rattle.fate_laws.proofs.Parts.YesVotesArePrepared.{VoteIs, kept, yes, read, no, vote_is}
-use Rattle.fate_laws.proofs.Parts.OthersCloseOrGo.{due_closed}
-use Rattle.fate_laws.proofs.Logs.WhatPreparesOrCommits.{Closes, by_request, by_prepare, step_closed}
+use Rattle.fate_laws.proofs.Parts.ClosedPartsKeepWrites.{due_stands, step_stands}
+use Rattle.fate_laws.proofs.Parts.OthersCloseOrGo.{due_closed, due_prepares}
+use Rattle.fate_laws.proofs.Logs.WhatPreparesOrCommits.{Closes, by_request, by_prepare, step_closed, step_prepares}
 use Rattle.fate_laws.proofs.Parts.EventsKeepParts.{Tables, same, coordinates, owes, counts, done, sent, again, answers, reminds, step_tables, reader_tables}
 use Rattle.fate_laws.proofs.Homes.ShardKnowsHomes.{still_not}
-use Rattle.fate_laws.proofs.Logs.RestartsWriteNoUpdate.{wrote_grown}
 use Rattle.fate_laws.proofs.CausesStand.EventsEndTheirOwn.{set_row}
 use Rattle.headline_laws.proofs.ReadersPass.AbortedWereHere.{Fewer, fewer_same, fewer_finished, present_back, rolled_doomed}
-use Rattle.headline_laws.proofs.ReadersPass.OnlyOwnOperationsUpdate.{due_updates}
+use Rattle.headline_laws.proofs.ReadersPass.FrontsWithoutWrites.{NoneStandsFrom, none_on, none_undone}
+use Rattle.headline_laws.proofs.ReadersPass.OnlyOwnOperationsUpdate.{due_on}
 use Rattle.history_laws.proofs.Entries.AllFromEach.{put_row}
 
 -- ---- votes of read that a shard holds or is about to send. R: who was asked for its vote; P: what holds of each that voted read
@@ -156,8 +159,9 @@ commit_out Q s tx None None = tt
 pub record Casts (R : TxId → Type 0) (s0 s : Shard) (t : TxId) : Type 0 where
   pub asked : R t
   pub here : is_present (stage_of s0.local t) ≡ true
-  pub fresh : wrote_in s0.local.log t ≡ false
-  pub unwritten : wrote_in s.local.log t ≡ false
+  pub fresh : has_standing s0.local.log t ≡ false
+  pub unprepared : prepared_in s.local.log t ≡ false
+  pub unwritten : NoneStandsFrom s.durable s.local.log t
   pub absent : is_present (stage_of s.local t) ≡ false
   pub undoomed : is_doomed (stage_of s.local t) ≡ false
 
@@ -165,9 +169,13 @@ pub record Casts (R : TxId → Type 0) (s0 s : Shard) (t : TxId) : Type 0 where
 abbrev pub ReadBy : (R P : TxId → Type 0) → Shard → Shard → TxId → Type 0
 ReadBy R P s0 s t = P t ⊎ Casts R s0 s t
 
+-- of who is prepared and closed a write stands
+abbrev pub PreparedStand : Shard → Type 0
+PreparedStand s = (t : TxId) → prepared_in s.local.log t ≡ true → stage_of s.local t ≡ Some Closed → has_standing s.local.log t ≡ true
+
 pub record Casting (R P : TxId → Type 0) (s0 s : Shard) : Type 0 where
-  pub closed : (t : TxId) → stage_of s.local t ≡ Some Closed → is_present (stage_of s0.local t) ≡ true
-  pub grown : (t : TxId) → wrote_in s0.local.log t ≡ true → wrote_in s.local.log t ≡ true
+  pub closed : (t : TxId) → stage_of s.local t ≡ Some Closed → has_standing s.local.log t ≡ false → (is_present (stage_of s0.local t) ≡ true) × (has_standing s0.local.log t ≡ false)
+  pub stands : PreparedStand s
   pub voters : Voters R (ReadBy R P s0 s) s
 
 -- ---- what is due
@@ -190,7 +198,16 @@ quiet_due s u t (rules tx q EndVerdict x y) a b = quiet_fewer s u t (fewer_same 
 casts_due : (R : TxId → Type 0) (s0 s u : Shard) (t : TxId) → Due s (Some u) → Casts R s0 s t → Casts R s0 u t
 casts_due R s0 s u t d c =
     let q = quiet_due s u t d c.absent c.undoomed in
-    record { asked = c.asked; here = c.here; fresh = c.fresh; unwritten = still_not _ _ (due_updates s u d t) c.unwritten; absent = q.0; undoomed = q.1 }
+    let i = inside_due s s u d (inside_self s) in
+    record {
+      asked = c.asked;
+      here = c.here;
+      fresh = c.fresh;
+      unprepared = false_from_ne_true _ (λ h. let p = prepare_some u.local.log t h in both_ways _ c.unprepared (prepared_there s.local.log t p.0 (due_prepares s u d t p.0 p.1)));
+      unwritten = subst (λ n. NoneStandsFrom n u.local.log t) (sym i.durable) (none_on s.durable t s.local.log u.local.log (due_on s u t d) c.unwritten);
+      absent = q.0;
+      undoomed = q.1;
+    }
 
 carry : (R P : TxId → Type 0) (s0 s u : Shard) → Due s (Some u) → (t : TxId) → ReadBy R P s0 s t → ReadBy R P s0 u t
 carry R P s0 s u d t (inl p) = inl p
@@ -198,8 +215,8 @@ carry R P s0 s u d t (inr c) = inr (casts_due R s0 s u t d c)
 
 casting_by : (R P : TxId → Type 0) (s0 s u : Shard) → Due s (Some u) → Voters R (ReadBy R P s0 u) u → Casting R P s0 s → Casting R P s0 u
 casting_by R P s0 s u d w k = record {
-  closed = λ t c. k.closed t (due_closed s u t d c);
-  grown = λ t h. wrote_grown s.local.log u.local.log t ((inside_due s s u d (inside_self s)).log) (k.grown t h);
+  closed = λ t c n. k.closed t (due_closed s u t d c) (false_from_ne_true _ (λ w. both_ways _ n (due_stands s u t d c w)));
+  stands = λ t h c. let p = prepare_some u.local.log t h in due_stands s u t d c (k.stands t (prepared_there s.local.log t p.0 (due_prepares s u d t p.0 p.1)) (due_closed s u t d c));
   voters = w;
 }
 
@@ -238,14 +255,16 @@ voters_voted R P Q s u tx v vote e f g w k r p = record {
 reads_now : (R P : TxId → Type 0) (s0 s : Shard) (tx : TxId) (v : Voter) (y : Vote) → tx_get tx s.voters ≡ Some v → (v.owed == 0) ≡ false → VoteIs s tx v y → Casting R P s0 s → Due s (Some (finish_reader tx y (with_vote s tx v y))) → y ≡ Read → ReadBy R P s0 (finish_reader tx y (with_vote s tx v y)) tx
 reads_now R P s0 s tx v y g w (kept e) k d q = carry R P s0 s (finish_reader tx y (with_vote s tx v y)) d tx ((k.voters).rows tx v g (e ∙ ap (λ z. Some z) q))
 reads_now R P s0 s tx v _ g w (yes c x z) k d q = absurd cc
-reads_now R P s0 s tx v _ g w (read c f) k d q =
+reads_now R P s0 s tx v _ g w (read c f b) k d q =
+    let was = k.closed tx c f in
     let gone : stage_in (finish_reader tx Read (with_vote s tx v Read)).local.parts tx ≡ Some (Gone None) = stage_own (tx ∷ []) None tx s.local.parts (or_left (tx_same tx tx) false (tx_self tx)) ∙ ap (gone_by None) c in
     inr
     (record {
       asked = (k.voters).owing tx v g w;
-      here = k.closed tx c;
-      fresh = still_not _ _ (k.grown tx) f;
-      unwritten = f;
+      here = was.0;
+      fresh = was.1;
+      unprepared = false_from_ne_true _ (λ h. both_ways _ f (k.stands tx h c));
+      unwritten = none_undone s.durable s.local.log tx f b;
       absent = ap is_present gone;
       undoomed = ap is_doomed gone;
     })
@@ -272,7 +291,7 @@ casting_finish R P s0 x k =
   where
     again_by : (t : TxId) → ReadBy R P s0 (with_due_done x) t → ReadBy R P s0 (finish x) t
     again_by t (inl p) = inl p
-    again_by t (inr z) = inr (record { asked = z.asked; here = z.here; fresh = z.fresh; unwritten = z.unwritten; absent = z.absent; undoomed = z.undoomed })
+    again_by t (inr z) = inr (record { asked = z.asked; here = z.here; fresh = z.fresh; unprepared = z.unprepared; unwritten = z.unwritten; absent = z.absent; undoomed = z.undoomed })
 
 -- ---- what an event does first
 
@@ -317,10 +336,23 @@ closes_here : (s : Shard) {e : Event} {o : Outcome} (t : TxId) → Closes s t e 
 closes_here s t (by_request ts a) = there (stage_of s.local t) Active a refl
 closes_here s t (by_prepare home seen stamp a) = there (stage_of s.local t) Active a refl
 
-casting_step : (R P : TxId → Type 0) (s x : Shard) {e : Event} {o : Outcome} → Step s e o x → Asks R s e → Voters R P s → Casting R P s x
-casting_step R P s x h w p = record {
-  closed = λ t c. ⊎_elim (λ k. there (stage_of s.local t) Closed k refl) (λ k. closes_here s t k) (step_closed s x t h c);
-  grown = λ t k. wrote_grown s.local.log x.local.log t ((inside_step s x h).log) k;
+-- what an entry begins with: no active part is prepared
+pub record Begins (s : Shard) : Type 0 where
+  pub stands : PreparedStand s
+  pub unprepared : (t : TxId) → stage_of s.local t ≡ Some Active → prepared_in s.local.log t ≡ false
+
+stood : (s : Shard) {e : Event} {o : Outcome} (t : TxId) → Begins s → prepared_in s.local.log t ≡ true → (stage_of s.local t ≡ Some Closed) ⊎ Closes s t e o → has_standing s.local.log t ≡ true
+stood s t b p (inl c) = b.stands t p c
+stood s t b p (inr (by_request ts a)) = absurd (both_ways _ (b.unprepared t a) p)
+stood s t b p (inr (by_prepare home seen stamp a)) = absurd (both_ways _ (b.unprepared t a) p)
+
+casting_step : (R P : TxId → Type 0) (s x : Shard) {e : Event} {o : Outcome} → Step s e o x → Begins s → Asks R s e → Voters R P s → Casting R P s x
+casting_step R P s x h b w p = record {
+  closed = λ t c n.
+      (⊎_elim (λ k. there (stage_of s.local t) Closed k refl) (λ k. closes_here s t k) (step_closed s x t h c), false_from_ne_true _ (λ f. both_ways _ n (step_stands s x t h c f)));
+  stands = λ t p c.
+      let q = prepare_some x.local.log t p in
+      step_stands s x t h c (⊎_elim (λ f. stood s t b (prepared_there s.local.log t q.0 f) (step_closed s x t h c)) (λ f. f.stands) (step_prepares s x t q.0 h q.1));
   voters = voters_step R P (ReadBy R P s x) s x (step_tables s x h) w (λ t k. inl k) p;
 }
 
@@ -358,13 +390,13 @@ voters_restored R P shard run epoch log last journal = record {
 voters_by : (R P : TxId → Type 0) (s x : Shard) (e : Event) → (e ≡ Restart → ⊥) → Voters R (ReadBy R P s x) x → Voters R (ReadAt R P s x e) x
 voters_by R P s x e n k = voters_mono R R (ReadBy R P s x) (ReadAt R P s x e) x (λ t r. r) (read_at R P s x e n) k
 
-pub voters_made : (R P : TxId → Type 0) (log : List LogRecord) (s x : Shard) {e : Event} {o : Outcome} → Makes log s e o x → Asks R s e → Voters R P s → Voters R (ReadAt R P s x e) x
-voters_made R P log s x {e} {o} (by_event g (finishes {t = y} u h)) w p = voters_by R P s (finish y) e (no_restart s e o (finish y) g) (casting_finish R P s y (casting_step R P s y h w p))
-voters_made R P log s x {e} {o} (by_event g (stops u)) w p = voters_on R R P (ReadAt R P s x e) s x refl (out_mono P (ReadAt R P s x e) (λ t k. inl k) s.outbox p.out) (λ t r. r) (λ t k. inl k) p
-voters_made R P log s x (by_flush n u f) w p =
+pub voters_made : (R P : TxId → Type 0) (log : List LogRecord) (s x : Shard) {e : Event} {o : Outcome} → Makes log s e o x → Begins s → Asks R s e → Voters R P s → Voters R (ReadAt R P s x e) x
+voters_made R P log s x {e} {o} (by_event g (finishes {t = y} u h)) b w p = voters_by R P s (finish y) e (no_restart s e o (finish y) g) (casting_finish R P s y (casting_step R P s y h b w p))
+voters_made R P log s x {e} {o} (by_event g (stops u)) b w p = voters_on R R P (ReadAt R P s x e) s x refl (out_mono P (ReadAt R P s x e) (λ t k. inl k) s.outbox p.out) (λ t r. r) (λ t k. inl k) p
+voters_made R P log s x (by_flush n u f) b w p =
     let y = with_durable n s in
     voters_by R P s (finish y) FlushIn (λ z. absurd cc)
-    (casting_finish R P s y (record { closed = λ t c. there (stage_of s.local t) Closed c refl; grown = λ t k. k; voters = voters_on R R P (ReadBy R P s y) s y refl (out_mono P (ReadBy R P s y) (λ t k. inl k) s.outbox p.out) (λ t r. r) (λ t k. inl k) p }))
-voters_made R P log s x (by_failure n u f) w p = voters_on R R P (ReadAt R P s x FlushIn) s x refl (out_mono P (ReadAt R P s x FlushIn) (λ t k. inl k) s.outbox p.out) (λ t r. r) (λ t k. inl k) p
-voters_made R P log s x (by_restart epoch keeps u r) w p =
+    (casting_finish R P s y (record { closed = λ t c n. (there (stage_of s.local t) Closed c refl, n); stands = b.stands; voters = voters_on R R P (ReadBy R P s y) s y refl (out_mono P (ReadBy R P s y) (λ t k. inl k) s.outbox p.out) (λ t r. r) (λ t k. inl k) p }))
+voters_made R P log s x (by_failure n u f) b w p = voters_on R R P (ReadAt R P s x FlushIn) s x refl (out_mono P (ReadAt R P s x FlushIn) (λ t k. inl k) s.outbox p.out) (λ t r. r) (λ t k. inl k) p
+voters_made R P log s x (by_restart epoch keeps u r) b w p =
     voters_restored R (ReadAt R P s x Restart) s.shard s.run epoch (up_to_restart s.run epoch log) s.last s.journal

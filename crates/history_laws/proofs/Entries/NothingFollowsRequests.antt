@@ -1,6 +1,6 @@
 -- What the entries of one session have to do with each other: whose they are, that nothing of a transaction follows its request, and that
 -- the request names the shards of its operations.
-use Rattle.std.proofs.Common.{◌≡◌, ◌⊎◌, inl, inr, refl, sym, ap, subst, ◌∙◌, ℕ, ◌<◌, ◌≤◌, true, false, cond, Bool, List, [], ◌∷◌, Option, Some, None, is_some, ◌&&◌, ◌==◌, nat_lt, arith, eqb-true}
+use Rattle.std.proofs.Common.{◌≡◌, ◌⊎◌, inl, inr, refl, sym, ap, subst, ◌∙◌, ℕ, suc, ◌<◌, ◌≤◌, true, false, cond, Bool, List, [], ◌∷◌, Option, Some, None, is_some, ◌&&◌, ◌==◌, nat_lt, arith, eqb-true}
 use Rattle.std.specs.Map.{lookup}
 use Rattle.std.specs.BTreeMap.{insert_entry}
 use Rattle.std.specs.Ordering.{nat_cmp, match_ordering}
@@ -12,12 +12,13 @@ use Rattle.clv_base.specs.declared.names.Birth.{Birth}
 use Rattle.clv_base.specs.declared.ops.Op.{Op}
 use Rattle.clv_base.specs.declared.ops.Answer.{Answer}
 use Rattle.clv_base.specs.declared.events.Event.{Event}
-use Rattle.clv_base.specs.declared.events.Event.TheVariants.{Op as OpEvent, Request, Look, Drop}
+use Rattle.clv_base.specs.declared.events.Event.TheVariants.{Op as OpEvent, RollTo, Request, Look, Drop}
 use Rattle.clv_base.specs.declared.events.Outcome.{Outcome}
-use Rattle.clv_base.specs.declared.events.Outcome.TheVariants.{Answered, Dead, Asked, Acknowledged, Aborted}
+use Rattle.clv_base.specs.declared.events.Outcome.TheVariants.{Answered, Rolled, Dead, Asked, Acknowledged, Aborted}
 use Rattle.clv_base.specs.Orders.{tx_same}
 use Rattle.clv_base.specs.LogRules.{same_option}
-use Rattle.clv_base.specs.Sessions.{SessionState, is_number, lies_in, goes_on, begins, begun, session_for, touch, scan_shard, op_answered, op_in_session, same_touched, is_lowest, requested, looked, is_touching, session_after, makes_from, is_session, follows_birth}
+use Rattle.clv_base.specs.Backs.{has_written}
+use Rattle.clv_base.specs.Sessions.{SessionState, is_number, lies_in, goes_on, begins, begun, session_for, touch, scan_shard, op_answered, op_in_session, same_touched, is_lowest, requested, looked, is_touching, session_after, makes_from, is_session, follows_birth, is_whole_now, numbered, with_written, goes_on_back, back_for, went_back, back_in_session}
 use Rattle.clv_base.proofs.SameNames.{tx_true}
 use Rattle.law_base.proofs.Anchors.{cmp_equal}
 use Rattle.protocol_laws.specs.SessionLaws.{tx_of, SerialsRise, works_on, ended_by, NoneWorksOn, EndsStay}
@@ -216,8 +217,25 @@ keeps_look t Acknowledged = stays refl (λ m h. h)
 keeps_look t (Aborted cause) = stays refl (λ m h. h)
 keeps_look t _ = gone
 
+keeps_went : (t u : SessionState) (n upto : ℕ) (o : Outcome) → Keeps t (Some u) → Keeps t (went_back n upto u o)
+keeps_went t u n upto Rolled (stays e k) = stays e k
+keeps_went t u n upto Rolled (later l) = later l
+keeps_went t u n upto (Dead cause) (stays e k) = stays e k
+keeps_went t u n upto (Dead cause) (later l) = later l
+keeps_went t u n upto _ k = gone
+
+keeps_back : (t : SessionState) (n upto : ℕ) (o : Outcome) (v : Option SessionState) → Keeps t v → Keeps t (back_in_session n upto o v)
+keeps_back t n upto o None k = gone
+keeps_back t n upto o (Some u) k = keeps_went t u n upto o k
+
+-- as a going back finds it
+pub back_kept : (t : SessionState) (n nth upto : ℕ) → Keeps t (back_for t n nth upto)
+back_kept t n nth upto =
+    cond_both (nth == suc t.nth) _ _ (Keeps t) (λ e. keeps_if t (nat_lt upto nth) _ (stays refl (λ m h. h))) (λ e. keeps_if t ((nth == t.nth) && goes_on_back t.back n upto) _ (same_session t))
+
 pub keeps : (splits : List ℕ) (n : ℕ) (t : SessionState) (e : Event) (o : Outcome) → Keeps t (session_after splits n t e o)
 keeps splits n t (OpEvent tx birth nth seen op) o = keeps_in splits t tx n nth seen op o (session_for t tx birth) (for_by t tx birth (tx_same tx t.tx) refl)
+keeps splits n t (RollTo tx nth seen upto) o = keeps_if t _ _ (keeps_back t n upto o (back_for t n nth upto) (back_kept t n nth upto))
 keeps splits n t (Request tx ts) o = keeps_if t _ _ (keeps_request t n o)
 keeps splits n t (Look tx) o = keeps_if t _ _ (keeps_look t o)
 keeps splits n t (Drop tx) o = keeps_if t _ _ (stays refl (λ m h. h))
@@ -236,12 +254,13 @@ touched_on tx m t u (inl p) (later l) = inr (subst (λ z. z.serial < (u.tx).seri
 touched_on tx m t u (inr l) (later k) = inr (omega (arith, l, k))
 
 -- a request that the session makes
-asks_at : (t : SessionState) (tx : TxId) (ts : List (ℕ × ℕ)) (n : ℕ) (o : Outcome) (b : Bool) → (tx_same tx t.tx && is_touching t.phase && same_touched ts t.touched && is_lowest n ts) ≡ b
+asks_at : (t : SessionState) (tx : TxId) (ts : List (ℕ × ℕ)) (n : ℕ) (o : Outcome) (b : Bool) → (tx_same tx t.tx && is_touching t.phase && is_whole_now t && same_touched ts t.touched && is_lowest n ts) ≡ b
     → (es : List Placed) (splits : List ℕ) → makes_from splits (cond b (requested n t o) None) es ≡ true → (tx ≡ t.tx) × (same_touched ts t.touched ≡ true)
 asks_at t tx ts n o true e es splits h =
-    let p = and_parts (tx_same tx t.tx && is_touching t.phase && same_touched ts t.touched) (is_lowest n ts) e in
-    let q = and_parts (tx_same tx t.tx && is_touching t.phase) (same_touched ts t.touched) p.0 in
-    let r = and_parts (tx_same tx t.tx) (is_touching t.phase) q.0 in
+    let p = and_parts (tx_same tx t.tx && is_touching t.phase && is_whole_now t && same_touched ts t.touched) (is_lowest n ts) e in
+    let q = and_parts (tx_same tx t.tx && is_touching t.phase && is_whole_now t) (same_touched ts t.touched) p.0 in
+    let w = and_parts (tx_same tx t.tx && is_touching t.phase) (is_whole_now t) q.0 in
+    let r = and_parts (tx_same tx t.tx) (is_touching t.phase) w.0 in
     (tx_true tx t.tx r.0, q.1)
 asks_at t tx ts n o false e es splits h = absurd (both_ways false refl h)
 
@@ -269,7 +288,10 @@ names_later splits (y ∷ ys) t tx m x ts p h (inr i) e =
     goes splits (session_after splits y.0 t (y.1).event (y.1).outcome) t tx m ys (keeps splits y.0 t (y.1).event (y.1).outcome) p h (λ u q k. names_later splits ys u tx m x ts q k i e)
 
 -- an answered operation touches its shard
-answers_by : (t v : SessionState) (tx : TxId) (n nth : ℕ) (op : Op) (a : Answer) (epoch : ℕ) → For t tx (Some v) → Touched tx n (record v { nth = nth; scanned = scan_shard n op; touched = touch n epoch v.touched })
+abbrev after_answer : SessionState → ℕ → ℕ → Op → Answer → ℕ → SessionState
+after_answer v n nth op a epoch = record (numbered nth v) { scanned = scan_shard n op; touched = touch n epoch v.touched; written = with_written n nth (has_written op a) v.written }
+
+answers_by : (t v : SessionState) (tx : TxId) (n nth : ℕ) (op : Op) (a : Answer) (epoch : ℕ) → For t tx (Some v) → Touched tx n (after_answer v n nth op a epoch)
 answers_by t _ tx n nth op a epoch (the_same e) = inl (sym e, touch_has n epoch t.touched)
 answers_by t _ tx n nth op a epoch (a_new_one {u = u} e l) = inl (e, touch_has n epoch u.touched)
 
@@ -279,7 +301,7 @@ answers_in splits t tx n nth seen op a epoch None es f h k = absurd (both_ways f
 answers_in splits t tx n nth seen op a epoch (Some v) es {X} f h k = at (is_number v n nth op && lies_in splits n op && same_option seen (lookup (◌==◌ n) v.touched)) h
   where
     at : (b : Bool) → makes_from splits (cond b (op_answered n nth op v (Answered a epoch)) None) es ≡ true → X
-    at true g = k (record v { nth = nth; scanned = scan_shard n op; touched = touch n epoch v.touched }) (answers_by t v tx n nth op a epoch f) g
+    at true g = k (after_answer v n nth op a epoch) (answers_by t v tx n nth op a epoch f) g
     at false g = absurd (both_ways false refl g)
 
 -- the request of a transaction names the shard of each answered operation before it
@@ -296,6 +318,39 @@ request_names splits (z ∷ zs) t x y tx birth nth seen op a epoch ts h (inl p) 
     (λ u q k. names_later splits zs u tx x.0 y ts q k p.1 f)
 request_names splits (z ∷ zs) t x y tx birth nth seen op a epoch ts h (inr p) e o f =
     at (session_after splits z.0 t (z.1).event (z.1).outcome) h (λ u k. request_names splits zs u x y tx birth nth seen op a epoch ts k p e o f)
+  where
+    at : (v : Option SessionState) → makes_from splits v zs ≡ true → ((u : SessionState) → makes_from splits (Some u) zs ≡ true → has x.0 ts ≡ true) → has x.0 ts ≡ true
+    at None g k = absurd (both_ways false refl g)
+    at (Some u) g k = k u g
+
+-- a going back stands where its shard is touched
+back_has : (t : SessionState) (tx : TxId) (n seen : ℕ) (b : Bool) {X : Type 0} → (tx_same tx t.tx && is_touching t.phase && same_option (Some seen) (lookup (◌==◌ n) t.touched)) ≡ b
+    → ((tx ≡ t.tx) → has n t.touched ≡ true → X) → (b ≡ false → X) → X
+back_has t tx n seen true e f g =
+    let p = and_parts (tx_same tx t.tx && is_touching t.phase) (same_option (Some seen) (lookup (◌==◌ n) t.touched)) e in
+    let q = and_parts (tx_same tx t.tx) (is_touching t.phase) p.0 in
+    f (tx_true tx t.tx q.0) (some_seen (lookup (◌==◌ n) t.touched) p.1)
+  where
+    some_seen : (o : Option ℕ) → same_option (Some seen) o ≡ true → is_some o ≡ true
+    some_seen None h = absurd (both_ways false refl h)
+    some_seen (Some k) h = refl
+back_has t tx n seen false e f g = g refl
+
+-- the request of a transaction names the shard of each going back before it
+pub request_names_back :
+    (splits : List ℕ) (es : List Placed) (t : SessionState) (x y : Placed) (tx : TxId) (nth seen upto : ℕ) (ts : List (ℕ × ℕ))
+    → makes_from splits (Some t) es ≡ true → Precedes x y es → (x.1).event ≡ RollTo tx nth seen upto → (y.1).event ≡ Request tx ts → has x.0 ts ≡ true
+request_names_back splits [] t x y tx nth seen upto ts h p e f = elim p [ ]
+request_names_back splits (z ∷ zs) t x y tx nth seen upto ts h (inl p) e f =
+    let h2 : makes_from splits (session_after splits x.0 t (RollTo tx nth seen upto) (x.1).outcome) zs ≡ true =
+    subst (λ c. makes_from splits (session_after splits x.0 t c (x.1).outcome) zs ≡ true) e
+    (subst (λ c. makes_from splits (session_after splits c.0 t (c.1).event (c.1).outcome) zs ≡ true) p.0 h) in
+    back_has t tx x.0 seen _ refl
+    (λ q m. goes splits (session_after splits x.0 t (RollTo tx nth seen upto) (x.1).outcome) t tx x.0 zs (keeps splits x.0 t (RollTo tx nth seen upto) (x.1).outcome) (inl (sym q, m)) h2
+    (λ u g k. names_later splits zs u tx x.0 y ts g k p.1 f))
+    (λ q. absurd (both_ways false refl (subst (λ b. makes_from splits (cond b (back_in_session x.0 upto (x.1).outcome (back_for t x.0 nth upto)) None) zs ≡ true) q h2)))
+request_names_back splits (z ∷ zs) t x y tx nth seen upto ts h (inr p) e f =
+    at (session_after splits z.0 t (z.1).event (z.1).outcome) h (λ u k. request_names_back splits zs u x y tx nth seen upto ts k p e f)
   where
     at : (v : Option SessionState) → makes_from splits v zs ≡ true → ((u : SessionState) → makes_from splits (Some u) zs ≡ true → has x.0 ts ≡ true) → has x.0 ts ≡ true
     at None g k = absurd (both_ways false refl g)

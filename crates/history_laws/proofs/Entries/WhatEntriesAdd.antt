@@ -8,53 +8,71 @@ use Rattle.clv_base.specs.declared.names.Birth.{Birth}
 use Rattle.clv_base.specs.declared.ops.Op.{Op}
 use Rattle.clv_base.specs.declared.ops.Answer.{Answer}
 use Rattle.clv_base.specs.declared.events.Event.{Event}
-use Rattle.clv_base.specs.declared.events.Event.TheVariants.{Op as OpEvent, Look}
+use Rattle.clv_base.specs.declared.events.Event.TheVariants.{Op as OpEvent, RollTo, Look}
 use Rattle.clv_base.specs.declared.events.Outcome.{Outcome}
-use Rattle.clv_base.specs.declared.events.Outcome.TheVariants.{Answered, Acknowledged}
+use Rattle.clv_base.specs.declared.events.Outcome.TheVariants.{Answered, Rolled, Acknowledged}
 use Rattle.clv_base.specs.declared.events.Entry.{Entry}
 use Rattle.clv_base.specs.Orders.{tx_same, tx_in}
-use Rattle.clv_base.specs.Locks.{violated}
-use Rattle.clv_base.specs.Needs.{needs_of}
+use Rattle.clv_base.specs.OneShard.{violated_here}
+use Rattle.clv_base.specs.Maps.{Operates, GoesBack}
 use Rattle.clv_base.specs.State.{Shard}
 use Rattle.clv_base.specs.Journals.{History}
-use Rattle.clv_base.specs.History.{is_acknowledgement, acknowledged_in, answered_op, ops_in}
+use Rattle.clv_base.specs.History.{DoneAct, is_acknowledgement, acknowledged_in, act_of}
 use Rattle.clv_base.proofs.SameNames.{tx_true}
-use Rattle.law_base.specs.Items.{Item}
+use Rattle.law_base.specs.Items.{Deed, Did, WentBack}
 use Rattle.law_base.proofs.Sets.{same_flip}
-use Rattle.shard_laws.specs.OneShard.{items_of, with_one, new_item, new_met, has_met, new_told}
+use Rattle.shard_laws.specs.OneShard.{doer, deeds_of, with_one, new_deed, new_met, has_met, new_told}
+use Rattle.history_laws.specs.Telling.{told_in, told_by}
 use Rattle.law_base.proofs.Lists.{map_append}
-use Rattle.law_base.proofs.Names.{ops_append, item_told as told_pair}
 
 pub with_none : {X : Type 0} (xs : List X) (o : Option X) → with_one xs o ≡ xs ++ with_one [] o
 with_none xs None = sym (append-nil xs)
 with_none xs (Some x) = refl
 
--- what the entry adds to the operations
-one_op : (s : Shard) (e : Event) (o : Outcome) (t : TxId)
-    → ◌≡◌ {A = List (Op × Answer)} (elim (answered_op t e o) [ Some p ↦ p ∷ [] | None ↦ [] ]) (map told_pair (items_of t (with_one [] (new_item s e o))))
-one_op s (OpEvent tx birth nth seen op) (Answered a n) t = at (tx_same t tx) (tx_same tx t) (same_flip t tx)
-  where
-    it : Item
-    it = record { tx = tx; op = op; answer = a; lsn = 0 }
+-- what an entry tells, before what the later ones tell
+abbrev pub with_told : Option DoneAct → List DoneAct → List DoneAct
+with_told o ps = elim o as (λ z. List DoneAct) [ Some p ↦ p ∷ ps | None ↦ ps ]
 
-    at : (b c : Bool) → b ≡ c → ◌≡◌ {A = List (Op × Answer)} (elim (cond {A = Option (Op × Answer)} b (Some (op, a)) None) [ Some p ↦ p ∷ [] | None ↦ [] ])
-        (map told_pair (cond c (record { tx = tx; op = op; answer = a; lsn = 0 + length s.local.log } ∷ []) []))
+told_more : (o : Option DoneAct) (ps qs : List DoneAct) → with_told o (ps ++ qs) ≡ with_told o ps ++ qs
+told_more None ps qs = refl
+told_more (Some p) ps qs = refl
+
+pub told_append : (t : TxId) (xs ys : History) → told_in t (xs ++ ys) ≡ told_in t xs ++ told_in t ys
+told_append t [] ys = refl
+told_append t (x ∷ xs) ys = ap (with_told (act_of t (x.1).event (x.1).outcome)) (told_append t xs ys) ∙ told_more (act_of t (x.1).event (x.1).outcome) (told_in t xs) (told_in t ys)
+
+-- what the entry adds to what was done
+one_deed : (s : Shard) (e : Event) (o : Outcome) (t : TxId) → with_told (act_of t e o) [] ≡ map told_by (deeds_of t (with_one [] (new_deed s e o)))
+one_deed s (OpEvent tx birth nth seen op) (Answered a n) t = at (tx_same t tx) (tx_same tx t) (same_flip t tx)
+  where
+    it : Deed
+    it = Did (record { tx = tx; number = nth; op = op; answer = a; lsn = 0 + length s.local.log })
+
+    at : (b c : Bool) → b ≡ c → with_told (cond b (Some (nth, Operates op, Some a)) None) [] ≡ map told_by (cond c (it ∷ []) [])
     at true true e = refl
     at true false e = absurd (both_ways true e refl)
     at false true e = absurd (both_ways true (sym e) refl)
     at false false e = refl
-one_op s (OpEvent tx birth nth seen op) _ t = refl
-one_op s _ o t = refl
+one_deed s (OpEvent tx birth nth seen op) _ t = refl
+one_deed s (RollTo tx nth seen upto) Rolled t = at (tx_same t tx) (tx_same tx t) (same_flip t tx)
+  where
+    at : (b c : Bool) → b ≡ c → with_told (cond b (Some (nth, GoesBack upto, None)) None) [] ≡ map told_by (cond c (WentBack tx nth upto ∷ []) [])
+    at true true e = refl
+    at true false e = absurd (both_ways true e refl)
+    at false true e = absurd (both_ways true (sym e) refl)
+    at false false e = refl
+one_deed s (RollTo tx nth seen upto) _ t = refl
+one_deed s _ o t = refl
 
-pub items_next : (pre : History) (x : Entry) (s : Shard) (all : List Item) (t : TxId) → ops_in t pre ≡ map told_pair (items_of t all)
-    → ops_in t (pre ++ (0, x) ∷ []) ≡ map told_pair (items_of t (with_one all (new_item s x.event x.outcome)))
-items_next pre x s all t e =
-    ops_append t pre ((0, x) ∷ [])
-    ∙ ap (λ l. l ++ ops_in t ((0, x) ∷ [])) e
-    ∙ ap (λ l. map told_pair (items_of t all) ++ l) (one_op s x.event x.outcome t)
-    ∙ sym (map_append told_pair (items_of t all) (items_of t (with_one [] (new_item s x.event x.outcome))))
-    ∙ ap (map told_pair) (sym (filter-append (λ y. tx_same y.tx t) all (with_one [] (new_item s x.event x.outcome))))
-    ∙ ap (λ l. map told_pair (items_of t l)) (sym (with_none all (new_item s x.event x.outcome)))
+pub deeds_next : (n : ℕ) (pre : History) (x : Entry) (s : Shard) (all : List Deed) (t : TxId) → told_in t pre ≡ map told_by (deeds_of t all)
+    → told_in t (pre ++ (n, x) ∷ []) ≡ map told_by (deeds_of t (with_one all (new_deed s x.event x.outcome)))
+deeds_next n pre x s all t e =
+    told_append t pre ((n, x) ∷ [])
+    ∙ ap (λ l. l ++ told_in t ((n, x) ∷ [])) e
+    ∙ ap (λ l. map told_by (deeds_of t all) ++ l) (one_deed s x.event x.outcome t)
+    ∙ sym (map_append told_by (deeds_of t all) (deeds_of t (with_one [] (new_deed s x.event x.outcome))))
+    ∙ ap (map told_by) (sym (filter-append (λ d. tx_same (doer d) t) all (with_one [] (new_deed s x.event x.outcome))))
+    ∙ ap (λ l. map told_by (deeds_of t l)) (sym (with_none all (new_deed s x.event x.outcome)))
 
 -- what it adds to those that are told
 one_told : (e : Event) (o : Outcome) (t : TxId) → tx_in t (with_one [] (new_told e o)) ≡ (is_acknowledgement t e o || false)
@@ -77,7 +95,7 @@ mapped_met tx t p (q ∷ qs) e = ⊎_elim (λ a. tx_true t tx (and_parts (tx_sam
 pub one_met : (s : Shard) (e : Event) (o : Outcome) (t p : TxId) → has_met (new_met s e o) t p ≡ true
     → (birth : Birth) × (nth : ℕ) × (seen : Option ℕ) × (op : Op) × (a : Answer) × (n : ℕ) × (e ≡ OpEvent t birth nth seen op) × (o ≡ Answered a n)
 one_met s (OpEvent tx birth nth seen op) (Answered a n) t p e =
-    let q : t ≡ tx = mapped_met tx t p (violated tx (needs_of op s.local.records) s.local.locks) e in
+    let q : t ≡ tx = mapped_met tx t p (violated_here s.local tx op) e in
     (birth, nth, seen, op, a, n, ap (λ z. OpEvent z birth nth seen op) (sym q), refl)
 one_met s (OpEvent tx birth nth seen op) _ t p e = absurd (both_ways false refl e)
 one_met s _ o t p e = absurd (both_ways false refl e)

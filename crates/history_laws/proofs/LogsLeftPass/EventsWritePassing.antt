@@ -24,10 +24,10 @@ use Rattle.clv_base.specs.declared.events.Outcome.{Outcome}
 use Rattle.clv_base.specs.declared.events.Outcome.TheVariants.{Sent}
 use Rattle.clv_base.specs.declared.events.Entry.{Entry}
 use Rattle.clv_base.specs.Orders.{Table, tx_in, tx_get, tx_set}
-use Rattle.clv_base.specs.Logs.{wrote_in}
+use Rattle.clv_base.specs.Logs.{has_standing}
 use Rattle.clv_base.specs.Shards.{shard_count}
 use Rattle.clv_base.specs.State.{Shard, Local, with_local}
-use Rattle.clv_base.specs.Undo.{roll_back}
+use Rattle.clv_base.specs.Undo.{roll_back, roll_to}
 use Rattle.clv_base.specs.Facts.{facts_of, undecided_of, has_durable_predecessors}
 use Rattle.clv_base.specs.Participant.{is_yes_vote, ask_by, asks}
 use Rattle.clv_base.specs.Coordinator.{new_request, others, vote_from, with_vote_of, with_done_of, is_agreed, yes_shards, agreed_ruling, refusal, refused_ruling, end_ruling, undecided_ruling, ruling_in, ruled_request, ask_answer, prepare_for, prepares, missing_votes, missing_dones, each_request, home_reminders, restored_request}
@@ -36,13 +36,14 @@ use Rattle.clv_base.specs.Due.{send, commit_messages, with_vote, finish_reader, 
 use Rattle.clv_base.specs.Events.{finish, is_alone, coordinate, decided, ask_messages, durable_requests, waiting_voters, reminders}
 use Rattle.clv_base.specs.Restarts.{log_left, revived, opened, unended_in, Restarts}
 use Rattle.clv_base.specs.Journals.{after_entry, event_state, up_to_restart, MayEnter}
+use Rattle.clv_base.specs.Backs.{standing_numbers, count_after}
 use Rattle.law_base.proofs.Rows.{rows_get, rows_set, rows_put}
 use Rattle.law_base.proofs.Lists.{all_append, all_of, AreShards}
-use Rattle.history_cases.proofs.Stepping.{commits, votes, rules, KeptByDue, settled, Step, op_dies, op_answers, request_new, request_closes, drops, sends, prepare_closes, prepare_again, vote_counts, decision_comes, decision_again, done_counts, asked, reminds, flushes, Happens, finishes, stops}
+use Rattle.history_cases.proofs.Stepping.{commits, votes, rules, KeptByDue, settled, Step, op_dies, op_answers, request_new, request_closes, drops, sends, prepare_closes, prepare_again, vote_counts, decision_comes, decision_again, done_counts, asked, reminds, flushes, Happens, finishes, stops, rolls_back}
 use Rattle.history_cases.proofs.Entering.{Makes, by_event, by_flush, by_failure, by_restart, makes}
 use Rattle.history_cases.proofs.Telling.{all_map}
 use Rattle.history_laws.proofs.LogsLeftPass.SessionsOfferOwnKeys.{OffersBy}
-use Rattle.history_laws.proofs.LogsLeftPass.WhatPassingRecordsAre.{Passes, passes_more, passes_front, rolled_pass, dropped_pass, op_leaves, closed_pass, opened_pass, restarts_pass}
+use Rattle.history_laws.proofs.LogsLeftPass.WhatPassingRecordsAre.{Passes, passes_more, passes_front, rolled_pass, dropped_pass, op_leaves, closed_pass, opened_pass, restarts_pass, taken_back_pass}
 
 -- a Prepare names a home that there is
 abbrev pub Names : List ℕ → Message → Type 0
@@ -237,7 +238,7 @@ filed_coordinate splits s tx ts a p = record {
 }
 
 filed_close : (splits : List ℕ) (s : Shard) (tx : TxId) (home : ℕ) (one : Bool) → home < shard_count splits → Filed splits s → Filed splits (with_local (close_part tx home one) s)
-filed_close splits s tx home one l p = filed_log splits s (close_part tx home one s.local) (closed_pass splits s.shard s.local.log (wrote_in s.local.log tx) one tx home (undecided_of s.local tx) l p.log) p
+filed_close splits s tx home one l p = filed_log splits s (close_part tx home one s.local) (closed_pass splits s.shard s.local.log (has_standing s.local.log tx) one tx home (undecided_of s.local tx) l p.log) p
 
 filed_decided : (splits : List ℕ) (s : Shard) (tx : TxId) (commit : Bool) → Filed splits s → Filed splits (decided s tx commit)
 filed_decided splits s tx true p = filed_log splits s _ (passes_more splits s.shard s.local.log (Commit tx [] ∷ []) p.log (refl, tt)) p
@@ -246,6 +247,8 @@ filed_decided splits s tx false p = filed_log splits s _ (rolled_pass splits s.s
 filed_step : (splits : List ℕ) (s t : Shard) {e : Event} {o : Outcome} → Step s e o t → OffersBy splits s.shard e o → BringsNames splits e → Filed splits s → Filed splits t
 filed_step splits s t (op_dies tx birth nth seen op cause l g) k b p = filed_log splits s l (op_leaves splits s.shard s.shard s.local tx birth seen op _ g p.log) p
 filed_step splits s t (op_answers tx birth nth seen op answer l g) k b p = filed_log splits s l (op_leaves splits s.shard s.shard s.local tx birth seen op _ g p.log k) p
+filed_step splits s t (rolls_back tx nth seen upto f g) k b p =
+    let n = count_after upto (standing_numbers tx s.journal) in filed_log splits s (roll_to tx n s.local) (taken_back_pass splits s.shard tx n s.local p.log) p
 filed_step splits s t (request_new tx ts f g) k b p = filed_coordinate splits s tx ts k p
 filed_step splits s t (request_closes tx ts f g) k b p =
     filed_coordinate splits (with_local (close_part tx s.shard (is_alone (others s.shard ts))) s) tx ts k (filed_close splits s tx s.shard (is_alone (others s.shard ts)) p.here p)

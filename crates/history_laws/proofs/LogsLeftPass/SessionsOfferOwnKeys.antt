@@ -1,5 +1,5 @@
 -- What sessions offer: operations on keys of the shard, and requests that name shards that there are.
-use Rattle.std.proofs.Common.{◌≡◌, ⊎_elim, refl, sym, subst, ℕ, ◌<◌, true, false, cond, Bool, List, [], ◌∷◌, Option, Some, None, ◌&&◌, ◌==◌, nat_lt, eqb-true}
+use Rattle.std.proofs.Common.{◌≡◌, ⊎_elim, refl, sym, subst, ℕ, ◌<◌, true, false, cond, Bool, List, [], ◌∷◌, Option, Some, None, ◌&&◌, ◌==◌, nat_lt, eqb-true, suc}
 use Rattle.std.specs.Prelude.{⊤, is_some}
 use Rattle.std.specs.List.{AllByRecursion, list_all}
 use Rattle.std.specs.Map.{lookup}
@@ -13,12 +13,12 @@ use Rattle.clv_base.specs.declared.names.Birth.{Birth}
 use Rattle.clv_base.specs.declared.logs.LogRecord.{LogRecord}
 use Rattle.clv_base.specs.declared.ops.Op.{Op}
 use Rattle.clv_base.specs.declared.events.Event.{Event}
-use Rattle.clv_base.specs.declared.events.Event.TheVariants.{Op as OpEvent, Request as RequestEvent, Look, Drop}
+use Rattle.clv_base.specs.declared.events.Event.TheVariants.{Op as OpEvent, Request as RequestEvent, Look, Drop, RollTo}
 use Rattle.clv_base.specs.declared.events.Outcome.{Outcome}
-use Rattle.clv_base.specs.declared.events.Outcome.TheVariants.{Answered, Dead, Asked, Acknowledged, Aborted}
+use Rattle.clv_base.specs.declared.events.Outcome.TheVariants.{Answered, Dead, Asked, Acknowledged, Aborted, Rolled}
 use Rattle.clv_base.specs.Orders.{tx_same}
 use Rattle.clv_base.specs.Shards.{shard_count}
-use Rattle.clv_base.specs.Sessions.{SessionState, no_session, lies_in, goes_on, begins, begun, touch, op_answered, op_in_session, is_touching, same_touched, is_lowest, requested, looked, after_drop, session_after, makes_from, is_session}
+use Rattle.clv_base.specs.Sessions.{SessionState, no_session, lies_in, goes_on, begins, begun, touch, op_answered, op_in_session, is_touching, same_touched, is_lowest, requested, looked, after_drop, session_after, makes_from, is_session, is_whole_now, went_back, back_in_session, goes_on_back}
 use Rattle.clv_base.specs.Restarts.{run_after}
 use Rattle.clv_base.specs.Journals.{History, own}
 use Rattle.clv_base.specs.History.{Legal}
@@ -96,13 +96,25 @@ after_request splits n tx ts t Asked a s = (s, a)
 after_request splits n tx ts t (Dead cause) a s = (s, a)
 after_request splits n tx ts t _ a s = tt
 
-request_case : (splits : List ℕ) (n : ℕ) (tx : TxId) (ts : List (ℕ × ℕ)) (t : SessionState) (o : Outcome) (a b c d : Bool) → same_touched ts t.touched ≡ c → AreShards splits t.touched
-    → After splits n (RequestEvent tx ts) o (cond (a && b && c && d) (requested n t o) None)
-request_case splits n tx ts t o true true true true e s = after_request splits n tx ts t o (same_shards splits ts t.touched e s) s
-request_case splits n tx ts t o false b c d e s = tt
-request_case splits n tx ts t o true false c d e s = tt
-request_case splits n tx ts t o true true false d e s = tt
-request_case splits n tx ts t o true true true false e s = tt
+request_case : (splits : List ℕ) (n : ℕ) (tx : TxId) (ts : List (ℕ × ℕ)) (t : SessionState) (o : Outcome) (a c d : Bool) → same_touched ts t.touched ≡ c → AreShards splits t.touched
+    → After splits n (RequestEvent tx ts) o (cond (a && c && d) (requested n t o) None)
+request_case splits n tx ts t o true true true e s = after_request splits n tx ts t o (same_shards splits ts t.touched e s) s
+request_case splits n tx ts t o false c d e s = tt
+request_case splits n tx ts t o true false d e s = tt
+request_case splits n tx ts t o true true false e s = tt
+
+after_went : (splits : List ℕ) (n : ℕ) (tx : TxId) (nth seen upto : ℕ) (t : SessionState) (o : Outcome) → AreShards splits t.touched → After splits n (RollTo tx nth seen upto) o (went_back n upto t o)
+after_went splits n tx nth seen upto t Rolled s = (s, tt)
+after_went splits n tx nth seen upto t (Dead cause) s = (s, tt)
+after_went splits n tx nth seen upto t _ s = tt
+
+back_case : (splits : List ℕ) (n : ℕ) (tx : TxId) (nth seen upto : ℕ) (t u : SessionState) (o : Outcome) (a b c d : Bool) → AreShards splits t.touched → u.touched ≡ t.touched
+    → After splits n (RollTo tx nth seen upto) o (cond a (back_in_session n upto o (cond b (cond c (Some u) None) (cond d (Some t) None))) None)
+back_case splits n tx nth seen upto t u o true true true d s e = after_went splits n tx nth seen upto u o (subst (AreShards splits) (sym e) s)
+back_case splits n tx nth seen upto t u o true false c true s e = after_went splits n tx nth seen upto t o s
+back_case splits n tx nth seen upto t u o true true false d s e = tt
+back_case splits n tx nth seen upto t u o true false c false s e = tt
+back_case splits n tx nth seen upto t u o false b c d s e = tt
 
 after_look : (splits : List ℕ) (n : ℕ) (tx : TxId) (t : SessionState) (o : Outcome) (b : Bool) → AreShards splits t.touched → After splits n (Look tx) o (cond b (looked t o) None)
 after_look splits n tx t Acknowledged true s = (s, tt)
@@ -116,7 +128,8 @@ after_dropping splits n tx t o false s = tt
 
 session_step : (splits : List ℕ) (n : ℕ) (t : SessionState) (e : Event) (o : Outcome) → n < shard_count splits → AreShards splits t.touched → After splits n e o (session_after splits n t e o)
 session_step splits n t (OpEvent tx birth nth seen op) o l s = op_for splits n tx birth nth seen op t o (tx_same tx t.tx) (goes_on t tx birth) (begins t tx birth) l s
-session_step splits n t (RequestEvent tx ts) o l s = request_case splits n tx ts t o (tx_same tx t.tx) (is_touching t.phase) (same_touched ts t.touched) (is_lowest n ts) refl s
+session_step splits n t (RollTo tx nth seen upto) o l s = back_case splits n tx nth seen upto t _ o _ (nth == suc t.nth) (nat_lt upto nth) ((nth == t.nth) && goes_on_back t.back n upto) s refl
+session_step splits n t (RequestEvent tx ts) o l s = request_case splits n tx ts t o (tx_same tx t.tx && is_touching t.phase && is_whole_now t) (same_touched ts t.touched) (is_lowest n ts) refl s
 session_step splits n t (Look tx) o l s = after_look splits n tx t o _ s
 session_step splits n t (Drop tx) o l s = after_dropping splits n tx t o _ s
 session_step splits n t _ o l s = (s, tt)

@@ -18,14 +18,14 @@ use Rattle.clv_base.specs.declared.modes.Decision.{Decision}
 use Rattle.clv_base.specs.declared.modes.Decision.TheVariants.{Grant, Wait, Die}
 use Rattle.clv_base.specs.declared.state.Stage.{Stage}
 use Rattle.clv_base.specs.declared.state.Stage.TheVariants.{Active, Closed, Gone}
-use Rattle.clv_base.specs.Orders.{tx_in, tx_same}
-use Rattle.clv_base.specs.Logs.{StandingUpdate, standing_from, standing, without_newest, wrote_in, aborted_in}
+use Rattle.clv_base.specs.Orders.{tx_same}
+use Rattle.clv_base.specs.Logs.{StandingUpdate, standing_from, standing, without_newest, aborted_in, has_standing}
 use Rattle.clv_base.specs.Locks.{decide}
 use Rattle.clv_base.specs.Shards.{shard_count, in_span}
 use Rattle.clv_base.specs.Sessions.{lies_in}
 use Rattle.clv_base.specs.FileRules.{passes_file_rules}
 use Rattle.clv_base.specs.State.{Shard, Local, is_present}
-use Rattle.clv_base.specs.Undo.{stage_of, aborts_of, clrs_of, newest_lsn, doomed_here, roll_back, compensation}
+use Rattle.clv_base.specs.Undo.{stage_of, aborts_of, clrs_of, newest_lsn, doomed_here, roll_back, compensation, is_of, clrs_by, is_at, newest_lsns, roll_to}
 use Rattle.clv_base.specs.Needs.{needs_of, writes_of, value_at, key_of}
 use Rattle.clv_base.specs.OneShard.{OpReply, OpWaits, OpCrowded, OpDies, OpAnswers, written, locked, rolled_back_if, op_granted, op_decided, op_by_stage, op_seen, op_reply, closing, drop_part, seen_fits}
 use Rattle.clv_base.specs.Restarts.{undo_records, restart_records, log_after_restart, next_epoch, losers, FailedRestarts, untouched, failed_first, Restarts}
@@ -82,11 +82,11 @@ aborts_pass : (splits : List ℕ) (n : ℕ) (ts : List TxId) → Passes splits n
 aborts_pass splits n [] = tt
 aborts_pass splits n (t ∷ ts) = (refl, aborts_pass splits n ts)
 
-clrs_pass : (splits : List ℕ) (n : ℕ) (set : List TxId) (ws : List StandingUpdate) → KeysLie splits n ws → Passes splits n (clrs_of set ws)
-clrs_pass splits n set [] a = tt
-clrs_pass splits n set (w ∷ ws) a = at (tx_in w.tx set) w.change (clrs_pass splits n set ws a.1)
+clrs_pass : (splits : List ℕ) (n : ℕ) (gone : StandingUpdate → Bool) (ws : List StandingUpdate) → KeysLie splits n ws → Passes splits n (clrs_by gone ws)
+clrs_pass splits n gone [] a = tt
+clrs_pass splits n gone (w ∷ ws) a = at (gone w) w.change (clrs_pass splits n gone ws a.1)
   where
-    at : (b : Bool) (c : Change) → Passes splits n (clrs_of set ws) → Passes splits n (cond b (compensation w.tx (newest_lsn w.tx ws) w.key c ∷ clrs_of set ws) (clrs_of set ws))
+    at : (b : Bool) (c : Change) → Passes splits n (clrs_by gone ws) → Passes splits n (cond b (compensation w.tx (newest_lsn w.tx ws) w.key c ∷ clrs_by gone ws) (clrs_by gone ws))
     at true (Sets before after) k = (a.0, k)
     at true (Adds by) k = (a.0, k)
     at false c k = k
@@ -94,8 +94,13 @@ clrs_pass splits n set (w ∷ ws) a = at (tx_in w.tx set) w.change (clrs_pass sp
 pub rolled_pass : (splits : List ℕ) (n : ℕ) (tx : TxId) (l : Local) → Passes splits n l.log → Passes splits n (roll_back tx l).log
 rolled_pass splits n tx l p =
     passes_more splits n (l.log ++ aborts_of l.log (doomed_here l tx)) (clrs_of (doomed_here l tx) (standing l.log))
-    (passes_more splits n l.log (aborts_of l.log (doomed_here l tx)) p (aborts_pass splits n (filter (wrote_in l.log) (doomed_here l tx))))
-    (clrs_pass splits n (doomed_here l tx) (standing l.log) (standing_lie splits n 0 l.log [] p tt))
+    (passes_more splits n l.log (aborts_of l.log (doomed_here l tx)) p (aborts_pass splits n (filter (has_standing l.log) (doomed_here l tx))))
+    (clrs_pass splits n (is_of (doomed_here l tx)) (standing l.log) (standing_lie splits n 0 l.log [] p tt))
+
+pub taken_back_pass : (splits : List ℕ) (n : ℕ) (tx : TxId) (count : ℕ) (l : Local) → Passes splits n l.log → Passes splits n (roll_to tx count l).log
+taken_back_pass splits n tx count l p =
+    passes_more splits n l.log (clrs_by (is_at (newest_lsns count tx (standing l.log))) (standing l.log)) p
+    (clrs_pass splits n (is_at (newest_lsns count tx (standing l.log))) (standing l.log) (standing_lie splits n 0 l.log [] p tt))
 
 without_pass : (splits : List ℕ) (n : ℕ) (b : Bool) (tx : TxId) (l : Local) → Passes splits n l.log → Passes splits n (rolled_back_if b tx l).log
 without_pass splits n true tx l p = rolled_pass splits n tx l p
@@ -163,7 +168,7 @@ restart_pass : (splits : List ℕ) (n shard : ℕ) (log : List LogRecord) (run e
 restart_pass splits n shard log run epoch p =
     passes_more splits n (undo_records shard log) (Restart run epoch ∷ [])
     (passes_more splits n (map (λ t. Abort t) (filter (λ t. not (aborted_in log t)) (losers shard log))) (clrs_of (losers shard log) (standing log)) (aborts_pass splits n (filter (λ t. not (aborted_in log t)) (losers shard log)))
-    (clrs_pass splits n (losers shard log) (standing log) (standing_lie splits n 0 log [] p tt)))
+    (clrs_pass splits n (is_of (losers shard log)) (standing log) (standing_lie splits n 0 log [] p tt)))
     (refl, tt)
 
 pub opened_pass : (splits : List ℕ) (n shard : ℕ) (log : List LogRecord) (run epoch : ℕ) → Passes splits n log → Passes splits n (log_after_restart shard log run epoch)

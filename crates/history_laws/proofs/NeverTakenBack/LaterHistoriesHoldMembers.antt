@@ -4,42 +4,40 @@ use Rattle.std.specs.List.{list_any}
 use Rattle.std.proofs.lemmas.Bool.{both_ways, or_cases, or_left, or_right}
 use Rattle.clv_base.specs.declared.names.TxId.{TxId}
 use Rattle.clv_base.specs.declared.logs.LogRecord.{LogRecord}
-use Rattle.clv_base.specs.declared.ops.Op.{Op}
-use Rattle.clv_base.specs.declared.ops.Answer.{Answer}
 use Rattle.clv_base.specs.Logs.{committed_in}
 use Rattle.clv_base.specs.LogRules.{log_of}
 use Rattle.clv_base.specs.State.{Shard}
 use Rattle.clv_base.specs.Restarts.{log_left}
 use Rattle.clv_base.specs.Journals.{History, logs_left_from}
-use Rattle.clv_base.specs.History.{Member, answered_op, ops_in, request_of, members}
+use Rattle.clv_base.specs.History.{Member, DoneAct, act_of, acts_in, request_of, members}
 use Rattle.protocol_laws.specs.Growth.{IsPrefixOf}
 use Rattle.std.proofs.lemmas.List.Folds.{list_any-append}
 use Rattle.history_laws.specs.Continuing.{IsSublistOf, nothing, also, only}
 use Rattle.history_cases.proofs.Merging.{Placed, Before, InOrder, Among, among_all, not_before_itself}
 use Rattle.history_laws.proofs.Entries.SublistsOfHistories.{sublist_among}
 use Rattle.law_base.proofs.Logs.{is_in}
-use Rattle.law_base.proofs.Names.{with_op}
+use Rattle.law_base.proofs.Acts.{with_act}
 
--- ---- operations
+-- ---- acts
 
--- whether an entry is an answered operation of the transaction
-abbrev pub op_at : TxId → Placed → Option (Op × Answer)
-op_at t e = answered_op t (e.1).event (e.1).outcome
+-- the act of the transaction that an entry is, if it is one
+abbrev pub act_at : TxId → Placed → Option DoneAct
+act_at t e = act_of t (e.1).event (e.1).outcome
 
--- where the longer history has no further operation of the transaction, the operations are the same
-passes : (t : TxId) (y : Placed) (o : Option (Op × Answer)) (rest : List (Op × Answer)) → (((p : Op × Answer) → o ≡ Some p → ⊥)) → with_op o rest ≡ rest
-passes t y None rest k = refl
-passes t y (Some p) rest k = absurd (k p refl)
+-- where the longer history has no further act of the transaction, its acts are the same
+passes : (o : Option DoneAct) (rest : List DoneAct) → ((p : DoneAct) → o ≡ Some p → ⊥) → with_act o rest ≡ rest
+passes None rest k = refl
+passes (Some p) rest k = absurd (k p refl)
 
-pub same_ops : (t : TxId) (xs ys : History) → IsSublistOf xs ys → InOrder ys → ((y : Placed) (p : Op × Answer) → Among y ys → op_at t y ≡ Some p → Among y xs) → ops_in t xs ≡ ops_in t ys
-same_ops t _ _ nothing o k = refl
-same_ops t _ _ (also y {xs = xs} {ys = ys} s) o k =
-    ap (with_op (op_at t y))
-    (same_ops t xs ys s o.1
+pub same_acts : (t : TxId) (xs ys : History) → IsSublistOf xs ys → InOrder ys → ((y : Placed) (p : DoneAct) → Among y ys → act_at t y ≡ Some p → Among y xs) → acts_in t xs ≡ acts_in t ys
+same_acts t _ _ nothing o k = refl
+same_acts t _ _ (also y {xs = xs} {ys = ys} s) o k =
+    ap (with_act (act_at t y))
+    (same_acts t xs ys s o.1
     (λ z p m e. ⊎_elim (λ (f : y ≡ z). absurd (not_before_itself y z f (among_all (Before y) z ys o.0 m))) (λ n. n) (k z p (inr m) e)))
-same_ops t xs _ (only y {ys = ys} s) o k =
-    same_ops t xs ys s o.1 (λ z p m e. k z p (inr m) e)
-    ∙ sym (passes t y (op_at t y) (ops_in t ys) (λ p e. not_before_itself y y refl (among_all (Before y) y ys o.0 (sublist_among y xs ys s (k y p (inl refl) e)))))
+same_acts t xs _ (only y {ys = ys} s) o k =
+    same_acts t xs ys s o.1 (λ z p m e. k z p (inr m) e)
+    ∙ sym (passes (act_at t y) (acts_in t ys) (λ p e. not_before_itself y y refl (among_all (Before y) y ys o.0 (sublist_among y xs ys s (k y p (inl refl) e)))))
 
 -- ---- acknowledgements stay
 
@@ -61,15 +59,15 @@ committed_front xs ys t (more, e) h = subst (λ z. committed_in z t ≡ true) e 
 -- ---- members
 
 abbrev pub member_at : History → Placed → TxId → Member
-member_at h e t = record { tx = t; point = record { stamp = (e.1).stamp; shard = e.0 }; ops = ops_in t h }
+member_at h e t = record { tx = t; point = record { stamp = (e.1).stamp; shard = e.0 }; acts = acts_in t h }
 
 abbrev with_member : History → Placed → Bool → TxId → List Member → List Member
 with_member h e b t rest = cond b (member_at h e t ∷ rest) rest
 
-also_member : (h h' : History) (e : Placed) (t : TxId) (b b' : Bool) (xs ys : List Member) → (b ≡ true → (b' ≡ true) × (ops_in t h ≡ ops_in t h')) → IsSublistOf xs ys
+also_member : (h h' : History) (e : Placed) (t : TxId) (b b' : Bool) (xs ys : List Member) → (b ≡ true → (b' ≡ true) × (acts_in t h ≡ acts_in t h')) → IsSublistOf xs ys
     → IsSublistOf (with_member h e b t xs) (with_member h' e b' t ys)
 also_member h h' e t true true xs ys k s =
-    subst (λ o. IsSublistOf (record { tx = t; point = record { stamp = (e.1).stamp; shard = e.0 }; ops = o } ∷ xs) (member_at h' e t ∷ ys)) (sym (k refl).1) (also (member_at h' e t) s)
+    subst (λ o. IsSublistOf (record { tx = t; point = record { stamp = (e.1).stamp; shard = e.0 }; acts = o } ∷ xs) (member_at h' e t ∷ ys)) (sym (k refl).1) (also (member_at h' e t) s)
 also_member h h' e t true false xs ys k s = absurd (both_ways false refl (k refl).0)
 also_member h h' e t false true xs ys k s = only (member_at h' e t) s
 also_member h h' e t false false xs ys k s = s
@@ -78,7 +76,7 @@ abbrev by_request : (TxId → Bool) → History → Placed → Option TxId → L
 by_request test h e o rest = elim o [ Some t ↦ with_member h e (test t) t rest | None ↦ rest ]
 
 also_request : (test test' : TxId → Bool) (h h' : History) (e : Placed) (o : Option TxId) (xs ys : List Member)
-    → ((t : TxId) → o ≡ Some t → test t ≡ true → (test' t ≡ true) × (ops_in t h ≡ ops_in t h')) → IsSublistOf xs ys → IsSublistOf (by_request test h e o xs) (by_request test' h' e o ys)
+    → ((t : TxId) → o ≡ Some t → test t ≡ true → (test' t ≡ true) × (acts_in t h ≡ acts_in t h')) → IsSublistOf xs ys → IsSublistOf (by_request test h e o xs) (by_request test' h' e o ys)
 also_request test test' h h' e None xs ys k s = s
 also_request test test' h h' e (Some t) xs ys k s = also_member h h' e t (test t) (test' t) xs ys (k t refl) s
 
@@ -92,7 +90,7 @@ only_request test h e (Some t) xs ys s = more_members h e t (test t) xs ys s
 
 -- each member of the first is one of the second
 abbrev pub Stays : List (List LogRecord) → History → List (List LogRecord) → History → Placed → TxId → Type 0
-Stays logs h logs' h' e t = (is_in logs' h' e.0 t ≡ true) × (ops_in t h ≡ ops_in t h')
+Stays logs h logs' h' e t = (is_in logs' h' e.0 t ≡ true) × (acts_in t h ≡ acts_in t h')
 
 pub members_stay : (logs logs' : List (List LogRecord)) (h h' xs ys : History) → IsSublistOf xs ys
     → ((e : Placed) (t : TxId) → Among e xs → request_of (e.1).event (e.1).outcome ≡ Some t → is_in logs h e.0 t ≡ true → Stays logs h logs' h' e t)

@@ -7,14 +7,15 @@ use Rattle.clv_base.specs.declared.names.Birth.{Birth}
 use Rattle.clv_base.specs.declared.ops.Op.{Op}
 use Rattle.clv_base.specs.declared.causes.AbortCause.{AbortCause}
 use Rattle.clv_base.specs.declared.events.Event.{Event}
-use Rattle.clv_base.specs.declared.events.Event.TheVariants.{Op as OpEvent, Request, Look, Drop}
+use Rattle.clv_base.specs.declared.events.Event.TheVariants.{Op as OpEvent, Request, Look, Drop, RollTo}
 use Rattle.clv_base.specs.declared.events.Outcome.{Outcome}
 use Rattle.clv_base.specs.declared.events.Outcome.TheVariants.{Answered, Dead, Asked, Acknowledged, Aborted}
 use Rattle.clv_base.specs.Orders.{tx_same}
 use Rattle.clv_base.specs.LogRules.{same_option}
-use Rattle.clv_base.specs.Sessions.{Phase, Touching, Ended, Standing, Told, Refused, SessionState, is_number, lies_in, is_touching, same_birth, follows_birth, goes_on, begins, begun, session_for, op_in_session, same_touched, is_lowest, requested, looked, stands_at, may_drop, after_drop, session_after, makes_from}
+use Rattle.clv_base.specs.Sessions.{Phase, Touching, Ended, Standing, Told, Refused, SessionState, is_number, lies_in, is_touching, same_birth, follows_birth, goes_on, begins, begun, session_for, op_in_session, same_touched, is_lowest, requested, looked, stands_at, may_drop, after_drop, session_after, makes_from, is_whole_now}
 use Rattle.clv_base.proofs.SameNames.{tx_true}
 use Rattle.history_cases.proofs.Merging.{Placed, Among, Precedes}
+use Rattle.history_laws.proofs.Entries.GoingsBackOfSessions.{Back, no_back, went, died, back_after}
 
 -- its request stands, or it was told that it is acknowledged
 stands : Phase → Bool
@@ -54,7 +55,7 @@ goes_if tx e o true v k = k refl
 goes_if tx e o false v k = gone
 
 -- whose session an operation finds: one that may go on, or a later one
-data ForOn (t : SessionState) (u : TxId) (birth : Birth) : Option SessionState → Type 0 where
+pub data ForOn (t : SessionState) (u : TxId) (birth : Birth) : Option SessionState → Type 0 where
   nobody_on : ForOn t u birth None
   same_on : u ≡ t.tx → is_touching t.phase ≡ true → ForOn t u birth (Some t)
   new_on : (t.tx).serial < u.serial → ForOn t u birth (Some (begun t u birth))
@@ -71,7 +72,7 @@ new_if t u birth true e =
     new_on (ltb-true _ _ r.1)
 new_if t u birth false e = nobody_on
 
-on_by : (t : SessionState) (u : TxId) (birth : Birth) (b : Bool) → tx_same u t.tx ≡ b
+pub on_by : (t : SessionState) (u : TxId) (birth : Birth) (b : Bool) → tx_same u t.tx ≡ b
     → ForOn t u birth (cond b (cond (goes_on t u birth) (Some t) None) (cond (begins t u birth) (Some (begun t u birth)) None))
 on_by t u birth true e = on_if t u birth (goes_on t u birth) refl (tx_true u t.tx e)
 on_by t u birth false e = new_if t u birth (begins t u birth) refl
@@ -135,6 +136,21 @@ look_goes tx u t (Aborted c) (inr l) q = on (no_drop u) (inr l)
     no_drop u z = absurd cc
 look_goes tx u t _ s q = gone
 
+-- so does a going back
+back_goes : (tx u : TxId) (t : SessionState) (n nth seen upto : ℕ) (o : Outcome) (v : Option SessionState) → Stands tx t → Back t u n o v → Goes tx (RollTo u nth seen upto) o v
+unfolding Stands
+back_goes tx u t n nth seen upto o _ s no_back = gone
+back_goes tx u t n nth seen upto _ _ (inl p) (went m q e) = absurd (both_ways _ (not_touching t.phase p.1) m.touching)
+back_goes tx u t n nth seen upto _ _ (inr l) (went m q e) = on (no_drop u nth seen upto) (inr (subst (λ z. tx.serial < z.serial) (sym q.tx) l))
+  where
+    no_drop : (u : TxId) (nth seen upto : ℕ) → RollTo u nth seen upto ≡ Drop tx → ⊥
+    no_drop u nth seen upto z = absurd cc
+back_goes tx u t n nth seen upto _ _ (inl p) (died c m q e) = absurd (both_ways _ (not_touching t.phase p.1) m.touching)
+back_goes tx u t n nth seen upto _ _ (inr l) (died c m q e) = on (no_drop u nth seen upto) (inr (subst (λ z. tx.serial < z.serial) (sym q.tx) l))
+  where
+    no_drop : (u : TxId) (nth seen upto : ℕ) → RollTo u nth seen upto ≡ Drop tx → ⊥
+    no_drop u nth seen upto z = absurd cc
+
 drop_goes : (tx u : TxId) (t : SessionState) (o : Outcome) → Stands tx t → u ≡ t.tx → may_drop t.phase ≡ true → Goes tx (Drop u) o (Some (record t { phase = after_drop t.phase }))
 unfolding Stands
 drop_goes tx u t o (inl p) q h = absurd (both_ways _ (not_dropping t.phase p.1) h)
@@ -148,12 +164,14 @@ drop_goes tx u t o (inr l) q h = on (λ z. apart (ap (λ w. w.serial) (sym q ∙
 
 goes_next : (splits : List ℕ) (tx : TxId) (n : ℕ) (t : SessionState) (e : Event) (o : Outcome) → Stands tx t → Goes tx e o (session_after splits n t e o)
 goes_next splits tx n t (OpEvent u birth nth seen op) o s = op_goes splits tx u t birth n nth seen op o (session_for t u birth) (later_on tx u t birth (session_for t u birth) s (on_by t u birth (tx_same u t.tx) refl))
+goes_next splits tx n t (RollTo u nth seen upto) o s = back_goes tx u t n nth seen upto o _ s (back_after splits n t u nth seen upto o)
 goes_next splits tx n t (Request u ts) o s =
-    goes_if tx (Request u ts) o (tx_same u t.tx && is_touching t.phase && same_touched ts t.touched && is_lowest n ts) (requested n t o)
+    goes_if tx (Request u ts) o (tx_same u t.tx && is_touching t.phase && is_whole_now t && same_touched ts t.touched && is_lowest n ts) (requested n t o)
     (λ e.
-    let p = and_parts (tx_same u t.tx && is_touching t.phase && same_touched ts t.touched) (is_lowest n ts) e in
-    let q = and_parts (tx_same u t.tx && is_touching t.phase) (same_touched ts t.touched) p.0 in
-    request_goes tx u t ts n o s (and_parts (tx_same u t.tx) (is_touching t.phase) q.0).1)
+    let p = and_parts (tx_same u t.tx && is_touching t.phase && is_whole_now t && same_touched ts t.touched) (is_lowest n ts) e in
+    let q = and_parts (tx_same u t.tx && is_touching t.phase && is_whole_now t) (same_touched ts t.touched) p.0 in
+    let w = and_parts (tx_same u t.tx && is_touching t.phase) (is_whole_now t) q.0 in
+    request_goes tx u t ts n o s (and_parts (tx_same u t.tx) (is_touching t.phase) w.0).1)
 goes_next splits tx n t (Look u) o s = goes_if tx (Look u) o (tx_same u t.tx && stands_at n t.phase) (looked t o) (λ e. look_goes tx u t o s (tx_true u t.tx (and_parts (tx_same u t.tx) (stands_at n t.phase) e).0))
 goes_next splits tx n t (Drop u) o s =
     goes_if tx (Drop u) o (tx_same u t.tx && may_drop t.phase && not ((t.tx).serial == 0)) (Some (record t { phase = after_drop t.phase }))
@@ -188,13 +206,14 @@ dropped_later splits (z ∷ zs) t tx x s h i d =
     drop_case splits tx x z zs (z.1).event (z.1).outcome (session_after splits z.0 t (z.1).event (z.1).outcome) refl refl (goes_next splits tx z.0 t (z.1).event (z.1).outcome s) h i d
     (λ u k g j. dropped_later splits zs u tx x k g j d)
 
-asks_first : (splits : List ℕ) (tx : TxId) (t : SessionState) (ts : List (ℕ × ℕ)) (n : ℕ) (es : List Placed) (b : Bool) {X : Type 0} → (tx_same tx t.tx && is_touching t.phase && same_touched ts t.touched && is_lowest n ts) ≡ b
+asks_first : (splits : List ℕ) (tx : TxId) (t : SessionState) (ts : List (ℕ × ℕ)) (n : ℕ) (es : List Placed) (b : Bool) {X : Type 0} → (tx_same tx t.tx && is_touching t.phase && is_whole_now t && same_touched ts t.touched && is_lowest n ts) ≡ b
     → makes_from splits (cond b (Some (record t { phase = Standing n })) None) es ≡ true → ((u : SessionState) → Stands tx u → makes_from splits (Some u) es ≡ true → X) → X
 unfolding Stands stands
 asks_first splits tx t ts n es true e h k =
-    let p = and_parts (tx_same tx t.tx && is_touching t.phase && same_touched ts t.touched) (is_lowest n ts) e in
-    let q = and_parts (tx_same tx t.tx && is_touching t.phase) (same_touched ts t.touched) p.0 in
-    k (record t { phase = Standing n }) (inl (sym (tx_true tx t.tx (and_parts (tx_same tx t.tx) (is_touching t.phase) q.0).0), refl)) h
+    let p = and_parts (tx_same tx t.tx && is_touching t.phase && is_whole_now t && same_touched ts t.touched) (is_lowest n ts) e in
+    let q = and_parts (tx_same tx t.tx && is_touching t.phase && is_whole_now t) (same_touched ts t.touched) p.0 in
+    let w = and_parts (tx_same tx t.tx && is_touching t.phase) (is_whole_now t) q.0 in
+    k (record t { phase = Standing n }) (inl (sym (tx_true tx t.tx (and_parts (tx_same tx t.tx) (is_touching t.phase) w.0).0), refl)) h
 asks_first splits tx t ts n es false e h k = absurd (both_ways false refl h)
 
 -- a drop after a request: between them a look found the transaction aborted
@@ -206,7 +225,7 @@ drop_after_request splits (z ∷ zs) t r x tx ts h (inl p) e o d =
     let h2 = subst (λ w. makes_from splits (session_after splits r.0 t w (r.1).outcome) zs ≡ true) e h1 in
     let h3 = subst (λ w. makes_from splits (session_after splits r.0 t (Request tx ts) w) zs ≡ true) o h2 in
     further tx x z zs
-    (asks_first splits tx t ts r.0 zs (tx_same tx t.tx && is_touching t.phase && same_touched ts t.touched && is_lowest r.0 ts) refl h3 (λ u s g. dropped_later splits zs u tx x s g p.1 d))
+    (asks_first splits tx t ts r.0 zs (tx_same tx t.tx && is_touching t.phase && is_whole_now t && same_touched ts t.touched && is_lowest r.0 ts) refl h3 (λ u s g. dropped_later splits zs u tx x s g p.1 d))
 drop_after_request splits (z ∷ zs) t r x tx ts h (inr p) e o d =
     at (session_after splits z.0 t (z.1).event (z.1).outcome) h (λ u g. drop_after_request splits zs u r x tx ts g p e o d)
   where

@@ -12,15 +12,16 @@ use Rattle.clv_base.specs.declared.names.Birth.{Birth}
 use Rattle.clv_base.specs.declared.ops.Op.{Op}
 use Rattle.clv_base.specs.declared.ops.Answer.{Answer}
 use Rattle.clv_base.specs.declared.events.Event.{Event}
-use Rattle.clv_base.specs.declared.events.Event.TheVariants.{Op as OpEvent, Request, Look, Drop}
+use Rattle.clv_base.specs.declared.events.Event.TheVariants.{Op as OpEvent, Request, Look, Drop, RollTo}
 use Rattle.clv_base.specs.declared.events.Outcome.{Outcome}
 use Rattle.clv_base.specs.declared.events.Outcome.TheVariants.{Answered, Dead, Asked, Acknowledged, Aborted}
 use Rattle.clv_base.specs.Orders.{tx_same}
 use Rattle.clv_base.specs.LogRules.{same_option}
-use Rattle.clv_base.specs.Sessions.{Phase, SessionState, is_number, lies_in, is_touching, session_for, touch, op_answered, op_in_session, same_touched, is_lowest, requested, looked, session_after, makes_from}
+use Rattle.clv_base.specs.Sessions.{Phase, SessionState, is_number, lies_in, is_touching, session_for, touch, op_answered, op_in_session, same_touched, is_lowest, requested, looked, session_after, makes_from, is_whole_now}
 use Rattle.clv_base.proofs.SameNames.{tx_true, nat_cmp_true}
 use Rattle.history_cases.proofs.Merging.{Placed, Among, Precedes, front_precedes, among_left, among_right}
 use Rattle.history_laws.proofs.RequestsNameWhatAnswered.SessionsFollowTheirOperations.{For, the_same, a_new_one, for_by}
+use Rattle.history_laws.proofs.Entries.GoingsBackOfSessions.{Back, no_back, went, died, back_after, Same}
 
 -- an entry that answered an operation of the transaction, on this shard, in this epoch
 pub record AnsweredAt (y : Placed) (tx : TxId) (shard epoch : ℕ) : Type 0 where
@@ -93,10 +94,22 @@ same_traced : (done : List Placed) (t : SessionState) (p : Phase) → Traced don
 unfolding Traced
 same_traced done t p a = a
 
+same_rows_of : (done : List Placed) (t u : SessionState) → Same u t → Traced done t → Traced done u
+unfolding Traced
+same_rows_of done t u s k =
+    subst (λ ts. AllByRecursion (λ r. (y : Placed) × Among y done × AnsweredAt y u.tx r.0 r.1) ts) (sym s.touched)
+    (subst (λ x. AllByRecursion (λ r. (y : Placed) × Among y done × AnsweredAt y x r.0 r.1) t.touched) (sym s.tx) k)
+
 traced_request : (done : List Placed) (t : SessionState) (n : ℕ) (o : Outcome) → Traced done t → TracedIn done (requested n t o)
 traced_request done t n Asked k = traced (same_traced done t _ k)
 traced_request done t n (Dead c) k = traced (same_traced done t _ k)
 traced_request done t n _ k = gone
+
+traced_back : (done : List Placed) (t : SessionState) (tx : TxId) (n : ℕ) (o : Outcome) (v : Option SessionState) → Traced done t → Back t tx n o v → TracedIn done v
+unfolding Traced
+traced_back done t tx n o _ k no_back = gone
+traced_back done t tx n _ (Some u) k (went m s e) = traced (same_rows_of done t u s k)
+traced_back done t tx n _ (Some u) k (died c m s e) = traced (same_rows_of done t u s k)
 
 traced_look : (done : List Placed) (t : SessionState) (o : Outcome) → Traced done t → TracedIn done (looked t o)
 traced_look done t Acknowledged k = traced (same_traced done t _ k)
@@ -105,6 +118,7 @@ traced_look done t _ k = gone
 
 pub traced_next : (splits : List ℕ) (done : List Placed) (z : Placed) (t : SessionState) (e : Event) (o : Outcome) → (z.1).event ≡ e → (z.1).outcome ≡ o → Traced done t → TracedIn (done ++ z ∷ []) (session_after splits z.0 t e o)
 traced_next splits done z t (OpEvent tx birth nth seen op) o e f k = traced_op splits done z t tx birth nth seen op o (session_for t tx birth) e f (for_by t tx birth (tx_same tx t.tx) refl) k
+traced_next splits done z t (RollTo tx nth seen upto) o e f k = traced_back (done ++ z ∷ []) t tx z.0 o _ (traced_more done (z ∷ []) t k) (back_after splits z.0 t tx nth seen upto o)
 traced_next splits done z t (Request tx ts) o e f k = traced_if _ _ _ (traced_request (done ++ z ∷ []) t z.0 o (traced_more done (z ∷ []) t k))
 traced_next splits done z t (Look tx) o e f k = traced_if _ _ _ (traced_look (done ++ z ∷ []) t o (traced_more done (z ∷ []) t k))
 traced_next splits done z t (Drop tx) o e f k = traced_if _ _ _ (traced (same_traced (done ++ z ∷ []) t _ (traced_more done (z ∷ []) t k)))
@@ -132,12 +146,13 @@ rows_precede tx x done rest [] i a = tt
 rows_precede tx x done rest (t ∷ ts) i a = (((a.0).0, front_precedes (a.0).0 x done rest (a.0).1 i, (a.0).2), rows_precede tx x done rest ts i a.1)
 
 named_here : (splits : List ℕ) (tx : TxId) (x : Placed) (done rest : List Placed) (t : SessionState) (ts : List (ℕ × ℕ)) (n : ℕ) (o : Outcome) (es : List Placed) (b : Bool)
-    → (tx_same tx t.tx && is_touching t.phase && same_touched ts t.touched && is_lowest n ts) ≡ b → makes_from splits (cond b (requested n t o) None) es ≡ true → Among x rest → Traced done t → Named tx x (done ++ rest) ts × (is_lowest n ts ≡ true)
+    → (tx_same tx t.tx && is_touching t.phase && is_whole_now t && same_touched ts t.touched && is_lowest n ts) ≡ b → makes_from splits (cond b (requested n t o) None) es ≡ true → Among x rest → Traced done t → Named tx x (done ++ rest) ts × (is_lowest n ts ≡ true)
 unfolding Traced
 named_here splits tx x done rest t ts n o es true e h i k =
-    let p = and_parts (tx_same tx t.tx && is_touching t.phase && same_touched ts t.touched) (is_lowest n ts) e in
-    let q = and_parts (tx_same tx t.tx && is_touching t.phase) (same_touched ts t.touched) p.0 in
-    let r = and_parts (tx_same tx t.tx) (is_touching t.phase) q.0 in (
+    let p = and_parts (tx_same tx t.tx && is_touching t.phase && is_whole_now t && same_touched ts t.touched) (is_lowest n ts) e in
+    let q = and_parts (tx_same tx t.tx && is_touching t.phase && is_whole_now t) (same_touched ts t.touched) p.0 in
+    let w = and_parts (tx_same tx t.tx && is_touching t.phase) (is_whole_now t) q.0 in
+    let r = and_parts (tx_same tx t.tx) (is_touching t.phase) w.0 in (
       rows_precede tx x done rest ts i
           (same_rows (λ r. (y : Placed) × Among y done × AnsweredAt y tx r.0 r.1) ts t.touched q.1
           (subst (λ w. AllByRecursion (λ r. (y : Placed) × Among y done × AnsweredAt y w r.0 r.1) t.touched) (sym (tx_true tx t.tx r.0)) k)),
@@ -156,7 +171,7 @@ named_from splits done [] t x tx ts h i e k = elim i [ ]
 named_from splits done (z ∷ zs) t x tx ts h (inl i) e k =
     let h1 = subst (λ w. makes_from splits (session_after splits w.0 t (w.1).event (w.1).outcome) zs ≡ true) i h in
     let h2 = subst (λ w. makes_from splits (session_after splits x.0 t w (x.1).outcome) zs ≡ true) e h1 in
-    named_here splits tx x done (z ∷ zs) t ts x.0 (x.1).outcome zs (tx_same tx t.tx && is_touching t.phase && same_touched ts t.touched && is_lowest x.0 ts) refl h2 (inl i) k
+    named_here splits tx x done (z ∷ zs) t ts x.0 (x.1).outcome zs (tx_same tx t.tx && is_touching t.phase && is_whole_now t && same_touched ts t.touched && is_lowest x.0 ts) refl h2 (inl i) k
 named_from splits done (z ∷ zs) t x tx ts h (inr i) e k =
     named_case splits done zs z (session_after splits z.0 t (z.1).event (z.1).outcome) (traced_next splits done z t (z.1).event (z.1).outcome refl refl k) h
     (λ u p g. subst (λ w. Named tx x w ts × (is_lowest x.0 ts ≡ true)) (append_assoc done (z ∷ []) zs) (named_from splits (done ++ z ∷ []) zs u x tx ts g i e p))

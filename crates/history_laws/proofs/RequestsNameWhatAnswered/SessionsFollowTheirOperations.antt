@@ -11,15 +11,17 @@ use Rattle.clv_base.specs.declared.names.Birth.{Birth}
 use Rattle.clv_base.specs.declared.ops.Op.{Op}
 use Rattle.clv_base.specs.declared.ops.Answer.{Answer}
 use Rattle.clv_base.specs.declared.events.Event.{Event}
-use Rattle.clv_base.specs.declared.events.Event.TheVariants.{Op as OpEvent, Request, Look, Drop}
+use Rattle.clv_base.specs.declared.events.Event.TheVariants.{Op as OpEvent, Request, Look, Drop, RollTo}
 use Rattle.clv_base.specs.declared.events.Outcome.{Outcome}
 use Rattle.clv_base.specs.declared.events.Outcome.TheVariants.{Answered, Dead, Asked, Acknowledged, Aborted}
 use Rattle.clv_base.specs.Orders.{tx_same, birth_cmp}
 use Rattle.clv_base.specs.LogRules.{same_option}
-use Rattle.clv_base.specs.Sessions.{Phase, SessionState, is_number, lies_in, is_touching, same_birth, follows_birth, goes_on, begins, begun, session_for, touch, scan_shard, op_answered, op_in_session, requested, looked, session_after, makes_from}
+use Rattle.clv_base.specs.Sessions.{Phase, SessionState, is_number, lies_in, is_touching, same_birth, follows_birth, goes_on, begins, begun, session_for, touch, scan_shard, op_answered, op_in_session, requested, looked, session_after, makes_from, numbered, with_written}
 use Rattle.clv_base.proofs.SameNames.{tx_true, nat_cmp_true, then_eq}
+use Rattle.clv_base.specs.Backs.{has_written}
 use Rattle.law_base.proofs.Options.{option_true}
 use Rattle.history_cases.proofs.Merging.{Placed, Among, Precedes}
+use Rattle.history_laws.proofs.Entries.GoingsBackOfSessions.{Back, no_back, went, died, back_after}
 
 -- ---- whose session an operation finds
 
@@ -175,6 +177,14 @@ held_request tx m e b t n Asked h = held (same_held tx m e b t _ h)
 held_request tx m e b t n (Dead cause) h = held (same_held tx m e b t _ h)
 held_request tx m e b t n _ h = gone
 
+held_back : (tx u : TxId) (m e : ℕ) (b : Birth) (t : SessionState) (n : ℕ) (o : Outcome) (v : Option SessionState) → Held tx m e b t → Back t u n o v → HeldIn tx m e b v
+unfolding Held
+held_back tx u m e b t n o _ h no_back = gone
+held_back tx u m e b t n _ _ (inl p) (went k q f) = held (inl (q.tx ∙ p.0, q.birth ∙ p.1, ap (epoch_at m) q.touched ∙ p.2))
+held_back tx u m e b t n _ _ (inr l) (went k q f) = held (inr (subst (λ z. tx.serial < z.serial) (sym q.tx) l))
+held_back tx u m e b t n _ _ (inl p) (died c k q f) = held (inl (q.tx ∙ p.0, q.birth ∙ p.1, ap (epoch_at m) q.touched ∙ p.2))
+held_back tx u m e b t n _ _ (inr l) (died c k q f) = held (inr (subst (λ z. tx.serial < z.serial) (sym q.tx) l))
+
 held_look : (tx : TxId) (m e : ℕ) (b : Birth) (t : SessionState) (o : Outcome) → Held tx m e b t → HeldIn tx m e b (looked t o)
 held_look tx m e b t Acknowledged h = held (same_held tx m e b t _ h)
 held_look tx m e b t (Aborted cause) h = held (same_held tx m e b t _ h)
@@ -182,6 +192,7 @@ held_look tx m e b t _ h = gone
 
 held_next : (splits : List ℕ) (tx : TxId) (m e : ℕ) (b : Birth) (n : ℕ) (t : SessionState) (ev : Event) (o : Outcome) → Held tx m e b t → HeldIn tx m e b (session_after splits n t ev o)
 held_next splits tx m e b n t (OpEvent u birth nth seen op) o h = held_op splits tx u m e b t birth n nth seen op o (session_for t u birth) h (for_by t u birth (tx_same u t.tx) refl)
+held_next splits tx m e b n t (RollTo u nth seen upto) o h = held_back tx u m e b t n o _ h (back_after splits n t u nth seen upto o)
 held_next splits tx m e b n t (Request u ts) o h = held_if tx m e b _ _ (held_request tx m e b t n o h)
 held_next splits tx m e b n t (Look u) o h = held_if tx m e b _ _ (held_look tx m e b t o h)
 held_next splits tx m e b n t (Drop u) o h = held_if tx m e b _ _ (held (same_held tx m e b t _ h))
@@ -238,8 +249,11 @@ later_seen splits (z ∷ zs) t x tx e b birth seen k h (inl i) a =
 later_seen splits (z ∷ zs) t x tx e b birth seen k h (inr i) a =
     goes splits (session_after splits z.0 t (z.1).event (z.1).outcome) zs tx x.0 e b (held_next splits tx x.0 e b z.0 t (z.1).event (z.1).outcome k) h (λ u q g. later_seen splits zs u x tx e b birth seen q g i a)
 
+abbrev after_answer : SessionState → ℕ → ℕ → Op → Answer → ℕ → SessionState
+after_answer v n nth op a epoch = record (numbered nth v) { scanned = scan_shard n op; touched = touch n epoch v.touched; written = with_written n nth (has_written op a) v.written }
+
 first_held : (tx : TxId) (n nth : ℕ) (op : Op) (t v : SessionState) (birth : Birth) (seen : Option ℕ) (a : Answer) (epoch : ℕ) → For t tx birth (Some v) → seen ≡ epoch_at n v.touched → SeenIs seen epoch
-    → Held tx n epoch birth (record v { nth = nth; scanned = scan_shard n op; touched = touch n epoch v.touched })
+    → Held tx n epoch birth (after_answer v n nth op a epoch)
 unfolding Held
 first_held tx n nth op t _ birth seen a epoch (the_same q r) e s = inl (sym q, r, touch_new n epoch seen t.touched e s)
 first_held tx n nth op t _ birth seen a epoch (a_new_one k) e s = inl (refl, refl, touch_new n epoch seen [] e s)
@@ -251,7 +265,7 @@ held_first splits tx n nth op t birth seen a epoch (Some v) es {X} f s h k = at 
   where
     at : (c : Bool) → (is_number v n nth op && lies_in splits n op && same_option seen (epoch_at n v.touched)) ≡ c → makes_from splits (cond c (op_answered n nth op v (Answered a epoch)) None) es ≡ true → X
     at true q g =
-        k (record v { nth = nth; scanned = scan_shard n op; touched = touch n epoch v.touched })
+        k (after_answer v n nth op a epoch)
         (first_held tx n nth op t v birth seen a epoch f (option_true seen (epoch_at n v.touched) (and_parts (is_number v n nth op && lies_in splits n op) _ q).1) s) g
     at false q g = absurd (both_ways false refl g)
 

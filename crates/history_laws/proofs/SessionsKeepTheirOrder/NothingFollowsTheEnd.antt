@@ -6,15 +6,16 @@ use Rattle.clv_base.specs.declared.names.TxId.{TxId}
 use Rattle.clv_base.specs.declared.names.Birth.{Birth}
 use Rattle.clv_base.specs.declared.ops.Op.{Op}
 use Rattle.clv_base.specs.declared.events.Event.{Event}
-use Rattle.clv_base.specs.declared.events.Event.TheVariants.{Op as OpEvent, Request, Look, Drop}
+use Rattle.clv_base.specs.declared.events.Event.TheVariants.{Op as OpEvent, Request, Look, Drop, RollTo}
 use Rattle.clv_base.specs.declared.events.Outcome.{Outcome}
 use Rattle.clv_base.specs.declared.events.Outcome.TheVariants.{Answered, Asked, Acknowledged, Aborted, Dead, Dropped}
 use Rattle.clv_base.specs.Orders.{tx_same}
 use Rattle.clv_base.specs.LogRules.{same_option}
-use Rattle.clv_base.specs.Sessions.{Phase, Touching, Ended, Standing, Told, Refused, SessionState, may_drop, is_number, lies_in, is_touching, same_birth, follows_birth, goes_on, begins, begun, session_for, op_answered, op_in_session, same_touched, is_lowest, requested, looked, stands_at, after_drop, session_after, makes_from}
+use Rattle.clv_base.specs.Sessions.{Phase, Touching, Ended, Standing, Told, Refused, SessionState, may_drop, is_number, lies_in, is_touching, same_birth, follows_birth, goes_on, begins, begun, session_for, op_answered, op_in_session, same_touched, is_lowest, requested, looked, stands_at, after_drop, session_after, makes_from, is_whole_now}
 use Rattle.clv_base.specs.History.{is_acknowledgement}
 use Rattle.clv_base.proofs.SameNames.{tx_true}
 use Rattle.history_laws.specs.Outcomes.{is_abort}
+use Rattle.history_laws.proofs.Entries.GoingsBackOfSessions.{Back, no_back, went, died, back_after}
 use Rattle.history_cases.proofs.Merging.{Placed, Among, Precedes}
 
 -- a phase that nothing but drops follows
@@ -33,9 +34,10 @@ is_told (Standing home) = false
 is_told Told = true
 is_told Refused = false
 
--- whether an event is an operation, a request or a look of the transaction, or, where they count, a drop
+-- whether an event is an operation, a going back, a request or a look of the transaction, or, where they count, a drop
 abbrev pub names : Bool → TxId → Event → Bool
 names drops t (OpEvent tx birth nth seen op) = tx_same t tx
+names drops t (RollTo tx nth seen upto) = tx_same t tx
 names drops t (Request tx touched) = tx_same t tx
 names drops t (Look tx) = tx_same t tx
 names drops t (Drop tx) = drops && tx_same t tx
@@ -151,6 +153,13 @@ module _ (over : Phase → Bool) (drops : Bool) (last : Last over drops) where
   next_request t s tx ts n (Dead cause) e p (inr l) = on (other t tx (subst (λ z. t.serial < z.serial) (sym e) l)) (inr l)
   next_request t s tx ts n _ e p (inr l) = gone
 
+  next_back : (t : TxId) (s : SessionState) (tx : TxId) (n nth seen upto : ℕ) (o : Outcome) (v : Option SessionState) → Over t s → Back s tx n o v → Next t (RollTo tx nth seen upto) v
+  next_back t s tx n nth seen upto o _ k no_back = gone
+  next_back t s tx n nth seen upto _ _ (inl q) (went m e f) = absurd (both_ways _ (last.not_touching s.phase q.1) m.touching)
+  next_back t s tx n nth seen upto _ _ (inr l) (went m e f) = on (other t tx (subst (λ z. t.serial < z.serial) (sym m.own) l)) (inr (subst (λ z. t.serial < z.serial) (sym e.tx) l))
+  next_back t s tx n nth seen upto _ _ (inl q) (died c m e f) = absurd (both_ways _ (last.not_touching s.phase q.1) m.touching)
+  next_back t s tx n nth seen upto _ _ (inr l) (died c m e f) = on (other t tx (subst (λ z. t.serial < z.serial) (sym m.own) l)) (inr (subst (λ z. t.serial < z.serial) (sym e.tx) l))
+
   next_look : (t : TxId) (s : SessionState) (tx : TxId) (n : ℕ) (o : Outcome) → tx ≡ s.tx → stands_at n s.phase ≡ true → Over t s → Next t (Look tx) (looked s o)
   next_look t s tx n o e p (inl q) = absurd (both_ways _ (last.not_standing n s.phase q.1) p)
   next_look t s tx n Acknowledged e p (inr l) = on (other t tx (subst (λ z. t.serial < z.serial) (sym e) l)) (inr l)
@@ -168,12 +177,14 @@ module _ (over : Phase → Bool) (drops : Bool) (last : Last over drops) where
 
   next : (splits : List ℕ) (t : TxId) (n : ℕ) (s : SessionState) (e : Event) (o : Outcome) → Over t s → Next t e (session_after splits n s e o)
   next splits t n s (OpEvent tx birth nth seen op) o k = next_op splits t tx birth n nth seen op o (session_for s tx birth) (for_by t s tx birth (tx_same tx s.tx) refl k)
+  next splits t n s (RollTo tx nth seen upto) o k = next_back t s tx n nth seen upto o _ k (back_after splits n s tx nth seen upto o)
   next splits t n s (Request tx ts) o k =
       next_if t _ _ (requested n s o)
       (λ e.
-      let p = and_parts (tx_same tx s.tx && is_touching s.phase && same_touched ts s.touched) (is_lowest n ts) e in
-      let q = and_parts (tx_same tx s.tx && is_touching s.phase) (same_touched ts s.touched) p.0 in
-      let r = and_parts (tx_same tx s.tx) (is_touching s.phase) q.0 in
+      let p = and_parts (tx_same tx s.tx && is_touching s.phase && is_whole_now s && same_touched ts s.touched) (is_lowest n ts) e in
+      let q = and_parts (tx_same tx s.tx && is_touching s.phase && is_whole_now s) (same_touched ts s.touched) p.0 in
+      let w = and_parts (tx_same tx s.tx && is_touching s.phase) (is_whole_now s) q.0 in
+      let r = and_parts (tx_same tx s.tx) (is_touching s.phase) w.0 in
       next_request t s tx ts n o (tx_true tx s.tx r.0) r.1 k)
   next splits t n s (Look tx) o k =
       next_if t _ _ (looked s o) (λ e. let p = and_parts (tx_same tx s.tx) (stands_at n s.phase) e in next_look t s tx n o (tx_true tx s.tx p.0) p.1 k)
@@ -239,6 +250,12 @@ unfolding is_over
 ends_request t tx s ts n (Dead cause) e f = ends (ends_by t tx s e f) refl
 ends_request t tx s ts n _ e f = absurd (both_ways false refl e)
 
+ends_back : (t tx : TxId) (s : SessionState) (n nth seen upto : ℕ) (o : Outcome) (v : Option SessionState) → tells_end t (RollTo tx nth seen upto) o ≡ true → Back s tx n o v → Ends is_over t v
+unfolding is_over
+ends_back t tx s n nth seen upto o _ k no_back = refuses
+ends_back t tx s n nth seen upto _ _ k (went m e f) = absurd (both_ways false refl k)
+ends_back t tx s n nth seen upto _ _ k (died c m e f) = ends (e.tx ∙ ends_by t tx s k m.own) (ap is_over f)
+
 ends_look : (t tx : TxId) (s : SessionState) (o : Outcome) → tells_end t (Look tx) o ≡ true → tx ≡ s.tx → Ends is_over t (looked s o)
 unfolding is_over
 ends_look t tx s Acknowledged e f = ends (ends_by t tx s (or_false (tx_same t tx) e) f) refl
@@ -258,12 +275,14 @@ drop_over _ e = absurd (both_ways false refl e)
 
 ends_at : (splits : List ℕ) (t : TxId) (n : ℕ) (s : SessionState) (e : Event) (o : Outcome) → tells_end t e o ≡ true → Ends is_over t (session_after splits n s e o)
 ends_at splits t n s (OpEvent tx birth nth seen op) o k = ends_op splits t tx birth n nth seen op o (session_for s tx birth) k (whose s tx birth (tx_same tx s.tx) refl)
+ends_at splits t n s (RollTo tx nth seen upto) o k = ends_back t tx s n nth seen upto o _ k (back_after splits n s tx nth seen upto o)
 ends_at splits t n s (Request tx ts) o k =
     ends_if is_over t _ (requested n s o)
     (λ e.
-    let p = and_parts (tx_same tx s.tx && is_touching s.phase && same_touched ts s.touched) (is_lowest n ts) e in
-    let q = and_parts (tx_same tx s.tx && is_touching s.phase) (same_touched ts s.touched) p.0 in
-    ends_request t tx s ts n o k (tx_true tx s.tx (and_parts (tx_same tx s.tx) (is_touching s.phase) q.0).0))
+    let p = and_parts (tx_same tx s.tx && is_touching s.phase && is_whole_now s && same_touched ts s.touched) (is_lowest n ts) e in
+    let q = and_parts (tx_same tx s.tx && is_touching s.phase && is_whole_now s) (same_touched ts s.touched) p.0 in
+    let w = and_parts (tx_same tx s.tx && is_touching s.phase) (is_whole_now s) q.0 in
+    ends_request t tx s ts n o k (tx_true tx s.tx (and_parts (tx_same tx s.tx) (is_touching s.phase) w.0).0))
 ends_at splits t n s (Look tx) o k = ends_if is_over t _ (looked s o) (λ e. ends_look t tx s o k (tx_true tx s.tx (and_parts (tx_same tx s.tx) (stands_at n s.phase) e).0))
 ends_at splits t n s (Drop tx) o k =
     ends_if is_over t _ (Some (record s { phase = after_drop s.phase }))

@@ -25,8 +25,8 @@ use Rattle.clv_base.specs.declared.state.Ruling.TheVariants.{Commit as CommitVer
 use Rattle.clv_base.specs.Orders.{Table, tx_same, tx_in, tx_get, tx_set, nat_in}
 use Rattle.clv_base.specs.State.{Shard}
 use Rattle.clv_base.specs.Undo.{stage_of, gone_in}
-use Rattle.clv_base.specs.Facts.{state_by, doom_by, facts_of, is_waiting, has_durable_predecessors, has_durable_prepare}
-use Rattle.clv_base.specs.Participant.{vote_owed, first_vote, vote_in_state, gone_vote, is_yes_vote, voted}
+use Rattle.clv_base.specs.Facts.{state_by, doom_by, facts_of, is_waiting, has_durable_predecessors, has_durable_prepare, has_durable_undo}
+use Rattle.clv_base.specs.Participant.{vote_owed, first_vote, vote_in_state, vote_by_writes, gone_vote, is_yes_vote, voted}
 use Rattle.clv_base.specs.Coordinator.{others, vote_from, is_good, is_agreed, yes_shards, agreed_ruling, cause_by, refusal, undecided_ruling, ruling_in, ruled_request, first_no}
 use Rattle.clv_base.specs.Due.{send, finish_part, commit_messages, with_vote, finish_reader, with_ruling, do_ruling}
 use Rattle.clv_base.specs.Events.{finish}
@@ -155,11 +155,14 @@ no_vote : (W : TxId → ℕ → List (ℕ × ℕ) → Type 0) (V : ℕ → TxId 
 no_vote W V O B s tx v why true p k h e = none_some (No why) e
 no_vote W V O B s tx v why false p k h e = by_vote v.vote refl e
   where
-    yes_or_read : (a b c : Bool) → cond a (cond b (cond c (Some Yes) None) (Some Read)) None ≡ Some (No why) → ⊥
-    yes_or_read true true true z = absurd cc
-    yes_or_read true true false z = none_some (No why) z
-    yes_or_read true false c z = absurd cc
-    yes_or_read false b c z = none_some (No why) z
+    once_durable : (c : Bool) (w : Vote) → (w ≡ No why → ⊥) → cond c (Some w) None ≡ Some (No why) → ⊥
+    once_durable true w n z = n (some_same w (No why) z)
+    once_durable false w n z = none_some (No why) z
+
+    yes_or_read : (a u : Bool) → cond a (vote_by_writes (facts_of s tx) u) None ≡ Some (No why) → ⊥
+    yes_or_read true true z = once_durable (has_durable_prepare (facts_of s tx)) Yes (λ q. absurd cc) z
+    yes_or_read true false z = once_durable (has_durable_undo (facts_of s tx)) Read (λ q. absurd cc) z
+    yes_or_read false u z = none_some (No why) z
 
     by_doom : (d : Option TxId) → stage_of s.local tx ≡ Some (Gone d) → gone_vote d ≡ Some (No why) → ⊥
     by_doom None f g = none_some (No why) g
@@ -168,7 +171,7 @@ no_vote W V O B s tx v why false p k h e = by_vote v.vote refl e
     by_stage : (o : Option Stage) → stage_of s.local tx ≡ o → vote_in_state (facts_of s tx) v.seen (state_by o) ≡ Some (No why) → ⊥
     by_stage None f g = (k h).1 f
     by_stage (Some Active) f g = none_some (No why) g
-    by_stage (Some Closed) f g = yes_or_read (has_durable_predecessors (facts_of s tx)) (facts_of s tx).updates (has_durable_prepare (facts_of s tx)) g
+    by_stage (Some Closed) f g = yes_or_read (has_durable_predecessors (facts_of s tx)) (facts_of s tx).updates g
     by_stage (Some (Gone d)) f g = by_doom d f (sym (ap (λ z. gone_vote (doom_by z)) f) ∙ g)
 
     by_vote : (w : Option Vote) → v.vote ≡ w → first_vote (facts_of s tx) v.seen w ≡ Some (No why) → ⊥

@@ -41,7 +41,12 @@ use Rattle.fate_laws.proofs.Parts.OthersCloseOrGo.{due_closed}
 use Rattle.fate_laws.proofs.Logs.WhatPreparesOrCommits.{Closes, by_request, by_prepare, step_closed}
 use Rattle.fate_laws.proofs.Origins.AllComesOfEntries.{all_comes_of_entries}
 use Rattle.fate_laws.proofs.Origins.FrontsKeepOrigins.{Did, IsOld, traced_front}
-use Rattle.fate_laws.proofs.FallenAreUncommitted.FrontsKeepOutUncommitted.{stands_front, walk_on}
+use Rattle.fate_laws.proofs.FallenAreUncommitted.FrontsKeepOutUncommitted.{walk_on}
+use Rattle.fate_laws.specs.Leading.{deeds_before, with_found}
+use Rattle.fate_laws.proofs.EachShardLeads.{each_shard_leads}
+use Rattle.shard_laws.proofs.OrderIsKept.{order_is_kept}
+use Rattle.shard_laws.proofs.Order.RecordByRecord.{Follows, from_disorder}
+use Rattle.shard_laws.proofs.Order.WritesLieOnListed.{prepared_wrote}
 use Rattle.fate_laws.proofs.FallenAreUncommitted.NoPartWithoutOperation.{DoesNow, none_made}
 use Rattle.fate_laws.proofs.Origins.DueKeepsOrigins.{BirthFrom, part_of}
 use Rattle.fate_laws.proofs.History.EntryByEntry.{Next, next_at, stays_as_it_was}
@@ -153,8 +158,16 @@ module _ {splits : List ℕ} {before after : List (List LogRecord)} {h : History
 
   -- parts of this run come of entries of sessions
   wrote_old : (pre post : History) → pre ++ post ≡ h → (n : ℕ) → n < shard_count splits → NoSession pre n → (t : TxId) → prepared_in (state_at before after n pre).local.log t ≡ true → IsOld (run_after before) t
-  wrote_old pre post q n i k t p = by ((all_comes_of_entries splits before h after pre post n l q i).wrote t ((((stands_front l pre post q n i).barred).lined).wrote t p))
+  wrote_old pre post q n i k t p = by ((all_comes_of_entries splits before h after pre post n l q i).wrote t (prepared_wrote n log follows t p))
     where
+      log : List LogRecord
+      log = (state_at before after n pre).local.log
+
+      follows : Follows n [] (state_at before after n pre).local.log
+      follows =
+          from_disorder n 0 [] (state_at before after n pre).local.log
+          (order_is_kept n (run_after before) (log_of before n) (with_found n (log_of before n) (deeds_before before pre after n)) (state_at before after n pre) (each_shard_leads splits before h after pre post n l q i))
+
       answers : (ev : Event) (o : Outcome) (birth : Birth) (ep : ℕ) → answered_as t ev o ≡ Some (birth, ep) → is_of_session ev ≡ true
       answers (OpEvent tx birth nth seen op) o x ep e = refl
       answers _ o x ep e = absurd (none_some _ e)

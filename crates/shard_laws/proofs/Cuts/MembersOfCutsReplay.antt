@@ -1,31 +1,33 @@
 -- The members of a cut of a shard's log replay to their answers and to the map that it stands for.
-use Rattle.std.proofs.Common.{◌≡◌, ℕ, ◌≤◌, ◌<◌, ◌⊎◌, inl, inr, ⊎_elim, Bool, true, false, cond, ◌&&◌, ◌||◌, List, [], ◌∷◌, map, Option, Some, None, refl, sym, ap, subst, ◌∙◌, eq-eqb, not}
+use Rattle.std.proofs.Common.{◌≡◌, ℕ, ◌≤◌, ◌<◌, ◌⊎◌, inl, inr, ⊎_elim, Bool, true, false, cond, ◌&&◌, ◌||◌, List, [], ◌∷◌, map, Option, Some, None, refl, sym, ap, subst, ◌∙◌, not}
 use Rattle.std.specs.List.{AllByRecursion, filter}
-use Rattle.std.proofs.lemmas.Bool.{cases_Bool, both_ways, cond-true, or_cases, and_from, cond-false, false_from_ne_true}
+use Rattle.std.proofs.lemmas.Bool.{cases_Bool, both_ways, cond-true, or_cases, cond-false, false_from_ne_true}
 use Rattle.clv_base.specs.declared.names.TxId.{TxId}
 use Rattle.clv_base.specs.Orders.{tx_same, tx_in}
 use Rattle.clv_base.specs.declared.changes.Change.{Change}
-use Rattle.clv_base.specs.Logs.{StandingUpdate, committed_in, wrote_in, standing}
+use Rattle.clv_base.specs.Logs.{StandingUpdate, committed_in, has_standing, standing}
+use Rattle.clv_base.specs.Backs.{are_numbered}
 use Rattle.clv_base.specs.State.{is_present}
-use Rattle.law_base.specs.Items.{Item, wrote, Runs, after, AllLater, Reaches, Clash, pile, on_top, is_write_at}
+use Rattle.law_base.specs.Items.{Item, Deed, wrote, held, Runs, Acts, after, AllLater, Clash, pile, on_top}
 use Rattle.clv_base.proofs.SameNames.{or_left, tx_true}
-use Rattle.law_base.proofs.Lists.{all_mono, all_filter, later_mono, later_filter}
-use Rattle.law_base.proofs.Running.{top_value, Keeps, kept_runs}
+use Rattle.law_base.proofs.Lists.{all_mono, all_of, all_kept, all_filter, later_mono, later_filter}
+use Rattle.law_base.proofs.Standing.{all_stand}
+use Rattle.law_base.proofs.Running.{top_value, Keeps}
 use Rattle.law_base.proofs.Tables.{is_pair}
 use Rattle.law_base.proofs.Commits.{before_second, durable_committed, before_durable}
-use Rattle.shard_laws.proofs.Operations.WritesAtEachKey.{keys_top, keys_filter}
-use Rattle.shard_laws.proofs.Keeping.WhatOneShardKeeps.{Past, place, Dep, Known, Ended, is_alive}
+use Rattle.shard_laws.proofs.Operations.WritesAtEachKey.{keys_top, keys_filter, keys_all}
+use Rattle.shard_laws.proofs.Keeping.WhatOneShardKeeps.{Past, place, Dep, Cause, Known, Ended, is_alive}
+use Rattle.shard_laws.proofs.Keeping.DeedsThatHold.{Rise, runs_held, held_chosen, between_chosen, items_later_chosen, met_mono, acts_chosen}
 use Rattle.std.specs.Prelude.{take}
 use Rattle.clv_base.specs.Maps.{replay_map, replay_answers}
 use Rattle.clv_base.specs.Logs.{stands, fold_updates, committed_somewhere}
 use Rattle.clv_base.specs.State.{Shard}
 use Rattle.clv_base.proofs.Folding.{same_map}
-use Rattle.shard_laws.specs.OneShard.{is_member, items_of, ops_by, answers_by}
+use Rattle.shard_laws.specs.OneShard.{doer, deeds_of, deeds_by_chosen, items_in, act_of_deed, acts_by, answers_by, GoBackInOrder, NobodyBetween, is_member}
 use Rattle.shard_laws.proofs.Keeping.WhatOneShardKeeps.{view_of}
 use Rattle.law_base.proofs.Running.{rising_all, pile_value}
-use Rattle.shard_laws.proofs.Keeping.LeavingKeeps.{pile_all}
 use Rattle.shard_laws.proofs.Cuts.WhatCutsHold.{durable_cut, before_cut, cut_keeps, of_kept, cut_values, fold_alike}
-use Rattle.shard_laws.proofs.Events.DueKeeps.{Sound, Lost, filter_both, filter_same}
+use Rattle.shard_laws.proofs.Events.DueKeeps.{Sound, Lost}
 use Rattle.shard_laws.proofs.Cuts.MembersRunSerially.{filter_place, in_kept, Once, once_filter, serial_of}
 use Rattle.law_base.proofs.Logs.{fold_rises}
 
@@ -77,12 +79,41 @@ pub filter_alike : (f h : TxId → Bool) (ws : List StandingUpdate) → AllByRec
 filter_alike f h [] all = refl
 filter_alike f h (w ∷ ws) all = ap (λ b. cond b (w ∷ filter (of_kept f) ws) (filter (of_kept f) ws)) all.0 ∙ ap (λ l. cond (h w.tx) (w ∷ l) l) (filter_alike f h ws all.1)
 
-module _ (all : List Item) (g : Past) (s : Shard) (told : List TxId) (cut : ℕ) (h : Sound all g s) (le : s.durable ≤ cut) (once : Once g.asked) (all_over : (t : TxId) → tx_in t told ≡ true → tx_in t g.over ≡ true) where
+-- of one that is kept all deeds are kept
+pub own_chosen : (keep : TxId → Bool) (t : TxId) (ds : List Deed) → keep t ≡ true → deeds_of t (deeds_by_chosen keep ds) ≡ deeds_of t ds
+own_chosen keep t [] k = refl
+own_chosen keep t (d ∷ ds) k = at (keep (doer d)) (tx_same (doer d) t) refl refl (own_chosen keep t ds k)
+  where
+    at : (b c : Bool) → keep (doer d) ≡ b → tx_same (doer d) t ≡ c → deeds_of t (deeds_by_chosen keep ds) ≡ deeds_of t ds → deeds_of t (cond b (d ∷ deeds_by_chosen keep ds) (deeds_by_chosen keep ds)) ≡ cond c (d ∷ deeds_of t ds) (deeds_of t ds)
+    at true c e f ih = ap (λ z. cond z (d ∷ deeds_of t (deeds_by_chosen keep ds)) (deeds_of t (deeds_by_chosen keep ds))) f ∙ ap (λ l. cond c (d ∷ l) l) ih
+    at false true e f ih = absurd (both_ways _ e (subst (λ z. keep z ≡ true) (sym (tx_true (doer d) t f)) k))
+    at false false e f ih = ih
+
+-- of transactions that have the same deeds in two lists
+abbrev pub SameDeeds : List Deed → List Deed → TxId → Type 0
+SameDeeds xs ys t = deeds_of t xs ≡ deeds_of t ys
+
+pub same_acts : (xs ys : List Deed) (ts : List TxId) → AllByRecursion (SameDeeds xs ys) ts → acts_by ts xs ≡ acts_by ts ys
+same_acts xs ys [] a = refl
+same_acts xs ys (t ∷ ts) a = ap (λ ds. map act_of_deed ds ∷ acts_by ts xs) a.0 ∙ ap (λ l. map act_of_deed (deeds_of t ys) ∷ l) (same_acts xs ys ts a.1)
+
+pub same_answers : (xs ys : List Deed) (ts : List TxId) → AllByRecursion (SameDeeds xs ys) ts → answers_by ts xs ≡ answers_by ts ys
+same_answers xs ys [] a = refl
+same_answers xs ys (t ∷ ts) a = ap (λ ds. map (λ x. x.answer) (items_in ds) ∷ answers_by ts xs) a.0 ∙ ap (λ l. map (λ x. x.answer) (items_in (deeds_of t ys)) ∷ l) (same_answers xs ys ts a.1)
+
+pub same_backs : (xs ys : List Deed) (ts : List TxId) → AllByRecursion (SameDeeds xs ys) ts → GoBackInOrder ts ys → GoBackInOrder ts xs
+same_backs xs ys [] a b = tt
+same_backs xs ys (t ∷ ts) a b = (subst (λ ds. are_numbered 0 [] (map act_of_deed ds) ≡ true) (sym a.0) b.0, same_backs xs ys ts a.1 b.1)
+
+pub all_passed : (keep : TxId → Bool) (ts : List TxId) → AllByRecursion (λ t. keep t ≡ true) (filter keep ts)
+all_passed keep ts = all_mono _ _ (λ t k. k.1) (filter keep ts) (all_filter (λ t. Unit {0}) keep ts (all_of _ (λ t. tt) ts))
+
+module _ (all : List Deed) (g : Past) (s : Shard) (told : List TxId) (cut : ℕ) (h : Sound all g s) (le : s.durable ≤ cut) (once : Once g.asked) (all_over : (t : TxId) → tx_in t told ≡ true → tx_in t g.over ≡ true) where
   abbrev ms : List TxId
   ms = filter (is_member s cut told) g.asked
 
-  abbrev kept : List Item
-  kept = filter (λ x. is_member s cut told x.tx) g.items
+  abbrev kept : List Deed
+  kept = deeds_by_chosen (is_member s cut told) g.done
 
   pub told_ended : (t : TxId) → tx_in t told ≡ true → Ended g (view_of s) t
   told_ended t e = h.kept.over t (all_over t e)
@@ -97,7 +128,7 @@ module _ (all : List Item) (g : Past) (s : Shard) (told : List TxId) (cut : ℕ)
       (λ r. r.0) known
 
   -- what a member has met is a member's
-  pub cause_kept : (x y : Item) → (Reaches x y → (x.tx ≡ y.tx) ⊎ Dep (view_of s) y.tx x.tx) → Keeps (λ z. is_member s cut told z.tx) x y
+  pub cause_kept : (x y : Item) → Cause s.local.pairs s.local.log s.durable x y → Keeps (λ z. is_member s cut told z.tx) x y
   cause_kept x y causes reach member =
       ⊎_elim
       (λ same. subst (λ t. is_member s cut told t ≡ true) (sym same) member)
@@ -135,63 +166,45 @@ module _ (all : List Item) (g : Past) (s : Shard) (told : List TxId) (cut : ℕ)
       (λ d. let there : is_member s cut told p ≡ true = or_left _ _ (dep_cut t p d.0 member) in (there, filter_place (λ u. is_member s cut told u) g.asked p t there member d.1))
       (h.kept.recover t p met)
 
-  pub kept_run : Runs g.start kept
-  kept_run = kept_runs (λ z. is_member s cut told z.tx) g.items g.start g.start h.kept.start_rises h.kept.start_rises h.kept.runs (later_mono _ _ cause_kept g.items h.kept.causes) (λ q. inl refl)
+  pub kept_acts : Acts g.start kept
+  kept_acts = acts_chosen g.start (is_member s cut told) g.done h.kept.start_rises h.kept.acts h.kept.between h.kept.rising (met_mono _ _ cause_kept g.done h.kept.causes)
 
-  pub kept_order : AllLater (λ x y. Clash x y → (x.tx ≡ y.tx) ⊎ (place ms x.tx < place ms y.tx)) kept
-  kept_order = later_mono _ _ (λ x y o c. ⊎_elim (λ same. inl same) (λ l. inr (filter_place (λ t. is_member s cut told t) g.asked x.tx y.tx o.1 o.2 l)) (o.0 c)) kept (later_filter _ (λ z. is_member s cut told z.tx) g.items h.kept.order)
+  kept_between : NobodyBetween [] kept
+  kept_between = between_chosen (is_member s cut told) g.done h.kept.between
 
-  kept_in : AllByRecursion (λ x. tx_in x.tx ms ≡ true) kept
-  kept_in = all_mono _ _ (λ x k. in_kept (λ t. is_member s cut told t) g.asked x.tx (item_asked x.tx k.0 k.1) k.1) kept (all_filter _ (λ z. is_member s cut told z.tx) g.items h.kept.known)
+  pub kept_run : Runs g.start (held kept)
+  kept_run = runs_held g.start kept h.kept.start_rises kept_acts kept_between (later_mono _ _ (λ d e r. r.0) kept (later_filter Rise (λ d. is_member s cut told (doer d)) g.done h.kept.rising))
 
-  -- the members' operations are all that they were answered
+  pub kept_order : AllLater (λ x y. Clash x y → (x.tx ≡ y.tx) ⊎ (place ms x.tx < place ms y.tx)) (items_in kept)
+  kept_order = later_mono _ _ (λ x y o c. ⊎_elim (λ same. inl same) (λ l. inr (filter_place (λ t. is_member s cut told t) g.asked x.tx y.tx o.1 o.2 l)) (o.0 c)) (items_in kept) (items_later_chosen _ (is_member s cut told) g.done h.kept.order)
+
+  kept_in : AllByRecursion (λ d. tx_in (doer d) ms ≡ true) kept
+  kept_in = all_mono _ _ (λ d k. in_kept (λ t. is_member s cut told t) g.asked (doer d) (item_asked (doer d) k.0 k.1) k.1) kept (all_filter _ (λ d. is_member s cut told (doer d)) g.done h.kept.known)
+
+  -- the members' deeds are all that they did
   not_lost : (t : TxId) → is_member s cut told t ≡ true → Lost g t → ⊥
   not_lost t e l = ⊎_elim (λ c. both_ways _ (h.falls.open_ t l) (cut_keeps cut s.local.log t c)) (λ f. both_ways _ (h.falls.unfinished t l) (all_over t f)) (or_cases (committed_in (take cut s.local.log) t) (tx_in t told) e)
 
-  pub own_items : (t : TxId) → is_member s cut told t ≡ true → items_of t kept ≡ items_of t all
-  own_items t e =
-      filter_both (λ x. is_member s cut told x.tx) (λ x. tx_same x.tx t) g.items
-      ∙ filter_same _ _ g.items (λ x. at x (tx_same x.tx t) refl)
-      ∙ ⊎_elim (λ l. absurd (not_lost t e l)) (λ i. i) (h.told t)
-    where
-      both_false : (a : Bool) → (a && false) ≡ false
-      both_false true = refl
-      both_false false = refl
+  pub own_deeds : (t : TxId) → is_member s cut told t ≡ true → deeds_of t kept ≡ deeds_of t all
+  own_deeds t e = own_chosen (is_member s cut told) t g.done e ∙ ⊎_elim (λ l. absurd (not_lost t e l)) (λ i. i) (h.told t)
 
-      at : (x : Item) (b : Bool) → tx_same x.tx t ≡ b → (is_member s cut told x.tx && b) ≡ b
-      at x true f = and_from _ _ (ap (is_member s cut told) (tx_true x.tx t f) ∙ e) refl
-      at x false f = both_false _
-
-  same_ops : (ts : List TxId) → AllByRecursion (λ t. is_member s cut told t ≡ true) ts → ops_by ts kept ≡ ops_by ts all
-  same_ops [] a = refl
-  same_ops (t ∷ ts) a = ap (λ xs. map (λ x. x.op) xs ∷ ops_by ts kept) (own_items t a.0) ∙ ap (λ l. map (λ x. x.op) (items_of t all) ∷ l) (same_ops ts a.1)
-
-  same_answers : (ts : List TxId) → AllByRecursion (λ t. is_member s cut told t ≡ true) ts → answers_by ts kept ≡ answers_by ts all
-  same_answers [] a = refl
-  same_answers (t ∷ ts) a = ap (λ xs. map (λ x. x.answer) xs ∷ answers_by ts kept) (own_items t a.0) ∙ ap (λ l. map (λ x. x.answer) (items_of t all) ∷ l) (same_answers ts a.1)
-
-  ms_members : AllByRecursion (λ t. is_member s cut told t ≡ true) ms
-  ms_members = all_mono _ _ (λ t k. k.1) ms (all_filter (λ t. Unit {0}) (λ t. is_member s cut told t) g.asked (every g.asked))
-    where
-      every : (ts : List TxId) → AllByRecursion (λ t. Unit {0}) ts
-      every [] = tt
-      every (t ∷ ts) = (tt, every ts)
+  ms_same : AllByRecursion (SameDeeds kept all) ms
+  ms_same = all_mono _ _ (λ t e. own_deeds t e) ms (all_passed (is_member s cut told) g.asked)
 
   -- ---- the map
   pub cut_base : AllByRecursion (λ w. committed_in (take cut s.local.log) w.tx ≡ true) g.base
   cut_base = all_mono _ _ (λ w d. durable_cut s.durable cut s.local.log w.tx le d) g.base h.kept.base_done
 
-  -- who wrote and is a member is committed in the cut
-  pub writers_alike : AllByRecursion (λ w. is_member s cut told w.tx ≡ committed_in (take cut s.local.log) w.tx) (pile g.items g.base)
-  writers_alike = pile_all (λ w. is_member s cut told w.tx ≡ committed_in (take cut s.local.log) w.tx) g.items g.base
-      (all_mono _ _ (λ x logged w e. alike x.tx (logged w.0 (ap (λ o. is_write_at o w.0) e ∙ eq-eqb w.0 w.0 refl))) g.items h.kept.logged)
-      (all_mono _ _ (λ w c. or_left _ _ c ∙ sym c) g.base cut_base)
+  -- a member of whom a write stands is committed in the cut
+  pub writers_alike : AllByRecursion (λ w. is_member s cut told w.tx ≡ committed_in (take cut s.local.log) w.tx) (pile (held g.done) g.base)
+  writers_alike = keys_all (λ w. is_member s cut told w.tx ≡ committed_in (take cut s.local.log) w.tx) (filter (of_kept (is_alive g.lost)) (standing s.local.log)) (pile (held g.done) g.base) h.kept.standing_is
+      (all_kept _ (of_kept (is_alive g.lost)) (standing s.local.log) (all_mono _ _ (λ w st. alike w.tx st) (standing s.local.log) (all_stand s.local.log)))
     where
       or_nothing : (a : Bool) → (a || false) ≡ a
       or_nothing true = refl
       or_nothing false = refl
 
-      alike : (t : TxId) → wrote_in s.local.log t ≡ true → is_member s cut told t ≡ committed_in (take cut s.local.log) t
+      alike : (t : TxId) → has_standing s.local.log t ≡ true → is_member s cut told t ≡ committed_in (take cut s.local.log) t
       alike t w =
           ⊎_elim
           (λ f. ⊎_elim (λ d. let c = durable_cut s.durable cut s.local.log t le d in or_left _ _ c ∙ sym c) (λ r. absurd (both_ways _ r.1 w)) (told_ended t f))
@@ -205,23 +218,25 @@ module _ (all : List Item) (g : Past) (s : Shard) (told : List TxId) (cut : ℕ)
       at true = refl
       at false = refl
 
-  same_stands : after g.start kept ≡ stands (take cut s.local.log ∷ [])
+  same_stands : after g.start (held kept) ≡ stands (take cut s.local.log ∷ [])
   same_stands =
-      same_map (after g.start kept) (fold_updates (committed_in (take cut s.local.log)) (take cut s.local.log) [])
-      (rising_all kept g.start h.kept.start_rises) (fold_rises (committed_in (take cut s.local.log)) (take cut s.local.log) [] tt)
-      (λ q. pile_value kept g.start g.base q kept_run (h.kept.base_value q)
-      ∙ ap (λ ws. top_value q (pile kept ws)) (sym (filter_all_kept (λ t. is_member s cut told t) g.base (all_mono _ _ (λ w c. or_left _ _ c) g.base cut_base)))
-      ∙ ap (top_value q) (sym (pile_keep (λ t. is_member s cut told t) g.items g.base) ∙ filter_alike (λ t. is_member s cut told t) (committed_in (take cut s.local.log)) (pile g.items g.base) writers_alike)
-      ∙ sym (keys_top (filter (of_kept (committed_in (take cut s.local.log))) (filter (of_kept (is_alive g.lost)) (standing s.local.log))) (filter (of_kept (committed_in (take cut s.local.log))) (pile g.items g.base)) q
-      (keys_filter (of_kept (committed_in (take cut s.local.log))) (filter (of_kept (is_alive g.lost)) (standing s.local.log)) (pile g.items g.base) h.kept.standing_is))
+      same_map (after g.start (held kept)) (fold_updates (committed_in (take cut s.local.log)) (take cut s.local.log) [])
+      (rising_all (held kept) g.start h.kept.start_rises) (fold_rises (committed_in (take cut s.local.log)) (take cut s.local.log) [] tt)
+      (λ q. pile_value (held kept) g.start g.base q kept_run (h.kept.base_value q)
+      ∙ ap (λ ws. top_value q (pile (held kept) ws)) (sym (filter_all_kept (λ t. is_member s cut told t) g.base (all_mono _ _ (λ w c. or_left _ _ c) g.base cut_base)))
+      ∙ ap (λ xs. top_value q (pile xs (filter (of_kept (λ t. is_member s cut told t)) g.base))) (held_chosen (is_member s cut told) g.done)
+      ∙ ap (top_value q) (sym (pile_keep (λ t. is_member s cut told t) (held g.done) g.base) ∙ filter_alike (λ t. is_member s cut told t) (committed_in (take cut s.local.log)) (pile (held g.done) g.base) writers_alike)
+      ∙ sym (keys_top (filter (of_kept (committed_in (take cut s.local.log))) (filter (of_kept (is_alive g.lost)) (standing s.local.log))) (filter (of_kept (committed_in (take cut s.local.log))) (pile (held g.done) g.base)) q
+      (keys_filter (of_kept (committed_in (take cut s.local.log))) (filter (of_kept (is_alive g.lost)) (standing s.local.log)) (pile (held g.done) g.base) h.kept.standing_is))
       ∙ ap (top_value q) (filter_within (committed_in (take cut s.local.log)) (is_alive g.lost) (standing s.local.log) (λ t c. ap not (false_from_ne_true _ (λ l. both_ways _ (h.falls.open_ t l) (cut_keeps cut s.local.log t c)))))
       ∙ sym (cut_values g (view_of s) cut q h.kept))
       ∙ sym (fold_alike (committed_somewhere (take cut s.local.log ∷ [])) (committed_in (take cut s.local.log)) (take cut s.local.log) [] somewhere)
 
   -- ---- all of it
-  pub serial_run : (replay_answers g.start (ops_by (filter (is_member s cut told) g.asked) all) ≡ answers_by (filter (is_member s cut told) g.asked) all)
-      × (replay_map g.start (ops_by (filter (is_member s cut told) g.asked) all) ≡ stands (take cut s.local.log ∷ []))
-  serial_run =
-      let run = serial_of ms g.start kept (once_filter (λ t. is_member s cut told t) g.asked once) h.kept.start_rises kept_run kept_order kept_in in
-      let ops = same_ops ms ms_members in
-      (ap (replay_answers g.start) (sym ops) ∙ run.0 ∙ same_answers ms ms_members, ap (replay_map g.start) (sym ops) ∙ run.1 ∙ same_stands)
+  pub serial_run : GoBackInOrder (filter (is_member s cut told) g.asked) all
+      → (replay_answers g.start (acts_by (filter (is_member s cut told) g.asked) all) ≡ answers_by (filter (is_member s cut told) g.asked) all)
+      × (replay_map g.start (acts_by (filter (is_member s cut told) g.asked) all) ≡ stands (take cut s.local.log ∷ []))
+  serial_run back =
+      let run = serial_of ms g.start kept (once_filter (λ t. is_member s cut told t) g.asked once) h.kept.start_rises kept_acts kept_order kept_between kept_in (same_backs kept all ms ms_same back) in
+      let acts = same_acts kept all ms ms_same in
+      (ap (replay_answers g.start) (sym acts) ∙ run.0 ∙ same_answers kept all ms ms_same, ap (replay_map g.start) (sym acts) ∙ run.1 ∙ same_stands)

@@ -1,28 +1,25 @@
 -- What a cut of the log holds: the COMMITs below it, and the writes of those that it commits.
 use Rattle.std.proofs.Common.{◌≡◌, ℕ, zero, suc, ◌+◌, ◌≤◌, ◌<◌, Bool, true, false, cond, ◌||◌, List, [], ◌∷◌, ◌++◌, length, Option, Some, ◌==◌, refl, sym, ap, subst, ◌∙◌, eqb-true, arith, append_assoc}
-use Rattle.std.specs.List.{AllByRecursion, filter, list_any}
+use Rattle.std.specs.List.{filter, list_any}
 use Rattle.std.proofs.lemmas.Bool.{both_ways, cond-false, false_from_ne_true}
-use Rattle.std.proofs.lemmas.List.Folds.{list_any-append}
 use Rattle.clv_base.specs.declared.names.TxId.{TxId}
 use Rattle.clv_base.specs.declared.logs.LogRecord.{LogRecord}
 use Rattle.clv_base.specs.declared.logs.LogRecord.TheVariants.{Update, Clr, Prepare, Commit, Abort, End, Restart, Add, Unadd}
 use Rattle.clv_base.specs.Orders.{tx_same}
-use Rattle.clv_base.specs.Maps.{KeyMap, map_get, map_add}
-use Rattle.clv_base.specs.declared.changes.Change.TheVariants.{Sets, Adds}
+use Rattle.clv_base.specs.Maps.{KeyMap, map_get}
 use Rattle.clv_base.specs.Logs.{StandingUpdate, standing, standing_from, committed_in, is_commit_of}
-use Rattle.law_base.specs.Items.{after}
-use Rattle.clv_base.proofs.SameNames.{or_left, or_right, tx_true, tx_self}
-use Rattle.law_base.proofs.Running.{top_value}
-use Rattle.law_base.proofs.Undoing.{standing_append}
+use Rattle.clv_base.proofs.SameNames.{tx_true}
+use Rattle.law_base.proofs.Lists.{all_of}
+use Rattle.law_base.proofs.Running.{top_value, fold_same}
+use Rattle.law_base.proofs.Standing.{standing_append}
 use Rattle.law_base.proofs.Commits.{CommitBefore, commit_durable, durable_parts, committed_keeps}
 pub use Rattle.shard_laws.proofs.Keeping.WhatOneShardKeeps.{of_kept}
 use Rattle.shard_laws.proofs.Keeping.WhatOneShardKeeps.{View, Past, Kept}
-use Rattle.protocol_laws.specs.Order.{moves, Open_at, Tidy, is_clr_of, undone_in}
+use Rattle.protocol_laws.specs.Order.{moves, Open_at, Tidy}
 use Rattle.std.proofs.Common.{append-nil}
 use Rattle.std.specs.Prelude.{take, drop}
 use Rattle.std.proofs.lemmas.List.{take-append-drop}
-use Rattle.clv_base.specs.Maps.{map_set}
-use Rattle.clv_base.specs.Logs.{place_from, changed, fold_updates, standing_after, without_newest}
+use Rattle.clv_base.specs.Logs.{place_from, changed, with_change, fold_writes, fold_updates, standing_after, without_newest}
 use Rattle.clv_base.proofs.Folding.{get_set}
 
 -- ---- COMMITs below the cut
@@ -70,10 +67,6 @@ before_cut c log p t (n, m, e, f, l) h = let k = taken_place 0 c (is_commit_of t
 
 -- ---- the writes of those that are kept
 
--- no CLR undoes one that is kept
-abbrev pub KeptWhole : (TxId → Bool) → List LogRecord → Type 0
-KeptWhole keep log = AllByRecursion (λ r. (t : TxId) → is_clr_of t r ≡ true → keep t ≡ false) log
-
 without_case : (keep : TxId → Bool) (t : TxId) (w : StandingUpdate) (ws : List StandingUpdate) (b : Bool) → tx_same t w.tx ≡ b → keep t ≡ false → filter (of_kept keep) (without_newest t ws) ≡ filter (of_kept keep) ws → filter (of_kept keep) (cond b ws (w ∷ without_newest t ws)) ≡ filter (of_kept keep) (w ∷ ws)
 without_case keep t w ws true e out ih = sym (cond-false (keep w.tx) (w ∷ filter (of_kept keep) ws) (filter (of_kept keep) ws) (subst (λ z. keep z ≡ false) (tx_true t w.tx e) out))
 without_case keep t w ws false e out ih = ap (λ l. cond (keep w.tx) (w ∷ l) l) ih
@@ -84,7 +77,7 @@ without_other keep t (w ∷ ws) out = without_case keep t w ws (tx_same t w.tx) 
 
 -- a write of one that passes changes the map as it changes the fold
 top_filter : (keep : TxId → Bool) (k : ℕ) (w : StandingUpdate) (ws : List StandingUpdate) (m : KeyMap) → map_get k m ≡ top_value k (filter (of_kept keep) ws) → (map_get w.key m ≡ top_value w.key (filter (of_kept keep) ws))
-    → map_get k (cond (keep w.tx) (map_set w.key (changed w.change (map_get w.key m)) m) m) ≡ top_value k (filter (of_kept keep) (w ∷ ws))
+    → map_get k (cond (keep w.tx) (with_change w.key w.change m) m) ≡ top_value k (filter (of_kept keep) (w ∷ ws))
 top_filter keep k w ws m e own = at (keep w.tx)
   where
     here : (b : Bool) → (k == w.key) ≡ b
@@ -92,33 +85,16 @@ top_filter keep k w ws m e own = at (keep w.tx)
     here true q = ap (changed w.change) (own ∙ ap (λ j. top_value j (filter (of_kept keep) ws)) (sym (eqb-true k w.key q)))
     here false q = e
 
-    at : (b : Bool) → map_get k (cond b (map_set w.key (changed w.change (map_get w.key m)) m) m) ≡ top_value k (cond b (w ∷ filter (of_kept keep) ws) (filter (of_kept keep) ws))
+    at : (b : Bool) → map_get k (cond b (with_change w.key w.change m) m) ≡ top_value k (cond b (w ∷ filter (of_kept keep) ws) (filter (of_kept keep) ws))
     at true = get_set k w.key (changed w.change (map_get w.key m)) m ∙ here (k == w.key) refl
     at false = e
 
-pub fold_values : (keep : TxId → Bool) (n : ℕ) (log : List LogRecord) (ws : List StandingUpdate) (m : KeyMap) (k : ℕ) → KeptWhole keep log → ((j : ℕ) → map_get j m ≡ top_value j (filter (of_kept keep) ws)) → map_get k (fold_updates keep log m) ≡ top_value k (filter (of_kept keep) (standing_from n log ws))
-fold_values keep n [] ws m k whole e = e k
-fold_values keep n (Update tx key before after ∷ rs) ws m k whole e = fold_values keep (suc n) rs (record { lsn = n; tx = tx; key = key; change = Sets before after } ∷ ws) (cond (keep tx) (map_set key after m) m) k whole.1 (λ j. top_filter keep j (record { lsn = n; tx = tx; key = key; change = Sets before after }) ws m (e j) (e key))
-fold_values keep n (Clr tx undo_next key after ∷ rs) ws m k whole e = fold_values keep (suc n) rs (without_newest tx ws) m k whole.1 (λ j. e j ∙ ap (top_value j) (sym (without_other keep tx ws (whole.0 tx (tx_self tx)))))
-fold_values keep n (Prepare tx home ps ∷ rs) ws m k whole e = fold_values keep (suc n) rs ws m k whole.1 e
-fold_values keep n (Commit tx ps ∷ rs) ws m k whole e = fold_values keep (suc n) rs ws m k whole.1 e
-fold_values keep n (Abort tx ∷ rs) ws m k whole e = fold_values keep (suc n) rs ws m k whole.1 e
-fold_values keep n (End tx ∷ rs) ws m k whole e = fold_values keep (suc n) rs ws m k whole.1 e
-fold_values keep n (Restart run epoch ∷ rs) ws m k whole e = fold_values keep (suc n) rs ws m k whole.1 e
-fold_values keep n (Add tx key by ∷ rs) ws m k whole e = fold_values keep (suc n) rs (record { lsn = n; tx = tx; key = key; change = Adds by } ∷ ws) (cond (keep tx) (map_add key by m) m) k whole.1 (λ j. top_filter keep j (record { lsn = n; tx = tx; key = key; change = Adds by }) ws m (e j) (e key))
-fold_values keep n (Unadd tx undo_next key by ∷ rs) ws m k whole e = fold_values keep (suc n) rs (without_newest tx ws) m k whole.1 (λ j. e j ∙ ap (top_value j) (sym (without_other keep tx ws (whole.0 tx (tx_self tx)))))
+pub fold_values : (keep : TxId → Bool) (ws : List StandingUpdate) (k : ℕ) → map_get k (fold_writes keep ws []) ≡ top_value k (filter (of_kept keep) ws)
+fold_values keep [] k = refl
+fold_values keep (w ∷ ws) k = top_filter keep k w ws (fold_writes keep ws []) (fold_values keep ws k) (fold_values keep ws w.key)
 
 pub fold_alike : (f k : TxId → Bool) (log : List LogRecord) (m : KeyMap) → ((t : TxId) → f t ≡ k t) → fold_updates f log m ≡ fold_updates k log m
-fold_alike f k [] m e = refl
-fold_alike f k (Update tx key b a ∷ rs) m e = ap (λ c. fold_updates f rs (cond c (map_set key a m) m)) (e tx) ∙ fold_alike f k rs (cond (k tx) (map_set key a m) m) e
-fold_alike f k (Clr tx u key a ∷ rs) m e = fold_alike f k rs m e
-fold_alike f k (Prepare tx home ps ∷ rs) m e = fold_alike f k rs m e
-fold_alike f k (Commit tx ps ∷ rs) m e = fold_alike f k rs m e
-fold_alike f k (Abort tx ∷ rs) m e = fold_alike f k rs m e
-fold_alike f k (End tx ∷ rs) m e = fold_alike f k rs m e
-fold_alike f k (Restart run epoch ∷ rs) m e = fold_alike f k rs m e
-fold_alike f k (Add tx key by ∷ rs) m e = ap (λ c. fold_updates f rs (cond c (map_add key by m) m)) (e tx) ∙ fold_alike f k rs (cond (k tx) (map_add key by m) m) e
-fold_alike f k (Unadd tx u key by ∷ rs) m e = fold_alike f k rs m e
+fold_alike f k log m e = fold_same f k (standing log) m (all_of _ (λ w. e w.tx) (standing log))
 
 -- ---- no record after the cut moves one that the cut commits
 
@@ -153,19 +129,6 @@ standing_cut c log t =
     ∙ ap (filter (of_kept (committed_in (take c log)))) (standing_append 0 (take c log) (drop c log) [])
     ∙ same_after (take c log) (take c log) (drop c log) (0 + length (take c log)) (standing (take c log)) (λ u e. e) (tidy_later [] (take c log) (drop c log) (subst (Tidy []) (sym whole) t))
 
--- no CLR in the cut is of one that the cut commits
-pub whole_from : (c : ℕ) (log : List LogRecord) → ((t : TxId) → undone_in log t ≡ true → committed_in log t ≡ false) → KeptWhole (committed_in (take c log)) (take c log)
-whole_from c log dead = at (take c log) (λ t e. false_from_ne_true _ (λ h. both_ways _ (dead t (subst (λ l. undone_in l t ≡ true) (take-append-drop c log) (more t e))) (cut_keeps c log t h)))
-  where
-    more : (t : TxId) → undone_in (take c log) t ≡ true → undone_in (take c log ++ drop c log) t ≡ true
-    more t e = list_any-append (is_clr_of t) (take c log) (drop c log) ∙ or_left _ _ e
-
-    at : (rs : List LogRecord) → ((t : TxId) → undone_in rs t ≡ true → committed_in (take c log) t ≡ false) → KeptWhole (committed_in (take c log)) rs
-    at [] h = tt
-    at (r ∷ rs) h = (λ t e. h t (or_left _ _ e), at rs (λ t e. h t (or_right (is_clr_of t r) _ e)))
-
 -- the map that the cut stands for, key by key
 pub cut_values : (g : Past) (v : View) (c k : ℕ) → Kept g v → map_get k (fold_updates (committed_in (take c v.log)) (take c v.log) []) ≡ top_value k (filter (of_kept (committed_in (take c v.log))) (standing v.log))
-cut_values g v c k h =
-    fold_values (committed_in (take c v.log)) 0 (take c v.log) [] [] k (whole_from c v.log (λ t e. (h.dead t e).0)) (λ j. refl)
-    ∙ ap (top_value k) (sym (standing_cut c v.log h.tidy))
+cut_values g v c k h = fold_values (committed_in (take c v.log)) (standing (take c v.log)) k ∙ ap (top_value k) (sym (standing_cut c v.log h.tidy))

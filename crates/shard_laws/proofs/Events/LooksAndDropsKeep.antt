@@ -12,7 +12,7 @@ use Rattle.clv_base.specs.Facts.{facts_of, has_durable_commit}
 use Rattle.clv_base.specs.OneShard.{without_part, drop_part}
 use Rattle.clv_base.specs.Due.{send}
 use Rattle.clv_base.specs.Events.{QuietBeforeWorn, Does, finish, look_lost, look_state, look_known, look_event, request_epoch, drop_event, send_event, with_outbox, remind_with, out_event, with_flight}
-use Rattle.law_base.specs.Items.{Item}
+use Rattle.law_base.specs.Items.{Deed}
 use Rattle.clv_base.proofs.SameNames.{or_left, or_right, tx_true, tx_eq}
 use Rattle.law_base.proofs.Commits.{durable_committed}
 use Rattle.shard_laws.proofs.Keeping.WhatOneShardKeeps.{Past}
@@ -31,9 +31,10 @@ use Rattle.law_base.proofs.Lists.{all_mono}
 use Rattle.shard_laws.proofs.Events.DueKeeps.{Sound, at_once, marked_sound}
 use Rattle.shard_laws.proofs.Events.KeptAfterReplies.{Keeps_reply, ends_told, ends, at_cond, quietly, early}
 use Rattle.shard_laws.proofs.Events.WhoOperatesNow.{dies_if}
+use Rattle.shard_laws.specs.OneShard.{doer}
 
 -- whose COMMIT is durable may be told so
-add_over : (all : List Item) (g : Past) (s : Shard) (tx : TxId) → Sound all g s → has_durable_commit (facts_of s tx) ≡ true → Sound all (record g { over = tx ∷ g.over }) s
+add_over : (all : List Deed) (g : Past) (s : Shard) (tx : TxId) → Sound all g s → has_durable_commit (facts_of s tx) ≡ true → Sound all (record g { over = tx ∷ g.over }) s
 add_over all g s tx h d =
     let k = h.kept in
     record {
@@ -46,7 +47,7 @@ add_over all g s tx h d =
         parts = k.parts;
         fates = k.fates;
         ends = record {
-          left = all_mono _ _ (λ x l. ⊎_elim (λ a. inl a) (λ a. inr (⊎_elim (λ o. inl (or_right (tx_same tx x.tx) _ o)) (λ c. inr c) a)) l) g.items k.left;
+          left = all_mono _ _ (λ e l. ⊎_elim (λ a. inl a) (λ a. inr (⊎_elim (λ o. inl (or_right (tx_same tx (doer e)) _ o)) (λ c. inr c) a)) l) g.done k.left;
           over = λ u o. ⊎_elim (λ e. inl (subst (λ z. has_durable_commit (facts_of s z) ≡ true) (tx_true tx u e) d)) (λ i. k.over u i) (or_cases (tx_same tx u) (tx_in u g.over) o);
           recover = k.recover;
         };
@@ -61,28 +62,28 @@ add_over all g s tx h d =
       order = h.order;
     }
 
-lost : (all : List Item) (g : Past) (s : Shard) (tx : TxId) (e : Option ℕ) → Sound all g s → Keeps_reply all g s (Look tx) (look_lost s tx e)
+lost : (all : List Deed) (g : Past) (s : Shard) (tx : TxId) (e : Option ℕ) → Sound all g s → Keeps_reply all g s (Look tx) (look_lost s tx e)
 lost all g s tx None h = early
 lost all g s tx (Some e) h = at_cond all g s (Look tx) (e == s.local.epoch) (QuietBeforeWorn NotYet) (Does (Aborted (RestartedCause s.shard e s.local.epoch)) (finish s)) early (ends all g s s (Look tx) _ (refl, refl, refl) refl (at_once all g s h))
 
-ruled : (all : List Item) (g : Past) (s : Shard) (tx : TxId) (r : RequestState) → Sound all g s → (r ≡ Finished → tx_in tx g.over ≡ true) → Keeps_reply all g s (Look tx) (look_state s r)
+ruled : (all : List Deed) (g : Past) (s : Shard) (tx : TxId) (r : RequestState) → Sound all g s → (r ≡ Finished → tx_in tx g.over ≡ true) → Keeps_reply all g s (Look tx) (look_state s r)
 ruled all g s tx Undecided h f = early
 ruled all g s tx (Committed ps) h f = early
 ruled all g s tx Finished h f = ends_told all g s s (Look tx) _ (refl, refl, refl) (g, h, refl, refl, refl, (λ u o. o), refl, refl) (λ u n. ap (λ z. tx_in z g.over) (sym (same_Some tx u n)) ∙ f refl)
 ruled all g s tx (Refused c) h f = ends all g s s (Look tx) _ (refl, refl, refl) refl (at_once all g s h)
 
-known : (all : List Item) (g : Past) (s : Shard) (tx : TxId) (q : Option Request) → Sound all g s → tx_get tx s.requests ≡ q → Keeps_reply all g s (Look tx) (look_known s tx q)
+known : (all : List Deed) (g : Past) (s : Shard) (tx : TxId) (q : Option Request) → Sound all g s → tx_get tx s.requests ≡ q → Keeps_reply all g s (Look tx) (look_known s tx q)
 known all g s tx None h e = at_cond all g s (Look tx) (committed_in s.local.log tx) (QuietBeforeWorn NotYet) (look_lost s tx (request_epoch s.shard tx s.journal)) early (lost all g s tx (request_epoch s.shard tx s.journal) h)
 known all g s tx (Some q) h e = ruled all g s tx q.state h (h.readers tx q e)
 
-pub looked : (all : List Item) (g : Past) (s : Shard) (tx : TxId) → Sound all g s → Keeps_reply all g s (Look tx) (look_event s tx)
+pub looked : (all : List Deed) (g : Past) (s : Shard) (tx : TxId) → Sound all g s → Keeps_reply all g s (Look tx) (look_event s tx)
 looked all g s tx h = at (has_durable_commit (facts_of s tx)) refl
   where
     at : (b : Bool) → has_durable_commit (facts_of s tx) ≡ b → Keeps_reply all g s (Look tx) (cond b (Does Acknowledged (finish s)) (look_known s tx (tx_get tx s.requests)))
     at true d = ends_told all g s s (Look tx) Acknowledged (refl, refl, refl) (record g { over = tx ∷ g.over }, add_over all g s tx h d, refl, refl, refl, (λ u o. or_right (tx_same tx u) _ o), refl, refl) (λ u n. or_left _ _ (tx_eq tx u (same_Some tx u n)))
     at false d = known all g s tx (tx_get tx s.requests) h refl
 
-pub dropped : (all : List Item) (g : Past) (s : Shard) (tx : TxId) (o : Option Stage) → Sound all g s → (stage_of s.local tx ≡ Some Closed → committed_in s.local.log tx ≡ false) → Keeps_reply all g s (Drop tx) (drop_event s tx o)
+pub dropped : (all : List Deed) (g : Past) (s : Shard) (tx : TxId) (o : Option Stage) → Sound all g s → (stage_of s.local tx ≡ Some Closed → committed_in s.local.log tx ≡ false) → Keeps_reply all g s (Drop tx) (drop_event s tx o)
 dropped all g s tx None h n = early
 dropped all g s tx (Some st) h n =
     let a = dies_if all g s tx (is_present (stage_of s.local tx)) h (open_ (stage_of s.local tx) refl) in
@@ -96,16 +97,16 @@ dropped all g s tx (Some st) h n =
     open_ (Some Closed) e p = n e
     open_ (Some (Gone d)) e p = absurd (both_ways false refl p)
 
-pub sent : (all : List Item) (g : Past) (s : Shard) (ms : List Message) → Sound all g s → Keeps_reply all g s Send (send_event s ms)
+pub sent : (all : List Deed) (g : Past) (s : Shard) (ms : List Message) → Sound all g s → Keeps_reply all g s Send (send_event s ms)
 sent all g s [] h = early
 sent all g s (m ∷ ms) h = quietly all g s (with_outbox ms s) Send _ (refl, refl, refl) refl h
 
-pub reminded : (all : List Item) (g : Past) (s : Shard) (out ms : List Message) → Sound all g s → Keeps_reply all g s Remind (remind_with s out ms)
+pub reminded : (all : List Deed) (g : Past) (s : Shard) (out ms : List Message) → Sound all g s → Keeps_reply all g s Remind (remind_with s out ms)
 reminded all g s [] [] h = early
 reminded all g s [] (m ∷ ms) h = quietly all g s (send (m ∷ ms) s) Remind _ (refl, refl, refl) refl h
 reminded all g s (o ∷ os) ms h = early
 
-pub flushed : (all : List Item) (g : Past) (s : Shard) (f : Option ℕ) (n : ℕ) → Sound all g s → Keeps_reply all g s FlushOut (out_event s f n)
+pub flushed : (all : List Deed) (g : Past) (s : Shard) (f : Option ℕ) (n : ℕ) → Sound all g s → Keeps_reply all g s FlushOut (out_event s f n)
 flushed all g s None zero h = early
 flushed all g s (Some m) zero h = early
 flushed all g s (Some m) (suc n) h = early

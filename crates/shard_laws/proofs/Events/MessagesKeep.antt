@@ -1,7 +1,6 @@
 -- A message that comes keeps what a shard keeps.
 use Rattle.std.proofs.Common.{◌≡◌, ℕ, inl, inr, ⊎_elim, Bool, true, false, cond, not, ◌&&◌, List, [], ◌∷◌, Option, Some, None, ◌==◌, refl, sym, ap, subst, ◌∙◌}
-use Rattle.std.proofs.lemmas.Bool.{both_ways, false_from_ne_true}
-use Rattle.std.proofs.lemmas.List.Folds.{list_any-append}
+use Rattle.std.proofs.lemmas.Bool.{both_ways}
 use Rattle.clv_base.specs.declared.names.TxId.{TxId}
 use Rattle.clv_base.specs.declared.logs.LogRecord.TheVariants.{Commit}
 use Rattle.shard_laws.proofs.Order.StepsKeepOrder.{decision_commits}
@@ -9,7 +8,7 @@ use Rattle.shard_laws.proofs.Order.WhatRulingsMayWrite.{ruled_alike}
 use Rattle.clv_base.specs.declared.state.Stage.{Stage}
 use Rattle.clv_base.specs.declared.state.Stage.TheVariants.{Active, Closed, Gone}
 use Rattle.clv_base.specs.Orders.{tx_same, tx_in, tx_get}
-use Rattle.clv_base.specs.Logs.{committed_in, wrote_in, is_update_of}
+use Rattle.clv_base.specs.Logs.{committed_in, has_standing}
 use Rattle.clv_base.specs.State.{Shard, with_local, is_present}
 use Rattle.clv_base.specs.Undo.{stage_of}
 use Rattle.clv_base.specs.Facts.{predecessors_of, undecided_of, facts_of, is_waiting, has_durable_commit}
@@ -19,8 +18,8 @@ use Rattle.clv_base.specs.OneShard.{closing, close_part}
 use Rattle.clv_base.specs.Due.{send}
 use Rattle.clv_base.specs.Events.{QuietBeforeWorn, Does, finish, owe_vote, on_prepare, with_votes, on_vote, decided, on_decide, with_done, on_done, ask_messages, on_message}
 use Rattle.shard_laws.specs.OneShard.{predecessors_committed}
-use Rattle.law_base.specs.Items.{Item}
-use Rattle.clv_base.proofs.SameNames.{or_left, tx_true, tx_ne}
+use Rattle.law_base.specs.Items.{Deed}
+use Rattle.clv_base.proofs.SameNames.{tx_true, tx_ne}
 use Rattle.law_base.proofs.Tables.{pair_in}
 use Rattle.law_base.proofs.Commits.{uncommitted_append}
 use Rattle.shard_laws.proofs.Keeping.WhatOneShardKeeps.{Past}
@@ -43,8 +42,10 @@ use Rattle.law_base.proofs.Changed.{get_set, set_none}
 use Rattle.shard_laws.proofs.Events.DueKeeps.{Sound, order_set, Open, After, at_once, rolled, commit_here, commit_other, commit_asked, waiting_here}
 use Rattle.shard_laws.proofs.Events.KeptAfterReplies.{Keeps_reply, ends, at_cond, quietly, early}
 use Rattle.shard_laws.proofs.Events.RequestsKeep.{closed_sound}
+use Rattle.law_base.proofs.Standing.{standing_append}
+use Rattle.std.specs.List.{list_any}
 
-owed : (all : List Item) (g : Past) (s : Shard) (tx : TxId) (home seen : ℕ) → Sound all g s → tx_get tx s.requests ≡ None → (wrote_in s.local.log tx ≡ false → committed_in s.local.log tx ≡ false) → Sound all g (owe_vote tx home seen s)
+owed : (all : List Deed) (g : Past) (s : Shard) (tx : TxId) (home seen : ℕ) → Sound all g s → tx_get tx s.requests ≡ None → (has_standing s.local.log tx ≡ false → committed_in s.local.log tx ≡ false) → Sound all g (owe_vote tx home seen s)
 owed all g s tx home seen h no_request open_ = record {
   kept = h.kept;
   answers = h.answers;
@@ -77,11 +78,11 @@ owed all g s tx home seen h no_request open_ = record {
     at u v true t e = ap (λ z. tx_get z s.requests) (tx_true u tx t) ∙ no_request
     at u v false t e = h.apart u v e
 
-    open_at : (u : TxId) (v : Voter) (b : Bool) → tx_same u tx ≡ b → cond b (Some (asked_voter home seen (tx_get tx s.voters))) (tx_get u s.voters) ≡ Some v → wrote_in s.local.log u ≡ false → committed_in s.local.log u ≡ false
-    open_at u v true t e = subst (λ z. wrote_in s.local.log z ≡ false → committed_in s.local.log z ≡ false) (sym (tx_true u tx t)) open_
+    open_at : (u : TxId) (v : Voter) (b : Bool) → tx_same u tx ≡ b → cond b (Some (asked_voter home seen (tx_get tx s.voters))) (tx_get u s.voters) ≡ Some v → has_standing s.local.log u ≡ false → committed_in s.local.log u ≡ false
+    open_at u v true t e = subst (λ z. has_standing s.local.log z ≡ false → committed_in s.local.log z ≡ false) (sym (tx_true u tx t)) open_
     open_at u v false t e = h.unvoted u v e
 
-prepares : (all : List Item) (g : Past) (s : Shard) (m : Message) (stamp : ℕ) (tx : TxId) (home seen : ℕ) (o : Option Stage) → Sound all g s → stage_of s.local tx ≡ o → tx_in tx g.asked ≡ true → tx_get tx s.requests ≡ None → (wrote_in s.local.log tx ≡ false → committed_in s.local.log tx ≡ false) → Keeps_reply all g s (Deliver m stamp) (on_prepare s tx home seen o)
+prepares : (all : List Deed) (g : Past) (s : Shard) (m : Message) (stamp : ℕ) (tx : TxId) (home seen : ℕ) (o : Option Stage) → Sound all g s → stage_of s.local tx ≡ o → tx_in tx g.asked ≡ true → tx_get tx s.requests ≡ None → (has_standing s.local.log tx ≡ false → committed_in s.local.log tx ≡ false) → Keeps_reply all g s (Deliver m stamp) (on_prepare s tx home seen o)
 prepares all g s m stamp tx home seen None h st asks none open_ = at_cond all g s (Deliver m stamp) (seen == s.local.epoch) (QuietBeforeWorn Stale) (Does Taken (finish (owe_vote tx home seen s))) early (quietly all g s (owe_vote tx home seen s) (Deliver m stamp) Taken (refl, refl, refl) refl (owed all g s tx home seen h none open_))
 prepares all g s m stamp tx home seen (Some Closed) h st asks none open_ = quietly all g s (owe_vote tx home seen s) (Deliver m stamp) Taken (refl, refl, refl) refl (owed all g s tx home seen h none open_)
 prepares all g s m stamp tx home seen (Some (Gone d)) h st asks none open_ = quietly all g s (owe_vote tx home seen s) (Deliver m stamp) Taken (refl, refl, refl) refl (owed all g s tx home seen h none open_)
@@ -89,7 +90,7 @@ prepares all g s m stamp tx home seen (Some Active) h st asks none open_ =
     quietly all g s (owe_vote tx home seen (with_local (close_part tx home false) s)) (Deliver m stamp) Taken (refl, refl, refl) refl
     (owed all g (with_local (close_part tx home false) s) tx home seen
     (closed_sound all g s tx home false h st asks (λ u q e un. tx_ne u tx (λ same. none_request q (sym none ∙ ap (λ z. tx_get z s.requests) (sym same) ∙ e))) (λ v e. refl)) none
-    (λ w. uncommitted_append s.local.log _ tx (h.kept.uncommitted tx st) (prepared (wrote_in s.local.log tx) (undecided_of s.local tx))))
+    (λ w. uncommitted_append s.local.log _ tx (h.kept.uncommitted tx st) (prepared (has_standing s.local.log tx) (undecided_of s.local tx))))
   where
     none_request : (q : Request) → ◌≡◌ {A = Option Request} None (Some q) → ⊥
     none_request q e = absurd cc
@@ -99,7 +100,7 @@ prepares all g s m stamp tx home seen (Some Active) h st asks none open_ =
     prepared false ps = refl
 
 -- a request with its ruling as it was
-same_ruling : (all : List Item) (g : Past) (s : Shard) (tx : TxId) (q w : Request) → Sound all g s → tx_get tx s.requests ≡ Some q → w.state ≡ q.state → w.is_ended ≡ q.is_ended → (q.state ≡ Undecided → Open s.shard s.local.log tx w) → Sound all g (record s { requests = tx_set tx w s.requests })
+same_ruling : (all : List Deed) (g : Past) (s : Shard) (tx : TxId) (q w : Request) → Sound all g s → tx_get tx s.requests ≡ Some q → w.state ≡ q.state → w.is_ended ≡ q.is_ended → (q.state ≡ Undecided → Open s.shard s.local.log tx w) → Sound all g (record s { requests = tx_set tx w s.requests })
 same_ruling all g s tx q w h e r n open_ = record {
   kept = h.kept;
   answers = h.answers;
@@ -115,14 +116,14 @@ same_ruling all g s tx q w h e r n open_ = record {
 }
 
 -- a vote is taken only of another shard
-votes_open : (all : List Item) (g : Past) (s : Shard) (tx : TxId) (from : ℕ) (v : Vote) (q : Request) → Sound all g s → tx_get tx s.requests ≡ Some q → takes_vote s.shard from q ≡ true → q.state ≡ Undecided → Open s.shard s.local.log tx (with_vote_of from v q)
+votes_open : (all : List Deed) (g : Past) (s : Shard) (tx : TxId) (from : ℕ) (v : Vote) (q : Request) → Sound all g s → tx_get tx s.requests ≡ Some q → takes_vote s.shard from q ≡ true → q.state ≡ Undecided → Open s.shard s.local.log tx (with_vote_of from v q)
 votes_open all g s tx from v q h e takes un =
     ⊎_elim (λ c. inl c) (λ c. absurd (none (others s.shard q.touched) c.0 (ap (counts_vote s.shard from q) (sym un) ∙ takes))) (h.undecided tx q e un)
   where
     none : (os : List ℕ) → os ≡ [] → (nat_in from os && not (is_some (vote_from from q.votes))) ≡ true → ⊥
     none os z t = both_ways false refl (sym (ap (λ l. nat_in from l && not (is_some (vote_from from q.votes))) z) ∙ t)
 
-votes : (all : List Item) (g : Past) (s : Shard) (m : Message) (stamp : ℕ) (tx : TxId) (from : ℕ) (v : Vote) (o : Option Request) → Sound all g s → tx_get tx s.requests ≡ o → Keeps_reply all g s (Deliver m stamp) (on_vote s tx from v o)
+votes : (all : List Deed) (g : Past) (s : Shard) (m : Message) (stamp : ℕ) (tx : TxId) (from : ℕ) (v : Vote) (o : Option Request) → Sound all g s → tx_get tx s.requests ≡ o → Keeps_reply all g s (Deliver m stamp) (on_vote s tx from v o)
 votes all g s m stamp tx from v None h e = early
 votes all g s m stamp tx from v (Some q) h e = at (takes_vote s.shard from q) refl
   where
@@ -130,29 +131,29 @@ votes all g s m stamp tx from v (Some q) h e = at (takes_vote s.shard from q) re
     at true t = quietly all g s (with_votes tx from v q s) (Deliver m stamp) Taken (refl, refl, refl) refl (same_ruling all g s tx q (with_vote_of from v q) h e refl refl (λ un. votes_open all g s tx from v q h e t un))
     at false t = early
 
-dones : (all : List Item) (g : Past) (s : Shard) (m : Message) (stamp : ℕ) (tx : TxId) (from : ℕ) (o : Option Request) → Sound all g s → tx_get tx s.requests ≡ o → Keeps_reply all g s (Deliver m stamp) (on_done s tx from o)
+dones : (all : List Deed) (g : Past) (s : Shard) (m : Message) (stamp : ℕ) (tx : TxId) (from : ℕ) (o : Option Request) → Sound all g s → tx_get tx s.requests ≡ o → Keeps_reply all g s (Deliver m stamp) (on_done s tx from o)
 dones all g s m stamp tx from None h e = early
 dones all g s m stamp tx from (Some q) h e =
     at_cond all g s (Deliver m stamp) (takes_done from q) (Does Taken (finish (with_done tx from q s))) (QuietBeforeWorn Stale)
     (quietly all g s (with_done tx from q s) (Deliver m stamp) Taken (refl, refl, refl) refl (same_ruling all g s tx q (with_done_of from q) h e refl refl (λ un. h.undecided tx q e un))) early
 
-commit_sound : (all : List Item) (g : Past) (s : Shard) (tx : TxId) → Sound all g s → stage_of s.local tx ≡ Some Closed → committed_in s.local.log tx ≡ false → predecessors_committed s.local tx ≡ true → wrote_in s.local.log tx ≡ true → ((q : Request) → tx_get tx s.requests ≡ Some q → q.state ≡ Undecided → ⊥) → tx_in tx g.fell ≡ false → Sound all g (decided s tx true)
+commit_sound : (all : List Deed) (g : Past) (s : Shard) (tx : TxId) → Sound all g s → stage_of s.local tx ≡ Some Closed → committed_in s.local.log tx ≡ false → predecessors_committed s.local tx ≡ true → has_standing s.local.log tx ≡ true → ((q : Request) → tx_get tx s.requests ≡ Some q → q.state ≡ Undecided → ⊥) → tx_in tx g.fell ≡ false → Sound all g (decided s tx true)
 commit_sound all g s tx h closed open_ before w none unfallen = record {
   kept = commit_here all g s tx [] h closed open_ (λ p e. list_all_at (committed_in s.local.log) p (predecessors_of s.local.pairs tx) before (pair_in s.local.pairs tx p e));
   answers = h.answers;
   requests = record { undecided = λ u q e un. ⊎_elim (λ c. inl (commit_other s.local.log tx u [] c (tx_ne u tx (λ same. none q (ap (λ z. tx_get z s.requests) (sym same) ∙ e) un)))) (λ c. inr c) (h.undecided u q e un); readers = h.readers; unfallen = h.unfallen };
   voters = record {
     apart = h.apart;
-    unvoted = λ u v e x. let y : wrote_in s.local.log u ≡ false = false_from_ne_true _ (λ z. both_ways _ x (list_any-append (is_update_of u) s.local.log (Commit tx [] ∷ []) ∙ or_left _ _ z)) in
-        commit_other s.local.log tx u [] (h.unvoted u v e y) (tx_ne u tx (λ same. both_ways _ y (ap (wrote_in s.local.log) same ∙ w)));
+    unvoted = λ u v e x. let y : has_standing s.local.log u ≡ false = ap (λ ws. list_any (λ z. tx_same u z.tx) ws) (sym (standing_append 0 s.local.log (Commit tx [] ∷ []) [])) ∙ x in
+        commit_other s.local.log tx u [] (h.unvoted u v e y) (tx_ne u tx (λ same. both_ways _ y (ap (has_standing s.local.log) same ∙ w)));
     read = h.read;
   };
   asked = commit_asked all g s tx [] h closed;
   falls = commit_falls all g s tx [] h closed (here_alive all g s tx h (ap is_present closed) unfallen (λ p e. list_all_at (committed_in s.local.log) p (predecessors_of s.local.pairs tx) before (pair_in s.local.pairs tx p e)));
-  order = decision_commits g.asked s.shard s.run s.local.locks s.local.parts s.local.pairs s.local.log s.requests h.order tx closed open_ (λ p e. list_all_at (committed_in s.local.log) p (predecessors_of s.local.pairs tx) before (pair_in s.local.pairs tx p e)) w;
+  order = decision_commits g.asked s.shard s.run s.local.parts s.local.pairs s.local.log s.requests h.order tx closed open_ (λ p e. list_all_at (committed_in s.local.log) p (predecessors_of s.local.pairs tx) before (pair_in s.local.pairs tx p e)) w;
 }
 
-decides : (all : List Item) (g : Past) (s : Shard) (m : Message) (stamp : ℕ) (tx : TxId) (home : ℕ) (commit : Bool) → Sound all g s → (commit ≡ true → committed_in s.local.log tx ≡ false → (predecessors_committed s.local tx ≡ true) × (wrote_in s.local.log tx ≡ true) × ((q : Request) → tx_get tx s.requests ≡ Some q → q.state ≡ Undecided → ⊥) × (tx_in tx g.fell ≡ false))
+decides : (all : List Deed) (g : Past) (s : Shard) (m : Message) (stamp : ℕ) (tx : TxId) (home : ℕ) (commit : Bool) → Sound all g s → (commit ≡ true → committed_in s.local.log tx ≡ false → (predecessors_committed s.local tx ≡ true) × (has_standing s.local.log tx ≡ true) × ((q : Request) → tx_get tx s.requests ≡ Some q → q.state ≡ Undecided → ⊥) × (tx_in tx g.fell ≡ false))
     → Keeps_reply all g s (Deliver m stamp) (on_decide s tx home commit (taken_by (facts_of s tx) commit))
 decides all g s m stamp tx home commit h may = at (is_waiting (facts_of s tx)) (commit && has_durable_commit (facts_of s tx)) refl
   where
@@ -165,7 +166,7 @@ decides all g s m stamp tx home commit h may = at (is_waiting (facts_of s tx)) (
     at false true w = quietly all g s (send (Done home tx s.shard ∷ []) s) (Deliver m stamp) Taken (refl, refl, refl) refl h
     at false false w = early
 
-pub message : (all : List Item) (g : Past) (s : Shard) (m : Message) (stamp : ℕ) → Sound all g s → MayDeliver (did all [] g) s m → Keeps_reply all g s (Deliver m stamp) (on_message s m)
+pub message : (all : List Deed) (g : Past) (s : Shard) (m : Message) (stamp : ℕ) → Sound all g s → MayDeliver (did all [] g) s m → Keeps_reply all g s (Deliver m stamp) (on_message s m)
 message all g s (PrepareMessage to tx home seen) stamp h may = prepares all g s (PrepareMessage to tx home seen) stamp tx home seen (stage_of s.local tx) h refl may.0 may.1 may.2
 message all g s (VoteMessage to tx from vote) stamp h may = votes all g s (VoteMessage to tx from vote) stamp tx from vote (tx_get tx s.requests) h refl
 message all g s (Decide to tx home true) stamp h may = decides all g s (Decide to tx home true) stamp tx home true h (λ e. may)

@@ -1,6 +1,5 @@
 -- An operation keeps what a shard keeps.
 use Rattle.std.proofs.Common.{◌≡◌, ℕ, ◌+◌, ◌⊎◌, inl, inr, ⊎_elim, Bool, true, false, ◌||◌, List, [], ◌∷◌, ◌++◌, map, length, Option, Some, None, refl, sym, ap, subst, ◌∙◌}
-use Rattle.std.specs.List.{filter}
 use Rattle.std.proofs.lemmas.Bool.{cases_Bool, both_ways, or_cases, false_from_ne_true}
 use Rattle.clv_base.specs.declared.names.TxId.{TxId}
 use Rattle.clv_base.specs.declared.names.Birth.{Birth}
@@ -15,44 +14,46 @@ use Rattle.clv_base.specs.declared.modes.Decision.TheVariants.{Grant, Wait, Die}
 use Rattle.clv_base.specs.Needs.{value_at}
 use Rattle.clv_base.specs.State.{Local, Shard, is_present}
 use Rattle.clv_base.specs.Undo.{stage_of}
-use Rattle.clv_base.specs.OneShard.{seen_fits, locked, performed, op_granted, op_decided, op_by_stage, op_seen}
+use Rattle.clv_base.specs.OneShard.{seen_fits, locked, performed, op_granted, op_decided, op_by_stage, op_seen, violated_here}
 use Rattle.clv_base.specs.Events.{op_event}
-use Rattle.law_base.specs.Items.{Item}
+use Rattle.law_base.specs.Items.{Deed, Did}
 use Rattle.clv_base.proofs.SameNames.{or_left, or_right, tx_true, tx_self, tx_eq, tx_ne}
 use Rattle.law_base.proofs.Tables.{stage_in, stage_by, is_pair}
 use Rattle.law_base.proofs.Commits.{durable_committed}
-use Rattle.shard_laws.proofs.Keeping.WhatOneShardKeeps.{Past, Kept}
+use Rattle.shard_laws.proofs.Keeping.WhatOneShardKeeps.{Past, Kept, is_alive}
 use Rattle.clv_base.specs.declared.ops.Op.{Op}
 use Rattle.clv_base.specs.declared.events.Event.TheVariants.{Op as OpEvent}
-use Rattle.clv_base.specs.Locks.{violated, decide}
+use Rattle.clv_base.specs.Locks.{decide}
 use Rattle.clv_base.specs.Needs.{needs_of, answer_of}
 use Rattle.shard_laws.proofs.Keeping.WhatOneShardKeeps.{view_of}
-use Rattle.shard_laws.specs.OneShard.{Fresh, MayTouch, items_of}
+use Rattle.shard_laws.specs.OneShard.{Fresh, MayTouch, deeds_of, doer, deeds_by_chosen, AreBelow}
 use Rattle.clv_base.proofs.SameNames.{cases_tx}
 use Rattle.std.proofs.lemmas.Option.{none-some}
 use Rattle.shard_laws.proofs.Keeping.GrantingKeeps.{keeps_performed, keeps_lost_op, own_part}
 use Rattle.law_base.proofs.Stages.{other_part}
 use Rattle.shard_laws.proofs.Keeping.FallenAndLost.{Falls, falls_alive, falls_lost}
 use Rattle.shard_laws.proofs.Order.WritesLieOnListed.{listed_prepared}
-use Rattle.shard_laws.proofs.Events.DueKeeps.{did, own_kept}
-use Rattle.law_base.proofs.Undoing.{keeps_of}
+use Rattle.shard_laws.proofs.Events.DueKeeps.{did, own_kept, part_all}
 use Rattle.clv_base.specs.OneShard.{OpAnswers, new_part, add_pairs}
 use Rattle.std.specs.List.{list_any}
 use Rattle.clv_base.specs.Needs.{writes_of, key_of}
 use Rattle.shard_laws.proofs.Events.DueKeeps.{PartOf, part_push, part_more, part_filter, Sound, at_once, finish_sound}
 use Rattle.shard_laws.proofs.Events.KeptAfterReplies.{Keeps_reply, ends, late, does}
-use Rattle.shard_laws.proofs.Events.WhoOperatesNow.{dies, stands_now, NewHere, fresh_now, Written, written_parts, written_open, written_wrote, push_own, push_other, told_own, falls_by, falls_written}
+use Rattle.shard_laws.proofs.Events.WhoOperatesNow.{dies, stands_now, NewHere, fresh_now, Written, written_parts, written_open, written_stands, push_own, push_other, told_own, falls_by, falls_written}
 
-module _ {told : List TxId} (all : List Item) (g : Past) (s : Shard) (tx : TxId) (birth : Birth) (op : Op) (h : Sound all g s) (grant : decide tx birth (needs_of op s.local.records) s.local.locks ≡ Grant) (fresh : tx_get tx s.local.parts ≡ None → Fresh (did all told g) s tx) (same : (h : Held) → tx_get tx s.local.parts ≡ Some h → h.birth ≡ birth)
-    (new : tx_in tx g.asked ≡ false) (run_is : tx.run ≡ s.run) (o : (stage_of s.local tx ≡ None) ⊎ (stage_of s.local tx ≡ Some Active)) where
+module _ {told : List TxId} (all : List Deed) (g : Past) (s : Shard) (tx : TxId) (birth : Birth) (nth : ℕ) (op : Op) (h : Sound all g s) (grant : decide tx birth (needs_of op s.local.records) s.local.locks ≡ Grant) (fresh : tx_get tx s.local.parts ≡ None → Fresh (did all told g) s tx) (same : (h : Held) → tx_get tx s.local.parts ≡ Some h → h.birth ≡ birth)
+    (new : tx_in tx g.asked ≡ false) (run_is : tx.run ≡ s.run) (o : (stage_of s.local tx ≡ None) ⊎ (stage_of s.local tx ≡ Some Active)) (rises : AreBelow tx nth all) where
   fr : NewHere g s tx
   fr = fresh_now all g s tx birth h fresh o
 
   abbrev vs : List TxId
-  vs = violated tx (needs_of op s.local.records) s.local.locks
+  vs = violated_here s.local tx op
 
-  abbrev done : Item
-  done = record { tx = tx; op = op; answer = answer_of op s.local.records; lsn = 0 + length s.local.log }
+  abbrev done : Deed
+  done = Did (record { tx = tx; number = nth; op = op; answer = answer_of op s.local.records; lsn = 0 + length s.local.log })
+
+  rises_here : AreBelow tx nth g.done
+  rises_here = part_all _ g.done all h.within rises
 
   left : stage_of s.local tx ≡ Some (Gone None) → ⊥
   left e = ⊎_elim (λ n. none_gone (sym n ∙ e)) (λ a. active_gone (sym a ∙ e)) o
@@ -83,10 +84,10 @@ module _ {told : List TxId} (all : List Item) (g : Past) (s : Shard) (tx : TxId)
   others_now u ne = ap stage_by (other_part tx birth s.local.parts u (tx_get tx s.local.parts) (tx_ne u tx ne))
 
   -- whatever the past keeps of it
-  performed_with : (items : List Item) (lost : List TxId) → Kept (record g { items = items; lost = lost; met = map (λ p. (tx, p)) vs ++ g.met }) (view_of (record s { local = performed tx birth op s.local }))
-      → ((v : TxId) → (tx_in v lost ≡ true) ⊎ (items_of v items ≡ items_of v (all ++ done ∷ []))) → PartOf items (all ++ done ∷ []) → Falls g.asked g.fell lost g.over (new_part tx birth (tx_get tx s.local.parts) s.local.parts) (add_pairs tx vs s.local.pairs) s.local.log s.durable
-      → Sound (all ++ done ∷ []) (record g { items = items; lost = lost; met = map (λ p. (tx, p)) vs ++ g.met }) (record s { local = performed tx birth op s.local })
-  performed_with items lost kept told within falls =
+  performed_with : (deeds : List Deed) (lost : List TxId) → Kept (record g { done = deeds; lost = lost; met = map (λ p. (tx, p)) vs ++ g.met }) (view_of (record s { local = performed tx birth op s.local }))
+      → ((v : TxId) → (tx_in v lost ≡ true) ⊎ (deeds_of v deeds ≡ deeds_of v (all ++ done ∷ []))) → PartOf deeds (all ++ done ∷ []) → Falls g.asked g.fell lost g.over (new_part tx birth (tx_get tx s.local.parts) s.local.parts) (add_pairs tx vs s.local.pairs) s.local.log s.durable
+      → Sound (all ++ done ∷ []) (record g { done = deeds; lost = lost; met = map (λ p. (tx, p)) vs ++ g.met }) (record s { local = performed tx birth op s.local })
+  performed_with deeds lost kept told within falls =
       let w : Written = writes_of op (value_at (key_of op) s.local.records) in
       let u : Local = locked tx birth op s.local in
       record {
@@ -99,7 +100,7 @@ module _ {told : List TxId} (all : List Item) (g : Past) (s : Shard) (tx : TxId)
         };
         voters = record {
           apart = h.apart;
-          unvoted = λ t v e x. written_open tx w u t (h.unvoted t v e (false_from_ne_true _ (λ y. both_ways _ x (written_wrote tx w u t y))));
+          unvoted = λ t v e x. written_open tx w u t (h.unvoted t v e (false_from_ne_true _ (λ y. both_ways _ x (written_stands tx w u t y))));
           read = λ t v e f. let r = h.read t v e f in
               ap (λ p. stage_in p t) (written_parts tx w u) ∙ others_now t (λ q. left (ap (stage_of s.local) (sym q) ∙ r)) ∙ r;
         };
@@ -108,16 +109,16 @@ module _ {told : List TxId} (all : List Item) (g : Past) (s : Shard) (tx : TxId)
         order = order_performs g.asked g s tx birth op h.kept h.order grant (stands_now g s tx birth same o) run_is fr.open_ fr.unprepared fr.unaborted fr.unwritten;
       }
 
-  told_alive : tx_in tx g.lost ≡ false → (v : TxId) → (tx_in v g.lost ≡ true) ⊎ (items_of v (g.items ++ done ∷ []) ≡ items_of v (all ++ done ∷ []))
+  told_alive : tx_in tx g.lost ≡ false → (v : TxId) → (tx_in v g.lost ≡ true) ⊎ (deeds_of v (g.done ++ done ∷ []) ≡ deeds_of v (all ++ done ∷ []))
   told_alive alive v = ⊎_elim
-      (λ e. inr (push_own done tx refl v e g.items ∙ ap (λ l. l ++ done ∷ []) (told_own all g s tx v e h fresh new alive o) ∙ sym (push_own done tx refl v e all)))
-      (λ ne. ⊎_elim (λ l. inl l) (λ e. inr (push_other done v (λ q. ne (sym q)) g.items ∙ e ∙ sym (push_other done v (λ q. ne (sym q)) all))) (h.told v))
+      (λ e. inr (push_own done tx refl v e g.done ∙ ap (λ l. l ++ done ∷ []) (told_own all g s tx v e h fresh new alive o) ∙ sym (push_own done tx refl v e all)))
+      (λ ne. ⊎_elim (λ l. inl l) (λ e. inr (push_other done v (λ q. ne (sym q)) g.done ∙ e ∙ sym (push_other done v (λ q. ne (sym q)) all))) (h.told v))
       (cases_tx v tx)
 
-  told_lost : (v : TxId) → (tx_in v (tx ∷ g.lost) ≡ true) ⊎ (items_of v (filter (keeps_of (tx ∷ [])) g.items) ≡ items_of v (all ++ done ∷ []))
+  told_lost : (v : TxId) → (tx_in v (tx ∷ g.lost) ≡ true) ⊎ (deeds_of v (deeds_by_chosen (is_alive (tx ∷ [])) g.done) ≡ deeds_of v (all ++ done ∷ []))
   told_lost v = ⊎_elim
       (λ e. inl (or_left _ _ (tx_eq tx v (sym e))))
-      (λ ne. ⊎_elim (λ l. inl (or_right (tx_same tx v) _ l)) (λ e. inr (own_kept (tx ∷ []) v g.items (ap (λ b. b || false) (tx_ne tx v (λ q. ne (sym q)))) ∙ e ∙ sym (push_other done v (λ q. ne (sym q)) all))) (h.told v))
+      (λ ne. ⊎_elim (λ l. inl (or_right (tx_same tx v) _ l)) (λ e. inr (own_kept (tx ∷ []) v g.done (ap (λ b. b || false) (tx_ne tx v (λ q. ne (sym q)))) ∙ e ∙ sym (push_other done v (λ q. ne (sym q)) all))) (h.told v))
       (cases_tx v tx)
 
   Performed : Type 0
@@ -138,10 +139,10 @@ module _ {told : List TxId} (all : List Item) (g : Past) (s : Shard) (tx : TxId)
   performed_lost : (tx_in tx g.lost ≡ true) ⊎ ((p : TxId) × (tx_in p vs ≡ true) × (tx_in p g.lost ≡ true)) → Performed
   unfolding Performed
   performed_lost why = (
-    record g { items = filter (keeps_of (tx ∷ [])) g.items; lost = tx ∷ g.lost; met = map (λ p. (tx, p)) vs ++ g.met },
-    performed_with (filter (keeps_of (tx ∷ [])) g.items) (tx ∷ g.lost)
-        (keeps_lost_op g s tx birth op h.kept grant (stands_now g s tx birth same o) new fr.open_ fr.alive fr.unprepared met_active no_succ h.falls.open_) told_lost
-        (part_more done (filter (keeps_of (tx ∷ [])) g.items) all (part_filter (keeps_of (tx ∷ [])) g.items all h.within))
+    record g { done = deeds_by_chosen (is_alive (tx ∷ [])) g.done; lost = tx ∷ g.lost; met = map (λ p. (tx, p)) vs ++ g.met },
+    performed_with (deeds_by_chosen (is_alive (tx ∷ [])) g.done) (tx ∷ g.lost)
+        (keeps_lost_op g s tx birth nth op h.kept grant (stands_now g s tx birth same o) new fr.open_ fr.unaborted fr.unprepared met_active no_succ h.falls.open_ rises_here) told_lost
+        (part_more done (deeds_by_chosen (is_alive (tx ∷ [])) g.done) all (part_filter (λ d. is_alive (tx ∷ []) (doer d)) g.done all h.within))
         (falls_lost g.asked g.fell g.lost g.over s.local.parts (new_part tx birth (tx_get tx s.local.parts) s.local.parts) s.local.pairs s.local.log s.durable tx vs h.falls own_now others_now fr.unfallen fr.undoomed fr.unprepared fr.open_ not_over no_succ (listed_prepared s.shard s.local.log h.order.ordered.follows) why),
     refl,
     refl,
@@ -157,9 +158,9 @@ module _ {told : List TxId} (all : List Item) (g : Past) (s : Shard) (tx : TxId)
       (λ l. performed_lost (inl l))
       (λ alive. ⊎_elim (λ l. performed_lost (inr (any_lost vs l)))
       (λ none. (
-        record g { items = g.items ++ done ∷ []; met = map (λ p. (tx, p)) vs ++ g.met },
-        performed_with (g.items ++ done ∷ []) g.lost
-            (keeps_performed g s tx birth op h.kept grant (stands_now g s tx birth same o) new fr.open_ fr.alive fr.unprepared met_active no_succ h.falls.open_ alive (none_lost vs none)) (told_alive alive) (part_push done g.items all h.within)
+        record g { done = g.done ++ done ∷ []; met = map (λ p. (tx, p)) vs ++ g.met },
+        performed_with (g.done ++ done ∷ []) g.lost
+            (keeps_performed g s tx birth nth op h.kept grant (stands_now g s tx birth same o) new fr.open_ fr.unaborted fr.unprepared met_active no_succ h.falls.open_ rises_here alive (none_lost vs none)) (told_alive alive) (part_push done g.done all h.within)
             (falls_alive g.asked g.fell g.lost g.over s.local.parts (new_part tx birth (tx_get tx s.local.parts) s.local.parts) s.local.pairs s.local.log s.durable tx vs h.falls own_now others_now fr.unfallen fr.undoomed fr.unprepared alive (none_lost vs none)),
         refl,
         refl,
@@ -170,32 +171,32 @@ module _ {told : List TxId} (all : List Item) (g : Past) (s : Shard) (tx : TxId)
       )) (cases_Bool (list_any (λ p. tx_in p g.lost) vs)))
       (cases_Bool (tx_in tx g.lost))
 
-finish_performed : {told : List TxId} (all : List Item) (g : Past) (s : Shard) (tx : TxId) (birth : Birth) (nth : ℕ) (seen : Option ℕ) (op : Op) (h : Sound all g s) (grant : decide tx birth (needs_of op s.local.records) s.local.locks ≡ Grant) (may : MayTouch (did all told g) s tx birth seen) (fit : seen_fits s.local.epoch seen ≡ true)
-    (o : (stage_of s.local tx ≡ None) ⊎ (stage_of s.local tx ≡ Some Active)) → Performed all g s tx birth op h grant (may.fresh fit) may.same_birth (may.not_asked fit) may.of_run o
+finish_performed : {told : List TxId} (all : List Deed) (g : Past) (s : Shard) (tx : TxId) (birth : Birth) (nth : ℕ) (seen : Option ℕ) (op : Op) (h : Sound all g s) (grant : decide tx birth (needs_of op s.local.records) s.local.locks ≡ Grant) (may : MayTouch (did all told g) s tx birth nth seen) (fit : seen_fits s.local.epoch seen ≡ true)
+    (o : (stage_of s.local tx ≡ None) ⊎ (stage_of s.local tx ≡ Some Active)) → Performed all g s tx birth nth op h grant (may.fresh fit) may.same_birth (may.not_asked fit) may.of_run o may.rises
     → Keeps_reply all g s (OpEvent tx birth nth seen op) (op_event s (OpAnswers (answer_of op s.local.records) (performed tx birth op s.local)))
 unfolding Performed
 finish_performed all g s tx birth nth seen op h grant may fit o p =
-    let f = finish_sound (all ++ record { tx = tx; op = op; answer = answer_of op s.local.records; lsn = 0 + length s.local.log } ∷ []) p.0 (record s { local = performed tx birth op s.local }) p.1 in
+    let f = finish_sound (all ++ Did (record { tx = tx; number = nth; op = op; answer = answer_of op s.local.records; lsn = 0 + length s.local.log }) ∷ []) p.0 (record s { local = performed tx birth op s.local }) p.1 in
     does (f.0, f.1, f.2 ∙ p.2, f.3 ∙ p.3, f.4 ∙ p.4, (λ u i. f.5 u (ap (tx_in u) p.5 ∙ i)), (λ u n. absurd (none-some u n)), f.6 ∙ p.6, f.7 ∙ p.7)
 
-granted : {told : List TxId} (all : List Item) (g : Past) (s : Shard) (tx : TxId) (birth : Birth) (nth : ℕ) (seen : Option ℕ) (op : Op) (b : Bool) → Sound all g s → decide tx birth (needs_of op s.local.records) s.local.locks ≡ Grant → MayTouch (did all told g) s tx birth seen → seen_fits s.local.epoch seen ≡ true → (stage_of s.local tx ≡ None) ⊎ (stage_of s.local tx ≡ Some Active)
+granted : {told : List TxId} (all : List Deed) (g : Past) (s : Shard) (tx : TxId) (birth : Birth) (nth : ℕ) (seen : Option ℕ) (op : Op) (b : Bool) → Sound all g s → decide tx birth (needs_of op s.local.records) s.local.locks ≡ Grant → MayTouch (did all told g) s tx birth nth seen → seen_fits s.local.epoch seen ≡ true → (stage_of s.local tx ≡ None) ⊎ (stage_of s.local tx ≡ Some Active)
     → Keeps_reply all g s (OpEvent tx birth nth seen op) (op_event s (op_granted s.local tx birth op b))
 granted all g s tx birth nth seen op true h grant may fit o = late
-granted all g s tx birth nth seen op false h grant may fit o = finish_performed all g s tx birth nth seen op h grant may fit o (performed_sound all g s tx birth op h grant (may.fresh fit) may.same_birth (may.not_asked fit) may.of_run o)
+granted all g s tx birth nth seen op false h grant may fit o = finish_performed all g s tx birth nth seen op h grant may fit o (performed_sound all g s tx birth nth op h grant (may.fresh fit) may.same_birth (may.not_asked fit) may.of_run o may.rises)
 
-by_decision : {told : List TxId} (all : List Item) (g : Past) (s : Shard) (tx : TxId) (birth : Birth) (nth : ℕ) (seen : Option ℕ) (op : Op) (d : Decision) → Sound all g s → decide tx birth (needs_of op s.local.records) s.local.locks ≡ d → MayTouch (did all told g) s tx birth seen → seen_fits s.local.epoch seen ≡ true → (stage_of s.local tx ≡ None) ⊎ (stage_of s.local tx ≡ Some Active)
+by_decision : {told : List TxId} (all : List Deed) (g : Past) (s : Shard) (tx : TxId) (birth : Birth) (nth : ℕ) (seen : Option ℕ) (op : Op) (d : Decision) → Sound all g s → decide tx birth (needs_of op s.local.records) s.local.locks ≡ d → MayTouch (did all told g) s tx birth nth seen → seen_fits s.local.epoch seen ≡ true → (stage_of s.local tx ≡ None) ⊎ (stage_of s.local tx ≡ Some Active)
     → Keeps_reply all g s (OpEvent tx birth nth seen op) (op_event s (op_decided s.local tx birth op d))
 by_decision all g s tx birth nth seen op Grant h e may fit o = granted all g s tx birth nth seen op _ h e may fit o
 by_decision all g s tx birth nth seen op (Wait y) h e may fit o = late
 by_decision all g s tx birth nth seen op (Die y) h e may fit o = dies all g s tx birth nth seen op _ h may.not_closed
 
-by_stage : {told : List TxId} (all : List Item) (g : Past) (s : Shard) (tx : TxId) (birth : Birth) (nth : ℕ) (seen : Option ℕ) (op : Op) (o : Option Stage) → Sound all g s → MayTouch (did all told g) s tx birth seen → seen_fits s.local.epoch seen ≡ true → stage_of s.local tx ≡ o → Keeps_reply all g s (OpEvent tx birth nth seen op) (op_event s (op_by_stage s.local tx birth op o))
+by_stage : {told : List TxId} (all : List Deed) (g : Past) (s : Shard) (tx : TxId) (birth : Birth) (nth : ℕ) (seen : Option ℕ) (op : Op) (o : Option Stage) → Sound all g s → MayTouch (did all told g) s tx birth nth seen → seen_fits s.local.epoch seen ≡ true → stage_of s.local tx ≡ o → Keeps_reply all g s (OpEvent tx birth nth seen op) (op_event s (op_by_stage s.local tx birth op o))
 by_stage all g s tx birth nth seen op None h may fit e = by_decision all g s tx birth nth seen op (decide tx birth (needs_of op s.local.records) s.local.locks) h refl may fit (inl e)
 by_stage all g s tx birth nth seen op (Some Active) h may fit e = by_decision all g s tx birth nth seen op (decide tx birth (needs_of op s.local.records) s.local.locks) h refl may fit (inr e)
 by_stage all g s tx birth nth seen op (Some Closed) h may fit e = absurd (may.not_closed e)
 by_stage all g s tx birth nth seen op (Some (Gone None)) h may fit e = ends all g s (record s { local = s.local }) (OpEvent tx birth nth seen op) _ (refl, refl, refl) refl (at_once all g s h)
 by_stage all g s tx birth nth seen op (Some (Gone (Some d))) h may fit e = ends all g s (record s { local = s.local }) (OpEvent tx birth nth seen op) _ (refl, refl, refl) refl (at_once all g s h)
 
-pub operation : {told : List TxId} (all : List Item) (g : Past) (s : Shard) (tx : TxId) (birth : Birth) (nth : ℕ) (seen : Option ℕ) (op : Op) (b : Bool) → Sound all g s → MayTouch (did all told g) s tx birth seen → seen_fits s.local.epoch seen ≡ b → Keeps_reply all g s (OpEvent tx birth nth seen op) (op_event s (op_seen s.shard s.local tx birth seen op b))
+pub operation : {told : List TxId} (all : List Deed) (g : Past) (s : Shard) (tx : TxId) (birth : Birth) (nth : ℕ) (seen : Option ℕ) (op : Op) (b : Bool) → Sound all g s → MayTouch (did all told g) s tx birth nth seen → seen_fits s.local.epoch seen ≡ b → Keeps_reply all g s (OpEvent tx birth nth seen op) (op_event s (op_seen s.shard s.local tx birth seen op b))
 operation all g s tx birth nth seen op true h may fit = by_stage all g s tx birth nth seen op (stage_of s.local tx) h may fit refl
 operation all g s tx birth nth seen op false h may fit = dies all g s tx birth nth seen op _ h may.not_closed

@@ -1,6 +1,5 @@
 -- What is kept of transactions that have a PREPARE.
-use Rattle.std.proofs.Common.{◌≡◌, ◌⊎◌, inl, inr, ⊎_elim, refl, sym, ap, subst, ◌∙◌, ℕ, ◌<◌, Bool, true, false, cond, ◌||◌, List, [], ◌∷◌, ◌++◌, Option, Some, None, append-nil, append_assoc}
-use Rattle.std.specs.List.{AllByRecursion, filter}
+use Rattle.std.proofs.Common.{◌≡◌, ◌⊎◌, inl, inr, refl, sym, ap, subst, ◌∙◌, ◌<◌, Bool, true, false, cond, ◌||◌, List, [], ◌∷◌, ◌++◌, Option, Some, None, append-nil, append_assoc, ℕ, ⊎_elim}
 use Rattle.std.proofs.lemmas.Bool.{both_ways, cond-true, cond-false, or_cases, or_from}
 use Rattle.std.proofs.lemmas.List.Folds.{list_any-append}
 use Rattle.clv_base.specs.declared.changes.Change.{Change}
@@ -15,11 +14,13 @@ use Rattle.clv_base.specs.Orders.{Table, tx_same, tx_in}
 use Rattle.clv_base.specs.Logs.{is_prepare_of, is_commit_of, prepared_in, wrote_in, prepare_of, commit_lsn, prepare_lsn}
 use Rattle.clv_base.specs.LogRules.{listed_in}
 use Rattle.clv_base.proofs.SameNames.{or_left, tx_self}
-use Rattle.law_base.specs.Items.{Item, AllLater, Reaches}
-use Rattle.law_base.proofs.Lists.{later_mono, later_filter, later_push}
+use Rattle.law_base.specs.Items.{Item, Deed, Did, WentBack, held, Reaches}
+use Rattle.law_base.proofs.Lists.{all_of}
 use Rattle.law_base.proofs.Tables.{stage_in, is_pair}
 use Rattle.law_base.proofs.Commits.{place_keeps}
 use Rattle.protocol_laws.specs.Order.{Unprepared, Sealed}
+use Rattle.shard_laws.specs.OneShard.{deeds_by_chosen}
+use Rattle.shard_laws.proofs.Keeping.DeedsThatHold.{AllMet, met_mono, met_push, met_chosen}
 use Rattle.clv_base.proofs.Folding.{or_left as or_false_left, or_right as or_false_right}
 
 -- the PREPARE lists it, or its COMMIT stands before the PREPARE
@@ -29,12 +30,16 @@ IsListed log t p = (tx_in p (listed_in log t) ≡ true) ⊎ ((n : ℕ) × (m : �
 abbrev pub Lists : List LogRecord → TxId → TxId → Type 0
 Lists log t p = prepared_in log t ≡ true → IsListed log t p
 
-pub record Prepared (items : List Item) (met : List (TxId × TxId)) (parts : Table Held) (log : List LogRecord) : Type 0 where
+-- what a prepared one reached, its PREPARE lists, or it was committed before
+abbrev pub Listing : List LogRecord → Item → Item → Type 0
+Listing log x y = Reaches x y → (x.tx ≡ y.tx) ⊎ Lists log y.tx x.tx
+
+pub record Prepared (done : List Deed) (met : List (TxId × TxId)) (parts : Table Held) (log : List LogRecord) : Type 0 where
   -- an active part has none, and nothing is written behind one
   pub unprepared : (t : TxId) → stage_in parts t ≡ Some Active → prepared_in log t ≡ false
   pub sealed : Sealed [] log
-  -- what a prepared one met, its PREPARE lists, or it was committed before
-  pub causes : AllLater (λ x y. Reaches x y → (x.tx ≡ y.tx) ⊎ Lists log y.tx x.tx) items
+  pub causes : AllMet (Listing log) done
+  -- and so for whom it met
   pub recover : (t p : TxId) → is_pair met t p ≡ true → Lists log t p
 
 -- the first PREPARE of a transaction is the one behind records that have none
@@ -111,46 +116,49 @@ pub sealed_later : (before xs ys : List LogRecord) → Sealed before (xs ++ ys) 
 sealed_later before [] ys t = subst (λ l. Sealed l ys) (sym (append-nil before)) t
 sealed_later before (x ∷ xs) ys t = subst (λ l. Sealed l ys) (append_assoc before (x ∷ []) xs) (sealed_later (before ++ x ∷ []) xs ys t.1)
 
-pub prepared_more : (items : List Item) (met : List (TxId × TxId)) (parts : Table Held) (log more : List LogRecord) → Prepared items met parts log → ((t : TxId) → wrote_in more t ≡ false) → ((t : TxId) → prepared_in more t ≡ false) → Prepared items met parts (log ++ more)
-prepared_more items met parts log more k nw np = record {
+listing_more : (log more : List LogRecord) → ((t : TxId) → prepared_in more t ≡ false) → (x y : Item) → Listing log x y → Listing (log ++ more) x y
+listing_more log more np x y h r = ⊎_elim (λ s. inl s) (λ l. inr (lists_more log more y.tx x.tx (np y.tx) l)) (h r)
+
+pub prepared_more : (done : List Deed) (met : List (TxId × TxId)) (parts : Table Held) (log more : List LogRecord) → Prepared done met parts log → ((t : TxId) → wrote_in more t ≡ false) → ((t : TxId) → prepared_in more t ≡ false) → Prepared done met parts (log ++ more)
+prepared_more done met parts log more k nw np = record {
   unprepared = λ t a. unprepared_append log more t (k.unprepared t a) (np t);
   sealed = sealed_more log more k.sealed nw np;
-  causes = later_mono _ _ (λ x y h r. ⊎_elim (λ s. inl s) (λ l. inr (lists_more log more y.tx x.tx (np y.tx) l)) (h r)) items k.causes;
+  causes = met_mono _ _ (listing_more log more np) done k.causes;
   recover = λ t p e. lists_more log more t p (np t) (k.recover t p e);
 }
 
-pub prepared_parts : (items : List Item) (met : List (TxId × TxId)) (parts parts2 : Table Held) (log : List LogRecord) → Prepared items met parts log → ((t : TxId) → stage_in parts2 t ≡ Some Active → stage_in parts t ≡ Some Active) → Prepared items met parts2 log
-prepared_parts items met parts parts2 log k back = record { unprepared = λ t a. k.unprepared t (back t a); sealed = k.sealed; causes = k.causes; recover = k.recover }
+pub prepared_parts : (done : List Deed) (met : List (TxId × TxId)) (parts parts2 : Table Held) (log : List LogRecord) → Prepared done met parts log → ((t : TxId) → stage_in parts2 t ≡ Some Active → stage_in parts t ≡ Some Active) → Prepared done met parts2 log
+prepared_parts done met parts parts2 log k back = record { unprepared = λ t a. k.unprepared t (back t a); sealed = k.sealed; causes = k.causes; recover = k.recover }
 
-pub prepared_kept : (f : Item → Bool) (items : List Item) (met : List (TxId × TxId)) (parts : Table Held) (log : List LogRecord) → Prepared items met parts log → Prepared (filter f items) met parts log
-prepared_kept f items met parts log k = record { unprepared = k.unprepared; sealed = k.sealed; causes = later_mono _ _ (λ x y h. h.0) (filter f items) (later_filter _ f items k.causes); recover = k.recover }
+pub prepared_kept : (f : TxId → Bool) (done : List Deed) (met : List (TxId × TxId)) (parts : Table Held) (log : List LogRecord) → Prepared done met parts log → Prepared (deeds_by_chosen f done) met parts log
+prepared_kept f done met parts log k = record { unprepared = k.unprepared; sealed = k.sealed; causes = met_mono _ _ (λ x y h. h.0) (deeds_by_chosen f done) (met_chosen _ f done k.causes); recover = k.recover }
+
+-- a deed more, of which nothing is said
+pub prepared_back : (done : List Deed) (met : List (TxId × TxId)) (parts : Table Held) (log : List LogRecord) (tx : TxId) (number upto : ℕ) → Prepared done met parts log → Prepared (done ++ WentBack tx number upto ∷ []) met parts log
+prepared_back done met parts log tx number upto k = record { unprepared = k.unprepared; sealed = k.sealed; causes = met_push (Listing log) done (WentBack tx number upto) k.causes tt; recover = k.recover }
 
 -- an operation more of one that has none, and what it violated
-all_const : {I : Type 0} (P : I → Type 0) (xs : List I) → ((x : I) → P x) → AllByRecursion P xs
-all_const P [] h = tt
-all_const P (x ∷ xs) h = (h x, all_const P xs h)
-
 pub prepared_item :
-    (items : List Item) (met met2 : List (TxId × TxId)) (parts parts2 : Table Held) (log : List LogRecord) (item : Item) → Prepared items met parts log → prepared_in log item.tx ≡ false
-    → ((t : TxId) → stage_in parts2 t ≡ Some Active → (t ≡ item.tx) ⊎ (stage_in parts t ≡ Some Active)) → ((t p : TxId) → is_pair met2 t p ≡ true → (t ≡ item.tx) ⊎ (is_pair met t p ≡ true)) → Prepared (items ++ item ∷ []) met2 parts2 log
-prepared_item items met met2 parts parts2 log item k new active meets = record {
+    (done : List Deed) (met met2 : List (TxId × TxId)) (parts parts2 : Table Held) (log : List LogRecord) (item : Item) → Prepared done met parts log → prepared_in log item.tx ≡ false
+    → ((t : TxId) → stage_in parts2 t ≡ Some Active → (t ≡ item.tx) ⊎ (stage_in parts t ≡ Some Active)) → ((t p : TxId) → is_pair met2 t p ≡ true → (t ≡ item.tx) ⊎ (is_pair met t p ≡ true)) → Prepared (done ++ Did item ∷ []) met2 parts2 log
+prepared_item done met met2 parts parts2 log item k new active meets = record {
   unprepared = λ t a. ⊎_elim (λ s. ap (prepared_in log) s ∙ new) (λ b. k.unprepared t b) (active t a);
   sealed = k.sealed;
-  causes = later_push _ items item k.causes (all_const _ items (λ y r. inr (λ e. absurd (both_ways _ new e))));
+  causes = met_push (Listing log) done (Did item) k.causes (all_of (λ x. Listing log x item) (λ x r. inr (λ e. absurd (both_ways _ new e))) (held done));
   recover = λ t p m. ⊎_elim (λ s e. absurd (both_ways _ (ap (prepared_in log) s ∙ new) e)) (λ old. k.recover t p old) (meets t p m);
 }
 
 -- and its UPDATE or ADD
-pub prepared_update : (items : List Item) (met : List (TxId × TxId)) (parts : Table Held) (log : List LogRecord) (tx : TxId) (key : ℕ) (change : Change) → Prepared items met parts log → prepared_in log tx ≡ false → Prepared items met parts (log ++ update_of tx key change ∷ [])
-prepared_update items met parts log tx key (Sets before after) k new = record {
+pub prepared_update : (done : List Deed) (met : List (TxId × TxId)) (parts : Table Held) (log : List LogRecord) (tx : TxId) (key : ℕ) (change : Change) → Prepared done met parts log → prepared_in log tx ≡ false → Prepared done met parts (log ++ update_of tx key change ∷ [])
+prepared_update done met parts log tx key (Sets before after) k new = record {
   unprepared = λ t a. unprepared_append log (Update tx key before after ∷ []) t (k.unprepared t a) refl;
   sealed = sealed_append [] log (Update tx key before after ∷ []) k.sealed (new, tt);
-  causes = later_mono _ _ (λ x y h r. ⊎_elim (λ s. inl s) (λ l. inr (lists_more log (Update tx key before after ∷ []) y.tx x.tx refl l)) (h r)) items k.causes;
+  causes = met_mono _ _ (listing_more log (Update tx key before after ∷ []) (λ t. refl)) done k.causes;
   recover = λ t p e. lists_more log (Update tx key before after ∷ []) t p refl (k.recover t p e);
 }
-prepared_update items met parts log tx key (Adds by) k new = record {
+prepared_update done met parts log tx key (Adds by) k new = record {
   unprepared = λ t a. unprepared_append log (Add tx key by ∷ []) t (k.unprepared t a) refl;
   sealed = sealed_append [] log (Add tx key by ∷ []) k.sealed (new, tt);
-  causes = later_mono _ _ (λ x y h r. ⊎_elim (λ s. inl s) (λ l. inr (lists_more log (Add tx key by ∷ []) y.tx x.tx refl l)) (h r)) items k.causes;
+  causes = met_mono _ _ (listing_more log (Add tx key by ∷ []) (λ t. refl)) done k.causes;
   recover = λ t p e. lists_more log (Add tx key by ∷ []) t p refl (k.recover t p e);
 }

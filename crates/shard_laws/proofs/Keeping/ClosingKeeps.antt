@@ -1,5 +1,5 @@
 -- A part is closed, and its transaction is the last that asked.
-use Rattle.std.proofs.Common.{◌≡◌, ℕ, zero, suc, ◌<◌, inl, inr, ⊎_elim, Bool, true, false, cond, ◌||◌, List, [], ◌∷◌, ◌++◌, length, Option, Some, None, refl, sym, ap, subst, ◌∙◌, arith}
+use Rattle.std.proofs.Common.{◌≡◌, zero, suc, ◌<◌, inl, inr, Bool, true, false, cond, ◌||◌, List, [], ◌∷◌, ◌++◌, length, Option, Some, None, refl, sym, ap, subst, ◌∙◌, arith, ℕ, ⊎_elim}
 use Rattle.std.proofs.lemmas.Bool.{cases_Bool, both_ways, cond-true, cond-false, or_cases, false_from_ne_true}
 use Rattle.std.proofs.lemmas.List.Folds.{list_any-append}
 use Rattle.clv_base.specs.declared.values.Value.{Value as ValueType}
@@ -24,10 +24,10 @@ use Rattle.law_base.proofs.Tables.{stage_in, stage_by}
 use Rattle.shard_laws.proofs.Keeping.ChangesKeepPrepared.{prepared_parts}
 use Rattle.shard_laws.proofs.Operations.NeedsCoverKeys.{met_part, wrote_part}
 use Rattle.shard_laws.proofs.Keeping.WhatOneShardKeeps.{is_adding, part_for, View, Past, place, Belongs, Known, Kept}
-use Rattle.clv_base.specs.Locks.{close_locks}
 use Rattle.law_base.proofs.Stages.{get_closed, get_closed_other, get_closed_own, stage_closed, closed_other as stage_other, closed_not_active}
 use Rattle.law_base.proofs.Sets.{flip_apart}
 use Rattle.clv_base.proofs.Folding.{or_left as or_false_left, or_right as or_false_right}
+use Rattle.shard_laws.specs.OneShard.{doer, items_in}
 
 -- ---- places
 
@@ -87,11 +87,11 @@ present_closed parts t u e = subst (λ o. is_present (stage_by o) ≡ true) (sym
 pub keeps_asked : (g : Past) (v : View) (t : TxId) → Kept g v → Kept (record g { asked = g.asked ++ t ∷ [] }) v
 keeps_asked g v t k = record {
   start = k.start;
-  past = record { runs = k.runs; alive = k.alive; order = later_mono _ _ (λ x y h c. ⊎_elim (λ s. inl s) (λ l. inr (place_push g.asked t x.tx y.tx l)) (h c)) g.items k.order };
+  past = record { acts = k.acts; alive = k.alive; order = later_mono _ _ (λ x y h c. ⊎_elim (λ s. inl s) (λ l. inr (place_push g.asked t x.tx y.tx l)) (h c)) (items_in g.done) k.order; between = k.between; rising = k.rising };
   log = k.log;
   records = k.records;
   locks = k.locks;
-  parts = record { known = all_mono _ _ (λ x h. ⊎_elim (λ a. inl a) (λ r. inr (in_push g.asked t x.tx ∙ or_left _ _ r.0, r.1)) h) g.items k.known; closed = λ u h. in_push g.asked t u ∙ or_left _ _ (k.closed u h); successors = k.successors };
+  parts = record { known = all_mono _ _ (λ d h. ⊎_elim (λ a. inl a) (λ r. inr (in_push g.asked t (doer d) ∙ or_left _ _ r.0, r.1)) h) g.done k.known; alone = k.alone; closed = λ u h. in_push g.asked t u ∙ or_left _ _ (k.closed u h); successors = k.successors };
   fates = k.fates;
   ends = record { left = k.left; over = λ u h. ⊎_elim (λ c. inl c) (λ c. inr (c.0, c.1, c.2, in_push g.asked t u ∙ or_left _ _ c.3)) (k.over u h); recover = λ u p e. ⊎_elim (λ o. inl o) (λ d. inr (d.0, place_push g.asked t p u d.1)) (k.recover u p e) };
   pairs = k.pairs;
@@ -113,11 +113,12 @@ keeps_close g v t k act asks = record {
         k.rows;
     covered = all_mono _ _ (λ y h active.
         let c = h (stage_back v.parts t y.tx Active act closed_not_active active).1 in
-        (λ q m. (holds_closed (met_part (is_adding y)) y.tx q (c.0 q m).0, (c.0 q m).1), λ q m. (holds_closed (wrote_part (is_adding y)) y.tx q (c.1 q m).0, (c.1 q m).1))) g.items k.covered;
+        (λ q m. (holds_closed (met_part (is_adding y)) y.tx q (c.0 q m).0, (c.0 q m).1), λ q m. (holds_closed (wrote_part (is_adding y)) y.tx q (c.1 q m).0, (c.1 q m).1))) (items_in g.done) k.covered;
     wrote = all_mono _ _ (λ w h out. let c = h out in (close_holds t true (part_for w.change) (At w.key) w.tx v.locks ∙ c.0, c.1)) (standing v.log) k.wrote;
   };
   parts = record {
-    known = all_mono _ _ (λ x h. still_known x.tx h) g.items k.known;
+    known = all_mono _ _ (λ d h. still_known (doer d) h) g.done k.known;
+    alone = later_mono _ _ (λ x y h c. ⊎_elim (λ s. inl s) (λ n. inr (λ a. n (stage_back v.parts t x.tx Active act closed_not_active a).1)) (h c)) (items_in g.done) k.alone;
     closed = λ u h. ⊎_elim (λ e. subst (λ z. tx_in z g.asked ≡ true) (tx_true t u e) asks) (λ e. k.closed u (sym (stage_other v.parts t u e) ∙ h)) (cases_Bool (tx_same t u));
     successors = λ u p h. present_closed v.parts t u (k.successors u p h);
   };
@@ -125,10 +126,10 @@ keeps_close g v t k act asks = record {
     uncommitted = λ u h. k.uncommitted u (stage_back v.parts t u Active act closed_not_active h).1;
     dead = λ u h. let d = k.dead u h in (d.0, (λ a. d.1 (stage_back v.parts t u Active act closed_not_active a).1), (λ a. still_dead u d.1 d.2 a));
     doomed = λ u d h. k.doomed u d (stage_back v.parts t u (Gone (Some d)) act (closed_not_doomed d) h).1;
-    prepared = prepared_parts g.items g.met v.parts (closed_in t v.parts) v.log k.prepared (λ u a. (stage_back v.parts t u Active act closed_not_active a).1);
+    prepared = prepared_parts g.done g.met v.parts (closed_in t v.parts) v.log k.prepared (λ u a. (stage_back v.parts t u Active act closed_not_active a).1);
   };
   ends = record {
-    left = all_mono _ _ (λ x l. ⊎_elim (λ a. inl (present_closed v.parts t x.tx a)) (λ a. inr a) l) g.items k.left;
+    left = all_mono _ _ (λ d l. ⊎_elim (λ a. inl (present_closed v.parts t (doer d) a)) (λ a. inr a) l) g.done k.left;
     over = λ u h. ⊎_elim (λ c. inl c) (λ c. inr (c.0, c.1, not_present u c.2, c.3)) (k.over u h);
     recover = λ u p e. ⊎_elim (λ o. inl (o.0, λ a. o.1 (stage_back v.parts t u Active act closed_not_active a).1)) (λ d. inr d) (k.recover u p e);
   };

@@ -1,5 +1,5 @@
 -- What goes with an aborted transaction may go: it is present, none of it is committed, and its successors go too.
-use Rattle.std.proofs.Common.{◌≡◌, ⊎_elim, true, false, [], ◌∷◌, length, refl, subst}
+use Rattle.std.proofs.Common.{◌≡◌, true, false, [], ◌∷◌, length, refl, subst, ⊎_elim}
 use Rattle.std.proofs.lemmas.Bool.{both_ways, or_cases, false_from_ne_true}
 use Rattle.clv_base.specs.declared.names.TxId.{TxId}
 use Rattle.clv_base.specs.Orders.{tx_same, tx_in}

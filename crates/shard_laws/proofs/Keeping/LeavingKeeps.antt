@@ -1,49 +1,47 @@
 -- A set of transactions leaves the shard: finished, or taken away with what it wrote.
-use Rattle.std.proofs.Common.{◌≡◌, ℕ, ◌⊎◌, inl, inr, ⊎_elim, Bool, true, false, cond, not, ◌||◌, List, [], ◌∷◌, ◌++◌, map, Option, Some, None, refl, sym, ap, subst, ◌∙◌, arith, append_assoc, eqb-true, ◌==◌}
-use Rattle.std.specs.List.{AllByRecursion, filter}
+use Rattle.std.proofs.Common.{◌≡◌, ◌⊎◌, inl, inr, Bool, true, false, cond, not, ◌||◌, List, [], ◌∷◌, ◌++◌, Option, Some, None, refl, sym, ap, subst, ◌∙◌, arith, append_assoc, eqb-true, ◌==◌, ℕ, ⊎_elim}
+use Rattle.std.specs.List.{AllByRecursion, filter, list_any}
 use Rattle.std.proofs.lemmas.Bool.{cases_Bool, both_ways, cond_both, cond-true, cond-false, or_cases, not-true, false_from_ne_true, or_from}
 use Rattle.std.proofs.lemmas.List.Folds.{list_any-append}
 use Rattle.clv_base.specs.declared.values.Value.{Value as ValueType}
 use Rattle.clv_base.specs.declared.names.TxId.{TxId}
 use Rattle.clv_base.specs.declared.logs.LogRecord.{LogRecord}
-use Rattle.clv_base.specs.declared.logs.LogRecord.TheVariants.{Abort}
 use Rattle.clv_base.specs.declared.modes.Part.{Part}
 use Rattle.clv_base.specs.declared.modes.Anchor.TheVariants.{Low, At}
 use Rattle.clv_base.specs.declared.state.Stage.{Stage}
 use Rattle.clv_base.specs.declared.state.Stage.TheVariants.{Closed}
 use Rattle.clv_base.specs.declared.state.Held.{Held}
 use Rattle.clv_base.specs.Orders.{Table, tx_same, tx_in}
-use Rattle.clv_base.specs.declared.changes.Change.TheVariants.{Sets, Adds}
-use Rattle.clv_base.specs.declared.changes.Change.{Change}
-use Rattle.clv_base.specs.Logs.{StandingUpdate, changed, standing, committed_in, wrote_in, prepared_in, is_commit_of, is_update_of, is_prepare_of}
+use Rattle.clv_base.specs.Logs.{StandingUpdate, changed, standing, committed_in, has_standing, aborted_in}
 use Rattle.clv_base.specs.Locks.{Locks, release}
-use Rattle.clv_base.specs.Undo.{gone_in, pairs_without, records_without, aborts_of, clrs_of, compensation}
+use Rattle.clv_base.specs.Undo.{gone_in, pairs_without, records_without, aborts_of, clrs_of, is_of}
 use Rattle.clv_base.specs.State.{is_present}
 use Rattle.clv_base.specs.Needs.{Records, lower_anchor}
 use Rattle.law_base.proofs.Cells.{record_at}
-use Rattle.law_base.specs.Items.{Item, wrote, writes, AllLater, Reaches, pile, on_top, is_write_at}
+use Rattle.law_base.specs.Items.{Item, Reaches, pile, Deed, held}
 use Rattle.clv_base.proofs.SameNames.{or_left, or_right, tx_true, tx_self, tx_eq}
-use Rattle.law_base.proofs.Lists.{all_mono, all_both, all_filter, later_mono, later_filter, all_append}
-use Rattle.law_base.proofs.Running.{top_value, Keeps, kept_runs}
-use Rattle.law_base.specs.Undone.{stays_of}
+use Rattle.law_base.proofs.Lists.{all_mono, all_both, all_filter, later_mono, later_filter, all_append, all_of}
+use Rattle.law_base.proofs.Running.{top_value, Keeps}
+use Rattle.law_base.specs.Undone.{stays_of, stays_by}
 use Rattle.law_base.proofs.Undoing.{Chain, keeps_of, standing_undone, values_undone, HaveRecords, Upward, record_undone, pile_filter, filter_all}
 use Rattle.law_base.proofs.Anchors.{rising_undone, anchor_undone}
 use Rattle.law_base.proofs.LockRows.{holds, Rows, rows_release, release_holds}
 use Rattle.shard_laws.proofs.Operations.NeedsCoverKeys.{holds_at, holds_by}
 use Rattle.law_base.proofs.Tables.{stage_in, is_pair, without_pairs, pairs_stay}
-use Rattle.law_base.proofs.Commits.{commit_durable, before_keeps, before_first, durable_keeps, durable_committed, before_durable, committed_append, uncommitted_append, committed_from}
-use Rattle.shard_laws.proofs.Keeping.ChangesKeepPrepared.{unprepared_append, prepared_more, prepared_parts, prepared_kept}
-use Rattle.shard_laws.proofs.Operations.WritesAtEachKey.{keys_by, keys_filter, keys_all}
-use Rattle.shard_laws.proofs.Keeping.WhatOneShardKeeps.{View, Past, Belongs, Dep, Known, Kept, Ended, Wrote, Left, of_kept, is_alive}
-use Rattle.shard_laws.proofs.Restarts.RestoredLocksAndParts.{wrote_of}
-use Rattle.protocol_laws.specs.Order.{moves, Open_at, Tidy, undone_in}
+use Rattle.law_base.proofs.Commits.{commit_durable, before_keeps, before_first, durable_keeps, durable_committed, before_durable, uncommitted_append, committed_from}
+use Rattle.shard_laws.proofs.Keeping.ChangesKeepPrepared.{prepared_more, prepared_parts, prepared_kept}
+use Rattle.shard_laws.proofs.Operations.WritesAtEachKey.{keys_by, keys_filter}
+use Rattle.shard_laws.proofs.Keeping.WhatOneShardKeeps.{View, Past, Belongs, Dep, Known, Kept, Ended, Wrote, Left, of_kept, is_alive, Covers}
 use Rattle.shard_laws.proofs.Operations.NeedsCoverKeys.{met_part, wrote_part}
-use Rattle.shard_laws.proofs.Keeping.WhatOneShardKeeps.{adds_in, is_adding, part_for}
+use Rattle.shard_laws.proofs.Keeping.WhatOneShardKeeps.{is_adding, part_for}
 use Rattle.law_base.proofs.Undoing.{reset}
-use Rattle.clv_base.specs.Undo.{newest_lsn}
-use Rattle.shard_laws.proofs.Keeping.RecordsAndFrontsKeep.{wrote_keeps, tidy_append, undone_append, wrote_append, ended_more}
+use Rattle.shard_laws.proofs.Keeping.RecordsAndFrontsKeep.{tidy_append, ended_more, aborted_append}
 use Rattle.law_base.proofs.Stages.{active_back, closed_back, doomed_back, get_other, gone_by, gone_closed, stage_other, stage_own, closed_not_active}
-use Rattle.law_base.proofs.Logs.{standing_updates}
+use Rattle.shard_laws.specs.OneShard.{doer, items_in, deeds_by_chosen}
+use Rattle.shard_laws.proofs.Keeping.DeedsThatHold.{AllMet, Rise, held_chosen, between_chosen, met_chosen, met_mono, acts_chosen, items_all_chosen, items_later_chosen}
+use Rattle.law_base.proofs.Standing.{all_stand}
+use Rattle.clv_base.proofs.Folding.{or_left as or_false_left, or_right as or_false_right}
+use Rattle.shard_laws.proofs.Keeping.RecordsOfAnUndo.{no_commits, no_writes, no_prepares, aborted_here, tidy_harmless, harmless_aborts, harmless_clrs}
 
 -- ---- parts that are gone
 
@@ -57,7 +55,7 @@ holds_go set locks rs p u q out h = at (record_at q rs) h
     at (Some x) h = release_holds set true p (At q) u locks out h
     at None h = release_holds set false p (lower_anchor q rs) u locks out h
 
--- ---- one is finished: its COMMIT is durable, or it only read and those of its predecessors are
+-- ---- one is finished: its COMMIT is durable, or no write of it stands and those of its predecessors are
 
 pub one_in : (t u : TxId) → tx_in u (t ∷ []) ≡ true → u ≡ t
 one_in t u e = ⊎_elim (λ h. sym (tx_true t u h)) (λ h. absurd (both_ways false refl h)) (or_cases (tx_same t u) false e)
@@ -67,7 +65,7 @@ in_one t = or_left _ _ (tx_self t)
 
 -- why it may be finished
 abbrev pub Done : View → TxId → Type 0
-Done v t = (commit_durable v.log v.durable t ≡ true) ⊎ ((committed_in v.log t ≡ false) × (wrote_in v.log t ≡ false) × ((p : TxId) → is_pair v.pairs t p ≡ true → commit_durable v.log v.durable p ≡ true))
+Done v t = (commit_durable v.log v.durable t ≡ true) ⊎ ((committed_in v.log t ≡ false) × (has_standing v.log t ≡ false) × ((p : TxId) → is_pair v.pairs t p ≡ true → commit_durable v.log v.durable p ≡ true))
 
 pub keeps_finish : (g : Past) (v : View) (t : TxId) → Kept g v → stage_in v.parts t ≡ Some Closed → Done v t
     → Kept (record g { over = t ∷ g.over }) (record v { locks = release (t ∷ []) v.locks; parts = gone_in (t ∷ []) None v.parts; pairs = pairs_without (t ∷ []) v.pairs })
@@ -81,11 +79,12 @@ keeps_finish g v t k closed done = record {
     covered = all_mono _ _ (λ y h active.
         let a = active_back (t ∷ []) None y.tx v.parts active in
         let c = h a.1 in
-        (λ q m. (holds_go (t ∷ []) v.locks v.records (met_part (is_adding y)) y.tx q a.0 (c.0 q m).0, (c.0 q m).1), λ q m. (holds_go (t ∷ []) v.locks v.records (wrote_part (is_adding y)) y.tx q a.0 (c.1 q m).0, (c.1 q m).1))) g.items k.covered;
-    wrote = all_mono _ _ (λ w h out. let c = h.0 out in (release_holds (t ∷ []) true (part_for w.change) (At w.key) w.tx v.locks (not_own w.tx (wrote_of v.log w.tx w.key h.1) out) c.0, c.1)) (standing v.log) (all_both _ _ (standing v.log) k.wrote (standing_updates v.log));
+        (λ q m. (holds_go (t ∷ []) v.locks v.records (met_part (is_adding y)) y.tx q a.0 (c.0 q m).0, (c.0 q m).1), λ q m. (holds_go (t ∷ []) v.locks v.records (wrote_part (is_adding y)) y.tx q a.0 (c.1 q m).0, (c.1 q m).1))) (items_in g.done) k.covered;
+    wrote = all_mono _ _ (λ w h out. let c = h.0 out in (release_holds (t ∷ []) true (part_for w.change) (At w.key) w.tx v.locks (not_own w.tx h.1 out) c.0, c.1)) (standing v.log) (all_both _ _ (standing v.log) k.wrote (all_stand v.log));
   };
   parts = record {
-    known = all_mono _ _ (λ x h. still_known x.tx h) g.items k.known;
+    known = all_mono _ _ (λ d h. still_known (doer d) h) g.done k.known;
+    alone = later_mono _ _ (λ x y h c. ⊎_elim (λ s. inl s) (λ n. inr (λ a. n (active_back (t ∷ []) None x.tx v.parts a).1)) (h c)) (items_in g.done) k.alone;
     closed = λ u h. k.closed u (closed_back (t ∷ []) None u v.parts h);
     successors = λ u p h. let s = without_pairs (t ∷ []) v.pairs u p h in subst (λ o. is_present o ≡ true) (sym (stage_other (t ∷ []) None u v.parts s.1)) (k.successors u p s.0);
   };
@@ -93,20 +92,20 @@ keeps_finish g v t k closed done = record {
     uncommitted = λ u h. k.uncommitted u (active_back (t ∷ []) None u v.parts h).1;
     dead = λ u h. let d = k.dead u h in (d.0, (λ a. d.1 (active_back (t ∷ []) None u v.parts a).1), (λ a. d.2 (closed_back (t ∷ []) None u v.parts a)));
     doomed = λ u d h. k.doomed u d (doomed_back (t ∷ []) u d v.parts h);
-    prepared = prepared_parts g.items g.met v.parts (gone_in (t ∷ []) None v.parts) v.log k.prepared (λ u a. (active_back (t ∷ []) None u v.parts a).1);
+    prepared = prepared_parts g.done g.met v.parts (gone_in (t ∷ []) None v.parts) v.log k.prepared (λ u a. (active_back (t ∷ []) None u v.parts a).1);
   };
   ends = record {
-    left = all_mono _ _ (λ x l. ⊎_elim (λ a. still_left x.tx a) (λ a. inr (⊎_elim (λ o. inl (or_right (tx_same t x.tx) _ o)) (λ d. inr d) a)) l) g.items k.left;
+    left = all_mono _ _ (λ d l. ⊎_elim (λ a. still_left (doer d) a) (λ a. inr (⊎_elim (λ o. inl (or_right (tx_same t (doer d)) _ o)) (λ c. inr c) a)) l) g.done k.left;
     over = λ u h. ⊎_elim (λ e. own_ended u (sym (tx_true t u e))) (λ i. still_ended u (k.over u i)) (or_cases (tx_same t u) (tx_in u g.over) h);
     recover = λ u p e. ⊎_elim (λ o. inl (o.0, λ a. o.1 (active_back (t ∷ []) None u v.parts a).1)) (λ d. inr (still_dep u p d.0, d.1)) (k.recover u p e);
   };
-  pairs = record { downwards = λ u p h c. k.downwards u p (without_pairs (t ∷ []) v.pairs u p h).0 c; causes = later_mono _ _ (λ x y h r. ⊎_elim (λ s. inl s) (λ d. inr (still_dep y.tx x.tx d)) (h r)) g.items k.causes };
+  pairs = record { downwards = λ u p h c. k.downwards u p (without_pairs (t ∷ []) v.pairs u p h).0 c; causes = met_mono _ _ (λ x y h r. ⊎_elim (λ s. inl s) (λ d. inr (still_dep y.tx x.tx d)) (h r)) g.done k.causes };
   durable = k.durable;
 }
   where
-    not_own : (u : TxId) → wrote_in v.log u ≡ true → commit_durable v.log v.durable u ≡ false → tx_in u (t ∷ []) ≡ false
-    not_own u wrote out = false_from_ne_true _ (λ i. let same = one_in t u i in
-        ⊎_elim (λ d. both_ways _ out (subst (λ z. commit_durable v.log v.durable z ≡ true) (sym same) d)) (λ d. both_ways _ d.1 (subst (λ z. wrote_in v.log z ≡ true) same wrote)) done)
+    not_own : (u : TxId) → has_standing v.log u ≡ true → commit_durable v.log v.durable u ≡ false → tx_in u (t ∷ []) ≡ false
+    not_own u stands out = false_from_ne_true _ (λ i. let same = one_in t u i in
+        ⊎_elim (λ d. both_ways _ out (subst (λ z. commit_durable v.log v.durable z ≡ true) (sym same) d)) (λ d. both_ways _ d.1 (subst (λ z. has_standing v.log z ≡ true) same stands)) done)
 
     gone_absent : (o : Option Stage) → is_present (gone_by None o) ≡ false
     gone_absent None = refl
@@ -157,154 +156,6 @@ pub record MayGo (v : View) (set : List TxId) : Type 0 where
   pub upward : (t p : TxId) → is_pair v.pairs t p ≡ true → tx_in p set ≡ true → tx_in t set ≡ true
   pub undecided : (t : TxId) → tx_in t set ≡ true → committed_in v.log t ≡ false
   pub present : (t : TxId) → tx_in t set ≡ true → is_present (stage_in v.parts t) ≡ true
-
-pub no_commit_aborts : (t : TxId) (ts : List TxId) → committed_in (map (λ u. Abort u) ts) t ≡ false
-no_commit_aborts t [] = refl
-no_commit_aborts t (u ∷ us) = no_commit_aborts t us
-
-no_commit_of : (t tx : TxId) (next : Option ℕ) (key : ℕ) (c : Change) → is_commit_of t (compensation tx next key c) ≡ false
-no_commit_of t tx next key (Sets before after) = refl
-no_commit_of t tx next key (Adds by) = refl
-
-pub no_commit_clrs : (set : List TxId) (t : TxId) (ws : List StandingUpdate) → committed_in (clrs_of set ws) t ≡ false
-no_commit_clrs set t [] = refl
-no_commit_clrs set t (w ∷ ws) =
-    cond_both (tx_in w.tx set) (compensation w.tx (newest_lsn w.tx ws) w.key w.change ∷ clrs_of set ws) (clrs_of set ws) (λ l. committed_in l t ≡ false)
-    (λ e. or_from _ _ (no_commit_of t w.tx (newest_lsn w.tx ws) w.key w.change) (no_commit_clrs set t ws)) (λ e. no_commit_clrs set t ws)
-
-pub no_commits : (set : List TxId) (t : TxId) (log : List LogRecord) → committed_in (aborts_of log set ++ clrs_of set (standing log)) t ≡ false
-no_commits set t log = committed_append (aborts_of log set) _ t ∙ both (committed_in (aborts_of log set) t) _ (no_commit_aborts t (filter (wrote_in log) set)) (no_commit_clrs set t (standing log))
-  where
-    both : (a b : Bool) → a ≡ false → b ≡ false → (a || b) ≡ false
-    both true b e f = e
-    both false b e f = f
-
-pub no_write_aborts : (t : TxId) (ts : List TxId) → wrote_in (map (λ u. Abort u) ts) t ≡ false
-no_write_aborts t [] = refl
-no_write_aborts t (u ∷ us) = no_write_aborts t us
-
-no_write_of : (t tx : TxId) (next : Option ℕ) (key : ℕ) (c : Change) → is_update_of t (compensation tx next key c) ≡ false
-no_write_of t tx next key (Sets before after) = refl
-no_write_of t tx next key (Adds by) = refl
-
-pub no_write_clrs : (set : List TxId) (t : TxId) (ws : List StandingUpdate) → wrote_in (clrs_of set ws) t ≡ false
-no_write_clrs set t [] = refl
-no_write_clrs set t (w ∷ ws) =
-    cond_both (tx_in w.tx set) (compensation w.tx (newest_lsn w.tx ws) w.key w.change ∷ clrs_of set ws) (clrs_of set ws) (λ l. wrote_in l t ≡ false)
-    (λ e. or_from _ _ (no_write_of t w.tx (newest_lsn w.tx ws) w.key w.change) (no_write_clrs set t ws)) (λ e. no_write_clrs set t ws)
-
-no_writes : (set : List TxId) (t : TxId) (log : List LogRecord) → wrote_in (aborts_of log set ++ clrs_of set (standing log)) t ≡ false
-no_writes set t log = wrote_append (aborts_of log set) _ t ∙ or_from _ _ (no_write_aborts t (filter (wrote_in log) set)) (no_write_clrs set t (standing log))
-
-no_prepare_aborts : (t : TxId) (ts : List TxId) → prepared_in (map (λ u. Abort u) ts) t ≡ false
-no_prepare_aborts t [] = refl
-no_prepare_aborts t (u ∷ us) = no_prepare_aborts t us
-
-no_prepare_of : (t tx : TxId) (next : Option ℕ) (key : ℕ) (c : Change) → is_prepare_of t (compensation tx next key c) ≡ false
-no_prepare_of t tx next key (Sets before after) = refl
-no_prepare_of t tx next key (Adds by) = refl
-
-no_prepare_clrs : (set : List TxId) (t : TxId) (ws : List StandingUpdate) → prepared_in (clrs_of set ws) t ≡ false
-no_prepare_clrs set t [] = refl
-no_prepare_clrs set t (w ∷ ws) =
-    cond_both (tx_in w.tx set) (compensation w.tx (newest_lsn w.tx ws) w.key w.change ∷ clrs_of set ws) (clrs_of set ws) (λ l. prepared_in l t ≡ false)
-    (λ e. or_from _ _ (no_prepare_of t w.tx (newest_lsn w.tx ws) w.key w.change) (no_prepare_clrs set t ws)) (λ e. no_prepare_clrs set t ws)
-
-pub no_prepares : (set : List TxId) (t : TxId) (log : List LogRecord) → prepared_in (aborts_of log set ++ clrs_of set (standing log)) t ≡ false
-no_prepares set t log = unprepared_append (aborts_of log set) (clrs_of set (standing log)) t (no_prepare_aborts t (filter (wrote_in log) set)) (no_prepare_clrs set t (standing log))
-
-pub no_undo_aborts : (t : TxId) (ts : List TxId) → undone_in (map (λ u. Abort u) ts) t ≡ false
-no_undo_aborts t [] = refl
-no_undo_aborts t (u ∷ us) = no_undo_aborts t us
-
-pub undone_set : (set : List TxId) (t : TxId) (ws : List StandingUpdate) → undone_in (clrs_of set ws) t ≡ true → tx_in t set ≡ true
-undone_set set t [] e = absurd (both_ways false refl e)
-undone_set set t (w ∷ ws) e = at (tx_in w.tx set) w.change refl e (undone_set set t ws)
-  where
-    at : (b : Bool) (c : Change) → tx_in w.tx set ≡ b → undone_in (cond b (compensation w.tx (newest_lsn w.tx ws) w.key c ∷ clrs_of set ws) (clrs_of set ws)) t ≡ true → (undone_in (clrs_of set ws) t ≡ true → tx_in t set ≡ true) → tx_in t set ≡ true
-    at true (Sets before after) i e ih = ⊎_elim (λ h. subst (λ z. tx_in z set ≡ true) (sym (tx_true t w.tx h)) i) (λ h. ih h) (or_cases (tx_same t w.tx) (undone_in (clrs_of set ws) t) e)
-    at true (Adds by) i e ih = ⊎_elim (λ h. subst (λ z. tx_in z set ≡ true) (sym (tx_true t w.tx h)) i) (λ h. ih h) (or_cases (tx_same t w.tx) (undone_in (clrs_of set ws) t) e)
-    at false c i e ih = ih e
-
-undone_here : (set : List TxId) (t : TxId) (log : List LogRecord) → undone_in (aborts_of log set ++ clrs_of set (standing log)) t ≡ true → tx_in t set ≡ true
-undone_here set t log e =
-    ⊎_elim (λ h. absurd (both_ways _ (no_undo_aborts t (filter (wrote_in log) set)) h)) (λ h. undone_set set t (standing log) h)
-    (or_cases (undone_in (aborts_of log set) t) _ (sym (undone_append (aborts_of log set) (clrs_of set (standing log)) t) ∙ e))
-
--- records of which none is a COMMIT, and which move those that are not committed
-abbrev pub Harmless : List LogRecord → LogRecord → Type 0
-Harmless log r = Open_at log (moves r) × ((t : TxId) → is_commit_of t r ≡ false)
-
-open_more : (log before : List LogRecord) (o : Option TxId) → ((t : TxId) → committed_in log t ≡ false → committed_in before t ≡ false) → Open_at log o → Open_at before o
-open_more log before None h e = tt
-open_more log before (Some t) h e = h t e
-
-pub tidy_harmless : (log before rs : List LogRecord) → ((t : TxId) → committed_in log t ≡ false → committed_in before t ≡ false) → AllByRecursion (Harmless log) rs → Tidy before rs
-tidy_harmless log before [] h all = tt
-tidy_harmless log before (r ∷ rs) h all = (
-  open_more log before (moves r) h all.0.0,
-  tidy_harmless log (before ++ r ∷ []) rs (λ t e. committed_append before (r ∷ []) t ∙ or_from _ _ (h t e) (or_from _ false (all.0.1 t) refl)) all.1,
-)
-
-harmless_aborts : (log : List LogRecord) (ts : List TxId) → AllByRecursion (Harmless log) (map (λ u. Abort u) ts)
-harmless_aborts log [] = tt
-harmless_aborts log (t ∷ ts) = ((tt, λ u. refl), harmless_aborts log ts)
-
-harmless_undo : (log : List LogRecord) (tx : TxId) (next : Option ℕ) (key : ℕ) (c : Change) → committed_in log tx ≡ false → Harmless log (compensation tx next key c)
-harmless_undo log tx next key (Sets before after) h = (h, λ u. refl)
-harmless_undo log tx next key (Adds by) h = (h, λ u. refl)
-
-harmless_clrs : (log : List LogRecord) (set : List TxId) (ws : List StandingUpdate) → ((t : TxId) → tx_in t set ≡ true → committed_in log t ≡ false) → AllByRecursion (Harmless log) (clrs_of set ws)
-harmless_clrs log set [] h = tt
-harmless_clrs log set (w ∷ ws) h =
-    cond_both (tx_in w.tx set) (compensation w.tx (newest_lsn w.tx ws) w.key w.change ∷ clrs_of set ws) (clrs_of set ws) (AllByRecursion (Harmless log))
-    (λ i. (harmless_undo log w.tx (newest_lsn w.tx ws) w.key w.change (h w.tx i), harmless_clrs log set ws h)) (λ i. harmless_clrs log set ws h)
-
--- a fact on each write of the items and of the base
-pub pile_all : (P : StandingUpdate → Type 0) (xs : List Item) (ws : List StandingUpdate) → AllByRecursion (λ x. (w : ℕ × Change) → wrote x ≡ Some w → P (record { lsn = x.lsn; tx = x.tx; key = w.0; change = w.1 })) xs → AllByRecursion P ws → AllByRecursion P (pile xs ws)
-pile_all P [] ws all base = base
-pile_all P (x ∷ xs) ws all base = pile_all P xs (on_top x.tx x.lsn (wrote x) ws) all.1 (at (wrote x) refl)
-  where
-    at : (o : Option (ℕ × Change)) → wrote x ≡ o → AllByRecursion P (on_top x.tx x.lsn o ws)
-    at None e = base
-    at (Some w) e = (all.0 w e, base)
-
--- each write of the items stands in the pile
-pub pile_each : (P : StandingUpdate → Type 0) (xs : List Item) (ws : List StandingUpdate) → AllByRecursion P (pile xs ws) → AllByRecursion (λ x. (w : ℕ × Change) → wrote x ≡ Some w → P (record { lsn = x.lsn; tx = x.tx; key = w.0; change = w.1 })) xs
-pile_each P [] ws all = tt
-pile_each P (x ∷ xs) ws all = (λ w e. first x.tx x.lsn w (wrote x) e (pile_base P xs (on_top x.tx x.lsn (wrote x) ws) all), pile_each P xs (on_top x.tx x.lsn (wrote x) ws) all)
-  where
-    pile_base : (P : StandingUpdate → Type 0) (xs : List Item) (ws : List StandingUpdate) → AllByRecursion P (pile xs ws) → AllByRecursion P ws
-    pile_base P [] ws all = all
-    pile_base P (x ∷ xs) ws all = rest x.tx x.lsn (wrote x) (pile_base P xs (on_top x.tx x.lsn (wrote x) ws) all)
-      where
-        rest : (tx : TxId) (lsn : ℕ) (o : Option (ℕ × Change)) → AllByRecursion P (on_top tx lsn o ws) → AllByRecursion P ws
-        rest tx lsn None a = a
-        rest tx lsn (Some w) a = a.1
-
-    first : (tx : TxId) (lsn : ℕ) (w : ℕ × Change) (o : Option (ℕ × Change)) → o ≡ Some w → AllByRecursion P (on_top tx lsn o ws) → P (record { lsn = lsn; tx = tx; key = w.0; change = w.1 })
-    first tx lsn w None e a = absurd cc
-    first tx lsn w (Some v) e a = subst (λ z. P (record { lsn = lsn; tx = tx; key = z.0; change = z.1 })) (same v w e) a.0
-      where
-        same : (v w : ℕ × Change) → Some v ≡ Some w → v ≡ w
-        same v w e = cc
-
-pub write_some : (o : Option (ℕ × Change)) (k : ℕ) → is_write_at o k ≡ true → (w : ℕ × Change) × (o ≡ Some w)
-write_some None k e = absurd (both_ways false refl e)
-write_some (Some w) k e = (w, refl)
-
--- an item's write holds its key
-pub item_wrote : (g : Past) (v : View) → Kept g v → AllByRecursion (λ x. commit_durable v.log v.durable x.tx ≡ false → (q : ℕ) → writes x q ≡ true → (holds true (wrote_part (is_adding x)) (At q) x.tx v.locks ≡ true) × (record_at q v.records ≡ None → ⊥)) g.items
-item_wrote g v k =
-    all_mono _ _ (λ x h out q e.
-    let w = write_some (wrote x) q e in
-    subst (λ z. (holds true (wrote_part (is_adding x)) (At z) x.tx v.locks ≡ true) × (record_at z v.records ≡ None → ⊥)) (sym (eqb-true q w.0.0 (ap (λ o. is_write_at o q) (sym w.1) ∙ e)))
-    (subst (λ o. (holds true (wrote_part (adds_in o)) (At w.0.0) x.tx v.locks ≡ true) × (record_at w.0.0 v.records ≡ None → ⊥)) (sym w.1) (h w.0 w.1 out))) g.items
-    (pile_each (Wrote v) g.items g.base (keys_all (Wrote v) (filter (of_kept (is_alive g.lost)) (standing v.log)) (pile g.items g.base) k.standing_is (all_kept (Wrote v) (is_alive g.lost) (standing v.log) k.wrote)))
-  where
-    all_kept : (P : StandingUpdate → Type 0) (f : TxId → Bool) (ws : List StandingUpdate) → AllByRecursion P ws → AllByRecursion P (filter (of_kept f) ws)
-    all_kept P f [] a = tt
-    all_kept P f (w ∷ ws) a = cond_both (f w.tx) (w ∷ filter (of_kept f) ws) (filter (of_kept f) ws) (AllByRecursion P) (λ e. (a.0, all_kept P f ws a.1)) (λ e. all_kept P f ws a.1)
 
 -- where all writes of a key are of those that pass, its fold is theirs
 pub top_alive : (f : TxId → Bool) (q : ℕ) (ws : List StandingUpdate) → AllByRecursion (λ w. w.key ≡ q → f w.tx ≡ true) ws → top_value q (filter (of_kept f) ws) ≡ top_value q ws
@@ -374,26 +225,52 @@ filter_sets set lost (w ∷ ws) = at (tx_in w.tx set) (tx_in w.tx lost) refl ref
         ∙ ap (λ l. w ∷ l) ih
         ∙ sym (cond-true (not (tx_in w.tx set)) (w ∷ filter (stays_of set) (filter (of_kept (is_alive lost)) ws)) (filter (stays_of set) (filter (of_kept (is_alive lost)) ws)) (ap not e))
 
-holds_undone : (set : List TxId) (ws : List StandingUpdate) (locks : Locks) (rs : Records) (p : Part) (u : TxId) (q : ℕ) → holds_at p locks rs u q ≡ true → holds_at p locks (records_without set ws rs) u q ≡ true
-holds_undone set ws locks rs p u q h =
-    subst (λ o. holds_by p locks (records_without set ws rs) u q o ≡ true) (sym (record_undone set ws rs q)) (at (record_at q rs) h)
+pub holds_undone : (gone : StandingUpdate → Bool) (ws : List StandingUpdate) (locks : Locks) (rs : Records) (p : Part) (u : TxId) (q : ℕ) → holds_at p locks rs u q ≡ true → holds_at p locks (records_without gone ws rs) u q ≡ true
+holds_undone gone ws locks rs p u q h =
+    subst (λ o. holds_by p locks (records_without gone ws rs) u q o ≡ true) (sym (record_undone gone ws rs q)) (at (record_at q rs) h)
   where
-    at : (o : Option (Option ValueType)) → holds_by p locks rs u q o ≡ true → holds_by p locks (records_without set ws rs) u q (reset set ws q o) ≡ true
+    at : (o : Option (Option ValueType)) → holds_by p locks rs u q o ≡ true → holds_by p locks (records_without gone ws rs) u q (reset gone ws q o) ≡ true
     at (Some x) h = h
-    at None h = subst (λ a. holds false p a u locks ≡ true) (sym (anchor_undone set ws q Low rs)) h
+    at None h = subst (λ a. holds false p a u locks ≡ true) (sym (anchor_undone gone ws q Low rs)) h
 
-reset_none : (set : List TxId) (ws : List StandingUpdate) (q : ℕ) (o : Option (Option ValueType)) → reset set ws q o ≡ None → o ≡ None
-reset_none set ws q None e = refl
-reset_none set ws q (Some v) e = absurd cc
+reset_none : (gone : StandingUpdate → Bool) (ws : List StandingUpdate) (q : ℕ) (o : Option (Option ValueType)) → reset gone ws q o ≡ None → o ≡ None
+reset_none gone ws q None e = refl
+reset_none gone ws q (Some v) e = absurd cc
 
 -- where no record stands after an undo, none stood before
-none_stood : (set : List TxId) (ws : List StandingUpdate) (rs : Records) (q : ℕ) → record_at q (records_without set ws rs) ≡ None → record_at q rs ≡ None
-none_stood set ws rs q none = reset_none set ws q (record_at q rs) (sym (record_undone set ws rs q) ∙ none)
+pub none_stood : (gone : StandingUpdate → Bool) (ws : List StandingUpdate) (rs : Records) (q : ℕ) → record_at q (records_without gone ws rs) ≡ None → record_at q rs ≡ None
+none_stood gone ws rs q none = reset_none gone ws q (record_at q rs) (sym (record_undone gone ws rs q) ∙ none)
 
-module _ (g : Past) (v : View) (set : List TxId) (d : TxId) (k : Kept g v) (may : MayGo v set) (chain_here : Chain (standing v.log)) (upward_here : Upward set (standing v.log)) where
+-- who is active holds what it needs over records of which some are reset
+pub covers_undone : (gone : StandingUpdate → Bool) (ws : List StandingUpdate) (locks : Locks) (rs : Records) (y : Item) → Covers rs locks y → Covers (records_without gone ws rs) locks y
+covers_undone gone ws locks rs y c = (
+  λ q m. (holds_undone gone ws locks rs (met_part (is_adding y)) y.tx q (c.0 q m).0, λ l none. (c.0 q m).1 l (none_stood gone ws rs q none)),
+  λ q m. (holds_undone gone ws locks rs (wrote_part (is_adding y)) y.tx q (c.1 q m).0, λ l none. (c.1 q m).1 l (none_stood gone ws rs q none)),
+)
+
+-- of whom no write stood, none stands among some of these
+pub none_left : (f : StandingUpdate → Bool) (t : TxId) (ws : List StandingUpdate) → list_any (λ w. tx_same t w.tx) ws ≡ false → list_any (λ w. tx_same t w.tx) (filter f ws) ≡ false
+none_left f t [] e = e
+none_left f t (w ∷ ws) e =
+    cond_both (f w) (w ∷ filter f ws) (filter f ws) (λ l. list_any (λ v. tx_same t v.tx) l ≡ false)
+    (λ k. or_from _ _ (or_false_left (tx_same t w.tx) (list_any (λ v. tx_same t v.tx) ws) e) (none_left f t ws (or_false_right (tx_same t w.tx) (list_any (λ v. tx_same t v.tx) ws) e)))
+    (λ k. none_left f t ws (or_false_right (tx_same t w.tx) (list_any (λ v. tx_same t v.tx) ws) e))
+
+-- of whom a write stood, of which none is taken away, one stands still
+pub still_left : (gone : StandingUpdate → Bool) (t : TxId) (ws : List StandingUpdate) → AllByRecursion (λ w. tx_same t w.tx ≡ true → gone w ≡ false) ws → list_any (λ w. tx_same t w.tx) ws ≡ true → list_any (λ w. tx_same t w.tx) (filter (stays_by gone) ws) ≡ true
+still_left gone t [] all e = e
+still_left gone t (w ∷ ws) all e = at (tx_same t w.tx) (gone w) refl refl (or_cases (tx_same t w.tx) (list_any (λ v. tx_same t v.tx) ws) e) (still_left gone t ws all.1)
+  where
+    at : (b c : Bool) → tx_same t w.tx ≡ b → gone w ≡ c → (tx_same t w.tx ≡ true) ⊎ (list_any (λ v. tx_same t v.tx) ws ≡ true) → (list_any (λ v. tx_same t v.tx) ws ≡ true → list_any (λ v. tx_same t v.tx) (filter (stays_by gone) ws) ≡ true)
+        → list_any (λ v. tx_same t v.tx) (cond (not c) (w ∷ filter (stays_by gone) ws) (filter (stays_by gone) ws)) ≡ true
+    at true c s o h more = ap (λ b. list_any (λ v. tx_same t v.tx) (cond (not b) (w ∷ filter (stays_by gone) ws) (filter (stays_by gone) ws))) (sym o ∙ all.0 s) ∙ or_left _ _ s
+    at false true s o h more = ⊎_elim (λ i. absurd (both_ways _ s i)) (λ i. more i) h
+    at false false s o h more = ⊎_elim (λ i. absurd (both_ways _ s i)) (λ i. or_right (tx_same t w.tx) _ (more i)) h
+
+module _ (g : Past) (v : View) (set : List TxId) (d : TxId) (k : Kept g v) (may : MayGo v set) (chain_here : Chain (standing v.log)) (upward_here : Upward (is_of set) (standing v.log)) where
   Taken : List LogRecord → View
   Taken log = record {
-    records = records_without set (standing v.log) v.records;
+    records = records_without (is_of set) (standing v.log) v.records;
     locks = release set v.locks;
     parts = gone_in set (Some d) v.parts;
     pairs = pairs_without set v.pairs;
@@ -405,7 +282,7 @@ module _ (g : Past) (v : View) (set : List TxId) (d : TxId) (k : Kept g v) (may 
   committed_out : (t : TxId) → committed_in v.log t ≡ true → tx_in t set ≡ false
   committed_out t c = false_from_ne_true _ (λ i. both_ways _ (may.undecided t i) c)
 
-  keeps_pair : (x y : Item) → (Reaches x y → (x.tx ≡ y.tx) ⊎ Dep v y.tx x.tx) → Keeps (keeps_of set) x y
+  keeps_pair : (x y : Item) → (Reaches x y → (x.tx ≡ y.tx) ⊎ Dep v y.tx x.tx) → Keeps (λ z. is_alive set z.tx) x y
   keeps_pair x y h r here =
       let out : tx_in y.tx set ≡ false = not-true _ here in
       ap not
@@ -416,13 +293,13 @@ module _ (g : Past) (v : View) (set : List TxId) (d : TxId) (k : Kept g v) (may 
       dep)
       (h r))
 
-  keeps_all : AllLater (Keeps (keeps_of set)) g.items
-  keeps_all = later_mono _ _ keeps_pair g.items k.causes
+  abbrev stay : List Deed
+  stay = deeds_by_chosen (is_alive set) g.done
 
   base_out : AllByRecursion (λ w. tx_in w.tx set ≡ false) g.base
   base_out = all_mono _ _ (λ w c. committed_out w.tx (durable_committed v.log v.durable w.tx c)) g.base k.base_done
 
-  have_here : HaveRecords v.records set (standing v.log)
+  have_here : HaveRecords v.records (is_of set) (standing v.log)
   have_here = all_mono _ _ (λ w h i. (h (false_from_ne_true _ (λ c. both_ways _ (may.undecided w.tx i) (durable_committed v.log v.durable w.tx c)))).1) (standing v.log) k.wrote
 
   more : List LogRecord
@@ -447,50 +324,55 @@ module _ (g : Past) (v : View) (set : List TxId) (d : TxId) (k : Kept g v) (may 
   absent : (u : TxId) → is_present (stage_in v.parts u) ≡ false → is_present (stage_in (gone_in set (Some d) v.parts) u) ≡ false
   absent u e = ⊎_elim (λ i. ap is_present (stage_own set (Some d) u v.parts i) ∙ gone_absent (Some d) (stage_in v.parts u)) (λ i. ap is_present (stage_other set (Some d) u v.parts i) ∙ e) (cases_Bool (tx_in u set))
 
-  taken_kept : Kept (record g { items = filter (keeps_of set) g.items; lost = set ++ g.lost }) (Taken (v.log ++ (aborts_of v.log set ++ clrs_of set (standing v.log))))
+  of_stay : (P : Deed → Type 0) → AllByRecursion P g.done → AllByRecursion (λ d. P d × (tx_in (doer d) set ≡ false)) stay
+  of_stay P all = all_mono _ _ (λ d h. (h.0, not-true _ h.1)) stay (all_filter P (λ d. is_alive set (doer d)) g.done all)
+
+  met_stay : (R : Item → Item → Type 0) → AllMet R g.done → AllMet (λ x y. R x y × (tx_in y.tx set ≡ false)) stay
+  met_stay R all = met_mono _ _ (λ x y h. (h.0, not-true _ h.2)) stay (met_chosen R (is_alive set) g.done all)
+
+  pile_stay : filter (stays_of set) (pile (held g.done) g.base) ≡ pile (held stay) g.base
+  pile_stay =
+      pile_filter set (held g.done) g.base ∙ ap (pile (filter (keeps_of set) (held g.done))) (filter_all set g.base base_out) ∙ ap (λ l. pile l g.base) (sym (held_chosen (is_alive set) g.done))
+
+  taken_kept : Kept (record g { done = stay; lost = set ++ g.lost }) (Taken (v.log ++ (aborts_of v.log set ++ clrs_of set (standing v.log))))
   unfolding Taken
   taken_kept = record {
     start = k.start;
     past = record {
-      runs = kept_runs (keeps_of set) g.items g.start g.start k.start_rises k.start_rises k.runs keeps_all (λ q. inl refl);
-      alive = all_mono _ _ (λ x h. none_two set g.lost x.tx (not-true _ h.1) h.0) (filter (keeps_of set) g.items) (all_filter _ (keeps_of set) g.items k.alive);
-      order = later_mono _ _ (λ x y h c. h.0 c) (filter (keeps_of set) g.items) (later_filter _ (keeps_of set) g.items k.order);
+      acts = acts_chosen g.start (is_alive set) g.done k.start_rises k.acts k.between k.rising (met_mono _ _ keeps_pair g.done k.causes);
+      alive = all_mono _ _ (λ d h. none_two set g.lost (doer d) h.1 h.0) stay (of_stay _ k.alive);
+      order = later_mono _ _ (λ x y h. h.0) (items_in stay) (items_later_chosen _ (is_alive set) g.done k.order);
+      between = between_chosen (is_alive set) g.done k.between;
+      rising = later_mono _ _ (λ d e h. h.0) stay (later_filter Rise (λ d. is_alive set (doer d)) g.done k.rising);
     };
     log = record {
       standing_is = keys_by (ap (filter (of_kept (is_alive (set ++ g.lost)))) standing_more ∙ filter_sets set g.lost (standing v.log))
-          (keys_filter (stays_of set) (filter (of_kept (is_alive g.lost)) (standing v.log)) (pile g.items g.base) k.standing_is)
-          (pile_filter set g.items g.base ∙ ap (pile (filter (keeps_of set) g.items)) (filter_all set g.base base_out));
-      logged = all_mono _ _ (λ x h q w. wrote_keeps v.log _ x.tx (h.0 q w)) (filter (keeps_of set) g.items) (all_filter _ (keeps_of set) g.items k.logged);
-      tidy = tidy_append [] v.log _ k.tidy (tidy_harmless v.log v.log _ (λ t e. e) (all_append _ (aborts_of v.log set) (clrs_of set (standing v.log)) (harmless_aborts v.log (filter (wrote_in v.log) set)) (harmless_clrs v.log set (standing v.log) may.undecided)));
+          (keys_filter (stays_of set) (filter (of_kept (is_alive g.lost)) (standing v.log)) (pile (held g.done) g.base) k.standing_is)
+          pile_stay;
+      tidy = tidy_append [] v.log _ k.tidy
+          (tidy_harmless v.log v.log _ (λ t e. e)
+          (all_append _ (aborts_of v.log set) (clrs_of set (standing v.log)) (harmless_aborts v.log (filter (has_standing v.log) set)) (harmless_clrs v.log (is_of set) (standing v.log) (all_of _ (λ w i. may.undecided w.tx i) (standing v.log)))));
     };
-    records = record { rises = rising_undone set (standing v.log) v.records k.rises; values = λ q. values_undone set (standing v.log) v.records q chain_here upward_here have_here (k.values q) ∙ ap (top_value q) (sym standing_more) };
+    records = record { rises = rising_undone (is_of set) (standing v.log) v.records k.rises; values = λ q. values_undone (is_of set) (standing v.log) v.records q chain_here upward_here have_here (k.values q) ∙ ap (top_value q) (sym standing_more) };
     locks = record {
       rows = rows_go set (Some d) v.parts v.locks k.rows;
       covered = all_mono _ _ (λ y h active.
           let a = active_back set (Some d) y.tx v.parts active in
-          let c = h.0 a.1 in (
-            λ q m. (
-              holds_undone set (standing v.log) (release set v.locks) v.records (met_part (is_adding y)) y.tx q (holds_go set v.locks v.records (met_part (is_adding y)) y.tx q a.0 (c.0 q m).0),
-              λ l none. (c.0 q m).1 l (none_stood set (standing v.log) v.records q none),
-            ),
-            λ q m. (
-              holds_undone set (standing v.log) (release set v.locks) v.records (wrote_part (is_adding y)) y.tx q (holds_go set v.locks v.records (wrote_part (is_adding y)) y.tx q a.0 (c.1 q m).0),
-              λ l none. (c.1 q m).1 l (none_stood set (standing v.log) v.records q none),
-            ),
+          let c = h.0 a.1 in
+          covers_undone (is_of set) (standing v.log) (release set v.locks) v.records y (
+            λ q m. (holds_go set v.locks v.records (met_part (is_adding y)) y.tx q a.0 (c.0 q m).0, (c.0 q m).1),
+            λ q m. (holds_go set v.locks v.records (wrote_part (is_adding y)) y.tx q a.0 (c.1 q m).0, (c.1 q m).1),
           ))
-          (filter (keeps_of set) g.items) (all_filter _ (keeps_of set) g.items k.covered);
+          (items_in stay) (items_all_chosen _ (is_alive set) g.done k.covered);
       wrote = subst (AllByRecursion (Wrote (Taken (v.log ++ (aborts_of v.log set ++ clrs_of set (standing v.log)))))) (sym standing_more)
           (all_mono _ _ (λ w h out.
           let c = h.0 (false_from_ne_true _ (λ t. both_ways _ out (still_durable w.tx t))) in
-          (release_holds set true (part_for w.change) (At w.key) w.tx v.locks (not-true _ h.1) c.0, λ none. c.1 (none_stood set (standing v.log) v.records w.key none)))
+          (release_holds set true (part_for w.change) (At w.key) w.tx v.locks (not-true _ h.1) c.0, λ none. c.1 (none_stood (is_of set) (standing v.log) v.records w.key none)))
           (filter (stays_of set) (standing v.log)) (all_filter _ (stays_of set) (standing v.log) k.wrote));
     };
     parts = record {
-      known = all_mono _ _ (λ x h.
-          let out : tx_in x.tx set ≡ false = not-true _ h.1 in
-          ⊎_elim (λ a. inl (stage_other set (Some d) x.tx v.parts out ∙ a))
-          (λ r. inr (r.0, λ a. r.1 (active_back set (Some d) x.tx v.parts a).1)) h.0)
-          (filter (keeps_of set) g.items) (all_filter _ (keeps_of set) g.items k.known);
+      known = all_mono _ _ (λ e h. ⊎_elim (λ a. inl (stage_other set (Some d) (doer e) v.parts h.1 ∙ a)) (λ r. inr (r.0, λ a. r.1 (active_back set (Some d) (doer e) v.parts a).1)) h.0) stay (of_stay _ k.known);
+      alone = later_mono _ _ (λ x y h c. ⊎_elim (λ s. inl s) (λ n. inr (λ a. n (active_back set (Some d) x.tx v.parts a).1)) (h.0 c)) (items_in stay) (items_later_chosen _ (is_alive set) g.done k.alone);
       closed = λ u h. k.closed u (closed_back set (Some d) u v.parts h);
       successors = λ u p h. let s = without_pairs set v.pairs u p h in subst (λ o. is_present o ≡ true) (sym (stage_other set (Some d) u v.parts s.1)) (k.successors u p s.0);
     };
@@ -499,17 +381,18 @@ module _ (g : Past) (v : View) (set : List TxId) (d : TxId) (k : Kept g v) (may 
       dead = λ u h.
           ⊎_elim
           (λ old. let e = k.dead u old in (uncommitted_append v.log _ u e.0 (no_more u), (λ a. e.1 (active_back set (Some d) u v.parts a).1), (λ a. e.2 (closed_back set (Some d) u v.parts a))))
-          (λ new. let i = undone_here set u v.log new in
+          (λ new. let i = aborted_here set u v.log new in
           (uncommitted_append v.log _ u (may.undecided u i) (no_more u), (λ a. both_ways _ (active_back set (Some d) u v.parts a).0 i), (λ a. gone_closed (Some d) (stage_in v.parts u) (sym (stage_own set (Some d) u v.parts i) ∙ a))))
-          (or_cases (undone_in v.log u) _ (sym (undone_append v.log (aborts_of v.log set ++ clrs_of set (standing v.log)) u) ∙ h));
+          (or_cases (aborted_in v.log u) _ (sym (aborted_append v.log (aborts_of v.log set ++ clrs_of set (standing v.log)) u) ∙ h));
       doomed = λ u e h. uncommitted_append v.log _ u (⊎_elim (λ i. may.undecided u i) (λ i. k.doomed u e (sym (stage_other set (Some d) u v.parts i) ∙ h)) (cases_Bool (tx_in u set))) (no_more u);
-      prepared = prepared_more (filter (keeps_of set) g.items) g.met (gone_in set (Some d) v.parts) v.log (aborts_of v.log set ++ clrs_of set (standing v.log))
-          (prepared_kept (keeps_of set) g.items g.met (gone_in set (Some d) v.parts) v.log (prepared_parts g.items g.met v.parts (gone_in set (Some d) v.parts) v.log k.prepared (λ u a. (active_back set (Some d) u v.parts a).1)))
+      prepared = prepared_more stay g.met (gone_in set (Some d) v.parts) v.log (aborts_of v.log set ++ clrs_of set (standing v.log))
+          (prepared_kept (is_alive set) g.done g.met (gone_in set (Some d) v.parts) v.log (prepared_parts g.done g.met v.parts (gone_in set (Some d) v.parts) v.log k.prepared (λ u a. (active_back set (Some d) u v.parts a).1)))
           (λ u. no_writes set u v.log) (λ u. no_prepares set u v.log);
     };
     ends = record {
-      left = all_mono _ _ (λ x h. ⊎_elim (λ a. inl (ap is_present (stage_other set (Some d) x.tx v.parts (not-true _ h.1)) ∙ a)) (λ a. inr (⊎_elim (λ o. inl o) (λ c. inr (still_durable x.tx c)) a)) h.0) (filter (keeps_of set) g.items) (all_filter _ (keeps_of set) g.items k.left);
-      over = λ u h. ⊎_elim (λ c. inl c) (λ c. inr (c.0, c.1, absent u c.2, c.3)) (ended_more g v (aborts_of v.log set ++ clrs_of set (standing v.log)) u (λ a. no_more u) (no_writes set u v.log) (k.over u h));
+      left = all_mono _ _ (λ e h. ⊎_elim (λ a. inl (ap is_present (stage_other set (Some d) (doer e) v.parts h.1) ∙ a)) (λ a. inr (⊎_elim (λ o. inl o) (λ c. inr (still_durable (doer e) c)) a)) h.0) stay (of_stay _ k.left);
+      over = λ u h. ⊎_elim (λ c. inl c) (λ c. inr (c.0, c.1, absent u c.2, c.3))
+          (ended_more g v (aborts_of v.log set ++ clrs_of set (standing v.log)) u (λ a. no_more u) (λ e. ap (λ ws. list_any (λ w. tx_same u w.tx) ws) standing_more ∙ none_left (stays_of set) u (standing v.log) e) (k.over u h));
       recover = λ u p e. ⊎_elim (λ o. inl (in_more set g.lost u o.0, λ a. o.1 (active_back set (Some d) u v.parts a).1))
           (λ dep. ⊎_elim (λ i. inl (in_first set g.lost u i, λ a. both_ways _ (active_back set (Some d) u v.parts a).0 i))
           (λ i. inr (⊎_elim (λ c. inl (still_durable p c)) (λ m. ⊎_elim (λ pair. inr (inl (pairs_stay set v.pairs u p i pair))) (λ b. inr (inr (before_keeps v.log _ p u b))) m) dep.0, dep.1))
@@ -518,16 +401,16 @@ module _ (g : Past) (v : View) (set : List TxId) (d : TxId) (k : Kept g v) (may 
     };
     pairs = record {
       downwards = λ u p h c. before_keeps v.log _ p u (k.downwards u p (without_pairs set v.pairs u p h).0 (back u c));
-      causes = later_mono _ _ (λ x y h r.
+      causes = met_mono _ _ (λ x y h r.
           ⊎_elim (λ s. inl s) (λ dep. inr (⊎_elim (λ c. inl (still_durable x.tx c))
-          (λ m. ⊎_elim (λ pair. inr (inl (pairs_stay set v.pairs y.tx x.tx (not-true _ h.2) pair))) (λ b. inr (inr (before_keeps v.log _ x.tx y.tx b))) m) dep)) (h.0 r))
-          (filter (keeps_of set) g.items) (later_filter _ (keeps_of set) g.items k.causes);
+          (λ m. ⊎_elim (λ pair. inr (inl (pairs_stay set v.pairs y.tx x.tx h.1 pair))) (λ b. inr (inr (before_keeps v.log _ x.tx y.tx b))) m) dep)) (h.0 r))
+          stay (met_stay _ k.causes);
     };
     durable = record { base_done = all_mono _ _ (λ w c. still_durable w.tx c) g.base k.base_done; front = k.front };
   }
 
-  pub keeps_taken : Kept (record g { items = filter (keeps_of set) g.items; lost = set ++ g.lost }) (record {
-    records = records_without set (standing v.log) v.records;
+  pub keeps_taken : Kept (record g { done = deeds_by_chosen (is_alive set) g.done; lost = set ++ g.lost }) (record {
+    records = records_without (is_of set) (standing v.log) v.records;
     locks = release set v.locks;
     parts = gone_in set (Some d) v.parts;
     pairs = pairs_without set v.pairs;
@@ -536,4 +419,4 @@ module _ (g : Past) (v : View) (set : List TxId) (d : TxId) (k : Kept g v) (may 
     flight = v.flight;
   })
   unfolding Taken
-  keeps_taken = subst (λ log. Kept (record g { items = filter (keeps_of set) g.items; lost = set ++ g.lost }) (Taken log)) (sym (append_assoc v.log (aborts_of v.log set) (clrs_of set (standing v.log)))) taken_kept
+  keeps_taken = subst (λ log. Kept (record g { done = stay; lost = set ++ g.lost }) (Taken log)) (sym (append_assoc v.log (aborts_of v.log set) (clrs_of set (standing v.log)))) taken_kept

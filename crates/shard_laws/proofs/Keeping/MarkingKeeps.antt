@@ -1,5 +1,5 @@
 -- Changes of parts that leave each stage as it is: a part is marked, or one that has left is finished once more.
-use Rattle.std.proofs.Common.{◌≡◌, inl, inr, ⊎_elim, Bool, true, false, cond, not, List, [], ◌∷◌, Some, None, refl, sym, ap, subst, ◌∙◌}
+use Rattle.std.proofs.Common.{◌≡◌, inl, inr, Bool, true, false, cond, not, List, [], ◌∷◌, Some, None, refl, sym, ap, subst, ◌∙◌, ⊎_elim}
 use Rattle.std.proofs.lemmas.Bool.{cases_Bool, both_ways, and_from, cond-true, false_from_ne_true}
 use Rattle.clv_base.specs.declared.names.TxId.{TxId}
 use Rattle.clv_base.specs.declared.names.Birth.{Birth}
@@ -12,7 +12,7 @@ use Rattle.clv_base.specs.State.{is_present}
 use Rattle.clv_base.specs.Undo.{gone_in, pairs_without}
 use Rattle.clv_base.specs.OneShard.{dropped_part, marked_in}
 use Rattle.clv_base.proofs.SameNames.{or_left, or_right, tx_self}
-use Rattle.law_base.proofs.Lists.{all_mono}
+use Rattle.law_base.proofs.Lists.{all_mono, later_mono}
 use Rattle.law_base.proofs.LockRows.{Rows}
 use Rattle.law_base.proofs.Tables.{stage_in, stage_by, is_pair, row_pairs}
 use Rattle.shard_laws.proofs.Keeping.ChangesKeepPrepared.{prepared_parts}
@@ -20,6 +20,7 @@ use Rattle.shard_laws.proofs.Keeping.WhatOneShardKeeps.{View, Past, StageFits, B
 use Rattle.shard_laws.proofs.Keeping.LeavingKeeps.{one_in}
 use Rattle.law_base.proofs.Stages.{get_other, stage_own, stage_other, gone_by}
 use Rattle.law_base.proofs.Stages.{get_marked, stage_marked}
+use Rattle.shard_laws.specs.OneShard.{doer, items_in}
 
 pub keeps_parts : (g : Past) (v : View) (parts : Table Held) → ((u : TxId) → stage_in parts u ≡ stage_in v.parts u) → ((u : TxId) (b : Birth) (c : Bool) → Belongs v.parts u b c → Belongs parts u b c) → Kept g v → Kept g (record v { parts = parts })
 keeps_parts g v parts same own k = record {
@@ -27,16 +28,21 @@ keeps_parts g v parts same own k = record {
   past = k.past;
   log = k.log;
   records = k.records;
-  locks = record { rows = all_mono _ _ (λ r h. own (r.1).tx (r.1).birth (r.1).closed h) v.locks k.rows; covered = all_mono _ _ (λ y h active. h (sym (same y.tx) ∙ active)) g.items k.covered; wrote = k.wrote };
-  parts = record { known = all_mono _ _ (λ x h. ⊎_elim (λ a. inl (same x.tx ∙ a)) (λ r. inr (r.0, λ a. r.1 (sym (same x.tx) ∙ a))) h) g.items k.known; closed = λ t h. k.closed t (sym (same t) ∙ h); successors = λ t p h. ap is_present (same t) ∙ k.successors t p h };
+  locks = record { rows = all_mono _ _ (λ r h. own (r.1).tx (r.1).birth (r.1).closed h) v.locks k.rows; covered = all_mono _ _ (λ y h active. h (sym (same y.tx) ∙ active)) (items_in g.done) k.covered; wrote = k.wrote };
+  parts = record {
+    known = all_mono _ _ (λ d h. ⊎_elim (λ a. inl (same (doer d) ∙ a)) (λ r. inr (r.0, λ a. r.1 (sym (same (doer d)) ∙ a))) h) g.done k.known;
+    alone = later_mono _ _ (λ x y h c. ⊎_elim (λ s. inl s) (λ n. inr (λ a. n (sym (same x.tx) ∙ a))) (h c)) (items_in g.done) k.alone;
+    closed = λ t h. k.closed t (sym (same t) ∙ h);
+    successors = λ t p h. ap is_present (same t) ∙ k.successors t p h;
+  };
   fates = record {
     uncommitted = λ t h. k.uncommitted t (sym (same t) ∙ h);
     dead = λ t u. let d = k.dead t u in (d.0, (λ a. d.1 (sym (same t) ∙ a)), (λ a. d.2 (sym (same t) ∙ a)));
     doomed = λ t d h. k.doomed t d (sym (same t) ∙ h);
-    prepared = prepared_parts g.items g.met v.parts parts v.log k.prepared (λ t a. sym (same t) ∙ a);
+    prepared = prepared_parts g.done g.met v.parts parts v.log k.prepared (λ t a. sym (same t) ∙ a);
   };
   ends = record {
-    left = all_mono _ _ (λ x l. ⊎_elim (λ a. inl (ap is_present (same x.tx) ∙ a)) (λ a. inr a) l) g.items k.left;
+    left = all_mono _ _ (λ d l. ⊎_elim (λ a. inl (ap is_present (same (doer d)) ∙ a)) (λ a. inr a) l) g.done k.left;
     over = λ t h. ⊎_elim (λ c. inl c) (λ c. inr (c.0, c.1, ap is_present (same t) ∙ c.2, c.3)) (k.over t h);
     recover = λ t p e. ⊎_elim (λ o. inl (o.0, λ a. o.1 (sym (same t) ∙ a))) (λ d. inr d) (k.recover t p e);
   };

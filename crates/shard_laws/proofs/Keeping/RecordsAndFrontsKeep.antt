@@ -1,6 +1,6 @@
 -- Changes of a shard that keep what it keeps: a record more, a part closed, the durable front, a purge.
-use Rattle.std.proofs.Common.{◌≡◌, ℕ, ◌≤◌, ◌<◌, inl, inr, ⊎_elim, Bool, true, false, cond, not, ◌||◌, List, [], ◌∷◌, ◌++◌, length, Option, Some, None, ◌==◌, ◌+◌, ◌⊎◌, refl, sym, ap, subst, ◌∙◌, arith, append_assoc, eqb-true}
-use Rattle.std.specs.List.{AllByRecursion, filter}
+use Rattle.std.proofs.Common.{◌≡◌, ◌≤◌, ◌<◌, inl, inr, Bool, true, false, cond, not, ◌||◌, List, [], ◌∷◌, ◌++◌, length, Option, Some, None, ◌==◌, ◌+◌, ◌⊎◌, refl, sym, ap, subst, ◌∙◌, arith, append_assoc, eqb-true, ℕ, ⊎_elim}
+use Rattle.std.specs.List.{AllByRecursion, filter, list_any}
 use Rattle.std.proofs.lemmas.Bool.{cases_Bool, both_ways, cond-true, cond-false, or_cases, false_from_ne_true, or_from}
 use Rattle.std.proofs.lemmas.List.Folds.{list_any-append}
 use Rattle.clv_base.specs.declared.names.TxId.{TxId}
@@ -12,14 +12,13 @@ use Rattle.clv_base.specs.declared.modes.Anchor.TheVariants.{Low, At}
 use Rattle.clv_base.specs.declared.state.Stage.{Stage}
 use Rattle.clv_base.specs.declared.state.Stage.TheVariants.{Active, Closed, Gone}
 use Rattle.clv_base.specs.Orders.{tx_same, tx_in}
-use Rattle.clv_base.specs.Logs.{standing, committed_in, wrote_in, prepared_in, is_update_of, is_commit_of, is_prepare_of}
+use Rattle.clv_base.specs.Logs.{standing, committed_in, wrote_in, prepared_in, is_update_of, is_commit_of, is_prepare_of, has_standing, aborted_in, is_abort_of}
 use Rattle.clv_base.specs.Locks.{Locks, is_free}
 use Rattle.clv_base.specs.State.{is_present}
 use Rattle.clv_base.specs.Needs.{Records, value_at, lower_anchor, is_locked_or_live, without_ghosts}
 use Rattle.law_base.proofs.Cells.{record_at, live_by}
 use Rattle.clv_base.proofs.SameNames.{or_left, tx_true, tx_self, tx_ne}
-use Rattle.law_base.specs.Items.{AllLater}
-use Rattle.law_base.proofs.Lists.{all_mono, all_both, later_mono}
+use Rattle.law_base.proofs.Lists.{all_mono}
 use Rattle.law_base.proofs.Running.{top_value}
 use Rattle.law_base.proofs.Undoing.{standing_append}
 use Rattle.law_base.proofs.Anchors.{Rising, rising_filter, record_kept, record_absent, anchor_kept, absent_above}
@@ -31,10 +30,12 @@ use Rattle.shard_laws.proofs.Keeping.ChangesKeepPrepared.{IsListed, Lists, Prepa
 use Rattle.shard_laws.proofs.Operations.WritesAtEachKey.{keys_by}
 use Rattle.shard_laws.proofs.Operations.NeedsCoverKeys.{met_part, wrote_part}
 use Rattle.shard_laws.proofs.Keeping.WhatOneShardKeeps.{HoldsPart, is_adding, part_for, View, Past, Dep, Kept, KeptFront, Ended, Wrote, of_kept, is_alive}
-use Rattle.protocol_laws.specs.Order.{moves, Open_at, Tidy, is_clr_of, undone_in}
+use Rattle.protocol_laws.specs.Order.{moves, Open_at, Tidy}
 use Rattle.std.proofs.Common.{append-nil}
 use Rattle.std.proofs.lemmas.Option.{none-some, same_Some}
 use Rattle.clv_base.specs.declared.values.Value.{Value as ValueType}
+use Rattle.shard_laws.specs.OneShard.{doer, items_in}
+use Rattle.shard_laws.proofs.Keeping.DeedsThatHold.{met_mono, met_both}
 
 -- ---- a record more
 
@@ -52,15 +53,15 @@ pub tidy_append : (before xs ys : List LogRecord) → Tidy before xs → Tidy (b
 tidy_append before [] ys t u = subst (λ l. Tidy l ys) (append-nil before) u
 tidy_append before (x ∷ xs) ys t u = (t.0, tidy_append (before ++ x ∷ []) xs ys t.1 (subst (λ l. Tidy l ys) (sym (append_assoc before (x ∷ []) xs)) u))
 
-pub undone_append : (log more : List LogRecord) (t : TxId) → undone_in (log ++ more) t ≡ (undone_in log t || undone_in more t)
-undone_append log more t = list_any-append (is_clr_of t) log more
+pub aborted_append : (log more : List LogRecord) (t : TxId) → aborted_in (log ++ more) t ≡ (aborted_in log t || aborted_in more t)
+aborted_append log more t = list_any-append (is_abort_of t) log more
 
 pub wrote_append : (log more : List LogRecord) (t : TxId) → wrote_in (log ++ more) t ≡ (wrote_in log t || wrote_in more t)
 wrote_append log more t = list_any-append (is_update_of t) log more
 
-pub ended_more : (g : Past) (v : View) (more : List LogRecord) (t : TxId) → (is_present (stage_in v.parts t) ≡ false → committed_in more t ≡ false) → wrote_in more t ≡ false → Ended g v t → Ended g (record v { log = v.log ++ more }) t
+pub ended_more : (g : Past) (v : View) (more : List LogRecord) (t : TxId) → (is_present (stage_in v.parts t) ≡ false → committed_in more t ≡ false) → (has_standing v.log t ≡ false → has_standing (v.log ++ more) t ≡ false) → Ended g v t → Ended g (record v { log = v.log ++ more }) t
 ended_more g v more t c w e =
-    ⊎_elim (λ h. inl (durable_keeps v.log more v.durable v.durable t (omega arith) h)) (λ h. inr (uncommitted_append v.log more t h.0 (c h.2), wrote_append v.log more t ∙ or_from _ _ h.1 w, h.2, h.3)) e
+    ⊎_elim (λ h. inl (durable_keeps v.log more v.durable v.durable t (omega arith) h)) (λ h. inr (uncommitted_append v.log more t h.0 (c h.2), w h.1, h.2, h.3)) e
 
 -- what more records may be
 pub record More (v : View) (more : List LogRecord) : Type 0 where
@@ -68,44 +69,43 @@ pub record More (v : View) (more : List LogRecord) : Type 0 where
   pub not_active : (t : TxId) → stage_in v.parts t ≡ Some Active → committed_in more t ≡ false
   pub not_gone : (t : TxId) → is_present (stage_in v.parts t) ≡ false → committed_in more t ≡ false
   pub not_doomed : (t d : TxId) → stage_in v.parts t ≡ Some (Gone (Some d)) → committed_in more t ≡ false
-  pub not_dead : (t : TxId) → undone_in v.log t ≡ true → committed_in more t ≡ false
-  pub no_write : (t : TxId) → wrote_in more t ≡ false
-  pub no_undo : (t : TxId) → undone_in more t ≡ false
+  pub not_dead : (t : TxId) → aborted_in v.log t ≡ true → committed_in more t ≡ false
+  pub no_abort : (t : TxId) → aborted_in more t ≡ false
   pub down : (t p : TxId) → is_pair v.pairs t p ≡ true → committed_in more t ≡ true → CommitBefore (v.log ++ more) p t
   pub tidies : Tidy v.log more
 
-pub keeps_records : (g : Past) (v : View) (more : List LogRecord) → Kept g v → More v more → Prepared g.items g.met v.parts (v.log ++ more) → Kept g (record v { log = v.log ++ more })
+pub keeps_records : (g : Past) (v : View) (more : List LogRecord) → Kept g v → More v more → Prepared g.done g.met v.parts (v.log ++ more) → Kept g (record v { log = v.log ++ more })
 keeps_records g v more k m prep = record {
   start = k.start;
   past = k.past;
-  log = record { standing_is = keys_by (ap (filter (of_kept (is_alive g.lost))) m.same_standing) k.standing_is refl; logged = all_mono _ _ (λ x h q w. wrote_keeps v.log more x.tx (h q w)) g.items k.logged; tidy = tidy_append [] v.log more k.tidy m.tidies };
+  log = record { standing_is = keys_by (ap (filter (of_kept (is_alive g.lost))) m.same_standing) k.standing_is refl; tidy = tidy_append [] v.log more k.tidy m.tidies };
   records = record { rises = k.rises; values = λ q. k.values q ∙ ap (top_value q) (sym m.same_standing) };
   locks = record { rows = k.rows; covered = k.covered; wrote = subst (AllByRecursion (Wrote (record v { log = v.log ++ more }))) (sym m.same_standing) (all_mono _ _ (λ x h out. h (undurable v.log more v.durable v.durable x.tx (omega arith) out)) (standing v.log) k.wrote) };
   parts = k.parts;
   fates = record {
     uncommitted = λ t h. uncommitted_append v.log more t (k.uncommitted t h) (m.not_active t h);
-    dead = λ t u. let old : undone_in v.log t ≡ true = ⊎_elim (λ h. h) (λ h. absurd (both_ways _ (m.no_undo t) h)) (or_cases (undone_in v.log t) (undone_in more t) (sym (undone_append v.log more t) ∙ u)) in
+    dead = λ t u. let old : aborted_in v.log t ≡ true = ⊎_elim (λ h. h) (λ h. absurd (both_ways _ (m.no_abort t) h)) (or_cases (aborted_in v.log t) (aborted_in more t) (sym (aborted_append v.log more t) ∙ u)) in
         let d = k.dead t old in (uncommitted_append v.log more t d.0 (m.not_dead t old), d.1, d.2);
     doomed = λ t d h. uncommitted_append v.log more t (k.doomed t d h) (m.not_doomed t d h);
     prepared = prep;
   };
   ends = record {
-    left = all_mono _ _ (λ x l. ⊎_elim (λ a. inl a) (λ a. inr (⊎_elim (λ o. inl o) (λ d. inr (durable_keeps v.log more v.durable v.durable x.tx (omega arith) d)) a)) l) g.items k.left;
-    over = λ t h. ended_more g v more t (m.not_gone t) (m.no_write t) (k.over t h);
+    left = all_mono _ _ (λ x l. ⊎_elim (λ a. inl a) (λ a. inr (⊎_elim (λ o. inl o) (λ d. inr (durable_keeps v.log more v.durable v.durable (doer x) (omega arith) d)) a)) l) g.done k.left;
+    over = λ t h. ended_more g v more t (m.not_gone t) (λ e. ap (λ ws. list_any (λ w. tx_same t w.tx) ws) m.same_standing ∙ e) (k.over t h);
     recover = λ t p e. ⊎_elim (λ o. inl o) (λ d. inr (dep_more v more t p d.0, d.1)) (k.recover t p e);
   };
   pairs = record {
     downwards = λ t p h c. ⊎_elim (λ i. before_keeps v.log more p t (k.downwards t p h i)) (λ i. m.down t p h i) (or_cases (committed_in v.log t) (committed_in more t) (sym (committed_append v.log more t) ∙ c));
-    causes = later_mono _ _ (λ x y h r. ⊎_elim (λ s. inl s) (λ d. inr (dep_more v more y.tx x.tx d)) (h r)) g.items k.causes;
+    causes = met_mono _ _ (λ x y h r. ⊎_elim (λ s. inl s) (λ d. inr (dep_more v more y.tx x.tx d)) (h r)) g.done k.causes;
   };
   durable = record { base_done = all_mono _ _ (λ w h. durable_keeps v.log more v.durable v.durable w.tx (omega arith) h) g.base k.base_done; front = k.front };
 }
 
--- a record that is no UPDATE, CLR, COMMIT or PREPARE
+-- a record that is no UPDATE, CLR, COMMIT, PREPARE or ABORT
 pub record Quiet (r : LogRecord) : Type 0 where
   pub no_commit : (t : TxId) → is_commit_of t r ≡ false
   pub no_update : (t : TxId) → is_update_of t r ≡ false
-  pub no_clr : (t : TxId) → is_clr_of t r ≡ false
+  pub no_abort : (t : TxId) → is_abort_of t r ≡ false
   pub no_move : moves r ≡ None
   pub no_prepare : (t : TxId) → is_prepare_of t r ≡ false
 
@@ -119,14 +119,13 @@ keeps_quiet g v r k e q = keeps_records g v (r ∷ []) k (record {
   not_gone = λ t h. or_from _ false (q.no_commit t) refl;
   not_doomed = λ t d h. or_from _ false (q.no_commit t) refl;
   not_dead = λ t h. or_from _ false (q.no_commit t) refl;
-  no_write = λ t. or_from _ false (q.no_update t) refl;
-  no_undo = λ t. or_from _ false (q.no_clr t) refl;
+  no_abort = λ t. or_from _ false (q.no_abort t) refl;
   down = λ t p h c. absurd (both_ways _ (or_from _ false (q.no_commit t) refl) c);
   tidies = (open_none v.log (moves r) q.no_move, tt);
-}) (prepared_more g.items g.met v.parts v.log (r ∷ []) k.prepared (λ t. or_from _ false (q.no_update t) refl) (λ t. or_from _ false (q.no_prepare t) refl))
+}) (prepared_more g.done g.met v.parts v.log (r ∷ []) k.prepared (λ t. or_from _ false (q.no_update t) refl) (λ t. or_from _ false (q.no_prepare t) refl))
 
 pub quiet_end : (tx : TxId) → Quiet (End tx)
-quiet_end tx = record { no_commit = λ t. refl; no_update = λ t. refl; no_clr = λ t. refl; no_move = refl; no_prepare = λ t. refl }
+quiet_end tx = record { no_commit = λ t. refl; no_update = λ t. refl; no_abort = λ t. refl; no_move = refl; no_prepare = λ t. refl }
 
 stage_apart : (v : View) (t u : TxId) (a b : Stage) → stage_in v.parts t ≡ Some a → stage_in v.parts u ≡ Some b → (Some a ≡ Some b → ⊥) → tx_same u t ≡ false
 stage_apart v t u a b e f ne = tx_ne u t (λ s. ne (sym e ∙ ap (stage_in v.parts) (sym s) ∙ f))
@@ -140,21 +139,16 @@ keeps_commit g v t parts k closed new before = keeps_records g v (Commit t parts
   not_gone = λ u h. or_from _ false (tx_ne u t (λ s. both_ways _ h (ap is_present (ap (stage_in v.parts) s ∙ closed)))) refl;
   not_doomed = λ u d h. or_from _ false (stage_apart v t u Closed (Gone (Some d)) closed h (λ s. absurd cc)) refl;
   not_dead = λ u h. or_from _ false (tx_ne u t (λ s. (k.dead u h).2 (ap (stage_in v.parts) s ∙ closed))) refl;
-  no_write = λ u. refl;
-  no_undo = λ u. refl;
+  no_abort = λ u. refl;
   down = λ u p h c. ⊎_elim
       (λ i. let same : u ≡ t = tx_true u t i in
       subst (λ x. CommitBefore (v.log ++ Commit t parts ∷ []) p x) (sym same) (before_new v.log p t parts (before p (subst (λ x. is_pair v.pairs x p ≡ true) same h)) new))
       (λ i. absurd (both_ways false refl i))
       (or_cases (tx_same u t) false c);
   tidies = (tt, tt);
-}) (prepared_more g.items g.met v.parts v.log (Commit t parts ∷ []) k.prepared (λ u. refl) (λ u. refl))
+}) (prepared_more g.done g.met v.parts v.log (Commit t parts ∷ []) k.prepared (λ u. refl) (λ u. refl))
 
 -- a PREPARE of a closed part, whose predecessors it lists or are committed
-pub later_both : {I : Type 0} (P Q : I → I → Type 0) (xs : List I) → AllLater P xs → AllLater Q xs → AllLater (λ x y. P x y × Q x y) xs
-later_both P Q [] a b = tt
-later_both P Q (x ∷ xs) a b = (all_both _ _ xs a.0 b.0, later_both P Q xs a.1 b.1)
-
 module _ (g : Past) (v : View) (t : TxId) (home : ℕ) (ps : List TxId) (k : Kept g v) (closed : stage_in v.parts t ≡ Some Closed) (new : committed_in v.log t ≡ false) (first : prepared_in v.log t ≡ false)
     (before : (p : TxId) → is_pair v.pairs t p ≡ true → (committed_in v.log p ≡ true) ⊎ (tx_in p ps ≡ true)) (met_deps : (p : TxId) → is_pair g.met t p ≡ true → Dep v t p) where
   committed_first : (p : TxId) → committed_in v.log p ≡ true → IsListed (v.log ++ Prepare t home ps ∷ []) t p
@@ -181,17 +175,16 @@ module _ (g : Past) (v : View) (t : TxId) (home : ℕ) (ps : List TxId) (k : Kep
     not_gone = λ u h. refl;
     not_doomed = λ u d h. refl;
     not_dead = λ u h. refl;
-    no_write = λ u. refl;
-    no_undo = λ u. refl;
+    no_abort = λ u. refl;
     down = λ u p h c. absurd (both_ways false refl c);
     tidies = (tt, tt);
   }
 
-  prepared_prepare : Prepared g.items g.met v.parts (v.log ++ Prepare t home ps ∷ [])
+  prepared_prepare : Prepared g.done g.met v.parts (v.log ++ Prepare t home ps ∷ [])
   prepared_prepare = record {
     unprepared = λ u a. unprepared_append v.log (Prepare t home ps ∷ []) u (k.prepared.unprepared u a) (or_from _ false (stage_apart v t u Closed Active closed a (λ s. absurd cc)) refl);
     sealed = sealed_append [] v.log (Prepare t home ps ∷ []) k.prepared.sealed (first, tt);
-    causes = later_mono _ _ (λ x y h r. ⊎_elim (λ s. inl s) (λ dep. ⊎_elim (λ s. inl s) (λ old. inr (lists_now y.tx x.tx (λ e. subst (λ z. Dep v z x.tx) e dep) old)) (h.1 r)) (h.0 r)) g.items (later_both _ _ g.items k.causes k.prepared.causes);
+    causes = met_mono _ _ (λ x y h r. ⊎_elim (λ s. inl s) (λ dep. ⊎_elim (λ s. inl s) (λ old. inr (lists_now y.tx x.tx (λ e. subst (λ z. Dep v z x.tx) e dep) old)) (h.1 r)) (h.0 r)) g.done (met_both _ _ g.done k.causes k.prepared.causes);
     recover = λ u p e. lists_now u p (λ same. met_deps p (subst (λ z. is_pair g.met z p ≡ true) same e)) (k.prepared.recover u p e);
   }
 
@@ -216,11 +209,11 @@ keeps_front g v n k le = record {
   parts = k.parts;
   fates = k.fates;
   ends = record {
-    left = all_mono _ _ (λ x l. ⊎_elim (λ a. inl a) (λ a. inr (⊎_elim (λ o. inl o) (λ d. inr (further v.log v.durable n x.tx le d)) a)) l) g.items k.left;
+    left = all_mono _ _ (λ x l. ⊎_elim (λ a. inl a) (λ a. inr (⊎_elim (λ o. inl o) (λ d. inr (further v.log v.durable n (doer x) le d)) a)) l) g.done k.left;
     over = λ t h. ⊎_elim (λ c. inl (further v.log v.durable n t le c)) (λ c. inr c) (k.over t h);
     recover = λ t p e. ⊎_elim (λ o. inl o) (λ d. inr (dep_front v n t p le d.0, d.1)) (k.recover t p e);
   };
-  pairs = record { downwards = k.downwards; causes = later_mono _ _ (λ x y h r. ⊎_elim (λ s. inl s) (λ d. inr (dep_front v n y.tx x.tx le d)) (h r)) g.items k.causes };
+  pairs = record { downwards = k.downwards; causes = met_mono _ _ (λ x y h r. ⊎_elim (λ s. inl s) (λ d. inr (dep_front v n y.tx x.tx le d)) (h r)) g.done k.causes };
   durable = record { base_done = all_mono _ _ (λ w h. further v.log v.durable n w.tx le h) g.base k.base_done; front = λ m e. absurd (none-some m e) };
 }
 
@@ -281,7 +274,7 @@ keeps_purge g v k = record {
   records = record { rises = rising_filter (is_locked_or_live v.locks) v.records k.rises; values = λ q. value_purged v.locks q v.records k.rises ∙ k.values q };
   locks = record {
     rows = k.rows;
-    covered = all_mono _ _ (λ y h active. let c = h active in (λ q m. purge_part v.locks v.records y.tx (met_part (is_adding y)) q (c.0 q m), λ q m. purge_part v.locks v.records y.tx (wrote_part (is_adding y)) q (c.1 q m))) g.items k.covered;
+    covered = all_mono _ _ (λ y h active. let c = h active in (λ q m. purge_part v.locks v.records y.tx (met_part (is_adding y)) q (c.0 q m), λ q m. purge_part v.locks v.records y.tx (wrote_part (is_adding y)) q (c.1 q m))) (items_in g.done) k.covered;
     wrote = all_mono _ _ (λ w h out. let c = h out in (c.0, λ none. c.1 (sym (record_kept (is_locked_or_live v.locks) w.key v.records (λ b. at_key v.locks true (part_for w.change) (At w.key) w.tx c.0 (w.key, b) refl)) ∙ none))) (standing v.log) k.wrote;
   };
   parts = k.parts;

@@ -1,5 +1,5 @@
 -- What one shard keeps.
-use Rattle.std.proofs.Common.{◌≡◌, ℕ, ◌≤◌, ◌<◌, ◌⊎◌, Bool, true, false, not, List, [], Option, Some, None}
+use Rattle.std.proofs.Common.{◌≡◌, ◌≤◌, ◌<◌, ◌⊎◌, Bool, true, false, not, List, [], Option, Some, None, ℕ}
 use Rattle.std.specs.List.{AllByRecursion, filter}
 use Rattle.clv_base.specs.declared.names.TxId.{TxId}
 use Rattle.clv_base.specs.declared.names.Birth.{Birth}
@@ -13,16 +13,16 @@ use Rattle.clv_base.specs.declared.state.Stage.TheVariants.{Active, Closed, Gone
 use Rattle.clv_base.specs.declared.state.Held.{Held}
 use Rattle.clv_base.specs.Orders.{Table, tx_in, tx_get}
 use Rattle.clv_base.specs.Maps.{KeyMap, map_get}
-use Rattle.clv_base.specs.Logs.{StandingUpdate, is_setting, standing, committed_in, wrote_in}
+use Rattle.clv_base.specs.Logs.{StandingUpdate, is_setting, standing, committed_in, aborted_in, has_standing}
 use Rattle.clv_base.specs.Locks.{Locks}
 use Rattle.clv_base.specs.State.{Shard}
 use Rattle.clv_base.specs.State.{is_present}
 use Rattle.clv_base.specs.Needs.{Records, value_at}
 use Rattle.law_base.proofs.Cells.{record_at}
 use Rattle.clv_base.specs.Folding.{IsRising}
-use Rattle.law_base.specs.Items.{Item, wrote, writes, meets, Runs, AllLater, Reaches, Clash, pile}
-use Rattle.protocol_laws.specs.Order.{undone_in, Tidy}
-pub use Rattle.shard_laws.specs.OneShard.{place}
+use Rattle.law_base.specs.Items.{Item, Deed, held, Acts, wrote, writes, meets, AllLater, Reaches, Clash, pile}
+use Rattle.protocol_laws.specs.Order.{Tidy}
+pub use Rattle.shard_laws.specs.OneShard.{place, doer, number_of, items_in, AskInOrder, NobodyBetween}
 use Rattle.law_base.proofs.Running.{top_value}
 use Rattle.law_base.proofs.Undoing.{Chain}
 use Rattle.law_base.proofs.Anchors.{Rising}
@@ -31,6 +31,7 @@ use Rattle.shard_laws.proofs.Operations.NeedsCoverKeys.{met_part, wrote_part, ho
 use Rattle.shard_laws.proofs.Operations.WritesAtEachKey.{SameAtKeys}
 use Rattle.law_base.proofs.Tables.{stage_in, is_pair}
 use Rattle.law_base.proofs.Commits.{CommitBefore, commit_durable}
+use Rattle.shard_laws.proofs.Keeping.DeedsThatHold.{AllMet, Rise}
 use Rattle.shard_laws.proofs.Keeping.ChangesKeepPrepared.{Prepared}
 
 -- the parts of a shard's state that count
@@ -46,11 +47,11 @@ pub record View : Type 0 where
 abbrev pub view_of : Shard → View
 view_of s = record { records = s.local.records; locks = s.local.locks; parts = s.local.parts; pairs = s.local.pairs; log = s.local.log; durable = s.durable; flight = s.flight }
 
--- what was there at opening, what was done and not taken back, and who made a request, in that order
+-- what was there at opening, what was done by those that are not lost, and who made a request, in that order
 pub record Past : Type 0 where
   pub start : KeyMap
   pub base : List StandingUpdate
-  pub items : List Item
+  pub done : List Deed
   pub asked : List TxId
   -- who may have been told of success: with a durable COMMIT, or finished after reading alone
   pub over : List TxId
@@ -113,9 +114,9 @@ KnownIn asked parts t = (stage_in parts t ≡ Some Active) ⊎ ((tx_in t asked �
 abbrev pub Known : Past → View → TxId → Type 0
 Known g v = KnownIn g.asked v.parts
 
--- it is committed for good, or has only read and left
+-- it is committed for good, or has left and no write of it stands
 abbrev pub EndedIn : List TxId → Table Held → List LogRecord → ℕ → TxId → Type 0
-EndedIn asked parts log durable t = (commit_durable log durable t ≡ true) ⊎ ((committed_in log t ≡ false) × (wrote_in log t ≡ false) × (is_present (stage_in parts t) ≡ false) × (tx_in t asked ≡ true))
+EndedIn asked parts log durable t = (commit_durable log durable t ≡ true) ⊎ ((committed_in log t ≡ false) × (has_standing log t ≡ false) × (is_present (stage_in parts t) ≡ false) × (tx_in t asked ≡ true))
 
 abbrev pub Ended : Past → View → TxId → Type 0
 Ended g v = EndedIn g.asked v.parts v.log v.durable
@@ -147,16 +148,18 @@ pub record KeptStart (start : KeyMap) (base : List StandingUpdate) : Type 0 wher
   pub base_value : (k : ℕ) → map_get k start ≡ top_value k base
   pub base_chain : Chain base
 
--- what was done since gives its answers, none of it by one that is lost, and where two clash the earlier asked first
-pub record KeptPast (start : KeyMap) (items : List Item) (asked lost : List TxId) : Type 0 where
-  pub runs : Runs start items
-  pub alive : AllByRecursion (λ x. tx_in x.tx lost ≡ false) items
-  pub order : AllLater (λ x y. Clash x y → (x.tx ≡ y.tx) ⊎ (place asked x.tx < place asked y.tx)) items
+-- what was done since gives its answers, none of it by one that is lost; where two clash the earlier asked first; and nobody clashed with what a
+-- going back took away
+pub record KeptPast (start : KeyMap) (done : List Deed) (asked lost : List TxId) : Type 0 where
+  pub acts : Acts start done
+  pub alive : AllByRecursion (λ d. tx_in (doer d) lost ≡ false) done
+  pub order : AskInOrder asked done
+  pub between : NobodyBetween [] done
+  pub rising : AllLater Rise done
 
--- the log has what was done, and nothing in it is written or undone after a COMMIT
-pub record KeptLog (base : List StandingUpdate) (items : List Item) (lost : List TxId) (log : List LogRecord) : Type 0 where
-  pub standing_is : SameAtKeys (filter (of_kept (is_alive lost)) (standing log)) (pile items base)
-  pub logged : AllByRecursion (λ x. (k : ℕ) → writes x k ≡ true → wrote_in log x.tx ≡ true) items
+-- the log has the writes of what holds, and nothing in it is written or undone after a COMMIT
+pub record KeptLog (base : List StandingUpdate) (done : List Deed) (lost : List TxId) (log : List LogRecord) : Type 0 where
+  pub standing_is : SameAtKeys (filter (of_kept (is_alive lost)) (standing log)) (pile (held done) base)
   pub tidy : Tidy [] log
 
 -- the records have the newest values that stand in the log
@@ -164,35 +167,44 @@ pub record KeptRecords (records : Records) (log : List LogRecord) : Type 0 where
   pub rises : Rising records
   pub values : (k : ℕ) → value_at k records ≡ top_value k (standing log)
 
--- each lock is of a part that is here; who is active or wrote holds what it needs
-pub record KeptLocks (items : List Item) (records : Records) (locks : Locks) (parts : Table Held) (log : List LogRecord) (durable : ℕ) : Type 0 where
+-- each lock is of a part that is here; who is active holds what all its operations need, also those it went back over, and who wrote what that needs
+pub record KeptLocks (done : List Deed) (records : Records) (locks : Locks) (parts : Table Held) (log : List LogRecord) (durable : ℕ) : Type 0 where
   pub rows : Rows (Belongs parts) locks
-  pub covered : AllByRecursion (λ y. stage_in parts y.tx ≡ Some Active → Covers records locks y) items
+  pub covered : AllByRecursion (λ y. stage_in parts y.tx ≡ Some Active → Covers records locks y) (items_in done)
   pub wrote : AllByRecursion (WroteIn records locks log durable) (standing log)
 
+-- who is active meets nobody else behind it
+abbrev pub IsAlone : Table Held → Item → Item → Type 0
+IsAlone parts x y = Clash x y → (x.tx ≡ y.tx) ⊎ (stage_in parts x.tx ≡ Some Active → ⊥)
+
 -- who did something is active or asked, who is closed asked, and pairs are of parts that are here
-pub record KeptParts (items : List Item) (asked : List TxId) (parts : Table Held) (pairs : List (TxId × TxId)) : Type 0 where
-  pub known : AllByRecursion (λ x. KnownIn asked parts x.tx) items
+pub record KeptParts (done : List Deed) (asked : List TxId) (parts : Table Held) (pairs : List (TxId × TxId)) : Type 0 where
+  pub known : AllByRecursion (λ d. KnownIn asked parts (doer d)) done
+  pub alone : AllLater (IsAlone parts) (items_in done)
   pub closed : (t : TxId) → stage_in parts t ≡ Some Closed → tx_in t asked ≡ true
   pub successors : (t p : TxId) → is_pair pairs t p ≡ true → is_present (stage_in parts t) ≡ true
 
--- who is active, undone or gone by an abort has no COMMIT; and what is kept of those that have a PREPARE
-pub record KeptFates (items : List Item) (met : List (TxId × TxId)) (parts : Table Held) (log : List LogRecord) : Type 0 where
+-- who is active, aborted or gone by an abort has no COMMIT; and what is kept of those that have a PREPARE
+pub record KeptFates (done : List Deed) (met : List (TxId × TxId)) (parts : Table Held) (log : List LogRecord) : Type 0 where
   pub uncommitted : (t : TxId) → stage_in parts t ≡ Some Active → committed_in log t ≡ false
-  pub dead : (t : TxId) → undone_in log t ≡ true → (committed_in log t ≡ false) × (stage_in parts t ≡ Some Active → ⊥) × (stage_in parts t ≡ Some Closed → ⊥)
+  pub dead : (t : TxId) → aborted_in log t ≡ true → (committed_in log t ≡ false) × (stage_in parts t ≡ Some Active → ⊥) × (stage_in parts t ≡ Some Closed → ⊥)
   pub doomed : (t d : TxId) → stage_in parts t ≡ Some (Gone (Some d)) → committed_in log t ≡ false
-  pub prepared : Prepared items met parts log
+  pub prepared : Prepared done met parts log
 
 -- who did something is here or has ended, who may have been told has ended, and what one met has ended before it or it never will
-pub record KeptEnds (items : List Item) (asked told : List TxId) (met : List (TxId × TxId)) (lost : List TxId) (parts : Table Held) (pairs : List (TxId × TxId)) (log : List LogRecord) (durable : ℕ) : Type 0 where
-  pub left : AllByRecursion (λ x. LeftIn told parts log durable x.tx) items
+pub record KeptEnds (done : List Deed) (asked told : List TxId) (met : List (TxId × TxId)) (lost : List TxId) (parts : Table Held) (pairs : List (TxId × TxId)) (log : List LogRecord) (durable : ℕ) : Type 0 where
+  pub left : AllByRecursion (λ d. LeftIn told parts log durable (doer d)) done
   pub over : (t : TxId) → tx_in t told ≡ true → EndedIn asked parts log durable t
   pub recover : (t p : TxId) → is_pair met t p ≡ true → OutIn lost parts t ⊎ (DepIn pairs log durable t p × (place asked p < place asked t))
 
--- predecessors commit first, and each depends on those whose writes it reached
-pub record KeptPairs (items : List Item) (pairs : List (TxId × TxId)) (log : List LogRecord) (durable : ℕ) : Type 0 where
+-- each depends on those whose writes it reached that held then
+abbrev pub Cause : List (TxId × TxId) → List LogRecord → ℕ → Item → Item → Type 0
+Cause pairs log durable x y = Reaches x y → (x.tx ≡ y.tx) ⊎ DepIn pairs log durable y.tx x.tx
+
+-- predecessors commit first, and so do those on which one depends
+pub record KeptPairs (done : List Deed) (pairs : List (TxId × TxId)) (log : List LogRecord) (durable : ℕ) : Type 0 where
   pub downwards : (t p : TxId) → is_pair pairs t p ≡ true → committed_in log t ≡ true → CommitBefore log p t
-  pub causes : AllLater (λ x y. Reaches x y → (x.tx ≡ y.tx) ⊎ DepIn pairs log durable y.tx x.tx) items
+  pub causes : AllMet (Cause pairs log durable) done
 
 -- what was there at opening is durable, and what is in flight lies beyond the front
 pub record KeptFront (base : List StandingUpdate) (log : List LogRecord) (durable : ℕ) (flight : Option ℕ) : Type 0 where
@@ -203,21 +215,21 @@ pub record KeptFront (base : List StandingUpdate) (log : List LogRecord) (durabl
 pub record Kept (g : Past) (v : View) : Type 0 where
   pub start : KeptStart g.start g.base
   pub open start use *
-  pub past : KeptPast g.start g.items g.asked g.lost
+  pub past : KeptPast g.start g.done g.asked g.lost
   pub open past use *
-  pub log : KeptLog g.base g.items g.lost v.log
+  pub log : KeptLog g.base g.done g.lost v.log
   pub open log use *
   pub records : KeptRecords v.records v.log
   pub open records use *
-  pub locks : KeptLocks g.items v.records v.locks v.parts v.log v.durable
+  pub locks : KeptLocks g.done v.records v.locks v.parts v.log v.durable
   pub open locks use *
-  pub parts : KeptParts g.items g.asked v.parts v.pairs
+  pub parts : KeptParts g.done g.asked v.parts v.pairs
   pub open parts use *
-  pub fates : KeptFates g.items g.met v.parts v.log
+  pub fates : KeptFates g.done g.met v.parts v.log
   pub open fates use *
-  pub ends : KeptEnds g.items g.asked g.over g.met g.lost v.parts v.pairs v.log v.durable
+  pub ends : KeptEnds g.done g.asked g.over g.met g.lost v.parts v.pairs v.log v.durable
   pub open ends use *
-  pub pairs : KeptPairs g.items v.pairs v.log v.durable
+  pub pairs : KeptPairs g.done v.pairs v.log v.durable
   pub open pairs use *
   pub durable : KeptFront g.base v.log v.durable v.flight
   pub open durable use *

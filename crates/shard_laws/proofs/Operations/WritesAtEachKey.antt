@@ -1,5 +1,5 @@
 -- Lists of writes that come to the same at each key: they hold the same writes, in the same order but for ADDs beside each other.
-use Rattle.std.proofs.Common.{◌≡◌, ℕ, Bool, true, false, cond, ◌||◌, List, [], ◌∷◌, ◌++◌, Option, Some, None, ◌==◌, refl, sym, ap, subst, ◌∙◌, eqb-true}
+use Rattle.std.proofs.Common.{◌≡◌, Bool, true, false, cond, ◌||◌, List, [], ◌∷◌, ◌++◌, Option, Some, None, ◌==◌, refl, sym, ap, subst, ◌∙◌, eqb-true, ℕ}
 use Rattle.std.specs.List.{AllByRecursion, filter}
 use Rattle.std.proofs.lemmas.Bool.{both_ways}
 use Rattle.clv_base.specs.declared.values.Value.{Value as ValueType}
@@ -7,13 +7,15 @@ use Rattle.clv_base.specs.declared.names.TxId.{TxId}
 use Rattle.clv_base.specs.declared.changes.Change.{Change}
 use Rattle.clv_base.specs.declared.changes.Change.TheVariants.{Sets, Adds}
 use Rattle.clv_base.specs.Logs.{StandingUpdate, changed, is_setting}
+use Rattle.clv_base.specs.Orders.{tx_same}
+use Rattle.clv_base.proofs.SameNames.{tx_true}
 use Rattle.clv_base.proofs.Sums.{plus_plus}
 use Rattle.law_base.specs.Items.{on_top}
 use Rattle.law_base.proofs.Running.{top_value}
 
--- two writes that may change places: of different keys, or both ADDs
+-- two writes that may change places: of different transactions, and of different keys or both ADDs
 abbrev pub MaySwap : StandingUpdate → StandingUpdate → Type 0
-MaySwap w v = w.key ≡ v.key → (is_setting w.change || is_setting v.change) ≡ false
+MaySwap w v = (w.tx ≡ v.tx → ⊥) × (w.key ≡ v.key → (is_setting w.change || is_setting v.change) ≡ false)
 
 pub data SameAtKeys : List StandingUpdate → List StandingUpdate → Type 0 where
   unmoved : {ws : List StandingUpdate} → SameAtKeys ws ws
@@ -60,7 +62,7 @@ keys_top _ _ q (swapped {ws} w v may) = at (q == w.key) (q == v.key) refl refl
     at : (b c : Bool) → (q == w.key) ≡ b → (q == v.key) ≡ c
         → cond b (changed w.change (cond c (changed v.change (top_value q ws)) (top_value q ws))) (cond c (changed v.change (top_value q ws)) (top_value q ws))
         ≡ cond c (changed v.change (cond b (changed w.change (top_value q ws)) (top_value q ws))) (cond b (changed w.change (top_value q ws)) (top_value q ws))
-    at true true e f = changes_swap w.change v.change (top_value q ws) (may (sym (eqb-true q w.key e) ∙ eqb-true q v.key f))
+    at true true e f = changes_swap w.change v.change (top_value q ws) (may.1 (sym (eqb-true q w.key e) ∙ eqb-true q v.key f))
     at true false e f = refl
     at false true e f = refl
     at false false e f = refl
@@ -76,3 +78,18 @@ keys_all P _ _ (unmoved {ws}) a = a
 keys_all P _ _ (behind {ws} {vs} w s) a = (a.0, keys_all P ws vs s a.1)
 keys_all P _ _ (swapped {ws} w v may) a = (a.1.0, (a.0, a.1.1))
 keys_all P _ _ (twice {us} {vs} {ws} s t) a = keys_all P vs ws t (keys_all P us vs s a)
+
+-- each transaction's own writes are the same, in the same order
+pub keys_own : (t : TxId) (ws vs : List StandingUpdate) → SameAtKeys ws vs → filter (λ w. tx_same t w.tx) ws ≡ filter (λ w. tx_same t w.tx) vs
+keys_own t _ _ (unmoved {ws}) = refl
+keys_own t _ _ (behind {ws} {vs} w s) = ap (λ l. cond (tx_same t w.tx) (w ∷ l) l) (keys_own t ws vs s)
+keys_own t _ _ (swapped {ws} w v may) = at (tx_same t w.tx) (tx_same t v.tx) refl refl
+  where
+    at : (b c : Bool) → tx_same t w.tx ≡ b → tx_same t v.tx ≡ c
+        → cond b (w ∷ cond c (v ∷ filter (λ x. tx_same t x.tx) ws) (filter (λ x. tx_same t x.tx) ws)) (cond c (v ∷ filter (λ x. tx_same t x.tx) ws) (filter (λ x. tx_same t x.tx) ws))
+        ≡ cond c (v ∷ cond b (w ∷ filter (λ x. tx_same t x.tx) ws) (filter (λ x. tx_same t x.tx) ws)) (cond b (w ∷ filter (λ x. tx_same t x.tx) ws) (filter (λ x. tx_same t x.tx) ws))
+    at true true e f = absurd (may.0 (sym (tx_true t w.tx e) ∙ tx_true t v.tx f))
+    at true false e f = refl
+    at false true e f = refl
+    at false false e f = refl
+keys_own t _ _ (twice {us} {vs} {ws} s r) = keys_own t us vs s ∙ keys_own t vs ws r

@@ -10,20 +10,19 @@ use Rattle.clv_base.specs.declared.state.Stage.TheVariants.{Active, Closed}
 use Rattle.clv_base.specs.declared.state.Held.{Held}
 use Rattle.clv_base.specs.Orders.{Table, tx_same, tx_in, nat_in}
 use Rattle.clv_base.specs.State.{is_present}
-use Rattle.clv_base.specs.Locks.{Locks}
-use Rattle.clv_base.specs.Logs.{is_setting, StandingUpdate, standing, committed_in, prepared_in, aborted_in, wrote_in, prepare_of, is_update_of, is_prepare_of, is_abort_of}
+use Rattle.clv_base.specs.Logs.{is_setting, StandingUpdate, standing, committed_in, prepared_in, aborted_in, wrote_in, has_standing, prepare_of, is_update_of, is_undo_of, is_prepare_of, is_abort_of}
 use Rattle.clv_base.specs.LogRules.{lies_below, may_follow, last_restart, before_restart, in_last_run, has_above, writes_below, listed_in, commit_by_prepare, some_parts}
 use Rattle.clv_base.specs.Restarts.{greatest_run}
 use Rattle.clv_base.proofs.SameNames.{or_left, or_right, tx_true, tx_eq, tx_ne}
+use Rattle.law_base.proofs.Standing.{stood_before}
 use Rattle.law_base.proofs.Lists.{all_mono, all_both}
 use Rattle.law_base.proofs.Tables.{stage_in, is_pair}
 use Rattle.law_base.proofs.Commits.{committed_keeps}
 use Rattle.law_base.proofs.Stages.{present_is}
 use Rattle.protocol_laws.proofs.LogsInOrder.StandingUpdatesLie.{Falling}
 use Rattle.shard_laws.proofs.Keeping.ChangesKeepPrepared.{by_prepare, prepared_append}
-use Rattle.shard_laws.proofs.Keeping.RecordsAndFrontsKeep.{wrote_keeps}
-use Rattle.shard_laws.proofs.Order.RecordByRecord.{Follows, follows_append, Plainly, last_push, before_push, greatest_plain, wrote_since}
-use Rattle.shard_laws.proofs.Operations.HoldersOfXWrote.{Writers}
+use Rattle.shard_laws.proofs.Order.RecordByRecord.{Follows, follows_append, Plainly, last_push, before_push, greatest_plain}
+use Rattle.shard_laws.proofs.Order.WhoseWritesStand.{has_still, new_standing}
 use Rattle.law_base.proofs.Names.{own_in as each_in}
 use Rattle.law_base.proofs.Logs.{no_prepare as prepare_none}
 
@@ -35,9 +34,8 @@ abbrev pub Under : List (TxId × TxId) → (TxId → Bool) → List StandingUpda
 Under pairs done [] = Unit {0}
 Under pairs done (v ∷ vs) = AllByRecursion (λ w. w.key ≡ v.key → (is_setting w.change || is_setting v.change) ≡ true → LiesOn pairs done v.tx w.tx) vs × Under pairs done vs
 
-pub record Lying (locks : Locks) (pairs : List (TxId × TxId)) (log : List LogRecord) : Type 0 where
-  pub under : Under pairs (committed_in log) (standing log)
-  pub writers : Writers (λ t. wrote_in log t ≡ true) locks
+abbrev pub Lying : List (TxId × TxId) → List LogRecord → Type 0
+Lying pairs log = Under pairs (committed_in log) (standing log)
 
 pub record Ordered (shard run : ℕ) (parts : Table Held) (pairs : List (TxId × TxId)) (log : List LogRecord) : Type 0 where
   pub follows : Follows shard [] log
@@ -47,11 +45,11 @@ pub record Ordered (shard run : ℕ) (parts : Table Held) (pairs : List (TxId ×
   -- an active part is of this run, and wrote nothing before the last RESTART
   pub of_run : (t : TxId) → stage_in parts t ≡ Some Active → t.run ≡ run
   pub new : (t : TxId) → stage_in parts t ≡ Some Active → wrote_in (before_restart [] log) t ≡ false
-  -- who is here has no ABORT; who is closed and wrote is prepared or committed
+  -- who is here has no ABORT; who is closed is prepared or committed, where a write of it stands
   pub unaborted : (t : TxId) → is_present (stage_in parts t) ≡ true → aborted_in log t ≡ false
-  pub decided : (t : TxId) → stage_in parts t ≡ Some Closed → wrote_in log t ≡ true → (prepared_in log t ≡ true) ⊎ (committed_in log t ≡ true)
-  -- a predecessor is another one, committed, or closed here, where it wrote; whom a PREPARE lists is committed or one still
-  pub others : (t p : TxId) → is_pair pairs t p ≡ true → (t ≡ p → ⊥) × ((committed_in log p ≡ true) ⊎ ((stage_in parts p ≡ Some Closed) × (wrote_in log p ≡ true)))
+  pub decided : (t : TxId) → stage_in parts t ≡ Some Closed → has_standing log t ≡ true → (prepared_in log t ≡ true) ⊎ (committed_in log t ≡ true)
+  -- a predecessor is another one, committed, or closed here, and a write of it stands; whom a PREPARE lists is committed or one still
+  pub others : (t p : TxId) → is_pair pairs t p ≡ true → (t ≡ p → ⊥) × ((committed_in log p ≡ true) ⊎ ((stage_in parts p ≡ Some Closed) × (has_standing log p ≡ true)))
   pub lists : (t p : TxId) → stage_in parts t ≡ Some Closed → tx_in p (listed_in log t) ≡ true → (committed_in log p ≡ true) ⊎ (is_pair pairs t p ≡ true)
 
 -- ---- lists of records
@@ -115,19 +113,20 @@ unlisted log t e = ap by_prepare (prepare_none log t e)
 
 -- ---- a step: more records, parts that leave, pairs that go
 
--- a record of none that is here, and no RESTART, UPDATE or PREPARE
+-- no ABORT of one that is here, no CLR or UNADD of one that is closed, and no RESTART, UPDATE, ADD or PREPARE
 pub record Calm (parts : Table Held) (r : LogRecord) : Type 0 where
   pub plainly : Plainly r
   pub no_update : (t : TxId) → is_update_of t r ≡ false
   pub no_prepare : (t : TxId) → is_prepare_of t r ≡ false
   pub no_abort : (t : TxId) → is_present (stage_in parts t) ≡ true → is_abort_of t r ≡ false
+  pub no_undo : (t : TxId) → stage_in parts t ≡ Some Closed → is_undo_of t r ≡ false
 
 pub record Stepped (shard : ℕ) (parts parts2 : Table Held) (pairs pairs2 : List (TxId × TxId)) (log more : List LogRecord) : Type 0 where
   pub follows : Follows shard log more
   pub calm : AllByRecursion (Calm parts2) more
   pub active : (t : TxId) → stage_in parts2 t ≡ Some Active → stage_in parts t ≡ Some Active
   pub closed : (t : TxId) → stage_in parts2 t ≡ Some Closed → stage_in parts t ≡ Some Closed
-  pub kept : (t p : TxId) → is_pair pairs2 t p ≡ true → (is_pair pairs t p ≡ true) × ((stage_in parts p ≡ Some Closed) → (stage_in parts2 p ≡ Some Closed) ⊎ ((wrote_in log p ≡ true) → committed_in log p ≡ true))
+  pub kept : (t p : TxId) → is_pair pairs2 t p ≡ true → (is_pair pairs t p ≡ true) × ((stage_in parts p ≡ Some Closed) → (stage_in parts2 p ≡ Some Closed) ⊎ ((has_standing log p ≡ true) → committed_in log p ≡ true))
   pub stay : (t p : TxId) → stage_in parts2 t ≡ Some Closed → is_pair pairs t p ≡ true → is_pair pairs2 t p ≡ true
 
 pub ordered_step : (shard run : ℕ) (parts parts2 : Table Held) (pairs pairs2 : List (TxId × TxId)) (log more : List LogRecord) → Ordered shard run parts pairs log → Stepped shard parts parts2 pairs pairs2 log more → Ordered shard run parts2 pairs2 (log ++ more)
@@ -139,11 +138,11 @@ ordered_step shard run parts parts2 pairs pairs2 log more o s = record {
   new = λ t a. ap (λ l. wrote_in l t) (before_all log more plain) ∙ o.new t (s.active t a);
   unaborted = λ t p. none_both (is_abort_of t) log more (o.unaborted t (⊎_elim (λ a. ap is_present (s.active t a)) (λ c. ap is_present (s.closed t c)) (present_is (stage_in parts2 t) p)))
       (none_any (is_abort_of t) more (all_mono _ _ (λ r c. c.no_abort t p) more s.calm));
-  decided = λ t c w. ⊎_elim (λ p. inl (prepared_append log more t ∙ or_left _ _ p)) (λ k. inr (committed_keeps log more t k)) (o.decided t (s.closed t c) (from_first (is_update_of t) log more (no_updates t) w));
+  decided = λ t c w. ⊎_elim (λ p. inl (prepared_append log more t ∙ or_left _ _ p)) (λ k. inr (committed_keeps log more t k)) (o.decided t (s.closed t c) (stood_before log more t (no_updates t) w));
   others = λ t p e.
       let k = s.kept t p e in
       let q = o.others t p k.0 in
-      (q.0, ⊎_elim (λ c. inl (committed_keeps log more p c)) (λ c. ⊎_elim (λ i. inr (i, wrote_keeps log more p c.1)) (λ d. inl (committed_keeps log more p (d c.1))) (k.1 c.0)) q.1);
+      (q.0, ⊎_elim (λ c. inl (committed_keeps log more p c)) (λ c. ⊎_elim (λ i. inr (i, has_still log more p (no_undos p i) c.1)) (λ d. inl (committed_keeps log more p (d c.1))) (k.1 c.0)) q.1);
   lists = λ t p c i. ⊎_elim (λ k. inl (committed_keeps log more p k)) (λ e. inr (s.stay t p c e)) (o.lists t p (s.closed t c) (ap (tx_in p) (sym (listed_same log more t (no_prepares t))) ∙ i));
 }
   where
@@ -152,6 +151,9 @@ ordered_step shard run parts parts2 pairs pairs2 log more o s = record {
 
     no_updates : (t : TxId) → wrote_in more t ≡ false
     no_updates t = none_any (is_update_of t) more (all_mono _ _ (λ r c. c.no_update t) more s.calm)
+
+    no_undos : (t : TxId) → stage_in parts2 t ≡ Some Closed → list_any (is_undo_of t) more ≡ false
+    no_undos t i = none_any (is_undo_of t) more (all_mono _ _ (λ r c. c.no_undo t i) more s.calm)
 
     no_prepares : (t : TxId) → prepared_in more t ≡ false
     no_prepares t = none_any (is_prepare_of t) more (all_mono _ _ (λ r c. c.no_prepare t) more s.calm)
@@ -179,12 +181,10 @@ pub under_more : (pairs : List (TxId × TxId)) (f h : TxId → Bool) (ws : List 
 under_more pairs f h [] more u = tt
 under_more pairs f h (v ∷ vs) more u = (all_mono _ _ (λ w l e q. ⊎_elim (λ s. inl s) (λ m. inr (⊎_elim (λ c. inl (more w.tx c)) (λ p. inr p) m)) (l e q)) vs u.0, under_more pairs f h vs more u.1)
 
--- records that leave the standing UPDATEs
-pub lying_more : (locks : Locks) (pairs : List (TxId × TxId)) (log more : List LogRecord) → standing (log ++ more) ≡ standing log → Lying locks pairs log → Lying locks pairs (log ++ more)
-lying_more locks pairs log more e l = record {
-  under = subst (Under pairs (committed_in (log ++ more))) (sym e) (under_more pairs (committed_in log) (committed_in (log ++ more)) (standing log) (λ t c. committed_keeps log more t c) l.under);
-  writers = all_mono _ _ (λ r h. (λ x. wrote_keeps log more (r.1).tx (h.0 x), λ x. wrote_keeps log more (r.1).tx (h.1 x))) locks l.writers;
-}
+-- records that leave the standing writes
+pub lying_more : (pairs : List (TxId × TxId)) (log more : List LogRecord) → standing (log ++ more) ≡ standing log → Lying pairs log → Lying pairs (log ++ more)
+lying_more pairs log more e l =
+    subst (Under pairs (committed_in (log ++ more))) (sym e) (under_more pairs (committed_in log) (committed_in (log ++ more)) (standing log) (λ t c. committed_keeps log more t c) l)
 
 none_above : (tx : TxId) (u : StandingUpdate) (vs : List StandingUpdate) → AllByRecursion (λ v. v.lsn ≤ u.lsn) vs → has_above tx u vs ≡ false
 none_above tx u [] a = refl
@@ -230,7 +230,7 @@ under_all pairs done f tx ws fall u h =
 
 -- ---- which records may follow
 
-module _ (shard run : ℕ) (locks : Locks) (parts : Table Held) (pairs : List (TxId × TxId)) (log : List LogRecord) (o : Ordered shard run parts pairs log) (l : Lying locks pairs log) (fall : Falling (standing log)) where
+module _ (shard run : ℕ) (parts : Table Held) (pairs : List (TxId × TxId)) (log : List LogRecord) (o : Ordered shard run parts pairs log) (l : Lying pairs log) (fall : Falling (standing log)) where
   pub restarted : is_some (last_restart log) ≡ true
   restarted = ap is_some (o.last).1
 
@@ -238,18 +238,18 @@ module _ (shard run : ℕ) (locks : Locks) (parts : Table Held) (pairs : List (T
   this_run t e = ap (λ z. elim z [ Some p ↦ t.run == p.0 | None ↦ false ]) (o.last).1 ∙ eq-eqb t.run run e
 
   pub commit_follows : (t : TxId) (ps : List ℕ) → is_present (stage_in parts t) ≡ true → committed_in log t ≡ false → nat_in shard ps ≡ false → ((p : TxId) → is_pair pairs t p ≡ true → committed_in log p ≡ true)
-      → ((p : TxId) → tx_in p (listed_in log t) ≡ true → committed_in log p ≡ true) → commit_by_prepare shard log t ps (prepare_of log t) ≡ true → (wrote_in log t || some_parts ps) ≡ true → may_follow shard log (Commit t ps) ≡ true
+      → ((p : TxId) → tx_in p (listed_in log t) ≡ true → committed_in log p ≡ true) → commit_by_prepare shard log t ps (prepare_of log t) ≡ true → (has_standing log t || some_parts ps) ≡ true → may_follow shard log (Commit t ps) ≡ true
   commit_follows t ps here open_ home before listed by wrote =
       and_from _ _ (and_from _ _ (and_from _ _ (and_from _ _ (and_from _ _ (and_from _ _ (and_from _ _ restarted (ap not open_)) (ap not (o.unaborted t here))) (ap not home))
       (list_all_from (committed_in log) (listed_in log t) (all_mono _ _ (λ p i. listed p i) (listed_in log t) (each_in (listed_in log t)))))
-      (under_all pairs (committed_in log) (committed_in log) t (standing log) fall l.under (λ p e. ⊎_elim (λ c. c) (λ i. before p i) e))) by) wrote
+      (under_all pairs (committed_in log) (committed_in log) t (standing log) fall l (λ p e. ⊎_elim (λ c. c) (λ i. before p i) e))) by) wrote
 
-  pub prepare_follows : (t : TxId) (home : ℕ) (ps : List TxId) → stage_in parts t ≡ Some Active → wrote_in log t ≡ true → prepared_in log t ≡ false → committed_in log t ≡ false → ((p : TxId) → tx_in p ps ≡ true → (is_pair pairs t p ≡ true) × (committed_in log p ≡ false))
+  pub prepare_follows : (t : TxId) (home : ℕ) (ps : List TxId) → stage_in parts t ≡ Some Active → has_standing log t ≡ true → prepared_in log t ≡ false → committed_in log t ≡ false → ((p : TxId) → tx_in p ps ≡ true → (is_pair pairs t p ≡ true) × (committed_in log p ≡ false))
       → ((p : TxId) → is_pair pairs t p ≡ true → (committed_in log p ≡ true) ⊎ (tx_in p ps ≡ true)) → may_follow shard log (Prepare t home ps) ≡ true
   prepare_follows t home ps act wrote unprepared open_ mine all_mine =
-      and_from _ _ (and_from _ _ (and_from _ _ (and_from _ _ (and_from _ _ (and_from _ _ restarted (wrote_since log t wrote (o.new t act))) (ap not unprepared)) (ap not open_)) (ap not (o.unaborted t (ap is_present act))))
+      and_from _ _ (and_from _ _ (and_from _ _ (and_from _ _ (and_from _ _ (and_from _ _ restarted (new_standing shard log o.follows t wrote (o.new t act))) (ap not unprepared)) (ap not open_)) (ap not (o.unaborted t (ap is_present act))))
       (list_all_from _ ps (all_mono _ _ (λ p i. one p (mine p i)) ps (each_in ps))))
-      (under_all pairs (committed_in log) (λ p. committed_in log p || tx_in p ps) t (standing log) fall l.under (λ p e. ⊎_elim (λ c. or_left _ _ c) (λ i. either p (all_mine p i)) e))
+      (under_all pairs (committed_in log) (λ p. committed_in log p || tx_in p ps) t (standing log) fall l (λ p e. ⊎_elim (λ c. or_left _ _ c) (λ i. either p (all_mine p i)) e))
     where
       either : (p : TxId) → (committed_in log p ≡ true) ⊎ (tx_in p ps ≡ true) → (committed_in log p || tx_in p ps) ≡ true
       either p (inl c) = or_left _ _ c

@@ -1,8 +1,7 @@
 -- A granted operation keeps the order rules: its UPDATE may follow, and what lies under it is done or of a predecessor.
 use Rattle.std.proofs.Common.{◌≡◌, ◌⊎◌, inl, inr, ⊎_elim, refl, sym, ap, subst, ◌∙◌, ℕ, ◌+◌, Bool, true, false, not, ◌&&◌, ◌||◌, List, [], ◌∷◌, ◌++◌, length, Option, Some, None, is_some, ◌==◌, eqb-true, eq-eqb}
-use Rattle.std.specs.List.{AllByRecursion}
-use Rattle.std.proofs.lemmas.List.Folds.{list_any-append}
-use Rattle.std.proofs.lemmas.Bool.{cases_Bool, both_ways, and_parts, and_from, false_from_ne_true}
+use Rattle.std.specs.List.{AllByRecursion, filter}
+use Rattle.std.proofs.lemmas.Bool.{cases_Bool, both_ways, and_parts, and_from, or_from, false_from_ne_true}
 use Rattle.clv_base.specs.declared.values.Value.{Value as ValueType}
 use Rattle.clv_base.specs.declared.values.Value.TheVariants.{Num, Bytes}
 use Rattle.clv_base.specs.declared.names.TxId.{TxId}
@@ -20,22 +19,23 @@ use Rattle.clv_base.specs.declared.state.Stage.TheVariants.{Active, Closed}
 use Rattle.clv_base.specs.declared.state.Held.{Held}
 use Rattle.clv_base.specs.Orders.{Table, tx_same, tx_in, tx_get}
 use Rattle.clv_base.specs.State.{is_present}
-use Rattle.clv_base.specs.Locks.{Locks, decide, violated, take_all}
+use Rattle.clv_base.specs.Locks.{decide, violated}
 use Rattle.clv_base.specs.declared.changes.Change.TheVariants.{Sets, Adds}
 use Rattle.clv_base.specs.declared.changes.Change.{Change}
-use Rattle.clv_base.specs.Logs.{StandingUpdate, is_setting, standing, standing_after, committed_in, prepared_in, aborted_in, wrote_in, value_in, is_update_of, is_abort_of}
+use Rattle.clv_base.specs.Logs.{StandingUpdate, is_setting, standing, standing_after, committed_in, prepared_in, aborted_in, wrote_in, has_standing, value_in, is_abort_of}
 use Rattle.clv_base.specs.Values.{same_optional_value}
 use Rattle.clv_base.specs.Modes.{part_compatible}
 use Rattle.clv_base.specs.Maps.{is_number}
 use Rattle.clv_base.specs.LogRules.{may_follow, may_write, may_set, may_add, may_cover, before_restart}
 use Rattle.law_base.proofs.Options.{optional_value_self}
-use Rattle.clv_base.specs.Needs.{needs_of, found_at, value_at, key_of, inserts, writes_of}
-use Rattle.clv_base.specs.OneShard.{update_of, new_part, add_pairs, inserted_locks}
-use Rattle.clv_base.proofs.SameNames.{or_left, or_right, tx_true, tx_self, tx_eq, tx_ne, cases_tx}
+use Rattle.clv_base.specs.Needs.{needs_of, value_at, key_of, writes_of}
+use Rattle.clv_base.specs.OneShard.{update_of, new_part, add_pairs}
+use Rattle.clv_base.proofs.SameNames.{or_left, or_right, tx_true, tx_eq, tx_ne, cases_tx}
 use Rattle.law_base.specs.Items.{is_write_at}
 use Rattle.law_base.proofs.Cells.{record_at}
 use Rattle.law_base.proofs.Lists.{all_mono, all_both}
-use Rattle.law_base.proofs.Undoing.{standing_append}
+use Rattle.law_base.proofs.Standing.{standing_append, all_stand, stood_before}
+use Rattle.law_base.proofs.Sets.{in_filter, filter_in}
 use Rattle.law_base.proofs.Tables.{stage_in, stage_by, is_pair, insert_from, add_keeps, add_has}
 use Rattle.law_base.proofs.Commits.{commit_durable, durable_committed, committed_keeps}
 use Rattle.protocol_laws.proofs.LogsInOrder.OneRecordMore.{push_cases}
@@ -43,14 +43,12 @@ use Rattle.protocol_laws.proofs.LogsInOrder.{Order}
 use Rattle.law_base.proofs.LockRows.{conflict, violates, violated_row, holds, asks}
 use Rattle.shard_laws.proofs.Operations.NeedsCoverKeys.{wrote_part, asks_by, asks_at, asks_written}
 use Rattle.shard_laws.proofs.Keeping.WhatOneShardKeeps.{adds_in, part_for, View, Past, Belongs, Kept}
-use Rattle.shard_laws.proofs.Keeping.RecordsAndFrontsKeep.{wrote_keeps}
 use Rattle.shard_laws.proofs.Keeping.ChangesKeepPrepared.{prepared_append}
-use Rattle.shard_laws.proofs.Keeping.GrantingKeeps.{Written, log_by, adds_same, wrote_holds, own_part, not_active, is_closed, closed_row, insert_writes, writing}
+use Rattle.shard_laws.proofs.Keeping.GrantingKeeps.{Written, log_by, adds_same, wrote_holds, own_part, not_active, is_closed, closed_row}
 use Rattle.law_base.proofs.Stages.{other_part, closed_not_active}
 use Rattle.shard_laws.proofs.Order.RecordByRecord.{follows_append, last_push, before_push, greatest_plain}
-use Rattle.shard_laws.proofs.Operations.HoldersOfXWrote.{writers_more, writers_all, writers_insert, needs_write, violated_wrote}
+use Rattle.shard_laws.proofs.Order.WhoseWritesStand.{has_still}
 use Rattle.shard_laws.proofs.Order.ChangesKeepOrder.{LiesOn, Under, Lying, Ordered, listed_same, under_more}
-use Rattle.shard_laws.proofs.Order.ClosingKeepsOrder.{all_wrote}
 use Rattle.law_base.proofs.Names.{MayStand}
 
 -- ---- an UPDATE or ADD of an active part
@@ -64,9 +62,9 @@ ordered_update shard run parts pairs log t key (Sets before after) o m act = rec
   of_run = o.of_run;
   new = λ u a. ap (λ l. wrote_in l u) (before_push [] log (Update t key before after) tt) ∙ o.new u a;
   unaborted = λ u p. false_from_ne_true _ (λ e. ⊎_elim (λ a. both_ways _ (o.unaborted u p) a) (λ a. both_ways false refl a) (push_cases (is_abort_of u) log (Update t key before after) e));
-  decided = λ u c w. ⊎_elim (λ old. ⊎_elim (λ p. inl (prepared_append log (Update t key before after ∷ []) u ∙ or_left _ _ p)) (λ k. inr (committed_keeps log (Update t key before after ∷ []) u k)) (o.decided u c old))
-      (λ a. absurd (closed_not_active (sym c ∙ ap (stage_in parts) (tx_true u t a) ∙ act))) (push_cases (is_update_of u) log (Update t key before after) w);
-  others = λ u p e. let q = o.others u p e in (q.0, ⊎_elim (λ c. inl (committed_keeps log (Update t key before after ∷ []) p c)) (λ c. inr (c.0, wrote_keeps log (Update t key before after ∷ []) p c.1)) q.1);
+  decided = λ u c w. ⊎_elim (λ p. inl (prepared_append log (Update t key before after ∷ []) u ∙ or_left _ _ p)) (λ k. inr (committed_keeps log (Update t key before after ∷ []) u k))
+      (o.decided u c (stood_before log (Update t key before after ∷ []) u (or_from _ false (tx_ne u t (λ s. closed_not_active (sym c ∙ ap (stage_in parts) s ∙ act))) refl) w));
+  others = λ u p e. let q = o.others u p e in (q.0, ⊎_elim (λ c. inl (committed_keeps log (Update t key before after ∷ []) p c)) (λ c. inr (c.0, has_still log (Update t key before after ∷ []) p refl c.1)) q.1);
   lists = λ u p c i. ⊎_elim (λ k. inl (committed_keeps log (Update t key before after ∷ []) p k)) (λ e. inr e) (o.lists u p c (ap (tx_in p) (sym (listed_same log (Update t key before after ∷ []) u refl)) ∙ i));
 }
 ordered_update shard run parts pairs log t key (Adds by) o m act = record {
@@ -76,9 +74,9 @@ ordered_update shard run parts pairs log t key (Adds by) o m act = record {
   of_run = o.of_run;
   new = λ u a. ap (λ l. wrote_in l u) (before_push [] log (Add t key by) tt) ∙ o.new u a;
   unaborted = λ u p. false_from_ne_true _ (λ e. ⊎_elim (λ a. both_ways _ (o.unaborted u p) a) (λ a. both_ways false refl a) (push_cases (is_abort_of u) log (Add t key by) e));
-  decided = λ u c w. ⊎_elim (λ old. ⊎_elim (λ p. inl (prepared_append log (Add t key by ∷ []) u ∙ or_left _ _ p)) (λ k. inr (committed_keeps log (Add t key by ∷ []) u k)) (o.decided u c old))
-      (λ a. absurd (closed_not_active (sym c ∙ ap (stage_in parts) (tx_true u t a) ∙ act))) (push_cases (is_update_of u) log (Add t key by) w);
-  others = λ u p e. let q = o.others u p e in (q.0, ⊎_elim (λ c. inl (committed_keeps log (Add t key by ∷ []) p c)) (λ c. inr (c.0, wrote_keeps log (Add t key by ∷ []) p c.1)) q.1);
+  decided = λ u c w. ⊎_elim (λ p. inl (prepared_append log (Add t key by ∷ []) u ∙ or_left _ _ p)) (λ k. inr (committed_keeps log (Add t key by ∷ []) u k))
+      (o.decided u c (stood_before log (Add t key by ∷ []) u (or_from _ false (tx_ne u t (λ s. closed_not_active (sym c ∙ ap (stage_in parts) s ∙ act))) refl) w));
+  others = λ u p e. let q = o.others u p e in (q.0, ⊎_elim (λ c. inl (committed_keeps log (Add t key by ∷ []) p c)) (λ c. inr (c.0, has_still log (Add t key by ∷ []) p refl c.1)) q.1);
   lists = λ u p c i. ⊎_elim (λ k. inl (committed_keeps log (Add t key by ∷ []) p k)) (λ e. inr e) (o.lists u p c (ap (tx_in p) (sym (listed_same log (Add t key by ∷ []) u refl)) ∙ i));
 }
 
@@ -94,7 +92,7 @@ add_which tx (q ∷ qs) pairs t p e =
 
 pub ordered_new : (shard run : ℕ) (parts parts2 : Table Held) (pairs : List (TxId × TxId)) (log : List LogRecord) (t : TxId) (vs : List TxId) → Ordered shard run parts pairs log
     → (stage_in parts2 t ≡ Some Active) → ((u : TxId) → (u ≡ t → ⊥) → stage_in parts2 u ≡ stage_in parts u) → (stage_in parts t ≡ Some Closed → ⊥) → t.run ≡ run → wrote_in (before_restart [] log) t ≡ false → aborted_in log t ≡ false
-    → ((p : TxId) → tx_in p vs ≡ true → (t ≡ p → ⊥) × ((stage_in parts p ≡ Some Closed) × (wrote_in log p ≡ true))) → Ordered shard run parts2 (add_pairs t vs pairs) log
+    → ((p : TxId) → tx_in p vs ≡ true → (t ≡ p → ⊥) × ((stage_in parts p ≡ Some Closed) × (has_standing log p ≡ true))) → Ordered shard run parts2 (add_pairs t vs pairs) log
 ordered_new shard run parts parts2 pairs log t vs o own same was run_is unwritten unaborted viol = record {
   follows = o.follows;
   last = o.last;
@@ -163,7 +161,7 @@ not_both false false e = absurd (both_ways false refl e)
 
 -- ---- all of it
 
-module _ (shard run : ℕ) (g : Past) (v : View) (tx : TxId) (birth : Birth) (op : Op) (k : Kept g v) (o : Ordered shard run v.parts v.pairs v.log) (l : Lying v.locks v.pairs v.log) (order : Order shard v.log)
+module _ (shard run : ℕ) (g : Past) (v : View) (tx : TxId) (birth : Birth) (op : Op) (k : Kept g v) (o : Ordered shard run v.parts v.pairs v.log) (l : Lying v.pairs v.log) (order : Order shard v.log)
     (grant : decide tx birth (needs_of op v.records) v.locks ≡ Grant) (may : MayStand v.parts tx birth) (run_is : tx.run ≡ run) (open_ : committed_in v.log tx ≡ false) (unprepared : prepared_in v.log tx ≡ false) (unaborted : aborted_in v.log tx ≡ false)
     (unwritten : wrote_in (before_restart [] v.log) tx ≡ false) where
   abbrev needs : List Need
@@ -175,17 +173,15 @@ module _ (shard run : ℕ) (g : Past) (v : View) (tx : TxId) (birth : Birth) (op
   abbrev adding : Bool
   adding = adds_in change
 
-  abbrev ins : Option ℕ
-  ins = inserts op (found_at (key_of op) v.records)
-
   abbrev parts_after : Table Held
   parts_after = new_part tx birth (tx_get tx v.parts) v.parts
 
-  abbrev pairs_after : List (TxId × TxId)
-  pairs_after = add_pairs tx (violated tx needs v.locks) v.pairs
+  -- whose writes are violated, of which some stand
+  abbrev met : List TxId
+  met = filter (has_standing v.log) (violated tx needs v.locks)
 
-  abbrev locks_after : Locks
-  locks_after = inserted_locks tx birth v.records ins (take_all tx birth needs v.locks)
+  abbrev pairs_after : List (TxId × TxId)
+  pairs_after = add_pairs tx met v.pairs
 
   stage_own : stage_in parts_after tx ≡ Some Active
   stage_own = let h = own_part tx birth v.parts may in ap stage_by h.1 ∙ ap Some h.3
@@ -199,23 +195,24 @@ module _ (shard run : ℕ) (g : Past) (v : View) (tx : TxId) (birth : Birth) (op
       none_stage : ◌≡◌ {A = Option Stage} None (Some Closed) → ⊥
       none_stage e = absurd cc
 
-  -- whose writes are violated is closed, and wrote
-  violated_closed : (p : TxId) → tx_in p (violated tx needs v.locks) ≡ true → (tx ≡ p → ⊥) × ((stage_in v.parts p ≡ Some Closed) × (wrote_in v.log p ≡ true))
-  violated_closed p i =
-      let w = violated_wrote (λ t. wrote_in v.log t ≡ true) tx p needs v.locks l.writers i in
-      let r = violated_row (Belongs v.parts) tx p needs v.locks k.rows i in
-      (w.0, (closed_row v.parts p r.0 r.1, w.1))
+  -- each is closed
+  met_closed : (p : TxId) → tx_in p met ≡ true → (tx ≡ p → ⊥) × ((stage_in v.parts p ≡ Some Closed) × (has_standing v.log p ≡ true))
+  met_closed p i =
+      let f = in_filter (has_standing v.log) p (violated tx needs v.locks) i in
+      let r = violated_row (Belongs v.parts) tx p needs v.locks k.rows f.0 in
+      let c = closed_row v.parts p r.0 r.1 in
+      ((λ s. not_closed (ap (stage_in v.parts) s ∙ c)), (c, f.1))
 
   abbrev Held_write : StandingUpdate → Type 0
   Held_write w = commit_durable v.log v.durable w.tx ≡ false → (holds true (part_for w.change) (At w.key) w.tx v.locks ≡ true) × (record_at w.key v.records ≡ None → ⊥)
 
   -- another's write of the key that is written is committed, or violated; but both may add
-  write_met : (w : StandingUpdate) → Held_write w → is_write_at change w.key ≡ true → (not (is_setting w.change) && adding) ≡ false
-      → (w.tx ≡ tx) ⊎ ((committed_in v.log w.tx ≡ true) ⊎ (tx_in w.tx (violated tx needs v.locks) ≡ true))
+  write_met : (w : StandingUpdate) → Held_write w × (has_standing v.log w.tx ≡ true) → is_write_at change w.key ≡ true → (not (is_setting w.change) && adding) ≡ false
+      → (w.tx ≡ tx) ⊎ ((committed_in v.log w.tx ≡ true) ⊎ (tx_in w.tx met ≡ true))
   write_met w h e apart =
       ⊎_elim (λ s. inl s)
       (λ ne. inr (⊎_elim (λ d. inl (durable_committed v.log v.durable w.tx d))
-      (λ out. let held = h out in inr (violates_here ne held.0 held.1))
+      (λ out. let held = h.0 out in inr (filter_in (has_standing v.log) w.tx (violated tx needs v.locks) (violates_here ne held.0 held.1) h.1))
       (cases_Bool (commit_durable v.log v.durable w.tx))))
       (cases_tx w.tx tx)
     where
@@ -232,21 +229,21 @@ module _ (shard run : ℕ) (g : Past) (v : View) (tx : TxId) (birth : Birth) (op
           violates (Belongs v.parts) tx w.tx true (part_for w.change) (wrote_part adding) (At w.key) needs v.locks k.rows
           (λ b d z. is_closed v.parts w.tx b d z (λ active. not_active v.parts w.tx c.0 c.1 active)) (wrote_holds (not (is_setting w.change))) held a clash (λ s. ne (sym s))
 
-  lies_new : (w : StandingUpdate) → Held_write w → is_write_at change w.key ≡ true → (not (is_setting w.change) && adding) ≡ false → LiesOn pairs_after (committed_in v.log) tx w.tx
-  lies_new w h e apart = ⊎_elim (λ s. inl s) (λ m. inr (⊎_elim (λ c. inl c) (λ i. inr (add_has tx (violated tx needs v.locks) v.pairs w.tx i)) m)) (write_met w h e apart)
+  lies_new : (w : StandingUpdate) → Held_write w × (has_standing v.log w.tx ≡ true) → is_write_at change w.key ≡ true → (not (is_setting w.change) && adding) ≡ false → LiesOn pairs_after (committed_in v.log) tx w.tx
+  lies_new w h e apart = ⊎_elim (λ s. inl s) (λ m. inr (⊎_elim (λ c. inl c) (λ i. inr (add_has tx met v.pairs w.tx i)) m)) (write_met w h e apart)
 
   -- so it may be covered
-  covers : (u : StandingUpdate) → Held_write u × (wrote_in v.log u.tx ≡ true) → is_write_at change u.key ≡ true → (not (is_setting u.change) && adding) ≡ false → may_cover v.log tx u ≡ true
+  covers : (u : StandingUpdate) → Held_write u × (has_standing v.log u.tx ≡ true) → is_write_at change u.key ≡ true → (not (is_setting u.change) && adding) ≡ false → may_cover v.log tx u ≡ true
   covers u f w apart =
       ⊎_elim (λ s. or_left _ _ (tx_eq tx u.tx (sym s)))
       (λ m. or_right (tx_same tx u.tx) _ (⊎_elim
       (λ c. and_from _ _ (or_right (prepared_in v.log u.tx) _ c) (ap not (order.apart u.tx c)))
-      (λ i. let x = violated_closed u.tx i in
+      (λ i. let x = met_closed u.tx i in
       and_from _ _ (⊎_elim (λ p. or_left _ _ p) (λ c. or_right (prepared_in v.log u.tx) _ c) (o.decided u.tx x.1.0 x.1.1)) (ap not (o.unaborted u.tx (ap is_present x.1.0)))) m))
-      (write_met u f.0 w apart)
+      (write_met u f w apart)
 
   abbrev AllHeld : List StandingUpdate → Type 0
-  AllHeld ws = AllByRecursion (λ z. Held_write z × (wrote_in v.log z.tx ≡ true)) ws
+  AllHeld ws = AllByRecursion (λ z. Held_write z × (has_standing v.log z.tx ≡ true)) ws
 
   all_set : (q : ℕ) (ws : List StandingUpdate) → AllHeld ws → is_write_at change q ≡ true → adding ≡ false → may_set v.log tx q ws ≡ true
   all_set q [] a w sets = refl
@@ -269,7 +266,7 @@ module _ (shard run : ℕ) (g : Past) (v : View) (tx : TxId) (birth : Birth) (op
       (all_add q us a.1 w)
 
   held_all : AllHeld (standing v.log)
-  held_all = all_both _ _ (standing v.log) k.wrote (all_wrote v.log)
+  held_all = all_both _ _ (standing v.log) k.wrote (all_stand v.log)
 
   writes_now : may_write v.log tx ≡ true
   writes_now =
@@ -290,7 +287,7 @@ module _ (shard run : ℕ) (g : Past) (v : View) (tx : TxId) (birth : Birth) (op
   update_follows w e = let c = change_is op (value_at (key_of op) v.records) w e in follows w.0 w.1 c.0 c.1 e
 
   new_ordered : Ordered shard run parts_after pairs_after v.log
-  new_ordered = ordered_new shard run v.parts parts_after v.pairs v.log tx (violated tx needs v.locks) o stage_own stage_same not_closed run_is unwritten unaborted violated_closed
+  new_ordered = ordered_new shard run v.parts parts_after v.pairs v.log tx met o stage_own stage_same not_closed run_is unwritten unaborted met_closed
 
   ordered_by : (w : Written) → change ≡ w → Ordered shard run parts_after pairs_after (log_by tx w v.log)
   ordered_by None e = new_ordered
@@ -301,37 +298,17 @@ module _ (shard run : ℕ) (g : Past) (v : View) (tx : TxId) (birth : Birth) (op
 
   under_old : (ws : List StandingUpdate) → Under v.pairs (committed_in v.log) ws → Under pairs_after (committed_in v.log) ws
   under_old [] u = tt
-  under_old (w ∷ ws) u = (all_mono _ _ (λ z h e q. ⊎_elim (λ s. inl s) (λ m. inr (⊎_elim (λ c. inl c) (λ i. inr (add_keeps tx (violated tx needs v.locks) v.pairs w.tx z.tx i)) m)) (h e q)) ws u.0, under_old ws u.1)
+  under_old (w ∷ ws) u = (all_mono _ _ (λ z h e q. ⊎_elim (λ s. inl s) (λ m. inr (⊎_elim (λ c. inl c) (λ i. inr (add_keeps tx met v.pairs w.tx z.tx i)) m)) (h e q)) ws u.0, under_old ws u.1)
 
   under_by : (w : Written) → change ≡ w → Under pairs_after (committed_in (log_by tx w v.log)) (standing (log_by tx w v.log))
-  under_by None e = under_old (standing v.log) l.under
+  under_by None e = under_old (standing v.log) l
   under_by (Some w) e =
       subst (Under pairs_after (committed_in (v.log ++ update_of tx w.0 w.1 ∷ []))) (sym (standing_append 0 v.log (update_of tx w.0 w.1 ∷ []) [] ∙ stands_then (0 + length v.log) tx w.0 w.1 (standing v.log)))
       (under_more pairs_after (committed_in v.log) (committed_in (v.log ++ update_of tx w.0 w.1 ∷ [])) (record { lsn = 0 + length v.log; tx = tx; key = w.0; change = w.1 } ∷ standing v.log)
       (λ t c. committed_keeps v.log (update_of tx w.0 w.1 ∷ []) t c) (
-        all_mono _ _ (λ z h q s. lies_new z h (ap (λ y. is_write_at y z.key) e ∙ eq-eqb z.key w.0 q) (ap (λ b. not (is_setting z.change) && b) (ap adds_in e) ∙ not_both (is_setting z.change) (is_setting w.1) s)) (standing v.log) k.wrote,
-        under_old (standing v.log) l.under,
+        all_mono _ _ (λ z h q s. lies_new z h (ap (λ y. is_write_at y z.key) e ∙ eq-eqb z.key w.0 q) (ap (λ b. not (is_setting z.change) && b) (ap adds_in e) ∙ not_both (is_setting z.change) (is_setting w.1) s)) (standing v.log) held_all,
+        under_old (standing v.log) l,
       ))
 
-  own_by : (w : Written) (x : ℕ × Change) → w ≡ Some x → wrote_in (log_by tx w v.log) tx ≡ true
-  own_by None x e = absurd cc
-  own_by (Some (key, Sets before after)) x e = list_any-append (is_update_of tx) v.log (Update tx key before after ∷ []) ∙ or_right (wrote_in v.log tx) _ (or_left _ _ (tx_self tx))
-  own_by (Some (key, Adds by)) x e = list_any-append (is_update_of tx) v.log (Add tx key by ∷ []) ∙ or_right (wrote_in v.log tx) _ (or_left _ _ (tx_self tx))
-
-  more_by : (w : Written) (t : TxId) → wrote_in v.log t ≡ true → wrote_in (log_by tx w v.log) t ≡ true
-  more_by None t e = e
-  more_by (Some (key, Sets before after)) t e = wrote_keeps v.log (Update tx key before after ∷ []) t e
-  more_by (Some (key, Adds by)) t e = wrote_keeps v.log (Add tx key by ∷ []) t e
-
-  write_some : (w : Written) (q : ℕ) → is_write_at w q ≡ true → (x : ℕ × Change) × (w ≡ Some x)
-  write_some None q e = absurd (both_ways false refl e)
-  write_some (Some w) q e = (w, refl)
-
-  pub lying_performed : Lying locks_after pairs_after (log_by tx change v.log)
-  lying_performed = record {
-    under = under_by change refl;
-    writers = writers_insert (λ t. wrote_in (log_by tx change v.log) t ≡ true) tx birth v.records ins (take_all tx birth needs v.locks)
-        (λ q e. let x = write_some change q (insert_writes v.records change ins q (writing op v.records) e) in own_by change x.0 x.1)
-        (writers_all (λ t. wrote_in (log_by tx change v.log) t ≡ true) tx birth needs v.locks (needs_write (λ t. wrote_in (log_by tx change v.log) t ≡ true) tx op v.records (λ x e. own_by change x e))
-        (writers_more (λ t. wrote_in v.log t ≡ true) (λ t. wrote_in (log_by tx change v.log) t ≡ true) (λ t e. more_by change t e) v.locks l.writers));
-  }
+  pub lying_performed : Lying pairs_after (log_by tx change v.log)
+  lying_performed = under_by change refl

@@ -1,14 +1,14 @@
 -- A log that keeps the order rules, record by record, and what RESTARTs of it say.
 use Rattle.std.proofs.Common.{◌≡◌, refl, sym, ap, subst, ◌∙◌, ℕ, suc, ◌≤◌, ◌<◌, Bool, true, false, ◌&&◌, ◌||◌, List, [], ◌∷◌, ◌++◌, Option, Some, None, nat_lt, ◌==◌, cond, max, arith, append-nil, append_assoc, eq-eqb}
 use Rattle.std.specs.Prelude.{⊤, take, drop}
-use Rattle.std.proofs.lemmas.Bool.{both_ways, and_from, lt-ltb, ltb-false, or_right, or_left}
+use Rattle.std.proofs.lemmas.Bool.{and_from, lt-ltb, ltb-false, or_left}
 use Rattle.std.proofs.lemmas.List.{take-append-drop}
 use Rattle.std.proofs.Math.Bool.{or-false}
 use Rattle.clv_base.specs.declared.names.TxId.{TxId}
 use Rattle.clv_base.specs.declared.logs.LogRecord.{LogRecord}
 use Rattle.clv_base.specs.declared.logs.LogRecord.TheVariants.{Update, Clr, Prepare, Commit, Abort, End, Restart, Add, Unadd}
 use Rattle.clv_base.specs.Logs.{wrote_in}
-use Rattle.clv_base.specs.LogRules.{may_follow, disorder_from, last_restart, since_restart, before_restart, above_restarts}
+use Rattle.clv_base.specs.LogRules.{may_follow, disorder_from, last_restart, before_restart, above_restarts}
 use Rattle.clv_base.specs.Restarts.{greatest_run, greatest_epoch}
 use Rattle.law_base.proofs.Restarts.{epoch_own}
 use Rattle.shard_laws.proofs.Keeping.RecordsAndFrontsKeep.{wrote_append}
@@ -97,6 +97,12 @@ before_push sf (Add tx k by ∷ rs) r p = before_push (sf ++ Add tx k by ∷ [])
 before_push sf [] (Unadd tx u k by) p = refl
 before_push sf (Unadd tx u k by ∷ rs) r p = before_push (sf ++ Unadd tx u k by ∷ []) rs r p
 
+-- the records behind the last RESTART
+abbrev since_restart : List LogRecord → List LogRecord → List LogRecord
+since_restart so_far [] = so_far
+since_restart so_far (Restart run epoch ∷ rs) = since_restart [] rs
+since_restart so_far (r ∷ rs) = since_restart (so_far ++ r ∷ []) rs
+
 -- who wrote, wrote before or since the last RESTART
 or_three : (a b c : Bool) → ((a || b) || c) ≡ (a || (b || c))
 or_three true b c = refl
@@ -118,7 +124,7 @@ same_before t xs ys (End tx ∷ zs) e = same_before t (xs ++ End tx ∷ []) (ys 
 same_before t xs ys (Add tx k by ∷ zs) e = same_before t (xs ++ Add tx k by ∷ []) (ys ++ Add tx k by ∷ []) zs (wrote_append xs (Add tx k by ∷ []) t ∙ ap (λ z. z || wrote_in (Add tx k by ∷ []) t) e ∙ sym (wrote_append ys (Add tx k by ∷ []) t))
 same_before t xs ys (Unadd tx u k by ∷ zs) e = same_before t (xs ++ Unadd tx u k by ∷ []) (ys ++ Unadd tx u k by ∷ []) zs (wrote_append xs (Unadd tx u k by ∷ []) t ∙ ap (λ z. z || false) e ∙ sym (wrote_append ys (Unadd tx u k by ∷ []) t))
 
-pub wrote_split : (t : TxId) (sf rs : List LogRecord) → (wrote_in sf t || wrote_in rs t) ≡ (wrote_in (before_restart sf rs) t || wrote_in (since_restart sf rs) t)
+wrote_split : (t : TxId) (sf rs : List LogRecord) → (wrote_in sf t || wrote_in rs t) ≡ (wrote_in (before_restart sf rs) t || wrote_in (since_restart sf rs) t)
 wrote_split t sf [] = or-false (wrote_in sf t)
 wrote_split t sf (Restart run epoch ∷ rs) = ap (λ b. wrote_in sf t || b) (wrote_split t [] rs ∙ ap (λ b. b || wrote_in (since_restart [] rs) t) (same_before t [] (Restart run epoch ∷ []) rs refl)) ∙ sym (ap (λ b. b || wrote_in (since_restart [] rs) t) (wrote_append sf (before_restart (Restart run epoch ∷ []) rs) t) ∙ or_three (wrote_in sf t) _ _)
 wrote_split t sf (Update tx k b a ∷ rs) = one_more t sf rs (Update tx k b a) ∙ wrote_split t (sf ++ Update tx k b a ∷ []) rs
@@ -129,13 +135,6 @@ wrote_split t sf (Abort tx ∷ rs) = one_more t sf rs (Abort tx) ∙ wrote_split
 wrote_split t sf (End tx ∷ rs) = one_more t sf rs (End tx) ∙ wrote_split t (sf ++ End tx ∷ []) rs
 wrote_split t sf (Add tx k by ∷ rs) = one_more t sf rs (Add tx k by) ∙ wrote_split t (sf ++ Add tx k by ∷ []) rs
 wrote_split t sf (Unadd tx u k by ∷ rs) = one_more t sf rs (Unadd tx u k by) ∙ wrote_split t (sf ++ Unadd tx u k by ∷ []) rs
-
-or_first : (a b : Bool) → (a || b) ≡ true → a ≡ false → b ≡ true
-or_first true b e f = absurd (both_ways true f refl)
-or_first false b e f = e
-
-pub wrote_since : (log : List LogRecord) (t : TxId) → wrote_in log t ≡ true → wrote_in (before_restart [] log) t ≡ false → wrote_in (since_restart [] log) t ≡ true
-wrote_since log t w e = or_first _ _ (sym (wrote_split t [] log) ∙ w) e
 
 pub unwritten_before : (log : List LogRecord) (t : TxId) → wrote_in log t ≡ false → wrote_in (before_restart [] log) t ≡ false
 unwritten_before log t e = or_false_left _ _ (sym (wrote_split t [] log) ∙ e)
@@ -252,7 +251,3 @@ pub through : (P : List LogRecord → Type 0) (shard : ℕ) (before rs : List Lo
 through P shard before [] g f p step = subst P (sym (append-nil before)) p
 through P shard before (r ∷ rs) g f p step =
     subst P (append_assoc before (r ∷ []) rs) (through P shard (before ++ r ∷ []) rs (follows_append shard [] before (r ∷ []) g (f.0, tt)) f.1 (step before r g p f.0) step)
-
--- who wrote since the last RESTART wrote
-pub since_wrote : (log : List LogRecord) (t : TxId) → wrote_in (since_restart [] log) t ≡ true → wrote_in log t ≡ true
-since_wrote log t e = wrote_split t [] log ∙ or_right _ _ e

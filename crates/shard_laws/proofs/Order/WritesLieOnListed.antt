@@ -1,5 +1,5 @@
 -- In a log in order, under a write of a prepared transaction lie writes of its own, of committed ones, and of those that its PREPARE lists.
-use Rattle.std.proofs.Common.{◌≡◌, ◌⊎◌, inl, inr, ⊎_elim, refl, sym, ap, subst, ◌∙◌, ℕ, ◌+◌, ◌<◌, Bool, true, false, cond, not, ◌&&◌, ◌||◌, List, [], ◌∷◌, ◌++◌, length, Option, Some, None, is_some, ◌==◌, eq-eqb}
+use Rattle.std.proofs.Common.{◌≡◌, ◌⊎◌, inl, inr, ⊎_elim, refl, sym, ap, subst, ◌∙◌, ℕ, ◌+◌, ◌<◌, Bool, true, false, not, ◌&&◌, ◌||◌, List, [], ◌∷◌, ◌++◌, length, Option, Some, None, is_some, eq-eqb}
 use Rattle.std.specs.List.{AllByRecursion, list_any, list_all}
 use Rattle.std.proofs.lemmas.Bool.{cases_Bool, both_ways, cond_both, or_cases, and_from, not-true, lt-ltb, false_from_ne_true}
 use Rattle.clv_base.specs.declared.names.TxId.{TxId}
@@ -10,21 +10,18 @@ use Rattle.clv_base.specs.Logs.{StandingUpdate, is_setting, standing, standing_a
 use Rattle.clv_base.specs.LogRules.{listed_in, may_follow, lies_below, has_above, last_restart, some_parts}
 use Rattle.clv_base.proofs.SameNames.{or_left, or_right, tx_true, tx_self}
 use Rattle.law_base.proofs.Lists.{all_mono, all_both, filter_passes}
-use Rattle.law_base.proofs.Undoing.{standing_append}
+use Rattle.law_base.proofs.Standing.{standing_append, standing_wrote}
 use Rattle.law_base.proofs.Commits.{committed_keeps}
 use Rattle.law_base.proofs.Sets.{list_all_at}
 use Rattle.protocol_laws.specs.Order.{LieOnThese}
-use Rattle.protocol_laws.proofs.LogsInOrder.OneRecordMore.{push_cases, push_same, committed_there, push_right}
+use Rattle.protocol_laws.proofs.LogsInOrder.OneRecordMore.{push_cases, push_same, committed_there}
 use Rattle.protocol_laws.proofs.LogsInOrder.StandingUpdatesLie.{Falling}
 use Rattle.protocol_laws.proofs.LogsInOrder.{Order, in_order}
 use Rattle.shard_laws.proofs.Keeping.ChangesKeepPrepared.{by_prepare, prepare_here, listed_keeps}
 use Rattle.shard_laws.proofs.Cuts.WhoIsInDoubt.{Doubted, doubted}
-use Rattle.shard_laws.proofs.Order.RecordByRecord.{Follows, to_disorder, through, last_push, since_wrote}
+use Rattle.shard_laws.proofs.Order.RecordByRecord.{Follows, to_disorder, through, last_push}
+use Rattle.shard_laws.proofs.Order.WhoseWritesStand.{in_last_some, new_stands}
 use Rattle.shard_laws.proofs.Order.ChangesKeepOrder.{unlisted, listed_same}
-use Rattle.protocol_laws.specs.Order.{undone_in, is_clr_of}
-use Rattle.clv_base.specs.Logs.{writers}
-use Rattle.clv_base.specs.Orders.{tx_insert}
-use Rattle.clv_base.proofs.SameNames.{tx_eq, in_insert, insert_has, insert_keeps}
 use Rattle.std.proofs.lemmas.Bool.{and_parts}
 use Rattle.law_base.proofs.Bools.{and_first as front, and_second as last}
 use Rattle.law_base.proofs.Logs.{push_left, last_restart_push as last_new}
@@ -137,10 +134,6 @@ ended_step shard log r m old t e = push_left (is_commit_of t) log r (⊎_elim (�
 pub ended_committed : (shard : ℕ) (log : List LogRecord) → Follows shard [] log → (t : TxId) → ended_in log t ≡ true → committed_in log t ≡ true
 ended_committed shard log f = through (λ l. (t : TxId) → ended_in l t ≡ true → committed_in l t ≡ true) shard [] log tt f (λ t e. absurd (both_ways false refl e)) (λ l r g p m. ended_step shard l r m p)
 
-in_last_some : (tx : TxId) (o : Option (ℕ × ℕ)) → elim o [ Some p ↦ tx.run == p.0 | None ↦ false ] ≡ true → is_some o ≡ true
-in_last_some tx None e = e
-in_last_some tx (Some p) e = refl
-
 restart_step : (shard : ℕ) (log : List LogRecord) (r : LogRecord) → may_follow shard log r ≡ true → ((t : TxId) → wrote_in log t ≡ true → is_some (last_restart log) ≡ true) → (t : TxId) → wrote_in (log ++ r ∷ []) t ≡ true → is_some (last_restart (log ++ r ∷ [])) ≡ true
 restart_step shard log (Restart run epoch) m old t e = ap is_some (last_new log run epoch)
 restart_step shard log (Update tx key b a) m old t e =
@@ -163,7 +156,7 @@ prepared_step shard log r m old t e = push_left (is_update_of t) log r (⊎_elim
   where
     new : (r : LogRecord) → may_follow shard log r ≡ true → is_prepare_of t r ≡ true → wrote_in log t ≡ true
     new (Prepare tx home ps) m a =
-        subst (λ z. wrote_in log z ≡ true) (sym (tx_true t tx a)) (since_wrote log tx (last _ _ (front _ _ (front _ _ (front _ _ (front _ _ (front _ _ m)))))))
+        subst (λ z. wrote_in log z ≡ true) (sym (tx_true t tx a)) (standing_wrote log tx (new_stands log tx (last _ _ (front _ _ (front _ _ (front _ _ (front _ _ (front _ _ m))))))))
     new _ m a = absurd (both_ways false refl a)
 
 pub prepared_wrote : (shard : ℕ) (log : List LogRecord) → Follows shard [] log → (t : TxId) → prepared_in log t ≡ true → wrote_in log t ≡ true
@@ -250,37 +243,3 @@ commit_step shard log r m old t p c i = push_left (is_commit_of p) log r (at r m
 
 pub committed_lists : (shard : ℕ) (log : List LogRecord) → Follows shard [] log → (t p : TxId) → committed_in log t ≡ true → tx_in p (listed_in log t) ≡ true → committed_in log p ≡ true
 committed_lists shard log f = through (λ l. (t p : TxId) → committed_in l t ≡ true → tx_in p (listed_in l t) ≡ true → committed_in l p ≡ true) shard [] log tt f (λ t p c i. absurd (both_ways false refl c)) (λ l r g p m. commit_step shard l r m p)
-
--- who wrote has a write that stands, or was undone
-Stands : List LogRecord → TxId → Type 0
-Stands log t = (tx_in t (writers (standing log)) ≡ true) ⊎ (undone_in log t ≡ true)
-
-without_writers : (tx t : TxId) (ws : List StandingUpdate) → tx_same t tx ≡ false → tx_in t (writers ws) ≡ true → tx_in t (writers (without_newest tx ws)) ≡ true
-without_writers tx t [] n i = i
-without_writers tx t (w ∷ ws) n i = at (tx_same tx w.tx) refl (without_writers tx t ws n)
-  where
-    at : (b : Bool) → tx_same tx w.tx ≡ b → (tx_in t (writers ws) ≡ true → tx_in t (writers (without_newest tx ws)) ≡ true) → tx_in t (writers (cond b ws (w ∷ without_newest tx ws))) ≡ true
-    at true s k = ⊎_elim (λ e. absurd (both_ways _ n (tx_eq t tx (e ∙ sym (tx_true tx w.tx s))))) (λ j. j) (in_insert w.tx t (writers ws) i)
-    at false s k = ⊎_elim (λ e. subst (λ z. tx_in z (tx_insert w.tx (writers (without_newest tx ws))) ≡ true) (sym e) (insert_has w.tx (writers (without_newest tx ws)))) (λ j. insert_keeps w.tx t (writers (without_newest tx ws)) (k j)) (in_insert w.tx t (writers ws) i)
-
-stands_step : (log : List LogRecord) (r : LogRecord) → ((t : TxId) → wrote_in log t ≡ true → Stands log t) → (t : TxId) → wrote_in (log ++ r ∷ []) t ≡ true → Stands (log ++ r ∷ []) t
-unfolding Stands
-stands_step log r old t e = ⊎_elim (λ i. inl (subst (λ l. tx_in t (writers l) ≡ true) (sym (standing_append 0 log (r ∷ []) [])) i)) (λ u. inr u) (at r e)
-  where
-    keep : (q : LogRecord) → wrote_in log t ≡ true → (tx_in t (writers (standing log)) ≡ true → tx_in t (writers (standing_after (0 + length log) q (standing log))) ≡ true) → (tx_in t (writers (standing_after (0 + length log) q (standing log))) ≡ true) ⊎ (undone_in (log ++ q ∷ []) t ≡ true)
-    keep q w k = ⊎_elim (λ i. inl (k i)) (λ u. inr (push_left (is_clr_of t) log q u)) (old t w)
-
-    at : (q : LogRecord) → wrote_in (log ++ q ∷ []) t ≡ true → (tx_in t (writers (standing_after (0 + length log) q (standing log))) ≡ true) ⊎ (undone_in (log ++ q ∷ []) t ≡ true)
-    at (Update tx k b a) w = ⊎_elim (λ o. keep (Update tx k b a) o (λ i. insert_keeps tx t (writers (standing log)) i)) (λ s. inl (subst (λ z. tx_in z (tx_insert tx (writers (standing log))) ≡ true) (sym (tx_true t tx s)) (insert_has tx (writers (standing log))))) (push_cases (is_update_of t) log (Update tx k b a) w)
-    at (Clr tx u k a) w = ⊎_elim (λ s. inr (push_right (is_clr_of t) log (Clr tx u k a) s)) (λ n. keep (Clr tx u k a) (push_same (is_update_of t) log (Clr tx u k a) refl ∙ w) (λ i. without_writers tx t (standing log) n i)) (cases_Bool (tx_same t tx))
-    at (Prepare tx home ps) w = keep (Prepare tx home ps) (push_same (is_update_of t) log (Prepare tx home ps) refl ∙ w) (λ i. i)
-    at (Commit tx ps) w = keep (Commit tx ps) (push_same (is_update_of t) log (Commit tx ps) refl ∙ w) (λ i. i)
-    at (Abort tx) w = keep (Abort tx) (push_same (is_update_of t) log (Abort tx) refl ∙ w) (λ i. i)
-    at (End tx) w = keep (End tx) (push_same (is_update_of t) log (End tx) refl ∙ w) (λ i. i)
-    at (Restart run ep) w = keep (Restart run ep) (push_same (is_update_of t) log (Restart run ep) refl ∙ w) (λ i. i)
-    at (Add tx k by) w = ⊎_elim (λ o. keep (Add tx k by) o (λ i. insert_keeps tx t (writers (standing log)) i)) (λ s. inl (subst (λ z. tx_in z (tx_insert tx (writers (standing log))) ≡ true) (sym (tx_true t tx s)) (insert_has tx (writers (standing log))))) (push_cases (is_update_of t) log (Add tx k by) w)
-    at (Unadd tx u k by) w = ⊎_elim (λ s. inr (push_right (is_clr_of t) log (Unadd tx u k by) s)) (λ n. keep (Unadd tx u k by) (push_same (is_update_of t) log (Unadd tx u k by) refl ∙ w) (λ i. without_writers tx t (standing log) n i)) (cases_Bool (tx_same t tx))
-
-pub wrote_stands : (shard : ℕ) (log : List LogRecord) → Follows shard [] log → (t : TxId) → wrote_in log t ≡ true → (tx_in t (writers (standing log)) ≡ true) ⊎ (undone_in log t ≡ true)
-unfolding Stands
-wrote_stands shard log f = through (λ l. (t : TxId) → wrote_in l t ≡ true → Stands l t) shard [] log tt f (λ t e. absurd (both_ways false refl e)) (λ l r g p m. stands_step l r p)

@@ -1,6 +1,6 @@
 -- What a log leaves in doubt, as transactions that acted before: their writes run from what the log commits, and lie on those whom their
 -- PREPAREs list, which stand before them.
-use Rattle.std.proofs.Common.{◌≡◌, ◌⊎◌, inl, inr, ⊎_elim, refl, sym, ap, subst, ◌∙◌, ℕ, ◌+◌, ◌<◌, Bool, true, false, cond, not, ◌&&◌, ◌||◌, ◌==◌, List, [], ◌∷◌, ◌++◌, length, Option, Some, None, is_some, append-nil, eqb-true}
+use Rattle.std.proofs.Common.{◌≡◌, ◌⊎◌, inl, inr, ⊎_elim, refl, sym, ap, subst, ◌∙◌, ℕ, ◌+◌, ◌<◌, Bool, true, false, cond, not, ◌&&◌, ◌||◌, ◌==◌, List, [], ◌∷◌, ◌++◌, length, Option, Some, None, is_some, append-nil, eqb-true, arith}
 use Rattle.std.specs.List.{AllByRecursion, filter}
 use Rattle.std.proofs.lemmas.Bool.{cases_Bool, both_ways, cond_both, cond-true, cond-false, or_cases, not-true, false_from_ne_true}
 use Rattle.clv_base.specs.declared.values.Value.{Value as ValueType}
@@ -17,15 +17,17 @@ use Rattle.clv_base.specs.Folding.{meets_key, adds}
 use Rattle.clv_base.specs.Logs.{StandingUpdate, changed, is_setting, standing, standing_after, committed_in, prepared_in, is_prepare_of}
 use Rattle.clv_base.specs.LogRules.{may_follow, listed_in}
 use Rattle.clv_base.proofs.SameNames.{or_left, or_right, tx_true, tx_flip}
-use Rattle.law_base.specs.Items.{Item, told, wrote, meets, both_add, Runs, after, AllLater, on_top, pile}
-use Rattle.law_base.proofs.Lists.{all_mono, all_push, all_filter, later_push}
+use Rattle.law_base.specs.Items.{Item, Did, told, wrote, meets, both_add, Runs, after, AllLater, on_top, pile}
+use Rattle.law_base.proofs.Lists.{all_mono, all_of, all_push, all_filter, later_push}
 use Rattle.law_base.proofs.Running.{top_value, runs_push, pile_value, pile_push}
-use Rattle.law_base.proofs.Undoing.{IsOver, Chain, standing_append}
+use Rattle.law_base.proofs.Standing.{standing_append}
+use Rattle.law_base.proofs.Undoing.{IsOver, Chain}
 use Rattle.protocol_laws.specs.Order.{LieOnThese}
 use Rattle.protocol_laws.proofs.LogsInOrder.OneRecordMore.{push_cases}
 use Rattle.shard_laws.specs.OneShard.{found_op, found_told, found_item, items_found, prepared_order}
 use Rattle.shard_laws.proofs.Operations.WritesAtEachKey.{MaySwap, SameAtKeys, unmoved, behind, twice, keys_past, keys_top}
 use Rattle.shard_laws.proofs.Keeping.WhatOneShardKeeps.{of_kept, place}
+use Rattle.shard_laws.proofs.Keeping.DeedsThatHold.{Rise}
 use Rattle.shard_laws.proofs.Keeping.ChangesKeepPrepared.{listed_keeps}
 use Rattle.shard_laws.proofs.Order.RecordByRecord.{Follows, follows_append, through}
 use Rattle.shard_laws.proofs.Order.ChangesKeepOrder.{unlisted}
@@ -131,6 +133,14 @@ found_later R doubt (w ∷ ws) a =
     (λ e. later_push R (items_found doubt ws) (found_item w) (found_later R doubt ws a.1) (found_all (λ x. R x (found_item w)) doubt ws (all_mono _ _ (λ v h d. h e d) ws a.0)))
     (λ e. found_later R doubt ws a.1)
 
+-- they have no numbers
+pub found_rise : (doubt : TxId → Bool) (ws : List StandingUpdate) → AllLater (λ x y. Rise (Did x) (Did y)) (items_found doubt ws)
+found_rise doubt ws = found_later (λ x y. Rise (Did x) (Did y)) doubt ws (each ws)
+  where
+    each : (us : List StandingUpdate) → AllLater (λ w v. doubt w.tx ≡ true → doubt v.tx ≡ true → Rise (Did (found_item v)) (Did (found_item w))) us
+    each [] = tt
+    each (u ∷ us) = (all_of _ (λ v d e s. omega arith) us, each us)
+
 pub pile_found : (doubt : TxId → Bool) (ws base : List StandingUpdate) → AllByRecursion Tells ws → pile (items_found doubt ws) base ≡ filter (of_kept doubt) ws ++ base
 pile_found doubt [] base t = refl
 pile_found doubt (w ∷ ws) base t = at (doubt w.tx) (pile_found doubt ws base t.1)
@@ -169,13 +179,13 @@ module _ (done doubt : TxId → Bool) (apart : (t : TxId) → doubt t ≡ true �
   Under w ws = AllByRecursion (λ v. v.key ≡ w.key → (is_setting v.change || is_setting w.change) ≡ true → done v.tx ≡ true) ws
 
   -- those in doubt that lie under one that is done may change places with it
-  past_doubt : (w : StandingUpdate) (ws : List StandingUpdate) → Under w ws → AllByRecursion (λ v. MaySwap w v) (filter (of_kept doubt) ws)
-  past_doubt w ws a =
-      all_mono _ _ (λ v h k. false_from_ne_true _ (λ s. both_ways _ (apart v.tx h.1) (h.0 (sym k) (or_turn (is_setting w.change) (is_setting v.change) s)))) (filter (of_kept doubt) ws) (all_filter _ (of_kept doubt) ws a)
+  past_doubt : (w : StandingUpdate) (ws : List StandingUpdate) → done w.tx ≡ true → Under w ws → AllByRecursion (λ v. MaySwap w v) (filter (of_kept doubt) ws)
+  past_doubt w ws e a =
+      all_mono _ _ (λ v h. ((λ s. both_ways _ (apart v.tx h.1) (subst (λ z. done z ≡ true) s e)), λ k. false_from_ne_true _ (λ s. both_ways _ (apart v.tx h.1) (h.0 (sym k) (or_turn (is_setting w.change) (is_setting v.change) s))))) (filter (of_kept doubt) ws) (all_filter _ (of_kept doubt) ws a)
 
   pub keys_split : (ws : List StandingUpdate) → LieOnThese done ws → SameAtKeys (filter (of_kept (λ t. done t || doubt t)) ws) (filter (of_kept doubt) ws ++ filter (of_kept done) ws)
   keys_split [] l = unmoved
-  keys_split (w ∷ ws) l = at (done w.tx) (doubt w.tx) refl refl (λ e. past_doubt w ws (l.0 e)) (keys_split ws l.1)
+  keys_split (w ∷ ws) l = at (done w.tx) (doubt w.tx) refl refl (λ e. past_doubt w ws e (l.0 e)) (keys_split ws l.1)
     where
       at : (b c : Bool) → done w.tx ≡ b → doubt w.tx ≡ c → (done w.tx ≡ true → AllByRecursion (λ v. MaySwap w v) (filter (of_kept doubt) ws))
           → SameAtKeys (filter (of_kept (λ t. done t || doubt t)) ws) (filter (of_kept doubt) ws ++ filter (of_kept done) ws)
@@ -312,7 +322,7 @@ order_has doubt (Restart run epoch ∷ rs) t p d = order_has doubt rs t p d
 order_has doubt (Add tx k by ∷ rs) t p d = order_has doubt rs t p d
 order_has doubt (Unadd tx u k by ∷ rs) t p d = order_has doubt rs t p d
 
-order_out : (doubt : TxId → Bool) (log : List LogRecord) (t : TxId) → prepared_in log t ≡ false → tx_in t (prepared_order doubt log) ≡ false
+pub order_out : (doubt : TxId → Bool) (log : List LogRecord) (t : TxId) → prepared_in log t ≡ false → tx_in t (prepared_order doubt log) ≡ false
 order_out doubt [] t p = refl
 order_out doubt (Prepare tx home ps ∷ rs) t p = at (tx_same t tx) refl p (order_out doubt rs t)
   where

@@ -17,13 +17,13 @@ use Rattle.clv_base.specs.declared.state.Voter.{Voter}
 use Rattle.clv_base.specs.Orders.{tx_in}
 use Rattle.clv_base.specs.Maps.{map_get}
 use Rattle.clv_base.specs.Undo.{stage_of, clrs_of}
-use Rattle.clv_base.specs.Logs.{StandingUpdate, standing, committed_in, committed_somewhere, is_commit_of, is_prepare_of, is_abort_of, prepared_in, aborted_in, wrote_in, in_doubt, is_winner, fold_updates, stands, writers}
+use Rattle.clv_base.specs.Logs.{StandingUpdate, standing, committed_in, committed_somewhere, is_commit_of, is_prepare_of, is_abort_of, prepared_in, aborted_in, in_doubt, is_winner, fold_updates, stands, writers}
 use Rattle.clv_base.specs.LogRules.{listed_in}
 use Rattle.clv_base.specs.Restarts.{greatest_run, log_after_restart, records_of, with_ghosts, restored_locks, restored_parts, restored_pairs, unended_in, opened, losers}
 use Rattle.clv_base.specs.Coordinator.{restored_requests}
 use Rattle.clv_base.specs.State.{is_present}
 use Rattle.clv_base.proofs.SameNames.{or_left}
-use Rattle.law_base.specs.Items.{Item, writes, Runs, AllLater, Reaches, pile}
+use Rattle.law_base.specs.Items.{Item, Deed, Did, held, Runs, AllLater, Reaches, pile}
 use Rattle.law_base.proofs.Lists.{all_mono, later_mono}
 use Rattle.law_base.proofs.Running.{top_value, write_met}
 use Rattle.law_base.proofs.Tables.{stage_in, is_pair}
@@ -32,8 +32,8 @@ use Rattle.law_base.proofs.Sets.{filter_in, list_all_at}
 use Rattle.protocol_laws.proofs.LogsInOrder.OneRecordMore.{own_commit, own_prepare}
 use Rattle.protocol_laws.proofs.LogsInOrder.RunsAreOfRestarts.{record_fits}
 use Rattle.protocol_laws.proofs.LogsInOrder.StandingUpdatesLie.{chain_kept}
-use Rattle.protocol_laws.proofs.LogsInOrder.{Order, in_order, undone_open}
-use Rattle.shard_laws.specs.OneShard.{MayServe, is_doomed, found_items, found_asked, found_met}
+use Rattle.protocol_laws.proofs.LogsInOrder.{Order, in_order}
+use Rattle.shard_laws.specs.OneShard.{MayServe, is_doomed, items_in, found_items, found_asked, found_met}
 use Rattle.shard_laws.proofs.Operations.WritesAtEachKey.{SameAtKeys, keys_by}
 use Rattle.shard_laws.proofs.Keeping.WhatOneShardKeeps.{Past, is_alive, place}
 use Rattle.shard_laws.proofs.Events.DueKeeps.{part_same, Sound}
@@ -43,19 +43,22 @@ use Rattle.shard_laws.proofs.Restarts.UnrestoredFell.{all_durable}
 use Rattle.shard_laws.proofs.Keeping.FallenAndLost.{Falls}
 use Rattle.shard_laws.proofs.Order.UndoMayFollow.{aborted_now}
 use Rattle.shard_laws.proofs.Cuts.WhoIsInDoubt.{Doubted, doubted}
-use Rattle.shard_laws.proofs.Restarts.RestoredLocksAndParts.{restored_closed, restored_stage, restored_none, rows_restored, wrote_of}
-use Rattle.shard_laws.proofs.Order.WritesLieOnListed.{prepared_wrote, wrote_stands, lie_listed, winners_lie}
+use Rattle.shard_laws.proofs.Restarts.RestoredLocksAndParts.{restored_closed, restored_stage, restored_none, rows_restored}
+use Rattle.shard_laws.proofs.Order.WritesLieOnListed.{order_of, lie_listed, winners_lie}
+use Rattle.shard_laws.proofs.Order.WhoseWritesStand.{has_writer, prepared_stands}
 use Rattle.shard_laws.proofs.Order.RecordByRecord.{Follows, from_disorder, above_later}
 use Rattle.shard_laws.proofs.Order.StepsKeepOrder.{KeepsOrder}
 use Rattle.shard_laws.proofs.Restarts.RestartsKeepOrder.{found_self, Renewed, renewed, ordered_restored, lying_restored, rulings_restored}
 use Rattle.shard_laws.proofs.Restarts.RestoredRequestsAndPairs.{requests_none, unended_none, voter_is, pair_there, pair_of, pair_lists}
-use Rattle.shard_laws.proofs.Restarts.WinnersKeepTheirWrites.{Restarted, of_whole}
-use Rattle.shard_laws.proofs.Restarts.RecordsAfterRestart.{whole_log, committed_remade, values_remade, rises_remade, wrote_remade}
+use Rattle.shard_laws.proofs.Restarts.WinnersKeepTheirWrites.{Restarted, winner_unaborted, of_whole}
+use Rattle.shard_laws.proofs.Restarts.OperationsAlone.{alone, held_alone, items_alone, acts_alone, between_alone, all_alone, later_alone, met_alone}
+use Rattle.shard_laws.proofs.Keeping.DeedsThatHold.{Rise}
+use Rattle.shard_laws.proofs.Restarts.RecordsAfterRestart.{committed_remade, values_remade, rises_remade, wrote_remade}
 use Rattle.shard_laws.proofs.Restarts.RestartsKeep.{state_with, restored_committed, IsCommitted}
 use Rattle.protocol_laws.specs.Order.{LieOnThese}
 use Rattle.shard_laws.proofs.Restarts.AddsFindNumbers.{find_numbers, numbers_kept}
-use Rattle.shard_laws.proofs.Restarts.FoundDoubtedActedBefore.{UnderFound, all_tell, found_all, found_doubted, pile_found, keys_split, runs_found, order_has, listed_before, under_found}
-use Rattle.law_base.proofs.Logs.{fold_rises, standing_updates}
+use Rattle.shard_laws.proofs.Restarts.FoundDoubtedActedBefore.{UnderFound, all_tell, found_rise, found_doubted, pile_found, keys_split, runs_found, order_has, listed_before, under_found}
+use Rattle.law_base.proofs.Logs.{fold_rises}
 use Rattle.clv_base.proofs.Folding.{or_left as or_false_left, or_right as or_false_right}
 
 -- a restart aborts the losers
@@ -73,7 +76,7 @@ past_of shard before =
     record {
       start = stands (before ∷ []);
       base = filter (of_kept (committed_in before)) (standing before);
-      items = found_items shard before;
+      done = alone (found_items shard before);
       asked = found_asked shard before;
       over = [];
       met = found_met shard before;
@@ -143,7 +146,7 @@ module _ (shard run : ℕ) (before : List LogRecord) (may : MayServe shard run b
   map_is = fold_alike (committed_somewhere (before ∷ [])) (committed_in before) before [] (λ t. or-false (committed_in before t))
 
   pub start_value : (k : ℕ) → map_get k (stands (before ∷ [])) ≡ top_value k (filter (of_kept (committed_in before)) (standing before))
-  start_value k = ap (map_get k) map_is ∙ fold_values (committed_in before) 0 before [] [] k (whole_log (committed_in before) before (λ t u. undone_open shard before t order u)) (λ j. refl)
+  start_value k = ap (map_get k) map_is ∙ fold_values (committed_in before) (standing before) k
 
   base_done : (ws : List StandingUpdate) → AllByRecursion (λ w. commit_durable Now (length Now) w.tx ≡ true) (filter (of_kept (committed_in before)) ws)
   base_done [] = tt
@@ -167,12 +170,9 @@ module _ (shard run : ℕ) (before : List LogRecord) (may : MayServe shard run b
       keys_by refl (keys_split (committed_in before) (λ t. tx_in t doubt) doubt_apart (standing before) order.writes.lie)
       (sym (pile_found (λ t. tx_in t doubt) (standing before) (filter (of_kept (committed_in before)) (standing before)) (all_tell shard before follows)))
 
-  standing_start : SameAtKeys (filter (of_kept (is_alive [])) (standing Now)) (pile (found_items shard before) (filter (of_kept (committed_in before)) (standing before)))
-  standing_start = keys_by (filter_all_kept (is_alive []) (standing Now) (all_alive (standing Now)) ∙ re.only_kept) split_start refl
-
-  logged_start : AllByRecursion (λ x. (k : ℕ) → writes x k ≡ true → wrote_in Now x.tx ≡ true) (found_items shard before)
-  logged_start = found_all (λ x. (k : ℕ) → writes x k ≡ true → wrote_in Now x.tx ≡ true) (λ t. tx_in t doubt) (standing before)
-      (all_mono _ _ (λ w u d k e. re.found.wrote w.tx ∙ wrote_of before w.tx w.key u) (standing before) (standing_updates before))
+  standing_start : SameAtKeys (filter (of_kept (is_alive [])) (standing Now)) (pile (held (alone (found_items shard before))) (filter (of_kept (committed_in before)) (standing before)))
+  standing_start =
+      keys_by (filter_all_kept (is_alive []) (standing Now) (all_alive (standing Now)) ∙ re.only_kept) split_start (ap (λ xs. pile xs (filter (of_kept (committed_in before)) (standing before))) (sym (held_alone (found_items shard before))))
 
   pub items_doubted : AllByRecursion (λ x. tx_in x.tx doubt ≡ true) (found_items shard before)
   items_doubted = found_doubted (λ t. tx_in t doubt) (standing before)
@@ -195,9 +195,9 @@ module _ (shard run : ℕ) (before : List LogRecord) (may : MayServe shard run b
   old_prepared t e = let l = record_fits (greatest_run before) t (is_prepare_of t) (own_prepare t) before order.runs (sym (re.found.prepares t) ∙ e) in let m = may.1 in inr (omega (arith, l, m))
 
   abbrev KeepsNow : List TxId → Type 0
-  KeepsNow d = KeepsOrder (found_asked shard before) shard run (restored_locks d Now []) (restored_parts d) (restored_pairs Now d) Now (restored_requests (unended_in Now Now))
+  KeepsNow d = KeepsOrder (found_asked shard before) shard run (restored_parts d) (restored_pairs Now d) Now (restored_requests (unended_in Now Now))
 
-  order_start : KeepsOrder (found_asked shard before) shard run (restored_locks doubt Now []) (restored_parts doubt) (restored_pairs Now doubt) Now (restored_requests (unended_in Now Now))
+  order_start : KeepsOrder (found_asked shard before) shard run (restored_parts doubt) (restored_pairs Now doubt) Now (restored_requests (unended_in Now Now))
   order_start = subst KeepsNow re.found.doubts (record {
     ordered = ordered_restored shard run Now renewed_start;
     lying = lying_restored shard run Now renewed_start;
@@ -213,9 +213,9 @@ module _ (shard run : ℕ) (before : List LogRecord) (may : MayServe shard run b
       let loses : is_winner shard before t ≡ false = or_from _ _ (sym (re.found.commits t) ∙ c) n in
       subst (λ l. aborted_in l t ≡ true) (sym (take_all (length Now) Now (omega arith)))
       (⊎_elim
-      (λ w. undo_aborts shard before run t (filter_in (λ u. not (is_winner shard before u)) t (writers (standing before)) w (ap not loses)))
-      (λ u. re.found.aborts t (order.undone t u))
-      (wrote_stands shard before follows t (prepared_wrote shard before follows t (sym (re.found.prepares t) ∙ p))))
+      (λ w. undo_aborts shard before run t (filter_in (λ u. not (is_winner shard before u)) t (writers (standing before)) (has_writer t (standing before) w) (ap not loses)))
+      (λ a. re.found.aborts t a)
+      (prepared_stands shard before follows t (sym (re.found.prepares t) ∙ p)))
 
   absent_start : (t : TxId) → is_present (stage_in (restored_parts doubt) t) ≡ false → tx_in t doubt ≡ false
   absent_start t h = false_from_ne_true _ (λ i. both_ways _ h (ap is_present (restored_closed doubt t i)))
@@ -246,43 +246,74 @@ module _ (shard run : ℕ) (before : List LogRecord) (may : MayServe shard run b
       none_vote : ◌≡◌ {A = Option Vote} None (Some Read) → ⊥
       none_vote x = absurd cc
 
-  sound_start : Sound (found_items shard before) (past_of shard before) (state_with (opened shard run []) 0 Now doubt (with_ghosts doubt Now (records_of (fold_updates (is_winner shard Now) Now []))) (restored_locks doubt Now []))
+  order_now : Order shard Now
+  order_now = order_of shard Now renewed_start.follows
+
+  abbrev done_start : List Deed
+  done_start = alone (found_items shard before)
+
+  -- of all of them, and of each two
+  abbrev AllFound : (Deed → Type 0) → Type 0
+  AllFound P = AllByRecursion P done_start
+
+  all_found : (P : Deed → Type 0) → ((x : Item) → tx_in x.tx doubt ≡ true → P (Did x)) → AllFound P
+  all_found P h = all_alone P (found_items shard before) (all_mono _ _ h (found_items shard before) items_doubted)
+
+  two_found : (R : Item → Item → Type 0) → ((x y : Item) → UnderFound before (λ t. tx_in t doubt) x y → R x y) → AllLater R (items_in done_start)
+  two_found R h = subst (AllLater R) (sym (items_alone (found_items shard before))) (later_mono _ _ h (found_items shard before) under_start)
+
+  sound_start : Sound done_start (past_of shard before) (state_with (opened shard run []) 0 Now doubt (with_ghosts doubt (standing Now) (records_of (fold_updates (is_winner shard Now) Now []))) (restored_locks doubt (standing Now) []))
   unfolding state_with
   sound_start = record {
     kept = record {
       start = record { start_rises = fold_rises (committed_somewhere (before ∷ [])) before [] tt; base_value = start_value; base_chain = chain_kept (committed_in before) (standing before) order.writes.lie order.writes.chain };
-      past = record { runs = runs_start; alive = all_mono _ _ (λ x i. refl) (found_items shard before) items_doubted; order = later_mono _ _ (λ x y u c. ⊎_elim (λ s. inl s) (λ l. inr (listed_place y.tx x.tx l.2 l.1 l.0)) (u c.0 c.1 c.2 c.4)) (found_items shard before) under_start };
-      log = record { standing_is = standing_start; logged = logged_start; tidy = re.found.tidy };
+      past = record {
+        acts = acts_alone (stands (before ∷ [])) (found_items shard before) runs_start;
+        alive = all_found _ (λ x i. refl);
+        order = two_found _ (λ x y u c. ⊎_elim (λ s. inl s) (λ l. inr (listed_place y.tx x.tx l.2 l.1 l.0)) (u c.0 c.1 c.2 c.4));
+        between = between_alone [] (found_items shard before);
+        rising = later_alone Rise (found_items shard before) (found_rise (λ t. tx_in t doubt) (standing before));
+      };
+      log = record { standing_is = standing_start; tidy = re.found.tidy };
       records = record { rises = rises_remade shard before Now re; values = values_remade shard before Now re };
-      locks = record { rows = rows_restored doubt Now [] tt; covered = all_mono _ _ (λ x i a. absurd (no_active x.tx a)) (found_items shard before) items_doubted; wrote = wrote_remade shard before Now re };
+      locks = record {
+        rows = rows_restored doubt (standing Now) [] tt;
+        covered = subst (AllByRecursion _) (sym (items_alone (found_items shard before))) (all_mono _ _ (λ x i a. absurd (no_active x.tx a)) (found_items shard before) items_doubted);
+        wrote = wrote_remade shard before Now re;
+      };
       parts = record {
-        known = all_mono _ _ (λ x i. inr (doubt_asked x.tx i, λ a. no_active x.tx a)) (found_items shard before) items_doubted;
+        known = all_found _ (λ x i. inr (doubt_asked x.tx i, λ a. no_active x.tx a));
+        alone = two_found _ (λ x y u c. inr (λ a. no_active x.tx a));
         closed = λ t e. doubt_asked t (restored_stage doubt t Closed e).1;
         successors = λ t p e. ap is_present (restored_closed doubt t (pair_of Now doubt t p e));
       };
       fates = record {
         uncommitted = λ t e. absurd (no_active t e);
-        dead = λ t e. let d = re.found.dead t e in (re.found.commits t ∙ or_false_left (committed_in before t) (tx_in t doubt) d, (λ a. no_active t a), (λ a. both_ways _ (or_false_right (committed_in before t) (tx_in t doubt) d) (restored_stage doubt t Closed a).1));
+        dead = λ t e. let d = winner_unaborted shard before Now t order_now re.found e in (
+          re.found.commits t ∙ or_false_left (committed_in before t) (tx_in t doubt) d,
+          (λ a. no_active t a),
+          (λ a. both_ways _ (or_false_right (committed_in before t) (tx_in t doubt) d) (restored_stage doubt t Closed a).1),
+        );
         doomed = λ t d e. absurd (gone_closed (Some d) (restored_stage doubt t (Gone (Some d)) e).0);
         prepared = record {
           unprepared = λ t a. absurd (no_active t a);
           sealed = re.found.sealed;
-          causes = later_mono _ _ (λ x y u r. ⊎_elim (λ s. inl s) (λ l. inr (λ e. inl (listed_now y.tx x.tx l.2 l.0))) (reached x y u r)) (found_items shard before) under_start;
+          causes = met_alone _ (found_items shard before) (later_mono _ _ (λ x y u r. ⊎_elim (λ s. inl s) (λ l. inr (λ e. inl (listed_now y.tx x.tx l.2 l.0))) (reached x y u r)) (found_items shard before) under_start);
           recover = λ t p e q. let m = met_doubt t p e in inl (listed_now t p m.0 m.2);
         };
       };
       ends = record {
-        left = all_mono _ _ (λ x i. inl (ap is_present (restored_closed doubt x.tx i))) (found_items shard before) items_doubted;
+        left = all_found _ (λ x i. inl (ap is_present (restored_closed doubt x.tx i)));
         over = λ t e. absurd (both_ways false refl e);
         recover = λ t p e. let m = met_doubt t p e in inr (inr (inl (listed_pair t p m.0 m.1 m.2)), listed_place t p m.0 m.1 m.2);
       };
       pairs = record {
         downwards = λ t p e c. absurd (both_ways _ (doubt_open t (pair_of Now doubt t p e)) c);
-        causes = later_mono _ _ (λ x y u r. ⊎_elim (λ s. inl s) (λ l. inr (inr (inl (listed_pair y.tx x.tx l.2 l.1 l.0)))) (reached x y u r)) (found_items shard before) under_start;
+        causes = met_alone _ (found_items shard before) (later_mono _ _ (λ x y u r. ⊎_elim (λ s. inl s) (λ l. inr (inr (inl (listed_pair y.tx x.tx l.2 l.1 l.0)))) (reached x y u r)) (found_items shard before) under_start);
       };
       durable = record { base_done = base_done (standing before); front = λ n e. absurd (none-some n e) };
     };
-    answers = record { told = λ t. inr refl; within = part_same (found_items shard before) };
+    answers = record { told = λ t. inr refl; within = part_same done_start };
     requests = record { undecided = λ t q e u. absurd ((subst IsCommitted e (restored_committed (unended_in Now Now) t)).0 u); readers = λ t q e u. absurd ((subst IsCommitted e (restored_committed (unended_in Now Now) t)).1 u); unfallen = λ t q e u here. refl };
     voters = record {
       apart = λ t v e. requests_none (unended_in Now Now) t (unended_none Now Now t (doubt_open t (voter_is Now doubt t v e).0));
@@ -294,9 +325,9 @@ module _ (shard run : ℕ) (before : List LogRecord) (may : MayServe shard run b
     order = order_start;
   }
 
-  pub sound_opened : Sound (found_items shard before) (past_of shard before) (opened shard run before)
+  pub sound_opened : Sound done_start (past_of shard before) (opened shard run before)
   unfolding state_with
-  sound_opened = subst (λ d. Sound (found_items shard before) (past_of shard before) (state_with (opened shard run []) 0 Now d (with_ghosts d Now (records_of (fold_updates (is_winner shard Now) Now []))) (restored_locks d Now []))) (sym re.found.doubts) sound_start
+  sound_opened = subst (λ d. Sound done_start (past_of shard before) (state_with (opened shard run []) 0 Now d (with_ghosts d (standing Now) (records_of (fold_updates (is_winner shard Now) Now []))) (restored_locks d (standing Now) []))) (sym re.found.doubts) sound_start
 
 -- and nobody fell
 pub opened_undoomed : (shard run : ℕ) (before : List LogRecord) (u : TxId) → is_doomed (stage_of (opened shard run before).local u) ≡ true → ⊥

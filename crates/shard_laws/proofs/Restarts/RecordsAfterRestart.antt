@@ -15,21 +15,19 @@ use Rattle.clv_base.specs.Logs.{StandingUpdate, is_setting, standing, committed_
 use Rattle.clv_base.specs.Needs.{value_at}
 use Rattle.clv_base.specs.Folding.{IsRising}
 use Rattle.clv_base.specs.Restarts.{records_of, with_ghosts, restored_locks, restored_parts, restored_pairs}
-use Rattle.clv_base.proofs.SameNames.{or_left, or_right}
 use Rattle.law_base.proofs.Cells.{record_at, live_by}
 use Rattle.law_base.proofs.Lists.{all_mono, all_both}
 use Rattle.law_base.proofs.Running.{top_value}
 use Rattle.law_base.proofs.Anchors.{Rising, AllAbove}
 use Rattle.law_base.proofs.Commits.{commit_durable}
-use Rattle.protocol_laws.specs.Order.{is_clr_of, undone_in}
 use Rattle.law_base.proofs.LockRows.{holds}
 use Rattle.shard_laws.proofs.Operations.NeedsCoverKeys.{wrote_part}
 use Rattle.shard_laws.proofs.Keeping.WhatOneShardKeeps.{part_for, View, Wrote}
-use Rattle.shard_laws.proofs.Cuts.WhatCutsHold.{of_kept, KeptWhole, fold_alike, fold_values}
+use Rattle.shard_laws.proofs.Cuts.WhatCutsHold.{of_kept, fold_alike, fold_values}
 use Rattle.shard_laws.proofs.Restarts.RestoredLocksAndParts.{ghosts_value, ghosts_rise}
 use Rattle.shard_laws.proofs.Restarts.WinnersKeepTheirWrites.{winners, Restarted}
 use Rattle.shard_laws.proofs.Restarts.UnrestoredFell.{all_durable}
-use Rattle.law_base.proofs.Logs.{fold_rises, has_update, has_setting, standing_updates, standing_settings, locks_hold, locks_set, ghosts_there}
+use Rattle.law_base.proofs.Logs.{fold_rises, has_write_at, has_set_at, each_write_at, each_set_at, locks_hold, locks_set, ghosts_there}
 
 -- ---- the records of a map
 
@@ -73,17 +71,13 @@ filter_twice f (w ∷ ws) = at (f w.tx) refl (filter_twice f ws)
     at true e ih = cond-true (f w.tx) _ _ e ∙ ap (λ l. w ∷ l) ih
     at false e ih = ih
 
-pub whole_log : (keep : TxId → Bool) (rs : List LogRecord) → ((t : TxId) → undone_in rs t ≡ true → keep t ≡ false) → KeptWhole keep rs
-whole_log keep [] h = tt
-whole_log keep (r ∷ rs) h = (λ t e. h t (or_left _ _ e), whole_log keep rs (λ t e. h t (or_right (is_clr_of t r) _ e)))
-
 -- ---- what a restart makes of the cut that it found
 
 abbrev pub view_remade : ℕ → List LogRecord → List LogRecord → View
 view_remade shard cut log =
     record {
-      records = with_ghosts (in_doubt shard cut) log (records_of (fold_updates (is_winner shard log) log []));
-      locks = restored_locks (in_doubt shard cut) log [];
+      records = with_ghosts (in_doubt shard cut) (standing log) (records_of (fold_updates (is_winner shard log) log []));
+      locks = restored_locks (in_doubt shard cut) (standing log) [];
       parts = restored_parts (in_doubt shard cut);
       pairs = restored_pairs log (in_doubt shard cut);
       log = log;
@@ -100,14 +94,14 @@ module _ (shard : ℕ) (cut log : List LogRecord) (re : Restarted shard cut log)
 
   pub values_remade : (q : ℕ) → value_at q (view_remade shard cut log).records ≡ top_value q (standing log)
   values_remade q =
-      ghosts_value (in_doubt shard cut) log (records_of (fold_updates (is_winner shard log) log [])) q
+      ghosts_value (in_doubt shard cut) (standing log) (records_of (fold_updates (is_winner shard log) log [])) q
       ∙ get_records q (fold_updates (is_winner shard log) log [])
       ∙ ap (map_get q) (fold_alike (is_winner shard log) (is_winner shard cut) log [] (λ t. winners shard cut log t re.found))
-      ∙ fold_values (is_winner shard cut) 0 log [] [] q (whole_log (is_winner shard cut) log re.found.dead) (λ j. refl)
+      ∙ fold_values (is_winner shard cut) (standing log) q
       ∙ ap (top_value q) standing_kept
 
   pub rises_remade : Rising (view_remade shard cut log).records
-  rises_remade = ghosts_rise (in_doubt shard cut) log (records_of (fold_updates (is_winner shard log) log [])) (rising_records (fold_updates (is_winner shard log) log []) (fold_rises (is_winner shard log) log [] tt))
+  rises_remade = ghosts_rise (in_doubt shard cut) (standing log) (records_of (fold_updates (is_winner shard log) log [])) (rising_records (fold_updates (is_winner shard log) log []) (fold_rises (is_winner shard log) log [] tt))
 
   kept_wins : (ws : List StandingUpdate) → AllByRecursion (λ w. is_winner shard cut w.tx ≡ true) (filter (of_kept (is_winner shard cut)) ws)
   kept_wins [] = tt
@@ -115,25 +109,21 @@ module _ (shard : ℕ) (cut log : List LogRecord) (re : Restarted shard cut log)
       cond_both (is_winner shard cut w.tx) (w ∷ filter (of_kept (is_winner shard cut)) ws) (filter (of_kept (is_winner shard cut)) ws) (AllByRecursion (λ w. is_winner shard cut w.tx ≡ true)) (λ e. (e, kept_wins ws)) (λ e. kept_wins ws)
 
   -- what stands is of those that win
-  pub all_written : AllByRecursion (λ w. (is_winner shard cut w.tx ≡ true) × (has_update log w.tx w.key ≡ true)) (standing log)
-  all_written = all_both _ _ (standing log) (subst (AllByRecursion (λ w. is_winner shard cut w.tx ≡ true)) standing_kept (kept_wins (standing log))) (standing_updates log)
+  pub all_won : AllByRecursion (λ w. is_winner shard cut w.tx ≡ true) (standing log)
+  all_won = subst (AllByRecursion (λ w. is_winner shard cut w.tx ≡ true)) standing_kept (kept_wins (standing log))
 
   pub wrote_remade : AllByRecursion (Wrote (view_remade shard cut log)) (standing log)
   wrote_remade = all_mono _ _ (λ w r out.
       ⊎_elim (λ k. absurd (both_ways _ out (committed_remade w.tx k)))
-      (λ i. (held w i r.1.0 r.1.1, ghosts_there (in_doubt shard cut) log (records_of (fold_updates (is_winner shard log) log [])) w.tx w.key i r.1.0))
+      (λ i. (held w i r.1.0 r.1.1, ghosts_there (in_doubt shard cut) (standing log) (records_of (fold_updates (is_winner shard log) log [])) w.tx w.key i r.1.0))
       (or_cases (committed_in cut w.tx) (tx_in w.tx (in_doubt shard cut)) r.0))
-      (standing log) (all_both _ _ (standing log) (won_only (standing log) all_written) (all_both _ _ (standing log) (standing_updates log) (standing_settings log)))
+      (standing log) (all_both _ _ (standing log) all_won (all_both _ _ (standing log) (each_write_at (standing log)) (each_set_at (standing log))))
     where
-      won_only : (ws : List StandingUpdate) → AllByRecursion (λ w. (is_winner shard cut w.tx ≡ true) × (has_update log w.tx w.key ≡ true)) ws → AllByRecursion (λ w. is_winner shard cut w.tx ≡ true) ws
-      won_only [] a = tt
-      won_only (w ∷ ws) a = (a.0.0, won_only ws a.1)
-
       -- who set the value holds X, who added I
-      held : (w : StandingUpdate) → tx_in w.tx (in_doubt shard cut) ≡ true → has_update log w.tx w.key ≡ true → (is_setting w.change ≡ true → has_setting log w.tx w.key ≡ true)
-          → holds true (part_for w.change) (At w.key) w.tx (restored_locks (in_doubt shard cut) log []) ≡ true
+      held : (w : StandingUpdate) → tx_in w.tx (in_doubt shard cut) ≡ true → has_write_at (standing log) w.tx w.key ≡ true → (is_setting w.change ≡ true → has_set_at (standing log) w.tx w.key ≡ true)
+          → holds true (part_for w.change) (At w.key) w.tx (restored_locks (in_doubt shard cut) (standing log) []) ≡ true
       held w i wrote sets = at (is_setting w.change) sets
         where
-          at : (b : Bool) → (b ≡ true → has_setting log w.tx w.key ≡ true) → holds true (wrote_part (not b)) (At w.key) w.tx (restored_locks (in_doubt shard cut) log []) ≡ true
-          at true sets = locks_set (in_doubt shard cut) log [] w.tx w.key i (sets refl)
-          at false sets = locks_hold (in_doubt shard cut) log [] w.tx w.key i wrote
+          at : (b : Bool) → (b ≡ true → has_set_at (standing log) w.tx w.key ≡ true) → holds true (wrote_part (not b)) (At w.key) w.tx (restored_locks (in_doubt shard cut) (standing log) []) ≡ true
+          at true sets = locks_set (in_doubt shard cut) (standing log) [] w.tx w.key i (sets refl)
+          at false sets = locks_hold (in_doubt shard cut) (standing log) [] w.tx w.key i wrote

@@ -11,21 +11,22 @@ use Rattle.clv_base.specs.declared.state.Stage.TheVariants.{Active, Closed}
 use Rattle.clv_base.specs.declared.state.RequestState.TheVariants.{Undecided, Committed}
 use Rattle.clv_base.specs.Orders.{tx_same, tx_in}
 use Rattle.clv_base.specs.State.{Shard}
-use Rattle.clv_base.specs.Logs.{StandingUpdate, standing, committed_in, aborted_in, wrote_in, is_commit_of, in_doubt, is_winner, writers}
+use Rattle.clv_base.specs.Logs.{StandingUpdate, standing, committed_in, aborted_in, wrote_in, has_standing, is_commit_of, in_doubt, is_winner, writers}
 use Rattle.clv_base.specs.LogRules.{may_follow, last_restart, above_restarts, listed_in}
-use Rattle.clv_base.specs.Undo.{clrs_of, newest_lsn, compensation}
+use Rattle.clv_base.specs.Undo.{is_of, clrs_of, newest_lsn, compensation}
 use Rattle.clv_base.specs.Coordinator.{restored_requests}
-use Rattle.clv_base.specs.Restarts.{losers, undo_records, restart_records, log_after_restart, restored_locks, restored_parts, restored_pairs, unended_in, greatest_run, next_epoch, FailedRestarts, Restarts, untouched, failed_first}
-use Rattle.clv_base.proofs.SameNames.{tx_eq, tx_flip, in_insert}
+use Rattle.clv_base.specs.Restarts.{losers, undo_records, restart_records, log_after_restart, restored_parts, restored_pairs, unended_in, greatest_run, next_epoch, FailedRestarts, Restarts, untouched, failed_first}
+use Rattle.clv_base.proofs.SameNames.{tx_eq, tx_flip}
 use Rattle.law_base.proofs.Lists.{all_mono, all_both, all_append}
-use Rattle.law_base.proofs.Undoing.{Upward, standing_append}
+use Rattle.law_base.proofs.Standing.{standing_append, all_wrote}
+use Rattle.law_base.proofs.Undoing.{Upward}
 use Rattle.law_base.proofs.Tables.{stage_in}
 use Rattle.law_base.proofs.Sets.{filter_in, in_filter, list_all_at, each_writer}
 use Rattle.law_base.proofs.Bools.{and_first as front, and_second as last}
 use Rattle.law_base.proofs.Stages.{present_is}
 use Rattle.protocol_laws.specs.Order.{LieOnThese}
 use Rattle.protocol_laws.proofs.LogsInOrder.OneRecordMore.{push_false}
-use Rattle.protocol_laws.proofs.LogsInOrder.{Order, undone_open}
+use Rattle.protocol_laws.proofs.LogsInOrder.{Order}
 use Rattle.shard_laws.proofs.Cuts.MembersRunSerially.{once_filter}
 use Rattle.shard_laws.proofs.Cuts.WhatCutsHold.{of_kept}
 use Rattle.shard_laws.proofs.Cuts.WhoIsInDoubt.{Doubted, doubted}
@@ -33,10 +34,9 @@ use Rattle.shard_laws.proofs.Restarts.RestoredLocksAndParts.{restored_closed, re
 use Rattle.shard_laws.proofs.Order.RecordByRecord.{Follows, follows_append, follows_take, through, Plainly, greatest_front, greatest_both, above_next, above_push}
 use Rattle.shard_laws.proofs.Order.RisingAreDistinct.{writers_once}
 use Rattle.shard_laws.proofs.Order.UndoMayFollow.{undo_follows, plainly_compensation}
-use Rattle.shard_laws.proofs.Order.WritesLieOnListed.{prepared_wrote, lists_others, Beneath, LieListed, order_of, lie_listed, winners_lie, wrote_restart}
-use Rattle.shard_laws.proofs.Operations.HoldersOfXWrote.{writers_restored}
+use Rattle.shard_laws.proofs.Order.WritesLieOnListed.{lists_others, Beneath, LieListed, order_of, lie_listed, winners_lie, wrote_restart}
 use Rattle.shard_laws.proofs.Order.ChangesKeepOrder.{LiesOn, Under, Lying, Ordered, list_all_from}
-use Rattle.shard_laws.proofs.Order.ClosingKeepsOrder.{all_wrote}
+use Rattle.shard_laws.proofs.Order.WhoseWritesStand.{writer_has, prepared_stands}
 use Rattle.shard_laws.proofs.Order.WhatRulingsMayWrite.{Rulings}
 use Rattle.shard_laws.proofs.Restarts.RestoredRequestsAndPairs.{pair_there, pair_lists, request_from, OneCommit, unended_parts}
 use Rattle.shard_laws.proofs.Restarts.WinnersKeepTheirWrites.{Found, Plain, winners, found_more, plain_restart, loser_alike, standing_whole}
@@ -45,16 +45,12 @@ use Rattle.clv_base.proofs.Folding.{or_left as or_false_left, or_right as or_fal
 
 -- ---- the losers lie under no winner
 
-upward_from : (these : TxId → Bool) (set : List TxId) (ws : List StandingUpdate) → AllByRecursion (λ w. not (tx_in w.tx set) ≡ these w.tx) ws → LieOnThese these ws → Upward set ws
+upward_from : (these : TxId → Bool) (set : List TxId) (ws : List StandingUpdate) → AllByRecursion (λ w. not (tx_in w.tx set) ≡ these w.tx) ws → LieOnThese these ws → Upward (is_of set) ws
 upward_from these set [] a l = tt
 upward_from these set (w ∷ ws) a l = (
   (λ out. all_mono _ _ (λ v h e q. not-true _ (h.1 ∙ h.0 e q)) ws (all_both _ _ ws (l.0 (sym a.0 ∙ ap not out)) a.1)),
   upward_from these set ws a.1 l.1,
 )
-
-pub writer_wrote : (P : TxId → Type 0) (ws : List StandingUpdate) (t : TxId) → AllByRecursion (λ w. P w.tx) ws → tx_in t (writers ws) ≡ true → P t
-writer_wrote P [] t a i = absurd (both_ways false refl i)
-writer_wrote P (w ∷ ws) t a i = ⊎_elim (λ s. subst P (sym s) a.0) (λ j. writer_wrote P ws t a.1 j) (in_insert w.tx t (writers ws) i)
 
 -- a log's own cut
 pub found_self : (shard : ℕ) (log : List LogRecord) → Order shard log → Found shard log log
@@ -66,14 +62,11 @@ found_self shard log o = record {
   same_kept = refl;
   tidy = o.tidy;
   sealed = o.sealed;
-  dead = λ t u. false_from_ne_true _ (λ w.
-      ⊎_elim (λ c. both_ways _ (undone_open shard log t o u) c) (λ i. both_ways _ (doubted shard log t o.sealed i).unaborted (o.undone t u)) (or_cases (committed_in log t) (tx_in t (in_doubt shard log)) w));
-  wrote = λ t. refl;
   aborts = λ t e. e;
   listed = λ t e. refl;
 }
 
-all_first : {I : Type 0} (P : I → Type 0) (xs ys : List I) → AllByRecursion P (xs ++ ys) → AllByRecursion P xs
+pub all_first : {I : Type 0} (P : I → Type 0) (xs ys : List I) → AllByRecursion P (xs ++ ys) → AllByRecursion P xs
 all_first P [] ys a = tt
 all_first P (x ∷ xs) ys a = (a.0, all_first P xs ys a.1)
 
@@ -116,16 +109,16 @@ module _ (shard : ℕ) (log : List LogRecord) (f : Follows shard [] log) where
   order : Order shard log
   order = order_of shard log f
 
-  upward_losers : Upward (losers shard log) (standing log)
+  upward_losers : Upward (is_of (losers shard log)) (standing log)
   upward_losers = upward_from (is_winner shard log) (losers shard log) (standing log)
       (all_mono _ _ (λ w i. loser_alike shard log w.tx i) (standing log) (each_writer (standing log)))
       (winners_lie shard log order (standing log) (order.writes).lie (lie_listed shard log f))
 
-  loser_open : (t : TxId) → tx_in t (filter (λ u. not (aborted_in log u)) (losers shard log)) ≡ true → (wrote_in log t ≡ true) × (committed_in log t ≡ false) × (aborted_in log t ≡ false)
+  loser_open : (t : TxId) → tx_in t (filter (λ u. not (aborted_in log u)) (losers shard log)) ≡ true → (has_standing log t ≡ true) × (committed_in log t ≡ false) × (aborted_in log t ≡ false)
   loser_open t i =
       let a = in_filter (λ u. not (aborted_in log u)) t (losers shard log) i in
       let b = in_filter (λ u. not (is_winner shard log u)) t (writers (standing log)) a.0 in
-      (writer_wrote (λ z. wrote_in log z ≡ true) (standing log) t (all_wrote log) b.0, or_false_left (committed_in log t) (tx_in t (in_doubt shard log)) (not-true _ b.1), not-true _ a.1)
+      (writer_has t (standing log) b.0, or_false_left (committed_in log t) (tx_in t (in_doubt shard log)) (not-true _ b.1), not-true _ a.1)
 
   undo_some : is_some (last_restart log) ≡ true → Follows shard log (undo_records shard log)
   undo_some s = undo_follows shard log (losers shard log) (filter (λ t. not (aborted_in log t)) (losers shard log)) s
@@ -273,6 +266,10 @@ module _ (shard run : ℕ) (log : List LogRecord) (r : Renewed shard run log) wh
   listed_doubt t p i l c = ⊎_elim (λ k. absurd (both_ways _ c k)) (λ k. k)
       (or_cases (committed_in log p) (tx_in p (in_doubt shard log)) (list_all_at (λ q. committed_in log q || tx_in q (in_doubt shard log)) p (listed_in log t) (doubt_of t i).listed l))
 
+  -- of each a write stands
+  doubt_stands : (t : TxId) → tx_in t (in_doubt shard log) ≡ true → has_standing log t ≡ true
+  doubt_stands t i = ⊎_elim (λ h. h) (λ a. absurd (both_ways _ (doubt_of t i).unaborted a)) (prepared_stands shard log r.follows t (doubt_of t i).prepared)
+
   pub ordered_restored : Ordered shard run (restored_parts (in_doubt shard log)) (restored_pairs log (in_doubt shard log)) log
   ordered_restored = record {
     follows = r.follows;
@@ -285,7 +282,7 @@ module _ (shard run : ℕ) (log : List LogRecord) (r : Renewed shard run log) wh
     others = λ t p e.
         let q = pair_lists log (in_doubt shard log) t p e in
         let i = listed_doubt t p q.0 q.1 q.2 in
-        ((λ s. both_ways _ (lists_others shard log r.follows t p q.1) (tx_eq p t (sym s))), inr (restored_closed (in_doubt shard log) p i, prepared_wrote shard log r.follows p (doubt_of p i).prepared));
+        ((λ s. both_ways _ (lists_others shard log r.follows t p q.1) (tx_eq p t (sym s))), inr (restored_closed (in_doubt shard log) p i, doubt_stands p i));
     lists = λ t p c l. ⊎_elim (λ k. inl k) (λ n. inr (pair_there log (in_doubt shard log) t p (closed_doubt t c) l n)) (cases_Bool (committed_in log p));
   }
 
@@ -304,11 +301,8 @@ module _ (shard run : ℕ) (log : List LogRecord) (r : Renewed shard run log) wh
       lies i (inr (inl k)) = inr (inl k)
       lies {p} i (inr (inr m)) = inr (⊎_elim (λ k. inl k) (λ n. inr (pair_there log (in_doubt shard log) v.tx p i m n)) (cases_Bool (committed_in log p)))
 
-  pub lying_restored : Lying (restored_locks (in_doubt shard log) log []) (restored_pairs log (in_doubt shard log)) log
-  lying_restored = record {
-    under = under_now (standing log) r.won (now.writes).lie (lie_listed shard log r.follows);
-    writers = writers_restored (λ t. wrote_in log t ≡ true) (in_doubt shard log) log [] (λ t e. e) tt;
-  }
+  pub lying_restored : Lying (restored_pairs log (in_doubt shard log)) log
+  lying_restored = under_now (standing log) r.won (now.writes).lie (lie_listed shard log r.follows)
 
   pub rulings_restored : Rulings shard run (restored_requests (unended_in log log)) log
   rulings_restored t q e =

@@ -9,21 +9,24 @@ use Rattle.clv_base.specs.declared.logs.LogRecord.TheVariants.{Update, Clr, Prep
 use Rattle.clv_base.specs.declared.changes.Change.{Change}
 use Rattle.clv_base.specs.Orders.{tx_same, tx_in}
 use Rattle.clv_base.specs.declared.changes.Change.TheVariants.{Sets, Adds}
-use Rattle.clv_base.specs.Logs.{StandingUpdate, standing, standing_from, without_newest, committed_in, prepared_in, wrote_in, aborted_in, is_update_of, is_commit_of, is_prepare_of, writers, in_doubt, is_winner, is_abort_of}
+use Rattle.clv_base.specs.Logs.{StandingUpdate, standing, standing_from, without_newest, committed_in, prepared_in, wrote_in, aborted_in, is_update_of, is_undo_of, is_commit_of, is_prepare_of, writers, in_doubt, is_winner, is_abort_of}
 use Rattle.clv_base.specs.Undo.{clrs_of, newest_lsn, compensation}
 use Rattle.clv_base.specs.State.{Shard}
 use Rattle.clv_base.specs.Restarts.{losers, restart_records, log_after_restart, next_epoch, FailedRestarts, untouched, failed_first, Restarts}
 use Rattle.clv_base.proofs.SameNames.{or_left, or_right, tx_true, tx_self}
 use Rattle.law_base.proofs.Lists.{all_mono, all_append, all_taken}
-use Rattle.law_base.proofs.Undoing.{standing_append, standing_aborts, standing_clrs}
+use Rattle.law_base.proofs.Standing.{standing_append}
+use Rattle.law_base.proofs.Undoing.{standing_aborts, standing_clrs}
 use Rattle.law_base.proofs.Commits.{committed_append}
 use Rattle.law_base.proofs.Doubts.{Unlike, is_it, nobody, abort_unlike, clr_unlike, unadd_unlike, restart_unlike, doubts_more}
 use Rattle.law_base.proofs.Sets.{filter_in, in_filter, each_writer}
 use Rattle.law_base.proofs.Bools.{or_right_false}
-use Rattle.protocol_laws.specs.Order.{moves, Open_at, Tidy, Sealed, is_clr_of, undone_in}
+use Rattle.protocol_laws.specs.Order.{moves, Open_at, Tidy, Sealed, undone_in}
+use Rattle.protocol_laws.proofs.LogsInOrder.{Order}
+use Rattle.shard_laws.proofs.Cuts.WhoIsInDoubt.{doubted}
 use Rattle.shard_laws.proofs.Keeping.ChangesKeepPrepared.{IsListed, is_listed_more, prepared_append, sealed_more, listed_keeps}
-use Rattle.shard_laws.proofs.Keeping.RecordsAndFrontsKeep.{undone_append, wrote_append, tidy_append}
-use Rattle.shard_laws.proofs.Keeping.LeavingKeeps.{Harmless, tidy_harmless}
+use Rattle.shard_laws.proofs.Keeping.RecordsAndFrontsKeep.{tidy_append}
+use Rattle.shard_laws.proofs.Keeping.RecordsOfAnUndo.{Harmless, tidy_harmless}
 use Rattle.shard_laws.proofs.Cuts.WhatCutsHold.{of_kept, without_other}
 use Rattle.shard_laws.proofs.Cuts.MembersOfCutsReplay.{filter_alike}
 use Rattle.std.proofs.lemmas.List.Folds.{list_any-append}
@@ -38,7 +41,7 @@ pub record Plain (shard : ℕ) (log : List LogRecord) (r : LogRecord) : Type 0 w
   pub no_commit : (t : TxId) → is_commit_of t r ≡ false
   pub no_update : (t : TxId) → is_update_of t r ≡ false
   pub no_prepare : (t : TxId) → is_prepare_of t r ≡ false
-  pub undoes : (t : TxId) → is_clr_of t r ≡ true → is_winner shard log t ≡ false
+  pub undoes : (t : TxId) → is_undo_of t r ≡ true → is_winner shard log t ≡ false
   pub whom : TxId → Bool
   pub unlike : Unlike whom r
   pub spares : (t : TxId) → tx_in t (in_doubt shard log) ≡ true → whom t ≡ false
@@ -52,13 +55,16 @@ pub record Found (shard : ℕ) (cut log : List LogRecord) : Type 0 where
   pub same_kept : filter (of_kept (is_winner shard cut)) (standing log) ≡ filter (of_kept (is_winner shard cut)) (standing cut)
   pub tidy : Tidy [] log
   pub sealed : Sealed [] log
-  pub dead : (t : TxId) → undone_in log t ≡ true → is_winner shard cut t ≡ false
-  pub wrote : (t : TxId) → wrote_in log t ≡ wrote_in cut t
   pub aborts : (t : TxId) → aborted_in cut t ≡ true → aborted_in log t ≡ true
   pub listed : (t : TxId) → prepared_in cut t ≡ true → listed_in log t ≡ listed_in cut t
 
 pub winners : (shard : ℕ) (cut log : List LogRecord) (t : TxId) → Found shard cut log → is_winner shard log t ≡ is_winner shard cut t
 winners shard cut log t f = ap (λ b. b || tx_in t (in_doubt shard log)) (f.commits t) ∙ ap (λ l. committed_in cut t || tx_in t l) f.doubts
+
+-- none of them is aborted
+pub winner_unaborted : (shard : ℕ) (cut log : List LogRecord) (t : TxId) → Order shard log → Found shard cut log → aborted_in log t ≡ true → is_winner shard cut t ≡ false
+winner_unaborted shard cut log t o f a = sym (winners shard cut log t f) ∙ false_from_ne_true _ (λ w.
+    ⊎_elim (λ c. both_ways _ (o.apart t c) a) (λ i. both_ways _ (doubted shard log t o.sealed i).unaborted a) (or_cases (committed_in log t) (tx_in t (in_doubt shard log)) w))
 
 none_commit : (shard : ℕ) (log rs : List LogRecord) (t : TxId) → AllByRecursion (Plain shard log) rs → committed_in rs t ≡ false
 none_commit shard log [] t all = refl
@@ -74,7 +80,7 @@ none_prepare shard log (r ∷ rs) t all = ap (λ b. b || prepared_in rs t) ((all
 
 undone_open : (shard : ℕ) (log rs : List LogRecord) (t : TxId) → AllByRecursion (Plain shard log) rs → undone_in rs t ≡ true → is_winner shard log t ≡ false
 undone_open shard log [] t all e = absurd (both_ways false refl e)
-undone_open shard log (r ∷ rs) t all e = ⊎_elim (λ h. (all.0).undoes t h) (λ h. undone_open shard log rs t all.1 h) (or_cases (is_clr_of t r) (undone_in rs t) e)
+undone_open shard log (r ∷ rs) t all e = ⊎_elim (λ h. (all.0).undoes t h) (λ h. undone_open shard log rs t all.1 h) (or_cases (is_undo_of t r) (undone_in rs t) e)
 
 same_doubts : (shard : ℕ) (log now rs : List LogRecord) → in_doubt shard now ≡ in_doubt shard log → AllByRecursion (Plain shard log) rs → in_doubt shard (now ++ rs) ≡ in_doubt shard log
 same_doubts shard log now [] e all = ap (in_doubt shard) (append-nil now) ∙ e
@@ -111,8 +117,6 @@ found_more shard cut log more f all = record {
       (λ t e. absurd (both_ways _ (none_update shard log more t all) e)) (λ t e. sym (winners shard cut log t f) ∙ undone_open shard log more t all e) ∙ f.same_kept;
   tidy = tidy_append [] log more f.tidy (tidy_harmless log log more (λ t e. e) (harmless_plain shard log more all));
   sealed = sealed_more log more f.sealed (λ t. none_update shard log more t all) (λ t. none_prepare shard log more t all);
-  dead = λ t e. ⊎_elim (λ h. f.dead t h) (λ h. sym (winners shard cut log t f) ∙ undone_open shard log more t all h) (or_cases (undone_in log t) (undone_in more t) (sym (undone_append log more t) ∙ e));
-  wrote = λ t. wrote_append log more t ∙ or_right_false _ _ (none_update shard log more t all) ∙ f.wrote t;
   aborts = λ t e. list_any-append (is_abort_of t) log more ∙ or_left _ _ (f.aborts t e);
   listed = λ t e. listed_keeps log more t (f.prepares t ∙ e) ∙ f.listed t e;
 }
