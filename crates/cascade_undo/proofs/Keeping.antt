@@ -14,7 +14,7 @@ use Rattle.clv_base.specs.Orders.{tx_in}
 use Rattle.clv_base.specs.declared.changes.Change.{Change}
 use Rattle.clv_base.specs.declared.changes.Change.TheVariants.{Sets, Adds}
 use Rattle.clv_base.specs.OneShard.{update_of}
-use Rattle.clv_base.specs.Logs.{StandingUpdate, standing, standing_after, wrote_in}
+use Rattle.clv_base.specs.Logs.{StandingUpdate, standing, standing_after, has_standing}
 use Rattle.clv_base.specs.Undo.{aborts_of}
 use Rattle.clv_base.specs.Needs.{Records, found_at, found_by, is_there, record_set}
 use Rattle.law_base.proofs.Doubts.{standing_more}
@@ -61,7 +61,7 @@ fewer_aborts : (log : List LogRecord) (txs : List TxId) → length (aborts_of lo
 fewer_aborts log [] = omega arith
 fewer_aborts log (t ∷ ts) =
     let h = fewer_aborts log ts in
-    both (λ b. length (map (λ u. Abort u) (cond b (t ∷ filter (wrote_in log) ts) (filter (wrote_in log) ts))) ≤ length (t ∷ ts)) (wrote_in log t) (λ _. omega arith) (λ _. omega arith)
+    both (λ b. length (map (λ u. Abort u) (cond b (t ∷ filter (has_standing log) ts) (filter (has_standing log) ts))) ≤ length (t ∷ ts)) (has_standing log t) (λ _. omega arith) (λ _. omega arith)
 
 -- the set's writes are no more than the log's records
 pub writes_within : (set : List TxId) (log : List LogRecord) → length (writes_of set (standing log)) ≤ length log

@@ -15,4 +15,5 @@ pub mod InLog
 pub mod Succeeding
 pub mod Counting
 pub mod Listed
+pub mod Backing
 pub mod Laws

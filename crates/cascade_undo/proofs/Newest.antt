@@ -13,14 +13,14 @@ use Rattle.clv_base.specs.declared.changes.Change.{Change}
 use Rattle.clv_base.specs.declared.changes.Change.TheVariants.{Sets, Adds}
 use Rattle.clv_base.specs.OneShard.{update_of}
 use Rattle.clv_base.specs.Logs.{StandingUpdate, standing, newest_of}
-use Rattle.clv_base.specs.Undo.{newest_lsn}
+use Rattle.clv_base.specs.Undo.{is_of, newest_lsn}
 use Rattle.clv_base.proofs.SameNames.{tx_self}
-use Rattle.cascade_undo.proofs.Laws.{tx_in-more}
+use Rattle.cascade_undo.proofs.Members.{tx_in-more}
 use Rattle.cascade_undo.specs.declared.write.Write.{Write}
 use Rattle.cascade_undo.specs.Steps.{newest_in, lsn_of, write_in, IsNewestIn, AreBelow}
 use Rattle.cascade_undo.proofs.Splitting.{NoneOf, split_at, newest_above, newest_past}
 use Rattle.cascade_undo.proofs.Standing.{falls, IsIn, in_log}
-use Rattle.law_base.proofs.Bools.{by_bool as both}
+use Rattle.law_base.proofs.Bools.{by_bool as both, or_none}
 use Rattle.law_base.proofs.Names.{other_name, Falls}
 
 -- ---- the greatest of two LSNs
@@ -122,11 +122,16 @@ newest_at_least set t q n (w ∷ ws) f i e =
         both (λ b. lsn_of (cond b (Some w) (newest_of t ws)) ≡ Some q → q ≤ w.lsn) (tx_same t w.tx) (λ _ e. let same : w.lsn ≡ q = cc in omega arith)
         (λ _ e. let l : q < w.lsn = subst (IsUnder w.lsn) e under in omega arith) is
 
+-- of a set of one it is its newest
+pub newest_in_one : (t : TxId) (ws : List StandingUpdate) → newest_in (t ∷ []) ws ≡ newest_of t ws
+newest_in_one t [] = refl
+newest_in_one t (w ∷ ws) = ap (λ b. cond b (Some w) (newest_in (t ∷ []) ws)) (or_none (tx_same t w.tx)) ∙ ap (λ o. cond (tx_same t w.tx) (Some w) o) (newest_in_one t ws)
+
 -- the newest write of the set is its transaction's newest
 newest_of_own : (set : List TxId) (ws : List StandingUpdate) (v : StandingUpdate) → newest_in set ws ≡ Some v → (tx_in v.tx set ≡ true) × (newest_lsn v.tx ws ≡ Some v.lsn)
 newest_of_own set ws v is =
     let p = split_at set ws v is in
-    (p.own, ap (newest_lsn v.tx) p.is ∙ ap lsn_of (newest_above set v.tx p.above (v ∷ p.rest) p.own p.others ∙ cond-true _ _ _ (tx_self v.tx)))
+    (p.own, ap (newest_lsn v.tx) p.is ∙ ap lsn_of (newest_above v.tx p.above (v ∷ p.rest) p.others ∙ cond-true _ _ _ (tx_self v.tx)))
 
 module _ (set : List TxId) (log : List LogRecord) (lsn : ℕ) (below : AreBelow set (lsn + 1) (standing log)) where
   pub some_at : (w : Write) → Some w ≡ write_in lsn (slice_get log lsn) → tx_in w.tx set ≡ true → newest_lsn w.tx (standing log) ≡ Some lsn → IsNewestIn set (standing log) w
@@ -161,7 +166,7 @@ falls_under n [] w rest f = f.1
 falls_under n (v ∷ vs) w rest f = falls_under v.lsn vs w rest f.1
 
 -- what is left without the newest one is below it
-pub below_left : (set : List TxId) (w : StandingUpdate) → tx_in w.tx set ≡ true → (above rest : List StandingUpdate) → NoneOf set above → (n : ℕ) → Falls n (above ++ w ∷ rest)
+pub below_left : (set : List TxId) (w : StandingUpdate) → tx_in w.tx set ≡ true → (above rest : List StandingUpdate) → NoneOf (is_of set) above → (n : ℕ) → Falls n (above ++ w ∷ rest)
     → AreBelow set w.lsn (above ++ rest)
 below_left set w i above rest h n f =
     subst (λ o. IfSome o (λ v. v.lsn < w.lsn)) (sym (newest_past set above rest h)) (of_lsns w.lsn (newest_in set rest) (set_under w.lsn set rest (falls_under n above w rest f)))

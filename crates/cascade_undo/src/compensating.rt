@@ -16,7 +16,7 @@ pub(crate) fn append_clr(buffer: &mut LogBuffer<LogRecord>, write: Write)
     requires { 0 < buffer.old.room }
     ensures log { buffer.new.records ≡ buffer.old.records ++ compensation write.tx (newest_lsn write.tx (without_newest write.tx (standing buffer.old.records))) write.key write.change ∷ [] }
     ensures fronts { (buffer.new.durable ≡ buffer.old.durable) × (buffer.new.taken ≡ buffer.old.taken) }
-    ensures room { buffer.old.room ≤ buffer.new.room + 1 }
+    ensures room { buffer.old.room ≡ buffer.new.room + 1 }
 {
     let undo_next = buffer.second_newest(write.tx);
     buffer.append_reserved(write.change.into_undo(write.tx, undo_next, write.key));
@@ -29,7 +29,7 @@ pub fn compensate(buffer: &mut LogBuffer<LogRecord>, set: &[TxId])
     requires room { length (writes_of set.now (standing buffer.old.records)) ≤ buffer.old.room }
     ensures log { buffer.new.records ≡ buffer.old.records ++ clrs_of set.now (standing buffer.old.records) }
     ensures fronts { (buffer.new.durable ≡ buffer.old.durable) × (buffer.new.taken ≡ buffer.old.taken) }
-    ensures room { buffer.old.room ≤ buffer.new.room + length (writes_of set.now (standing buffer.old.records)) }
+    ensures room { buffer.old.room ≡ buffer.new.room + length (writes_of set.now (standing buffer.old.records)) }
 {
     let mut below = buffer.end();
     while let Some(write) = newest_write(buffer, set, below) {

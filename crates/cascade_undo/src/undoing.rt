@@ -1,15 +1,15 @@
-//! Undoing the writes of a set of transactions, from the newest one down.
+//! Undoing the writes of a set of transactions, or a transaction's newest ones, from the newest one down.
 ghost use Rattle.std.specs.Prelude.{◌≡◌, ◌≤◌, ◌<◌, ◌+◌, ◌++◌, [], ◌∷◌, length, IsTrue};
 ghost use Rattle.std.specs.List.Sorted.{IsStrictlySortedBy};
 ghost use Rattle.clv_base.specs.Orders.{tx_cmp};
 ghost use Rattle.clv_base.specs.Logs.{standing, unchanged, without_newest};
 ghost use Rattle.clv_base.specs.Maps.{minus as with_taken};
-ghost use Rattle.clv_base.specs.Undo.{records_without, clrs_of, compensation, newest_lsn};
+ghost use Rattle.clv_base.specs.Undo.{records_without, clrs_of, clrs_by, compensation, is_at, is_of, newest_lsn, newest_lsns};
 ghost use Rattle.clv_base.specs.Needs.{found_at, is_there, live_of, record_set, value_at};
 ghost use Rattle.cascade_undo.specs.Writes.{writes_of, HaveRecords};
 
 use crate::compensating::append_clr;
-use crate::write::{Write, newest_write};
+use crate::write::{Write, newest_back, newest_write};
 use clv_base::changes::{Change, minus};
 use clv_base::logs::LogRecord;
 use clv_base::modes::Found;
@@ -71,7 +71,7 @@ fn undo_write<S: Store>(store: &mut S, buffer: &mut LogBuffer<LogRecord>, write:
     ensures records { S.records store.new ≡ record_set write.key (unchanged write.change (value_at write.key (S.records store.old))) (S.records store.old) }
     ensures log { buffer.new.records ≡ buffer.old.records ++ compensation write.tx (newest_lsn write.tx (without_newest write.tx (standing buffer.old.records))) write.key write.change ∷ [] }
     ensures fronts { (buffer.new.durable ≡ buffer.old.durable) × (buffer.new.taken ≡ buffer.old.taken) }
-    ensures room { buffer.old.room ≤ buffer.new.room + 1 }
+    ensures room { buffer.old.room ≡ buffer.new.room + 1 }
     ensures store_room { S.room store.old ≤ S.room store.new }
 {
     take_back(store, write.key, &write.change);
@@ -91,10 +91,10 @@ pub fn undo_writes<S: Store>(
     requires rising { IsStrictlySortedBy tx_cmp set.now }
     requires there { HaveRecords set.now (standing buffer.old.records) (S.records store.old) }
     requires room { length (writes_of set.now (standing buffer.old.records)) ≤ buffer.old.room }
-    ensures records { S.records store.new ≡ records_without set.now (standing buffer.old.records) (S.records store.old) }
+    ensures records { S.records store.new ≡ records_without (is_of set.now) (standing buffer.old.records) (S.records store.old) }
     ensures log { buffer.new.records ≡ buffer.old.records ++ clrs_of set.now (standing buffer.old.records) }
     ensures fronts { (buffer.new.durable ≡ buffer.old.durable) × (buffer.new.taken ≡ buffer.old.taken) }
-    ensures room { buffer.old.room ≤ buffer.new.room + length (writes_of set.now (standing buffer.old.records)) }
+    ensures room { buffer.old.room ≡ buffer.new.room + length (writes_of set.now (standing buffer.old.records)) }
     ensures store_room { S.room store.old ≤ S.room store.new }
     ensures count { result ≡ length (writes_of set.now (standing buffer.old.records)) }
 {
@@ -105,4 +105,23 @@ pub fn undo_writes<S: Store>(
         undo_write(store, buffer, write);
     }
     (buffer.end() - end) as usize
+}
+
+/// Takes back the newest writes of a transaction that stand, so many of them, or all where these are fewer: a CLR or UNADD for each, from the
+/// newest one down, which names the transaction's write before it. In the same order an UPDATE's key gets the value before it again, and a ghost
+/// where there was none, and an ADD's number is taken away. Nothing else is changed. Takes no memory, and time in these writes alone.
+pub fn roll_to<S: Store>(store: &mut S, buffer: &mut LogBuffer<LogRecord>, tx: TxId, count: usize)
+    requires there { HaveRecords (tx ∷ []) (standing buffer.old.records) (S.records store.old) }
+    requires room { length (newest_lsns count tx (standing buffer.old.records)) ≤ buffer.old.room }
+    ensures records { S.records store.new ≡ records_without (is_at (newest_lsns count tx (standing buffer.old.records))) (standing buffer.old.records) (S.records store.old) }
+    ensures log { buffer.new.records ≡ buffer.old.records ++ clrs_by (is_at (newest_lsns count tx (standing buffer.old.records))) (standing buffer.old.records) }
+    ensures fronts { (buffer.new.durable ≡ buffer.old.durable) × (buffer.new.taken ≡ buffer.old.taken) }
+    ensures room { buffer.old.room ≡ buffer.new.room + length (newest_lsns count tx (standing buffer.old.records)) }
+    ensures store_room { S.room store.old ≤ S.room store.new }
+{
+    let mut left = count;
+    while let Some(write) = newest_back(buffer, tx, left) {
+        left -= 1;
+        undo_write(store, buffer, write);
+    }
 }

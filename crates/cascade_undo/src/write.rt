@@ -1,9 +1,10 @@
-//! The newest write of a set of transactions, in a log.
-ghost use Rattle.std.specs.Prelude.{◌≡◌, ◌+◌, None, Some, slice_get, IfSome, IsNone};
+//! The newest write of a set of transactions, or of one, in a log.
+ghost use Rattle.std.specs.Prelude.{◌≡◌, ◌+◌, ◌<◌, [], None, Some, slice_get, IfSome, IsNone};
 ghost use Rattle.std.specs.List.Sorted.{IsStrictlySortedBy};
 ghost use Rattle.clv_base.specs.Orders.{tx_cmp};
 ghost use Rattle.clv_base.specs.Logs.{standing};
-ghost use Rattle.cascade_undo.specs.Steps.{newest_in, AreBelow, IsNewestIn, write_in};
+ghost use Rattle.clv_base.specs.Undo.{newest_lsns};
+ghost use Rattle.cascade_undo.specs.Steps.{newest_in, AreBelow, IsNewestIn, IsNewestOf, write_in};
 
 use crate::marks::{contains, greatest_lsn};
 use clv_base::changes::Change;
@@ -110,4 +111,15 @@ pub(crate) fn newest_write(buffer: &LogBuffer<LogRecord>, set: &[TxId], below: u
         Some(write) => Some(write),
         None => newest_of_each(buffer, set),
     }
+}
+
+/// The newest write of a transaction that stands, where so many of them are still to be taken back.
+pub(crate) fn newest_back(buffer: &LogBuffer<LogRecord>, tx: TxId, left: usize) -> Option<Write>
+    ensures newest { IfSome result (λ w. (0 < left) × IsNewestOf tx (standing buffer.now.records) w) }
+    ensures none { IsNone result → newest_lsns left tx (standing buffer.now.records) ≡ [] }
+{
+    if left == 0 {
+        return None;
+    }
+    newest_of_each(buffer, &[tx])
 }

@@ -38,12 +38,12 @@ concerned pairs (Commit tx parts ∷ rs) x e =
     (or_cases (tx_same tx x) (tx_in x (successors_of pairs tx ++ landed_txs pairs rs)) e)
 concerned pairs (Prepare tx home ps ∷ rs) x e = ⊎_elim (λ h. or_left (tx_same tx x) _ h) (λ h. or_right (tx_same tx x) _ (concerned pairs rs x h)) (or_cases (tx_same tx x) (tx_in x (landed_txs pairs rs)) e)
 concerned pairs (Update tx k b a ∷ rs) x e = concerned pairs rs x e
-concerned pairs (Clr tx u k a ∷ rs) x e = concerned pairs rs x e
+concerned pairs (Clr tx u k a ∷ rs) x e = ⊎_elim (λ h. or_left (tx_same tx x) _ h) (λ h. or_right (tx_same tx x) _ (concerned pairs rs x h)) (or_cases (tx_same tx x) (tx_in x (landed_txs pairs rs)) e)
 concerned pairs (Abort tx ∷ rs) x e = concerned pairs rs x e
 concerned pairs (End tx ∷ rs) x e = concerned pairs rs x e
 concerned pairs (Restart run epoch ∷ rs) x e = concerned pairs rs x e
 concerned pairs (Add tx k by ∷ rs) x e = concerned pairs rs x e
-concerned pairs (Unadd tx u k by ∷ rs) x e = concerned pairs rs x e
+concerned pairs (Unadd tx u k by ∷ rs) x e = ⊎_elim (λ h. or_left (tx_same tx x) _ h) (λ h. or_right (tx_same tx x) _ (concerned pairs rs x h)) (or_cases (tx_same tx x) (tx_in x (landed_txs pairs rs)) e)
 
 pub landed_covers : LandedCovers
 landed_covers s n txs more h cover put t due =

@@ -12,7 +12,7 @@ use Rattle.clv_base.specs.FileRules.{numbers_rise}
 use Rattle.clv_base.specs.LogRules.{same_option}
 use Rattle.clv_base.specs.Orders.{tx_same}
 use Rattle.clv_base.specs.Journals.{History, own}
-use Rattle.clv_base.specs.Sessions.{SessionState, Ended, goes_on, begins, begun, same_birth, session_for, is_number, lies_in, is_touching, same_touched, is_lowest, stands_at, op_answered, op_in_session, session_after}
+use Rattle.clv_base.specs.Sessions.{SessionState, goes_on, begins, begun, session_for, is_number, lies_in, same_touched, is_lowest, op_answered, op_in_session, session_after}
 use Rattle.cluster_turns.specs.States.{after_from}
 use Rattle.interleaving_core.specs.Naming.{shards_fit}
 use Rattle.law_base.proofs.Lists.{lowest_any}
@@ -39,22 +39,15 @@ some_same : {A : Type 0} {x y : A} → Some x ≡ Some y → x ≡ y
 some_same e = cc
 
 -- an operation of the last transaction, and of the next one
-pub for_last : (u t : SessionState) (tx : TxId) (birth : Birth) → tx_same tx u.tx ≡ true → session_for u tx birth ≡ Some t → (u ≡ t) × (is_touching u.phase ≡ true)
+pub for_last : (u t : SessionState) (tx : TxId) (birth : Birth) → tx_same tx u.tx ≡ true → session_for u tx birth ≡ Some t → u ≡ t
 for_last u t tx birth same h =
     let p = passed (goes_on u tx birth) (Some u) t (sym (ap (λ b. cond b (cond (goes_on u tx birth) (Some u) None) (cond (begins u tx birth) (Some (begun u tx birth)) None)) same) ∙ h) in
-    (some_same p.1, (and_parts (is_touching u.phase) (same_birth u.birth birth) p.0).0)
+    some_same p.1
 
 pub for_next : (u t : SessionState) (tx : TxId) (birth : Birth) → tx_same tx u.tx ≡ false → session_for u tx birth ≡ Some t → (begins u tx birth ≡ true) × (begun u tx birth ≡ t)
 for_next u t tx birth same h =
     let p = passed (begins u tx birth) (Some (begun u tx birth)) t (sym (ap (λ b. cond b (cond (goes_on u tx birth) (Some u) None) (cond (begins u tx birth) (Some (begun u tx birth)) None)) same) ∙ h) in
     (p.0, some_same p.1)
-
--- who has made nothing asks and looks for nothing
-pub not_touching : (t : SessionState) (a b c : Bool) → t.phase ≡ Ended → (((a && is_touching t.phase) && b) && c) ≡ true → ⊥
-not_touching t a b c e h = both_ways (is_touching t.phase) (ap is_touching e) (and_parts a (is_touching t.phase) (and_parts (a && is_touching t.phase) b (and_parts ((a && is_touching t.phase) && b) c h).0).0).1
-
-pub not_standing : (n : ℕ) (t : SessionState) (a : Bool) → t.phase ≡ Ended → (a && stands_at n t.phase) ≡ true → ⊥
-not_standing n t a e h = both_ways (stands_at n t.phase) (ap (stands_at n) e) (and_parts a (stands_at n t.phase) h).1
 
 -- ---- entry by entry
 

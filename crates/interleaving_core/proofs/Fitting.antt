@@ -4,7 +4,7 @@ use Rattle.std.specs.List.{list_all}
 use Rattle.std.proofs.lemmas.Bool.{and_parts}
 use Rattle.clv_base.specs.declared.messages.Message.{Message}
 use Rattle.clv_base.specs.declared.events.Event.{Event}
-use Rattle.clv_base.specs.declared.events.Event.TheVariants.{Op, Request, Look, Drop, Send, Deliver, Remind, FlushOut, FlushIn, Stop, Restart}
+use Rattle.clv_base.specs.declared.events.Event.TheVariants.{Op, RollTo, Request, Look, Drop, Send, Deliver, Remind, FlushOut, FlushIn, Stop, Restart}
 use Rattle.clv_base.specs.declared.events.Entry.{Entry}
 use Rattle.clv_base.specs.Journals.{History}
 use Rattle.clv_base.specs.History.{IsAmong}
@@ -24,6 +24,7 @@ sent_fits h m stamp a s = let w = was_sent_before h h (Deliver m stamp) s (λ x 
 
 pub step_fits : (h : History) (n : ℕ) (e : Event) → AllFit h → was_sent h e ≡ true → names_fit n e ≡ true → event_fits n e ≡ true
 step_fits h n (Op tx birth nth seen op) a s f = f
+step_fits h n (RollTo tx nth seen upto) a s f = f
 step_fits h n (Request tx ts) a s f = f
 step_fits h n (Look tx) a s f = f
 step_fits h n (Drop tx) a s f = f

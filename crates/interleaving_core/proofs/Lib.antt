@@ -6,9 +6,9 @@ mod Answering
 mod Beginning
 mod Stepping
 mod Spelled
-mod SessionPlacing
 mod Entries
 mod SeatAnswering
 mod Keeping
 mod Flying
 mod Reviving
+mod Reversing

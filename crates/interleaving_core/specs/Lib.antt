@@ -4,3 +4,4 @@ pub mod Listed
 pub mod Placed
 pub mod Naming
 pub mod Seated
+pub mod GoneBack

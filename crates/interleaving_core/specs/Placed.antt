@@ -1,13 +1,8 @@
--- A session's place in its last transaction, which it has from its first one on.
-use Rattle.std.specs.Prelude.{◌≡◌, ℕ, ◌<◌, Option, Some, None, IfSome}
-use Rattle.clv_base.specs.Sessions.{SessionState, no_session}
+-- A session's last transaction, if it began any.
+use Rattle.std.specs.Prelude.{◌≡◌, ℕ}
+use Rattle.clv_base.specs.Sessions.{Phase, Ended}
 
--- the state of a walker's session of run 1
-abbrev pub place_or : ℕ → Option SessionState → SessionState
-place_or walker None = no_session 1 walker
-place_or walker (Some t) = t
-
--- the shard of the last part scan is kept beside it; each transaction bears the run and the walker's number, and its serial is at least 1
-pub record IsPlaced (walker : ℕ) (scanned : Option ℕ) (place : Option SessionState) : Type 0 where
-  pub beside : scanned ≡ (place_or walker place).scanned
-  pub bears : IfSome place (λ t. ((t.tx).run ≡ 1) × ((t.tx).session ≡ walker) × (0 < (t.tx).serial))
+-- it bears the run, and its serial is at least 1; before the first one the session is as one that has ended
+pub record IsPlaced (run serial : ℕ) (phase : Phase) : Type 0 where
+  pub bears : run ≡ 1
+  pub idle : serial ≡ 0 → phase ≡ Ended

@@ -8,6 +8,7 @@ mod clocks;
 mod flushing;
 mod following;
 mod gate;
+mod goings_back;
 mod leaving;
 mod making;
 mod messages;

@@ -1,14 +1,14 @@
 // Whether a session may make an event.
-ghost use Rattle.std.specs.Prelude.{◌≡◌, ◌<◌, ◌≤◌, ◌==◌, ◌&&◌, not, true, false, map, nat_lt, is_some, IfOk};
+ghost use Rattle.std.specs.Prelude.{◌≡◌, ◌<◌, ◌≤◌, ◌==◌, ◌&&◌, not, true, false, map, nat_lt, is_some, Some, IfOk};
 ghost use Rattle.std.specs.List.{list_all};
 ghost use Rattle.std.specs.Map.{lookup};
 ghost use Rattle.clv_base.specs.declared.ops.Answer.TheVariants.{Value};
-ghost use Rattle.clv_base.specs.declared.events.Event.TheVariants.{Request};
+ghost use Rattle.clv_base.specs.declared.events.Event.TheVariants.{Request, RollTo};
 ghost use Rattle.clv_base.specs.declared.events.Outcome.TheVariants.{Answered};
 ghost use Rattle.clv_base.specs.FileRules.{tx_has_spelling, numbers_rise};
 ghost use Rattle.clv_base.specs.LogRules.{same_option};
 ghost use Rattle.clv_base.specs.Orders.{tx_same};
-ghost use Rattle.clv_base.specs.Sessions.{lies_in as lies, begins as begins_in, is_number as numbers, session_for, op_in_session, same_touched as same_touched_in, is_lowest as lowest, session_after, is_touching as touches, stands_at as stands, may_drop as drops, is_of_session, is_session_number};
+ghost use Rattle.clv_base.specs.Sessions.{lies_in as lies, begins as begins_in, is_number as numbers, session_for, op_in_session, same_touched as same_touched_in, is_lowest as lowest, session_after, is_touching as touches, stands_at as stands, may_drop as drops, is_of_session, is_session_number, is_whole_now, back_for};
 ghost use Rattle.clv_base.specs.Shards.{in_span as in_span_of};
 ghost use Rattle.journal_laws.specs.Offers.{hoped_for};
 ghost use Rattle.interleaving_core.specs.Naming.{shards_fit, names_fit};
@@ -73,8 +73,7 @@ impl Session {
         ensures named { result ≡ true → (tx.run ≡ 1) × (tx.session ≡ self.now.tx.session) × (0 < tx.serial) }
         ensures spelled { result ≡ true → is_session_number self.now.tx.session ≡ true → tx_has_spelling tx ≡ true }
     {
-        let _walker = self.walker;
-        let last = self.tx();
+        let last = self.tx;
         tx.run == last.run
             && tx.session == last.session
             && last.serial < tx.serial
@@ -127,16 +126,27 @@ impl Session {
         }
     }
 
-    // Whether these are the touched shards, and this one is the lowest of them.
+    // Whether the transaction may go back so on a shard.
+    fn may_go_back(&self, shard: u32, tx: TxId, nth: u64, seen: u64, upto: u64) -> bool
+        ensures may { result ≡ (tx_same tx self.now.tx && touches self.now.phase && same_option (Some seen) (lookup (◌==◌ shard) self.now.touched) && is_some (back_for self.now shard nth upto)) }
+        ensures spelled { result ≡ true → is_session_number self.now.tx.session ≡ true → tx_has_spelling tx ≡ true }
+    {
+        self.is_last(tx)
+            && self.is_touching()
+            && self.seen(shard) == Some(seen)
+            && self.is_back_number(shard, nth, upto)
+    }
+
+    // Whether each going back was whole, these are the touched shards, and this one is the lowest of them.
     fn asks(&self, shard: u32, tx: TxId, touched: &[(u32, u64)], own: &[(u32, u64)]) -> bool
         requires own { own.now ≡ self.now.touched }
         requires rise { numbers_rise (map (λ t. t.0) own.now) ≡ true }
         requires low { list_all (λ t. nat_lt t.0 16) own.now ≡ true }
-        ensures may { result ≡ (tx_same tx self.now.tx && touches self.now.phase && same_touched_in touched.now self.now.touched && lowest shard touched.now) }
+        ensures may { result ≡ (tx_same tx self.now.tx && touches self.now.phase && is_whole_now self.now && same_touched_in touched.now self.now.touched && lowest shard touched.now) }
         ensures fits { result ≡ true → shards_fit shard touched.now ≡ true }
         ensures spelled { result ≡ true → is_session_number self.now.tx.session ≡ true → tx_has_spelling tx ≡ true }
     {
-        if !self.is_last(tx) || !self.is_touching() {
+        if !self.is_last(tx) || !self.is_touching() || !self.is_whole() {
             return false;
         }
         if !same_touched(touched, own) {
@@ -153,7 +163,7 @@ impl Session {
         touched: &Touched,
     ) -> Result<bool, AllocError>
         requires { is_session_number self.now.tx.session ≡ true }
-        ensures may { IfOk result (λ may. may ≡ (tx_same tx self.now.tx && touches self.now.phase && same_touched_in touched.now self.now.touched && lowest shard touched.now)) }
+        ensures may { IfOk result (λ may. may ≡ (tx_same tx self.now.tx && touches self.now.phase && is_whole_now self.now && same_touched_in touched.now self.now.touched && lowest shard touched.now)) }
         ensures fits { IfOk result (λ may. may ≡ true → names_fit shard (Request tx touched.now) ≡ true) }
     {
         let own = self.touched(alloc)?;
@@ -196,6 +206,12 @@ impl Session {
                 seen,
                 op,
             } => Ok(self.may_op(splits, shard, *tx, *birth, *nth, *seen, &op.op())),
+            Event::RollTo {
+                tx,
+                nth,
+                seen,
+                upto,
+            } => Ok(self.may_go_back(shard, *tx, *nth, *seen, *upto)),
             Event::Request { tx, parts } => self.may_request(alloc, shard, *tx, parts),
             Event::Look { tx } => Ok(self.may_look(shard, *tx)),
             Event::Drop { tx } => Ok(self.may_be_dropped(*tx)),

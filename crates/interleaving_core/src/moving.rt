@@ -33,6 +33,17 @@ fn copy_event(event: &Event) -> Result<Event, AllocError>
             seen: *seen,
             op: KeptOp::new(op.op()),
         },
+        Event::RollTo {
+            tx,
+            nth,
+            seen,
+            upto,
+        } => Event::RollTo {
+            tx: *tx,
+            nth: *nth,
+            seen: *seen,
+            upto: *upto,
+        },
         Event::Request { tx, parts } => Event::Request {
             tx: *tx,
             parts: parts.clone()?,

@@ -27,7 +27,11 @@ fn is_of_session(event: &Event) -> bool
     ensures { result ≡ of_session event.now }
 {
     match event {
-        Event::Op { .. } | Event::Request { .. } | Event::Look { .. } | Event::Drop { .. } => true,
+        Event::Op { .. }
+        | Event::RollTo { .. }
+        | Event::Request { .. }
+        | Event::Look { .. }
+        | Event::Drop { .. } => true,
         _ => false,
     }
 }
@@ -58,7 +62,7 @@ fn session_may(
     if !is_session_number(walker) {
         return Ok(false);
     }
-    let session = session_of(walker, history);
+    let session = session_of(alloc, walker, history)?;
     session.may_make(alloc, splits, shard, event)
 }
 

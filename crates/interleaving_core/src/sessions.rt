@@ -1,36 +1,45 @@
 // A session's place in its last transaction.
-ghost use Rattle.std.specs.Prelude.{◌≡◌, ◌==◌, ◌&&◌, ◌<◌, true, map, nat_lt, IfOk};
+ghost use Rattle.std.specs.Prelude.{◌≡◌, ◌==◌, ◌&&◌, ◌<◌, suc, true, map, nat_lt, None, Some, is_some, IfOk, OnOk};
 ghost use Rattle.std.specs.List.{list_all};
 ghost use Rattle.std.specs.Map.{lookup};
 ghost use Rattle.clv_base.specs.FileRules.{numbers_rise, tx_has_spelling};
 ghost use Rattle.clv_base.specs.Orders.{tx_same};
-ghost use Rattle.clv_base.specs.Sessions.{no_session, begun, touch, scan_shard, is_touching as touches, same_birth, may_drop as drops, stands_at as stands, is_number as numbers, goes_on_scan, follows_birth as follows, is_session_number, Ended, Standing, Told, Refused};
+ghost use Rattle.clv_base.specs.declared.events.Outcome.TheVariants.{Answered, Rolled};
+ghost use Rattle.clv_base.specs.Backs.{has_written as writes};
+ghost use Rattle.clv_base.specs.Sessions.{no_session, begun, touch, scan_shard, is_touching as touches, same_birth, may_drop as drops, stands_at as stands, is_number as numbers, goes_on_scan, follows_birth as follows, is_session_number, numbered, is_whole_now as whole_now, op_answered, back_for, went_back, Ended, Standing, Told, Refused};
 ghost use Rattle.cluster_turns.specs.Stages.{phase_of};
 
-use cluster_turns::{Place, Stage};
+use crate::goings_back::GoingsBack;
+use cluster_turns::{Stage, TouchedShards};
 use clv_base::lists::Touched;
 use clv_base::names::{Birth, TxId};
-use clv_base::ops::Op;
+use clv_base::ops::{Answer, Op};
 use std::alloc::{AllocError, Global};
 use std::marker::Model;
 
-/// What a walker's session of run 1 has made: its last transaction, and how far that is.
+/// What a walker's session of run 1 has made: its last transaction, how far that is, and what it went back over.
 #[derive(Drop)]
 pub struct Session {
-    pub(crate) walker: u32,
-    pub(crate) place: Option<Place>,
-    pub(crate) scanned: Option<u32>,
+    pub(crate) tx: TxId,
+    birth: Option<Birth>,
+    nth: u64,
+    scanned: Option<u32>,
+    touched: TouchedShards,
+    stage: Stage,
+    gone_back: GoingsBack,
 }
 
 impl Model for Session {
+    ghost use Rattle.std.specs.Prelude.{◌≡◌};
     ghost use Rattle.clv_base.specs.Sessions.{SessionState};
-    ghost use Rattle.interleaving_core.specs.Placed.{place_or, IsPlaced};
+    ghost use Rattle.cluster_turns.specs.Stages.{phase_of};
+    ghost use Rattle.interleaving_core.specs.Placed.{IsPlaced};
 
     ghost Value = { SessionState };
 
-    ghost view = { λ s. place_or s.walker s.place };
+    ghost view = { λ s. record { tx = s.tx; birth = s.birth; nth = s.nth; scanned = s.scanned; touched = s.touched; phase = phase_of s.stage; back = s.gone_back.back; written = s.gone_back.written; backs = s.gone_back.backs; is_whole = s.gone_back.is_whole } };
 
-    ghost invariant = { λ s. IsPlaced s.walker s.scanned s.place };
+    ghost invariant = { λ s. IsPlaced s.tx.run s.tx.serial (phase_of s.stage) };
 }
 
 fn scanned_by(shard: u32, op: &Op) -> Option<u32>
@@ -69,15 +78,35 @@ fn stands_at(shard: u32, stage: Stage) -> bool
     }
 }
 
+fn has_written(op: &Op, answer: &Answer) -> bool
+    ensures { result ≡ writes op.now answer.now }
+{
+    match (op, answer) {
+        (Op::Put(..), _) => true,
+        (Op::Del(_), Answer::Value(before)) => before.is_some(),
+        (Op::Add(..), Answer::Added(found)) => *found,
+        _ => false,
+    }
+}
+
 impl Session {
     /// The session of a walker that has made nothing.
-    pub fn new(walker: u32) -> Session
+    pub fn new(alloc: Global, walker: u32) -> Session
         ensures { result ≡ no_session 1 walker }
     {
+        let tx = TxId {
+            run: 1,
+            session: walker,
+            serial: 0,
+        };
         Session {
-            walker,
-            place: None,
+            tx,
+            birth: None,
+            nth: 0,
             scanned: None,
+            touched: TouchedShards::new(),
+            stage: Stage::Ended,
+            gone_back: GoingsBack::new(alloc),
         }
     }
 
@@ -85,14 +114,7 @@ impl Session {
     pub(crate) fn tx(&self) -> TxId
         ensures { result ≡ self.now.tx }
     {
-        match &self.place {
-            Some(place) => place.tx(),
-            None => TxId {
-                run: 1,
-                session: self.walker,
-                serial: 0,
-            },
-        }
+        self.tx
     }
 
     /// Whether this is the last transaction.
@@ -100,44 +122,34 @@ impl Session {
         ensures last { result ≡ tx_same tx self.now.tx }
         ensures spelled { result ≡ true → 0 < self.now.tx.serial → is_session_number self.now.tx.session ≡ true → tx_has_spelling tx ≡ true }
     {
-        let _walker = self.walker;
-        tx == self.tx()
+        tx == self.tx
     }
 
     pub(crate) fn is_touching(&self) -> bool
         ensures touching { result ≡ touches self.now.phase }
         ensures begun { result ≡ true → 0 < self.now.tx.serial }
     {
-        match &self.place {
-            Some(place) => is_touching(place.stage()),
-            None => false,
-        }
+        is_touching(self.stage)
     }
 
     pub(crate) fn may_drop(&self) -> bool
         ensures { result ≡ drops self.now.phase }
     {
-        match &self.place {
-            Some(place) => may_drop(place.stage()),
-            None => true,
-        }
+        may_drop(self.stage)
     }
 
     pub(crate) fn stands_at(&self, shard: u32) -> bool
         ensures stands { result ≡ stands shard self.now.phase }
         ensures begun { result ≡ true → 0 < self.now.tx.serial }
     {
-        match &self.place {
-            Some(place) => stands_at(shard, place.stage()),
-            None => false,
-        }
+        stands_at(shard, self.stage)
     }
 
     pub(crate) fn has_birth(&self, birth: Birth) -> bool
         ensures { result ≡ same_birth self.now.birth birth }
     {
-        match &self.place {
-            Some(place) => place.birth() == birth,
+        match self.birth {
+            Some(own) => own == birth,
             None => false,
         }
     }
@@ -146,11 +158,8 @@ impl Session {
     pub(crate) fn is_followed(&self, birth: Birth) -> bool
         ensures { result ≡ follows self.now.birth birth self.now.phase }
     {
-        match &self.place {
-            Some(place) => {
-                let last = place.birth();
-                last < birth || (last == birth && may_drop(place.stage()))
-            }
+        match self.birth {
+            Some(last) => last < birth || (last == birth && may_drop(self.stage)),
             None => true,
         }
     }
@@ -159,10 +168,7 @@ impl Session {
     pub(crate) fn seen(&self, shard: u32) -> Option<u64>
         ensures { result ≡ lookup (◌==◌ shard) self.now.touched }
     {
-        match &self.place {
-            Some(place) => place.seen(shard),
-            None => None,
-        }
+        self.touched.seen(shard)
     }
 
     /// The touched shards with their epochs: they rise, and are below 16.
@@ -171,19 +177,21 @@ impl Session {
         ensures rise { numbers_rise (map (λ t. t.0) self.now.touched) ≡ true }
         ensures low { list_all (λ t. nat_lt t.0 16) self.now.touched ≡ true }
     {
-        match &self.place {
-            Some(place) => place.touched(alloc),
-            None => Ok(Touched::new(Vec::new(alloc))),
-        }
+        self.touched.touched(alloc)
     }
 
-    fn nth(&self) -> u64
-        ensures { result ≡ self.now.nth }
+    /// Whether each going back so far was whole.
+    pub(crate) fn is_whole(&self) -> bool
+        ensures { result ≡ whole_now self.now }
     {
-        match &self.place {
-            Some(place) => place.nth(),
-            None => 0,
-        }
+        self.gone_back.is_whole()
+    }
+
+    // Whether it is the number after the last one.
+    fn is_next(&self, nth: u64) -> bool
+        ensures { result ≡ (nth == suc self.now.nth) }
+    {
+        nth != 0 && nth - 1 == self.nth
     }
 
     // Whether the operation goes on the last part scan.
@@ -191,7 +199,7 @@ impl Session {
         ensures { result ≡ ((nth == self.now.nth) && goes_on_scan self.now.scanned (scan_shard shard op.now)) }
     {
         match (self.scanned, scanned_by(shard, op)) {
-            (Some(last), Some(next)) => nth == self.nth() && last < next,
+            (Some(last), Some(next)) => nth == self.nth && last < next,
             _ => false,
         }
     }
@@ -200,38 +208,99 @@ impl Session {
     pub(crate) fn is_number(&self, shard: u32, nth: u64, op: &Op) -> bool
         ensures { result ≡ numbers self.now shard nth op.now }
     {
-        (nth != 0 && nth - 1 == self.nth()) || self.scans_on(shard, nth, op)
+        self.is_next(nth) || self.scans_on(shard, nth, op)
+    }
+
+    /// Whether the going back has its number.
+    pub(crate) fn is_back_number(&self, shard: u32, nth: u64, upto: u64) -> bool
+        ensures { result ≡ is_some (back_for self.now shard nth upto) }
+    {
+        if self.is_next(nth) {
+            upto < nth
+        } else {
+            nth == self.nth && self.gone_back.goes_on(shard, upto)
+        }
     }
 
     /// The next transaction begins.
-    pub(crate) fn begin(&mut self, tx: TxId, birth: Birth)
-        requires { (tx.run ≡ 1) × (tx.session ≡ self.old.tx.session) × (0 < tx.serial) }
+    pub(crate) fn begin(&mut self, alloc: Global, tx: TxId, birth: Birth)
+        requires { (tx.run ≡ 1) × (0 < tx.serial) }
         ensures { self.new ≡ begun self.old tx birth }
     {
-        self.place = Some(Place::begun(tx, birth));
+        self.tx = tx;
+        self.birth = Some(birth);
+        self.nth = 0;
         self.scanned = None;
+        self.touched = TouchedShards::new();
+        self.stage = Stage::Touching;
+        self.gone_back = GoingsBack::new(alloc);
+    }
+
+    // A new number.
+    fn number(&mut self, nth: u64)
+        ensures { self.new ≡ numbered nth self.old }
+    {
+        self.nth = nth;
+        self.scanned = None;
+        self.gone_back.number();
     }
 
     /// The operation was answered.
-    pub(crate) fn answered(&mut self, shard: u32, nth: u64, op: &Op, epoch: u64)
-        requires { (shard < 16) × (0 < self.old.tx.serial) }
-        ensures { self.new ≡ record self.old { nth = nth; scanned = scan_shard shard op.now; touched = touch shard epoch self.old.touched } }
+    pub(crate) fn answered(
+        &mut self,
+        shard: u32,
+        nth: u64,
+        op: &Op,
+        answer: &Answer,
+        epoch: u64,
+    ) -> Result<(), AllocError>
+        requires { shard < 16 }
+        ensures { OnOk result (op_answered shard nth op.now self.old (Answered answer.now epoch) ≡ Some self.new) }
     {
-        if let Some(place) = &mut self.place {
-            place.answered(shard, nth, op, epoch);
-            self.scanned = scanned_by(shard, op);
+        self.number(nth);
+        self.scanned = scanned_by(shard, op);
+        self.touched.touch(shard, epoch);
+        if has_written(op, answer) {
+            self.gone_back.wrote(shard, nth)?;
         }
+        Ok(())
     }
 
     /// The transaction died of it.
     pub(crate) fn died(&mut self, shard: u32, nth: u64, op: &Op)
-        requires { 0 < self.old.tx.serial }
         ensures { self.new ≡ record self.old { nth = nth; scanned = scan_shard shard op.now; phase = Ended } }
     {
-        if let Some(place) = &mut self.place {
-            place.died(shard, nth, op);
-            self.scanned = scanned_by(shard, op);
+        self.nth = nth;
+        self.scanned = scanned_by(shard, op);
+        self.stage = Stage::Ended;
+    }
+
+    /// A going back begins, or goes on.
+    pub(crate) fn goes_back(&mut self, shard: u32, nth: u64, upto: u64) -> Result<(), AllocError>
+        requires { is_some (back_for self.old shard nth upto) ≡ true }
+        ensures { OnOk result (back_for self.old shard nth upto ≡ Some self.new) }
+    {
+        if self.is_next(nth) {
+            self.nth = nth;
+            self.scanned = None;
+            self.gone_back.begin(nth, upto)?;
         }
+        Ok(())
+    }
+
+    /// It took the later writes on a shard away.
+    pub(crate) fn went_back(&mut self, shard: u32, upto: u64)
+        ensures { went_back shard upto self.old Rolled ≡ Some self.new }
+    {
+        self.gone_back.went(shard, upto);
+    }
+
+    /// The transaction died of a going back.
+    pub(crate) fn died_back(&mut self, shard: u32, upto: u64)
+        ensures { self.new ≡ record self.old { back = Some (shard, upto); phase = Ended } }
+    {
+        self.gone_back.died(shard, upto);
+        self.stage = Stage::Ended;
     }
 
     /// Its request stands at its home.
@@ -239,18 +308,14 @@ impl Session {
         requires { 0 < self.old.tx.serial }
         ensures { self.new ≡ record self.old { phase = Standing home } }
     {
-        if let Some(place) = &mut self.place {
-            place.requested(home);
-        }
+        self.stage = Stage::Standing(home);
     }
 
     /// It died, or was dropped.
     pub(crate) fn ended(&mut self)
         ensures { self.new ≡ record self.old { phase = Ended } }
     {
-        if let Some(place) = &mut self.place {
-            place.ended();
-        }
+        self.stage = Stage::Ended;
     }
 
     /// It was told that it is acknowledged.
@@ -258,9 +323,7 @@ impl Session {
         requires { 0 < self.old.tx.serial }
         ensures { self.new ≡ record self.old { phase = Told } }
     {
-        if let Some(place) = &mut self.place {
-            place.told();
-        }
+        self.stage = Stage::Told;
     }
 
     /// It was told that it is aborted.
@@ -268,8 +331,6 @@ impl Session {
         requires { 0 < self.old.tx.serial }
         ensures { self.new ≡ record self.old { phase = Refused } }
     {
-        if let Some(place) = &mut self.place {
-            place.refused();
-        }
+        self.stage = Stage::Refused;
     }
 }

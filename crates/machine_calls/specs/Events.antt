@@ -2,7 +2,7 @@
 use Rattle.std.specs.Prelude.{ℕ, Bool, true, false, ◌&&◌, ◌==◌, nat_lt, List, map}
 use Rattle.std.specs.List.{list_all, list_any}
 use Rattle.clv_base.specs.declared.events.Event.{Event}
-use Rattle.clv_base.specs.declared.events.Event.TheVariants.{Op, Request, Look, Drop, Deliver, FlushOut, FlushIn, Restart}
+use Rattle.clv_base.specs.declared.events.Event.TheVariants.{Op, RollTo, Request, Look, Drop, Deliver, FlushOut, FlushIn, Restart}
 use Rattle.clv_base.specs.declared.events.Outcome.{Outcome}
 use Rattle.clv_base.specs.declared.events.Outcome.TheVariants.{Sent}
 use Rattle.clv_base.specs.declared.messages.Message.{Message}
@@ -31,6 +31,7 @@ message_fits (Ask to tx from) = tx_has_spelling tx && nat_lt to 16 && nat_lt fro
 -- an event of this shard does, and the parts of a request are as they should be
 abbrev pub event_fits : ℕ → Event → Bool
 event_fits shard (Op tx birth nth seen op) = tx_has_spelling tx
+event_fits shard (RollTo tx nth seen upto) = tx_has_spelling tx
 event_fits shard (Request tx touched) = tx_has_spelling tx && touched_fit shard touched
 event_fits shard (Look tx) = tx_has_spelling tx
 event_fits shard (Drop tx) = tx_has_spelling tx

@@ -2,7 +2,7 @@
 use Rattle.std.specs.Prelude.{◌≡◌, ℕ, ◌^◌, ◌-◌, ◌==◌, max, cond, Bool, true, false, not, List, [], ◌∷◌, ◌++◌, Option, Some, None, Result, Ok, Err}
 use Rattle.clv_base.specs.declared.messages.Message.{Message}
 use Rattle.clv_base.specs.declared.events.Event.{Event}
-use Rattle.clv_base.specs.declared.events.Event.TheVariants.{Drop, Remind}
+use Rattle.clv_base.specs.declared.events.Event.TheVariants.{Drop, Remind, RollTo}
 use Rattle.clv_base.specs.declared.events.Outcome.{Outcome}
 use Rattle.clv_base.specs.declared.events.Outcome.TheVariants.{Wait, Crowded, Nothing}
 use Rattle.clv_base.specs.declared.events.Entry.{Entry}
@@ -22,23 +22,25 @@ pub record Made (answer : CallAnswer) (s : Shard) (clock w : ℕ) (e : Event) (o
   pub entry_is : x ≡ entry (next_stamp s clock e) w e o
   pub journal : t.journal ≡ s.journal ++ x ∷ []
 
--- the drop of a part that is known and wasn't dropped: the room for its entry was made at the part's first operation
+-- whether a part is known and wasn't dropped
 abbrev pub is_undropped : Option Held → Bool
 is_undropped None = false
 is_undropped (Some h) = not h.is_dropped
 
-abbrev pub is_first_drop : Shard → Event → Bool
-is_first_drop s (Drop tx) = is_undropped (tx_get tx s.local.parts)
-is_first_drop s _ = false
+-- what takes no memory: the drop of such a part, for which room was made at its first operation, and a going back, for which each write made room
+abbrev pub takes_no_memory : Shard → Event → Bool
+takes_no_memory s (Drop tx) = is_undropped (tx_get tx s.local.parts)
+takes_no_memory s (RollTo tx nth seen upto) = true
+takes_no_memory s _ = false
 
 abbrev pub sends_nothing : List Message → Bool
 sends_nothing [] = true
 sends_nothing (m ∷ ms) = false
 
--- want of memory may stand where an entry is made, but for a first drop's; where an operation waits or is crowded, as that is found with memory; and where a
--- shard with an empty outbox is to remind, as what is due is listed first. It stands for no other quiet answer, and not where the clock is worn
+-- want of memory may stand where an entry is made, but for what takes none; where an operation waits or is crowded, as that is found with memory; and
+-- where a shard with an empty outbox is to remind, as what is due is listed first. It stands for no other quiet answer, and not where the clock is worn
 abbrev pub may_want_memory : Shard → Event → CallAnswer → Bool
-may_want_memory s e (Enters o t) = not (is_first_drop s e)
+may_want_memory s e (Enters o t) = not (takes_no_memory s e)
 may_want_memory s e (Quiet (Wait younger)) = true
 may_want_memory s e (Quiet (Crowded count)) = true
 may_want_memory s Remind (Quiet Nothing) = sends_nothing s.outbox

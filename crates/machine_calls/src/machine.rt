@@ -70,7 +70,7 @@ pub trait Machine {
         ensures { result ≡ has_equal_birth_in tx birth (shard self.now).local.parts };
 
     /// One event, or a quiet answer: any event but those of a flush and a restart. While the shard is up, an operation's birth is that of no other active
-    /// part here. The first drop of a part takes no memory.
+    /// part here. The first drop of a part and a going back take no memory.
     fn step(
         &mut self,
         alloc: Global,

@@ -13,7 +13,7 @@ use Rattle.clv_base.specs.Events.{finish, happen, Does, with_flight}
 use Rattle.clv_base.specs.Journals.{stamp_bound}
 use Rattle.protocol_laws.specs.Growth.{IsPrefixOf}
 use Rattle.protocol_laws.proofs.LogOnlyGrows.{log_only_grows}
-use Rattle.history_cases.proofs.Stepping.{Step, op_dies, op_answers, request_refused, request_doomed, request_again, request_new, request_closes, looks_well, looks_ill, drops, sends, prepare_closes, prepare_again, vote_counts, decision_comes, decision_again, done_counts, asked, reminds, flushes, Happens, finishes, stops, happened}
+use Rattle.history_cases.proofs.Stepping.{Step, op_dies, op_answers, roll_refused, roll_doomed, roll_late, roll_unknown, rolls_back, request_refused, request_doomed, request_again, request_new, request_closes, looks_well, looks_ill, drops, sends, prepare_closes, prepare_again, vote_counts, decision_comes, decision_again, done_counts, asked, reminds, flushes, Happens, finishes, stops, happened}
 use Rattle.history_cases.proofs.Durability.{framed_finish, happens_steps}
 use Rattle.machine_laws.specs.Homes.{is_turned, is_failed, has_failed, taker_after}
 
@@ -35,6 +35,11 @@ calm e o s t a b c d f = record { is_up = a; flight = b; fine = c; bound = d; ta
 step_calm : (s t : Shard) {e : Event} {o : Outcome} → Step s e o t → is_flush_out e ≡ false → Calm e o s t
 step_calm s t (op_dies tx birth nth seen op cause l h) f = calm _ _ _ _ refl refl refl refl (λ v w. refl)
 step_calm s t (op_answers tx birth nth seen op answer l h) f = calm _ _ _ _ refl refl refl refl (λ v w. refl)
+step_calm s t (roll_refused tx nth seen upto h) f = calm _ _ _ _ refl refl refl refl (λ v w. refl)
+step_calm s t (roll_doomed tx nth seen upto doom f0 h) f = calm _ _ _ _ refl refl refl refl (λ v w. refl)
+step_calm s t (roll_late tx nth seen upto f0 h) f = calm _ _ _ _ refl refl refl refl (λ v w. refl)
+step_calm s t (roll_unknown tx nth seen upto f0 h) f = calm _ _ _ _ refl refl refl refl (λ v w. refl)
+step_calm s t (rolls_back tx nth seen upto f0 h) f = calm _ _ _ _ refl refl refl refl (λ v w. refl)
 step_calm s t (request_refused tx ts cause h) f = calm _ _ _ _ refl refl refl refl (λ v w. refl)
 step_calm s t (request_doomed tx ts doom h) f = calm _ _ _ _ refl refl refl refl (λ v w. refl)
 step_calm s t (request_again tx ts f0 h) f = calm _ _ _ _ refl refl refl refl (λ v w. refl)
@@ -90,6 +95,11 @@ flies_out s _ (finishes {t = x} u h) is = step_flies s x u h is
     step_flies s t u (flushes k g h) is = let p = framed_finish (with_flight (s.durable + suc k) s) in record { upto = s.durable + suc k; outcome = refl; was = g; flight = p.flight; is_up = p.is_up ∙ u }
     step_flies s t u (op_dies tx birth nth seen op cause l h) is = absurd cc
     step_flies s t u (op_answers tx birth nth seen op answer l h) is = absurd cc
+    step_flies s t u (roll_refused tx nth seen upto h) is = absurd cc
+    step_flies s t u (roll_doomed tx nth seen upto doom f0 h) is = absurd cc
+    step_flies s t u (roll_late tx nth seen upto f0 h) is = absurd cc
+    step_flies s t u (roll_unknown tx nth seen upto f0 h) is = absurd cc
+    step_flies s t u (rolls_back tx nth seen upto f0 h) is = absurd cc
     step_flies s t u (request_refused tx ts cause h) is = absurd cc
     step_flies s t u (request_doomed tx ts doom h) is = absurd cc
     step_flies s t u (request_again tx ts f0 h) is = absurd cc

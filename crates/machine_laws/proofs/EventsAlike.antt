@@ -1,11 +1,12 @@
--- Each event makes the same whatever the journal and the last stamp; of a look the epoch that the journal tells is all that counts.
+-- Each event makes the same whatever the journal and the last stamp; of a look the epoch that the journal tells is all that counts, of a going back the
+-- number of writes.
 use Rattle.std.proofs.Common.{◌≡◌, refl, sym, ap, subst, ℕ, zero, suc, Bool, true, false, cond, ◌==◌, List, [], ◌∷◌, drop, Option, Some, None}
 use Rattle.std.proofs.lemmas.Bool.{both_ways}
 use Rattle.clv_base.specs.declared.names.TxId.{TxId}
 use Rattle.clv_base.specs.declared.causes.Vote.{Vote}
 use Rattle.clv_base.specs.declared.messages.Message.{Message}
 use Rattle.clv_base.specs.declared.messages.Message.TheVariants.{Prepare, Vote as VoteMessage, Decide, Done, Ask}
-use Rattle.clv_base.specs.declared.events.Event.TheVariants.{Op as OpEvent, Request as RequestEvent, Look, Drop, Send, Deliver, Remind, FlushOut, FlushIn, Stop, Restart}
+use Rattle.clv_base.specs.declared.events.Event.TheVariants.{Op as OpEvent, RollTo, Request as RequestEvent, Look, Drop, Send, Deliver, Remind, FlushOut, FlushIn, Stop, Restart}
 use Rattle.clv_base.specs.declared.events.Outcome.TheVariants.{Taken}
 use Rattle.clv_base.specs.Orders.{tx_get}
 use Rattle.clv_base.specs.Logs.{committed_in, fitting}
@@ -17,19 +18,20 @@ use Rattle.clv_base.specs.declared.state.Request.{Request}
 use Rattle.clv_base.specs.declared.state.Taken.{Taken as DecisionTaken}
 use Rattle.clv_base.specs.declared.state.Taken.TheVariants.{Done as IsDone, Waiting as IsAwaited, Stale as IsStale}
 use Rattle.clv_base.specs.State.{Shard, with_local}
-use Rattle.clv_base.specs.Undo.{stage_of}
+use Rattle.clv_base.specs.Undo.{stage_of, roll_to}
+use Rattle.clv_base.specs.Backs.{standing_numbers, count_after}
 use Rattle.clv_base.specs.Facts.{facts_of, has_durable_commit}
 use Rattle.clv_base.specs.Participant.{taken_by}
 use Rattle.clv_base.specs.Coordinator.{others, takes_vote, takes_done}
 use Rattle.clv_base.specs.OneShard.{OpReply, OpWaits, OpCrowded, OpDies, OpAnswers, seen_fits, op_reply, close_part, drop_part}
-use Rattle.clv_base.specs.Events.{Reply, QuietBeforeWorn, Does, finish, op_event, is_alone, epoch_in, coordinate, request_by_stage, request_event, look_lost, look_state, look_known, request_epoch, drop_event, owe_vote, on_prepare, with_votes, on_vote, decided, on_decide, with_done, on_done, on_message, to_of, with_outbox, send_event, reminders, remind_with, out_event, taken}
+use Rattle.clv_base.specs.Events.{Reply, QuietBeforeWorn, Does, finish, op_event, roll_by_stage, roll_event, is_alone, epoch_in, coordinate, request_by_stage, request_event, look_lost, look_state, look_known, request_epoch, drop_event, owe_vote, on_prepare, with_votes, on_vote, decided, on_decide, with_done, on_done, on_message, to_of, with_outbox, send_event, reminders, remind_with, out_event, taken}
 use Rattle.clv_base.specs.declared.events.Outcome.{Outcome}
 use Rattle.clv_base.specs.declared.events.Entry.{Entry}
 use Rattle.std.proofs.Common.{◌+◌}
 use Rattle.clv_base.specs.Due.{send}
 use Rattle.clv_base.specs.Events.{ask_messages, with_flight}
 use Rattle.clv_base.specs.Coordinator.{ask_answer}
-use Rattle.machine_laws.specs.Frame.{stamped_as, reply_as, EventsAlike, look_unknown, LooksAlike}
+use Rattle.machine_laws.specs.Frame.{stamped_as, reply_as, EventsAlike, roll_in, RollsAlike, look_unknown, LooksAlike}
 use Rattle.machine_laws.proofs.Alike.{finishes_alike}
 
 -- the same, with these
@@ -126,6 +128,7 @@ out_alike l j s None (suc k) = done l j _ (with_flight (s.durable + suc k) s)
 pub events_alike : EventsAlike
 unfolding Alike
 events_alike l j s (OpEvent tx birth nth seen op) p = op_alike l j s (op_reply s.shard s.local tx birth seen op)
+events_alike l j s (RollTo tx nth seen upto) p = absurd (both_ways false refl p)
 events_alike l j s (RequestEvent tx touched) p = request_alike l j s tx touched (seen_fits s.local.epoch (epoch_in s.shard touched))
 events_alike l j s (Look tx) p = absurd (both_ways false refl p)
 events_alike l j s (Drop tx) p = drop_alike l j s tx (stage_of s.local tx)
@@ -136,6 +139,24 @@ events_alike l j s FlushOut p = out_alike l j s s.flight (fitting 1048576 (drop 
 events_alike l j s FlushIn p = refl
 events_alike l j s Stop p = absurd (both_ways false refl p)
 events_alike l j s Restart p = refl
+
+-- ---- goings back
+
+rolled_alike : (l : ℕ) (j : List Entry) (s : Shard) (tx : TxId) (n : ℕ) (st : Option Stage) → Alike l j (roll_by_stage (stamped_as true l j s) tx n st) (roll_by_stage s tx n st)
+rolled_alike l j s tx n (Some (Gone (Some x))) = done l j _ s
+rolled_alike l j s tx n (Some (Gone None)) = done l j _ s
+rolled_alike l j s tx n (Some Closed) = done l j _ s
+rolled_alike l j s tx n (Some Active) = done l j _ (with_local (roll_to tx n) s)
+rolled_alike l j s tx n None = done l j _ s
+
+roll_alike : (l : ℕ) (j : List Entry) (s : Shard) (tx : TxId) (seen upto : ℕ) (b : Bool)
+    → Alike l j (roll_event (stamped_as true l j s) tx seen upto b) (roll_in s tx seen (count_after upto (standing_numbers tx j)) b)
+roll_alike l j s tx seen upto false = done l j _ s
+roll_alike l j s tx seen upto true = rolled_alike l j s tx (count_after upto (standing_numbers tx j)) (stage_of s.local tx)
+
+pub rolls_alike : RollsAlike
+unfolding Alike
+rolls_alike l j s tx nth seen upto = roll_alike l j s tx seen upto (seen == s.local.epoch)
 
 -- ---- looks
 

@@ -4,7 +4,7 @@ use Rattle.std.specs.Prelude.{is_some, ◌⊎◌}
 use Rattle.std.proofs.lemmas.Bool.{both_ways, and_parts}
 use Rattle.clv_base.specs.declared.logs.LogRecord.{LogRecord}
 use Rattle.clv_base.specs.declared.events.Event.{Event}
-use Rattle.clv_base.specs.declared.events.Event.TheVariants.{Op, Request, Look, Drop, Send, Deliver, Remind, FlushOut, FlushIn, Stop, Restart}
+use Rattle.clv_base.specs.declared.events.Event.TheVariants.{Op, RollTo, Request, Look, Drop, Send, Deliver, Remind, FlushOut, FlushIn, Stop, Restart}
 use Rattle.clv_base.specs.declared.events.Outcome.{Outcome}
 use Rattle.clv_base.specs.declared.events.Outcome.TheVariants.{Durable, Failed}
 use Rattle.clv_base.specs.declared.events.Entry.{Entry}
@@ -51,6 +51,7 @@ becomes_down s t Restart o b up n down = absurd (both_ways s.is_up b.0 up)
 becomes_down s t Stop o b up n down = absurd (both_ways true n refl)
 becomes_down s t FlushOut o b up n down = absurd (both_ways t.is_up down (does_fly s t o b).is_up)
 becomes_down s t (Op tx birth nth seen op) o b up n down = up_still s t o up (does_calm s t (Op tx birth nth seen op) o b.1 refl refl).is_up down
+becomes_down s t (RollTo tx nth seen upto) o b up n down = up_still s t o up (does_calm s t (RollTo tx nth seen upto) o b refl refl).is_up down
 becomes_down s t (Request tx ts) o b up n down = up_still s t o up (does_calm s t (Request tx ts) o b refl refl).is_up down
 becomes_down s t (Look tx) o b up n down = up_still s t o up (does_calm s t (Look tx) o b refl refl).is_up down
 becomes_down s t (Drop tx) o b up n down = up_still s t o up (does_calm s t (Drop tx) o b refl refl).is_up down

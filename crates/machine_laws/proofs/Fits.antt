@@ -8,7 +8,7 @@ use Rattle.clv_base.specs.declared.causes.Vote.TheVariants.{Yes, Read, No}
 use Rattle.clv_base.specs.declared.messages.Message.{Message}
 use Rattle.clv_base.specs.declared.messages.Message.TheVariants.{Prepare, Vote as VoteMessage, Decide, Done, Ask}
 use Rattle.clv_base.specs.declared.events.Event.{Event}
-use Rattle.clv_base.specs.declared.events.Event.TheVariants.{Op as OpEvent, Request as RequestEvent, Look, Drop, Send, Deliver, Remind, FlushOut, FlushIn, Stop, Restart}
+use Rattle.clv_base.specs.declared.events.Event.TheVariants.{Op as OpEvent, RollTo, Request as RequestEvent, Look, Drop, Send, Deliver, Remind, FlushOut, FlushIn, Stop, Restart}
 use Rattle.clv_base.specs.declared.events.Outcome.TheVariants.{Down}
 use Rattle.clv_base.specs.declared.state.Ruling.TheVariants.{Commit as CommitVerdict, Acknowledge, Abort as AbortVerdict, End as EndVerdict}
 use Rattle.clv_base.specs.declared.modes.Decision.{Decision}
@@ -27,13 +27,14 @@ use Rattle.clv_base.specs.Logs.{committed_in, fitting}
 use Rattle.clv_base.specs.Locks.{decide}
 use Rattle.clv_base.specs.Needs.{needs_of}
 use Rattle.clv_base.specs.State.{Local, Shard, with_local, is_present}
-use Rattle.clv_base.specs.Undo.{stage_of}
+use Rattle.clv_base.specs.Undo.{stage_of, roll_to}
+use Rattle.clv_base.specs.Backs.{standing_numbers, count_after}
 use Rattle.clv_base.specs.Facts.{facts_of, has_durable_commit}
 use Rattle.clv_base.specs.Participant.{taken_by}
 use Rattle.clv_base.specs.Coordinator.{takes_vote, takes_done, ruling_by}
 use Rattle.clv_base.specs.OneShard.{OpReply, OpWaits, OpCrowded, OpDies, OpAnswers, seen_fits, op_reply, op_seen, op_by_stage, op_active, op_decided, op_granted, rolled_back_if, without_part, drop_part}
 use Rattle.clv_base.specs.Due.{with_commit_done, due_of, do_due, work, finish_reader, with_vote, do_ruling, with_ruling}
-use Rattle.clv_base.specs.Events.{Reply, QuietBeforeWorn, QuietAfterWorn, Does, finish, op_event, epoch_in, request_by_stage, request_event, look_lost, look_state, look_known, request_epoch, drop_event, on_prepare, on_vote, decided, on_decide, on_done, on_message, to_of, send_event, reminders, remind_with, out_event, taken, landed, happen_up, happen}
+use Rattle.clv_base.specs.Events.{Reply, QuietBeforeWorn, QuietAfterWorn, Does, finish, op_event, roll_by_stage, roll_event, epoch_in, request_by_stage, request_event, look_lost, look_state, look_known, request_epoch, drop_event, on_prepare, on_vote, decided, on_decide, on_done, on_message, to_of, send_event, reminders, remind_with, out_event, taken, landed, happen_up, happen}
 use Rattle.clv_base.specs.declared.logs.LogRecord.{LogRecord}
 use Rattle.clv_base.specs.declared.logs.LogRecord.TheVariants.{Commit as CommitRecord, End as EndRecord}
 use Rattle.std.proofs.Common.{◌<◌, ◌^◌, nat_lt, ◌&&◌, ◌++◌, length-append, not}
@@ -54,7 +55,7 @@ use Rattle.machine_calls.specs.Events.{message_fits, event_fits, touched_fit, se
 use Rattle.machine_laws.specs.Fitting.{shards_fit, voter_fits, request_fits, IsFitting, IsNamed, IsShort, FewUndecided, op_fits, FinishesKeepNames, EventsKeepNames, LandingsKeepNames, SendsFit}
 use Rattle.machine_laws.proofs.Shards.{AreParts, all_append, all_filter, others_low, some_others}
 use Rattle.machine_laws.proofs.Rows.{get_passes, put_passes, set_passes}
-use Rattle.protocol_laws.proofs.Laws.{operations_keep, closings_keep, aborts_keep, drops_keep, ends_keep, records_keep, purges_keep}
+use Rattle.protocol_laws.proofs.Laws.{operations_keep, closings_keep, aborts_keep, drops_keep, rolls_keep, ends_keep, records_keep, purges_keep}
 use Rattle.law_base.proofs.Names.{by_state}
 use Rattle.law_base.proofs.Bools.{and_three as three}
 use Rattle.protocol_laws.proofs.Due.DueCaseByCase.{IfDue, due_holds, do_holds}
@@ -348,6 +349,17 @@ coordinated tx touched s n h f =
     more_messages _ (prepares s.shard tx touched) (prepares_fit tx s.shard (filter (λ t. not (t.0 == s.shard)) touched) n f.shard (all_filter (λ t. nat_lt t.0 16) (λ t. not (t.0 == s.shard)) touched two.1))
     (other_requests s _ (put_passes request_fits tx (new_request touched Undecided) s.requests (request_test tx (new_request touched Undecided) n (and_from _ _ two.0 two.1) refl) f.requests) f)
 
+rolled_named : (s : Shard) (tx : TxId) (n : ℕ) (st : Option Stage) → IsShort s.local → IsNamed s → NamedBy (roll_by_stage s tx n st)
+rolled_named s tx n (Some (Gone (Some x))) short k = fin s k
+rolled_named s tx n (Some (Gone None)) short k = fin s k
+rolled_named s tx n (Some Closed) short k = fin s k
+rolled_named s tx n (Some Active) short k = fin (with_local (roll_to tx n) s) (with_spelled s (roll_to tx n s.local) (rolls_keep tx n s.local short k.spelled) k)
+rolled_named s tx n None short k = fin s k
+
+roll_named : (s : Shard) (tx : TxId) (seen upto : ℕ) (b : Bool) → IsShort s.local → IsNamed s → NamedBy (roll_event s tx seen upto b)
+roll_named s tx seen upto false short k = fin s k
+roll_named s tx seen upto true short k = rolled_named s tx (count_after upto (standing_numbers tx s.journal)) (stage_of s.local tx) short k
+
 asked_named : (s : Shard) (tx : TxId) (touched : List (ℕ × ℕ)) (st : Option Stage) → tx_has_spelling tx ≡ true → touched_fit s.shard touched ≡ true → FewUndecided s.local → IsNamed s
     → NamedBy (request_by_stage s tx touched st)
 asked_named s tx touched (Some (Gone (Some x))) k h few n = fin s n
@@ -528,6 +540,7 @@ landed_named s m false n = λ short. like s _ refl refl refl refl refl n
 up_named : (s : Shard) (e : Event) → event_fits s.shard e ≡ true → op_fits e ≡ true → FewUndecided s.local → IsShort s.local → IsNamed s → NamedBy (happen_up s e)
 up_named s (OpEvent tx birth nth seen op) h f few short n =
     op_named s (op_reply s.shard s.local tx birth seen op) n (seen_named s.shard s.local tx birth seen op (seen_fits s.local.epoch seen) h f short n.spelled)
+up_named s (RollTo tx nth seen upto) h f few short n = roll_named s tx seen upto (seen == s.local.epoch) short n
 up_named s (RequestEvent tx touched) h f few short n =
     let two = and_parts (tx_has_spelling tx) (touched_fit s.shard touched) h in request_named s tx touched (seen_fits s.local.epoch (epoch_in s.shard touched)) two.0 two.1 few n
 up_named s (Look tx) h f few short n = named_both (has_durable_commit (facts_of s tx)) _ _ (fin s n) (known_named s tx (tx_get tx s.requests) n)

@@ -2,7 +2,7 @@
 use Rattle.std.proofs.Common.{◌≡◌, ◌<◌, ◌^◌, ℕ, Bool, true, false, ◌==◌, List, [], ◌∷◌, ◌++◌, map, Option, Some, None, sym, ap, refl, ◌∙◌, subst, arith}
 use Rattle.std.proofs.lemmas.Bool.{both_ways, and_parts, eq-eqb, eqb-true}
 use Rattle.clv_base.specs.declared.events.Event.{Event}
-use Rattle.clv_base.specs.declared.events.Event.TheVariants.{Op, Request, Look, Drop, Send, Deliver, Remind, FlushOut, FlushIn, Stop, Restart}
+use Rattle.clv_base.specs.declared.events.Event.TheVariants.{Op, RollTo, Request, Look, Drop, Send, Deliver, Remind, FlushOut, FlushIn, Stop, Restart}
 use Rattle.clv_base.specs.declared.events.Outcome.{Outcome}
 use Rattle.clv_base.specs.declared.events.Entry.{Entry}
 use Rattle.clv_base.specs.State.{Shard}
@@ -33,6 +33,7 @@ becomes_calm w n u s t Stop o b up f m d = absurd (both_ways false refl m)
 becomes_calm w n u s t Restart o b up f m d = absurd (both_ways s.is_up b.0 up)
 becomes_calm w n u s t FlushOut o b up f m d = none_some (sym (does_fly s t o b).was ∙ f)
 becomes_calm w n u s t (Op tx birth nth seen op) o b up f m d = record { calm = does_calm s t (Op tx birth nth seen op) o b.1 refl refl; keeps = does_keep s t (Op tx birth nth seen op) o b.1 }
+becomes_calm w n u s t (RollTo tx nth seen upto) o b up f m d = record { calm = does_calm s t (RollTo tx nth seen upto) o b refl refl; keeps = does_keep s t (RollTo tx nth seen upto) o b }
 becomes_calm w n u s t (Request tx ts) o b up f m d = record { calm = does_calm s t (Request tx ts) o b refl refl; keeps = does_keep s t (Request tx ts) o b }
 becomes_calm w n u s t (Look tx) o b up f m d = record { calm = does_calm s t (Look tx) o b refl refl; keeps = does_keep s t (Look tx) o b }
 becomes_calm w n u s t (Drop tx) o b up f m d = record { calm = does_calm s t (Drop tx) o b refl refl; keeps = does_keep s t (Drop tx) o b }

@@ -5,7 +5,7 @@ use Rattle.std.proofs.lemmas.Bool.{both_ways, and_parts, eq-eqb, eqb-true}
 use Rattle.clv_base.specs.declared.names.TxId.{TxId}
 use Rattle.clv_base.specs.declared.names.Birth.{Birth}
 use Rattle.clv_base.specs.declared.events.Event.{Event}
-use Rattle.clv_base.specs.declared.events.Event.TheVariants.{Op, Request, Look, Drop, Send, Deliver, Remind, FlushOut, FlushIn, Stop, Restart}
+use Rattle.clv_base.specs.declared.events.Event.TheVariants.{Op, RollTo, Request, Look, Drop, Send, Deliver, Remind, FlushOut, FlushIn, Stop, Restart}
 use Rattle.clv_base.specs.declared.events.Outcome.{Outcome}
 use Rattle.clv_base.specs.declared.events.Outcome.TheVariants.{Down}
 use Rattle.clv_base.specs.declared.events.Entry.{Entry}
@@ -38,6 +38,7 @@ freed_by : (tx : TxId) (birth : Birth) (s : Shard) (e : Event) (o : Outcome) (t 
 freed_by tx birth s FlushIn o t d b = absurd (both_ways s.is_up d b.0)
 freed_by tx birth s Restart o t d (up, (kept, epoch, after, r, is, same)) = ap (λ u. has_equal_active_birth tx birth u.local.parts) same ∙ restarts_free s epoch after tx birth
 freed_by tx birth s (Op u b0 nth seen op) o t d b = nothing_happens s (Op u b0 nth seen op) o t d b.1
+freed_by tx birth s (RollTo u nth seen upto) o t d b = nothing_happens s (RollTo u nth seen upto) o t d b
 freed_by tx birth s (Request u ts) o t d b = nothing_happens s (Request u ts) o t d b
 freed_by tx birth s (Look u) o t d b = nothing_happens s (Look u) o t d b
 freed_by tx birth s (Drop u) o t d b = nothing_happens s (Drop u) o t d b
@@ -52,6 +53,7 @@ freed tx birth s e t d m = ap (λ u. has_equal_active_birth tx birth u.local.par
 
 bears : (w : ℕ) (e : Event) → is_named w e ≡ true → BearsWalker w e
 bears w (Op tx birth nth seen op) h = eqb-true birth.session w h
+bears w (RollTo tx nth seen upto) h = tt
 bears w (Request tx ts) h = tt
 bears w (Look tx) h = tt
 bears w (Drop tx) h = tt
@@ -90,6 +92,7 @@ free_stays s held w (Op tx birth nth seen op) later may named others none free =
     let r = notes_are_runs s held (map told later) may in
     let a = others_leave tx birth w later (eqb-true birth.session w named) others none in
     λ up. ap not (runs_free s (after_notes s (map told later)) (entries_in later) tx birth r a s.is_up refl (λ u. not_true (has_equal_active_birth tx birth s.local.parts) (free u)) up)
+free_stays s held w (RollTo tx nth seen upto) later may named others none free = λ up. refl
 free_stays s held w (Request tx ts) later may named others none free = λ up. refl
 free_stays s held w (Look tx) later may named others none free = λ up. refl
 free_stays s held w (Drop tx) later may named others none free = λ up. refl

@@ -2,7 +2,7 @@
 use Rattle.std.proofs.Common.{◌≡◌, Bool, true, false, cond, ℕ, List, [], ◌∷◌, map, Option, Some, None, sym, ap, refl, ◌∙◌}
 use Rattle.std.proofs.lemmas.Bool.{both_ways}
 use Rattle.clv_base.specs.declared.events.Event.{Event}
-use Rattle.clv_base.specs.declared.events.Event.TheVariants.{Op, Request, Look, Drop, Send, Deliver, Remind, FlushOut, FlushIn, Stop, Restart}
+use Rattle.clv_base.specs.declared.events.Event.TheVariants.{Op, RollTo, Request, Look, Drop, Send, Deliver, Remind, FlushOut, FlushIn, Stop, Restart}
 use Rattle.clv_base.specs.declared.events.Outcome.{Outcome}
 use Rattle.clv_base.specs.State.{Shard}
 use Rattle.clv_base.specs.Journals.{after_entry}
@@ -18,6 +18,7 @@ pub down_restarts : (s : Shard) (e : Event) (o : Outcome) (t : Shard) → s.is_u
 down_restarts s FlushIn o t d b = absurd (both_ways s.is_up d b.0)
 down_restarts s Restart o t d b = refl
 down_restarts s (Op u b0 nth seen op) o t d b = nothing_happens s (Op u b0 nth seen op) o t d b.1
+down_restarts s (RollTo u nth seen upto) o t d b = nothing_happens s (RollTo u nth seen upto) o t d b
 down_restarts s (Request u ts) o t d b = nothing_happens s (Request u ts) o t d b
 down_restarts s (Look u) o t d b = nothing_happens s (Look u) o t d b
 down_restarts s (Drop u) o t d b = nothing_happens s (Drop u) o t d b

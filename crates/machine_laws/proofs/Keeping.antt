@@ -3,7 +3,7 @@ use Rattle.std.proofs.Common.{◌≡◌, ℕ, Bool, true, false, cond, List, [],
 use Rattle.std.proofs.lemmas.List.{map-append}
 use Rattle.clv_base.specs.declared.logs.LogRecord.{LogRecord}
 use Rattle.clv_base.specs.declared.events.Event.{Event}
-use Rattle.clv_base.specs.declared.events.Event.TheVariants.{Op, Request, Look, Drop, Send, Deliver, Remind, FlushOut, FlushIn, Stop, Restart}
+use Rattle.clv_base.specs.declared.events.Event.TheVariants.{Op, RollTo, Request, Look, Drop, Send, Deliver, Remind, FlushOut, FlushIn, Stop, Restart}
 use Rattle.clv_base.specs.declared.events.Outcome.{Outcome}
 use Rattle.clv_base.specs.declared.events.Entry.{Entry}
 use Rattle.clv_base.specs.State.{Shard}
@@ -35,6 +35,7 @@ holder_more notes n = ap (holder None) (map-append told notes (n ∷ [])) ∙ ho
 
 no_restart : (e : Event) → is_turned e ≡ true → ends_holding e ≡ false
 no_restart (Op tx birth nth seen op) h = refl
+no_restart (RollTo tx nth seen upto) h = refl
 no_restart (Request tx ts) h = refl
 no_restart (Look tx) h = refl
 no_restart (Drop tx) h = refl

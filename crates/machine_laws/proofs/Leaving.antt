@@ -6,7 +6,7 @@ use Rattle.clv_base.specs.declared.logs.LogRecord.{LogRecord}
 use Rattle.clv_base.specs.State.{Shard}
 use Rattle.std.proofs.lemmas.Bool.{both_ways, and_parts, and_from}
 use Rattle.clv_base.specs.declared.events.Event.{Event}
-use Rattle.clv_base.specs.declared.events.Event.TheVariants.{Op, Request, Look, Drop, Send, Deliver, Remind, FlushOut, FlushIn, Stop, Restart}
+use Rattle.clv_base.specs.declared.events.Event.TheVariants.{Op, RollTo, Request, Look, Drop, Send, Deliver, Remind, FlushOut, FlushIn, Stop, Restart}
 use Rattle.clv_base.specs.declared.events.Entry.{Entry}
 use Rattle.clv_base.specs.Restarts.{log_left}
 use Rattle.clv_base.specs.Journals.{MayLeave}
@@ -36,6 +36,7 @@ fits_leaves o notes s shut faults whose logs l f log is = at s.is_up refl
 
 no_stop : (t : Option ℕ) (w : ℕ) (e : Event) → may_follow t w e ≡ true → not (is_stop e) ≡ true
 no_stop t w (Op tx birth nth seen op) h = refl
+no_stop t w (RollTo tx nth seen upto) h = refl
 no_stop t w (Request tx ts) h = refl
 no_stop t w (Look tx) h = refl
 no_stop t w (Drop tx) h = refl

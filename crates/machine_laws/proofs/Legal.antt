@@ -5,7 +5,7 @@ use Rattle.std.proofs.lemmas.List.{map-append, take_all}
 use Rattle.std.proofs.lemmas.Bool.{and_from, and_parts, both_ways, ltb-true}
 use Rattle.clv_base.specs.declared.logs.LogRecord.{LogRecord}
 use Rattle.clv_base.specs.declared.events.Event.{Event}
-use Rattle.clv_base.specs.declared.events.Event.TheVariants.{Op, Request, Look, Drop, Send, Deliver, Remind, FlushOut, FlushIn, Stop, Restart}
+use Rattle.clv_base.specs.declared.events.Event.TheVariants.{Op, RollTo, Request, Look, Drop, Send, Deliver, Remind, FlushOut, FlushIn, Stop, Restart}
 use Rattle.clv_base.specs.declared.events.Outcome.{Outcome}
 use Rattle.clv_base.specs.declared.events.Outcome.TheVariants.{Down, Up}
 use Rattle.clv_base.specs.declared.events.Entry.{Entry}
@@ -100,6 +100,8 @@ happens s t e o h = ap (reply_state s) h
 pub plainly : (e : Event) → is_turned e ≡ true → Plain e
 plainly (Op tx birth nth seen op) h =
     record { call = λ s clock c. refl; bound = refl; follow = λ t w. refl; held = λ g w. tt; state = λ s t o b. happens s t (Op tx birth nth seen op) o b.1; does = λ s t o b. b.1 }
+plainly (RollTo tx nth seen upto) h =
+    record { call = λ s clock c. refl; bound = refl; follow = λ t w. refl; held = λ g w. tt; state = λ s t o b. happens s t (RollTo tx nth seen upto) o b; does = λ s t o b. b }
 plainly (Request tx ts) h = record { call = λ s clock c. refl; bound = refl; follow = λ t w. refl; held = λ g w. tt; state = λ s t o b. happens s t (Request tx ts) o b; does = λ s t o b. b }
 plainly (Look tx) h = record { call = λ s clock c. refl; bound = refl; follow = λ t w. refl; held = λ g w. tt; state = λ s t o b. happens s t (Look tx) o b; does = λ s t o b. b }
 plainly (Drop tx) h = record { call = λ s clock c. refl; bound = refl; follow = λ t w. refl; held = λ g w. tt; state = λ s t o b. happens s t (Drop tx) o b; does = λ s t o b. b }

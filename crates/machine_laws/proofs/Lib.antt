@@ -1,6 +1,5 @@
 pub mod Alike
 pub mod EventsAlike
-pub mod Undropped
 pub mod Staying
 mod Shards
 mod Rows

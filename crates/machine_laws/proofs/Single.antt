@@ -2,7 +2,7 @@
 use Rattle.std.proofs.Common.{◌≡◌, true, false, refl}
 use Rattle.std.proofs.lemmas.Bool.{both_ways}
 use Rattle.clv_base.specs.declared.events.Event.{Event}
-use Rattle.clv_base.specs.declared.events.Event.TheVariants.{Op, Request, Look, Drop, Send, Deliver, Remind, FlushOut, FlushIn, Stop, Restart}
+use Rattle.clv_base.specs.declared.events.Event.TheVariants.{Op, RollTo, Request, Look, Drop, Send, Deliver, Remind, FlushOut, FlushIn, Stop, Restart}
 use Rattle.machine_calls.specs.Events.{is_stepped}
 use Rattle.machine_laws.specs.Homes.{is_single, is_turned}
 use Rattle.machine_laws.proofs.Calm.{is_flush_out}
@@ -14,6 +14,7 @@ pub record Single (e : Event) : Type 0 where
 
 pub singly : (e : Event) → is_single e ≡ true → Single e
 singly (Op tx birth nth seen op) h = record { turned = refl; stepped = refl; no_flush = refl }
+singly (RollTo tx nth seen upto) h = record { turned = refl; stepped = refl; no_flush = refl }
 singly (Request tx ts) h = record { turned = refl; stepped = refl; no_flush = refl }
 singly (Look tx) h = record { turned = refl; stepped = refl; no_flush = refl }
 singly (Drop tx) h = record { turned = refl; stepped = refl; no_flush = refl }

@@ -7,7 +7,7 @@ use Rattle.clv_base.specs.declared.causes.Vote.TheVariants.{Yes, Read, No}
 use Rattle.clv_base.specs.declared.messages.Message.{Message}
 use Rattle.clv_base.specs.declared.messages.Message.TheVariants.{Prepare, Vote as VoteMessage, Decide, Done, Ask}
 use Rattle.clv_base.specs.declared.events.Event.{Event}
-use Rattle.clv_base.specs.declared.events.Event.TheVariants.{Op as OpEvent, Request as RequestEvent, Look, Drop, Send, Deliver, Remind, FlushOut, FlushIn, Stop, Restart}
+use Rattle.clv_base.specs.declared.events.Event.TheVariants.{Op as OpEvent, RollTo, Request as RequestEvent, Look, Drop, Send, Deliver, Remind, FlushOut, FlushIn, Stop, Restart}
 use Rattle.clv_base.specs.declared.state.Ruling.TheVariants.{Commit as CommitVerdict, Acknowledge, Abort as AbortVerdict, End as EndVerdict}
 use Rattle.clv_base.specs.declared.state.Stage.{Stage}
 use Rattle.clv_base.specs.declared.state.Stage.TheVariants.{Active, Closed, Gone}
@@ -21,13 +21,14 @@ use Rattle.clv_base.specs.declared.state.Taken.TheVariants.{Done as IsDone, Wait
 use Rattle.clv_base.specs.Orders.{tx_get}
 use Rattle.clv_base.specs.Logs.{committed_in}
 use Rattle.clv_base.specs.State.{Shard, with_local}
-use Rattle.clv_base.specs.Undo.{stage_of}
+use Rattle.clv_base.specs.Undo.{stage_of, roll_to}
+use Rattle.clv_base.specs.Backs.{standing_numbers, count_after}
 use Rattle.clv_base.specs.Facts.{facts_of, has_durable_commit}
 use Rattle.clv_base.specs.Participant.{taken_by}
 use Rattle.clv_base.specs.Coordinator.{takes_vote, takes_done}
 use Rattle.clv_base.specs.OneShard.{OpReply, OpWaits, OpCrowded, OpDies, OpAnswers, seen_fits, op_reply, drop_part}
 use Rattle.clv_base.specs.Due.{due_of, do_due, work, finish_reader, with_vote, do_ruling, with_ruling}
-use Rattle.clv_base.specs.Events.{Reply, QuietBeforeWorn, QuietAfterWorn, Does, finish, op_event, epoch_in, request_by_stage, request_event, look_lost, look_state, look_known, request_epoch, drop_event, on_prepare, on_vote, decided, on_decide, on_done, on_message, to_of, send_event, reminders, remind_with, happen_up}
+use Rattle.clv_base.specs.Events.{Reply, QuietBeforeWorn, QuietAfterWorn, Does, finish, op_event, roll_by_stage, roll_event, epoch_in, request_by_stage, request_event, look_lost, look_state, look_known, request_epoch, drop_event, on_prepare, on_vote, decided, on_decide, on_done, on_message, to_of, send_event, reminders, remind_with, happen_up}
 use Rattle.clv_base.specs.Coordinator.{others, ask_answer}
 use Rattle.clv_base.specs.OneShard.{close_part}
 use Rattle.clv_base.specs.Due.{send}
@@ -91,6 +92,19 @@ op_stays s (OpWaits t) = tt
 op_stays s (OpCrowded m) = tt
 op_stays s (OpDies c l) = same s (record s { local = l }) refl refl
 op_stays s (OpAnswers a l) = same s (record s { local = l }) refl refl
+
+rolled_stays : (s : Shard) (tx : TxId) (n : ℕ) (st : Option Stage) → StaysAfter s (roll_by_stage s tx n st)
+unfolding StaysAfter
+rolled_stays s tx n (Some (Gone (Some x))) = same s s refl refl
+rolled_stays s tx n (Some (Gone None)) = same s s refl refl
+rolled_stays s tx n (Some Closed) = same s s refl refl
+rolled_stays s tx n (Some Active) = same s (with_local (roll_to tx n) s) refl refl
+rolled_stays s tx n None = same s s refl refl
+
+roll_stays : (s : Shard) (tx : TxId) (seen upto : ℕ) (b : Bool) → StaysAfter s (roll_event s tx seen upto b)
+unfolding StaysAfter
+roll_stays s tx seen upto false = same s s refl refl
+roll_stays s tx seen upto true = rolled_stays s tx (count_after upto (standing_numbers tx s.journal)) (stage_of s.local tx)
 
 asked_stays : (s : Shard) (tx : TxId) (touched : List (ℕ × ℕ)) (st : Option Stage) → StaysAfter s (request_by_stage s tx touched st)
 unfolding StaysAfter
@@ -176,6 +190,7 @@ remind_stays s (o ∷ os) ms = tt
 up_stays : (s : Shard) (e : Event) → is_grounded e ≡ true → StaysAfter s (happen_up s e)
 unfolding StaysAfter
 up_stays s (OpEvent tx birth nth seen op) g = op_stays s (op_reply s.shard s.local tx birth seen op)
+up_stays s (RollTo tx nth seen upto) g = roll_stays s tx seen upto (seen == s.local.epoch)
 up_stays s (RequestEvent tx touched) g = request_event_stays s tx touched (seen_fits s.local.epoch (epoch_in s.shard touched))
 up_stays s (Look tx) g = after_both s (has_durable_commit (facts_of s tx)) _ _ (same s s refl refl) (known_stays s tx (tx_get tx s.requests))
 up_stays s (Drop tx) g = drop_stays s tx (stage_of s.local tx)

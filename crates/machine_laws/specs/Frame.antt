@@ -1,17 +1,20 @@
 -- The shard whatever its journal, its last stamp, and whether it is up: what a machine keeps beside the core.
-use Rattle.std.specs.Prelude.{◌≡◌, ℕ, Bool, true, false, cond, List, Option, Some, None}
+use Rattle.std.specs.Prelude.{◌≡◌, ℕ, ◌==◌, Bool, true, false, cond, List, Option, Some, None}
 use Rattle.clv_base.specs.declared.names.TxId.{TxId}
 use Rattle.clv_base.specs.declared.events.Event.{Event}
-use Rattle.clv_base.specs.declared.events.Event.TheVariants.{Look, Stop, FlushOut}
+use Rattle.clv_base.specs.declared.events.Event.TheVariants.{RollTo, Look, Stop, FlushOut}
 use Rattle.clv_base.specs.declared.events.Outcome.{Outcome}
-use Rattle.clv_base.specs.declared.events.Outcome.TheVariants.{Acknowledged, NotYet}
+use Rattle.clv_base.specs.declared.events.Outcome.TheVariants.{Acknowledged, Dead, NotYet}
 use Rattle.clv_base.specs.declared.events.Entry.{Entry}
 use Rattle.clv_base.specs.declared.state.Request.{Request}
+use Rattle.clv_base.specs.declared.causes.AbortCause.TheVariants.{Restarted as RestartedCause}
 use Rattle.clv_base.specs.Orders.{tx_get}
+use Rattle.clv_base.specs.Undo.{stage_of}
+use Rattle.clv_base.specs.Backs.{standing_numbers, count_after}
 use Rattle.clv_base.specs.Logs.{committed_in}
 use Rattle.clv_base.specs.State.{Shard}
 use Rattle.clv_base.specs.Facts.{facts_of, has_durable_commit}
-use Rattle.clv_base.specs.Events.{Reply, QuietBeforeWorn, QuietAfterWorn, Does, finish, look_lost, look_state, request_epoch, happen_up}
+use Rattle.clv_base.specs.Events.{Reply, QuietBeforeWorn, QuietAfterWorn, Does, finish, roll_by_stage, look_lost, look_state, request_epoch, happen_up}
 
 -- the shard with these
 abbrev pub stamped_as : Bool → ℕ → List Entry → Shard → Shard
@@ -32,11 +35,22 @@ reply_as last journal (Does o t) = Does o (stamped_as true last journal t)
 -- events that neither read the journal nor put the shard down
 abbrev pub is_plain : Event → Bool
 is_plain (Look tx) = false
+is_plain (RollTo tx nth seen upto) = false
 is_plain Stop = false
 is_plain _ = true
 
 abbrev pub EventsAlike : Type 0
 EventsAlike = (last : ℕ) (journal : List Entry) (s : Shard) (e : Event) → is_plain e ≡ true → happen_up (stamped_as true last journal s) e ≡ reply_as last journal (happen_up s e)
+
+-- a going back by how many of the transaction's writes the journal tells it to take back
+abbrev pub roll_in : Shard → TxId → ℕ → ℕ → Bool → Reply
+roll_in s tx seen n false = Does (Dead (RestartedCause s.shard seen s.local.epoch)) (finish s)
+roll_in s tx seen n true = roll_by_stage s tx n (stage_of s.local tx)
+
+abbrev pub RollsAlike : Type 0
+RollsAlike =
+    (last : ℕ) (journal : List Entry) (s : Shard) (tx : TxId) (nth seen upto : ℕ)
+    → happen_up (stamped_as true last journal s) (RollTo tx nth seen upto) ≡ reply_as last journal (roll_in s tx seen (count_after upto (standing_numbers tx journal)) (seen == s.local.epoch))
 
 -- a look by the epoch that the transaction's request named first, as the journal tells it
 abbrev pub look_unknown : Shard → TxId → Option ℕ → Option Request → Reply

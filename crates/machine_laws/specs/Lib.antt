@@ -1,5 +1,4 @@
 pub mod Frame
-pub mod Undropped
 pub mod Fitting
 pub mod Notes
 pub mod Homes

@@ -11,7 +11,7 @@ use Rattle.clv_base.specs.declared.state.Voter.{Voter}
 use Rattle.clv_base.specs.declared.state.Stage.TheVariants.{Active}
 use Rattle.clv_base.specs.declared.messages.Message.{Message}
 use Rattle.clv_base.specs.Orders.{tx_same, tx_in, tx_get, tx_put, tx_insert, tx_cmp}
-use Rattle.clv_base.specs.Logs.{prepare_lsn, wrote_in}
+use Rattle.clv_base.specs.Logs.{prepare_lsn, has_standing}
 use Rattle.clv_base.specs.State.{Shard, Local}
 use Rattle.clv_base.specs.Undo.{stage_of, doomed_by}
 use Rattle.clv_base.specs.Facts.{undecided_of}
@@ -111,7 +111,7 @@ like_closed a tx home one whole active rising =
       work = closed_total tx l.parts rising;
       stay = closed_stay tx l active;
       dependents = close_keeps tx home one l whole.dependents;
-      logged = logged_more (known_keys (seen a)) a.transactions.durable l.log (closing (wrote_in l.log tx) one tx home (undecided_of l tx)) whole.logged (closing_known (known_keys (seen a)) (wrote_in l.log tx) one tx home (undecided_of l tx) own);
+      logged = logged_more (known_keys (seen a)) a.transactions.durable l.log (closing (has_standing l.log tx) one tx home (undecided_of l tx)) whole.logged (closing_known (known_keys (seen a)) (has_standing l.log tx) one tx home (undecided_of l tx) own);
     }
 
 -- ---- the parts with it

@@ -20,3 +20,4 @@ pub mod Looked
 pub mod Heard
 pub mod Made
 pub mod Here
+pub mod Back

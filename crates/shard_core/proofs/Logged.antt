@@ -1,5 +1,5 @@
 -- Whom the records tell of that aren't durable.
-use Rattle.std.proofs.Common.{◌≡◌, refl, subst, ℕ, zero, suc, Bool, true, false, cond, List, [], ◌∷◌, ◌++◌, map, filter, take, drop, slice_range, Option, Some, None, ⊎_elim, ◌≤◌, ◌-◌, arith}
+use Rattle.std.proofs.Common.{◌≡◌, refl, subst, ℕ, zero, suc, Bool, true, false, List, [], ◌∷◌, ◌++◌, map, filter, take, drop, slice_range, Option, Some, None, ⊎_elim, ◌≤◌, ◌-◌, arith}
 use Rattle.std.proofs.lemmas.Bool.{both_ways, or_cases}
 use Rattle.std.specs.List.{AllByRecursion}
 use Rattle.clv_base.specs.declared.names.TxId.{TxId}
@@ -12,12 +12,13 @@ use Rattle.clv_base.specs.declared.changes.Change.TheVariants.{Sets, Adds}
 use Rattle.clv_base.specs.declared.state.Voter.{Voter}
 use Rattle.clv_base.specs.declared.state.Ruling.TheVariants.{Commit as CommitVerdict, Acknowledge, Abort as AbortVerdict, End as EndVerdict}
 use Rattle.clv_base.specs.Orders.{tx_same, tx_in, tx_get}
-use Rattle.clv_base.specs.Logs.{StandingUpdate, standing, wrote_in}
+use Rattle.clv_base.specs.Logs.{StandingUpdate, has_standing, standing}
 use Rattle.clv_base.specs.State.{Shard, Local, is_present}
-use Rattle.clv_base.specs.Undo.{stage_of, doomed_here, aborts_of, clrs_of, newest_lsn, compensation}
+use Rattle.clv_base.specs.Undo.{stage_of, doomed_here, is_of, aborts_of, clrs_by, clrs_of, compensation, roll_to}
 use Rattle.clv_base.specs.OneShard.{rolled_back_if, without_part}
 use Rattle.clv_base.specs.Due.{finish_reader}
 use Rattle.clv_base.proofs.SameNames.{tx_true}
+use Rattle.law_base.proofs.GoingBack.{newest_test, clrs_each, rolled_each}
 use Rattle.protocol_laws.specs.UndoLaws.{is_pair}
 use Rattle.txn_core.specs.Landed.{concerns, concern}
 use Rattle.due_step.specs.Found.{carried, vote_sent}
@@ -47,25 +48,33 @@ aborts_known : (keys txs : List TxId) → All keys (map (λ t. Abort t) txs)
 aborts_known keys [] = tt
 aborts_known keys (t ∷ ts) = (tt, aborts_known keys ts)
 
-clrs_known : (keys set : List TxId) (ws : List StandingUpdate) → All keys (clrs_of set ws)
-clrs_known keys set [] = tt
-clrs_known keys set (w ∷ ws) = at (tx_in w.tx set) w.change (clrs_known keys set ws)
+undo_known : (keys : List TxId) (tx : TxId) → tx_in tx keys ≡ true → (next : Option ℕ) (key : ℕ) (c : Change) → IsOfKnown keys (compensation tx next key c)
+undo_known keys tx own next key (Sets before after) = own
+undo_known keys tx own next key (Adds by) = own
+
+clrs_known : (keys set : List TxId) (ws : List StandingUpdate) → ((x : TxId) → tx_in x set ≡ true → tx_in x keys ≡ true) → All keys (clrs_of set ws)
+clrs_known keys set ws among = clrs_each (IsOfKnown keys) (is_of set) ws (each ws)
   where
-    at : (b : Bool) (c : Change) → All keys (clrs_of set ws) → All keys (cond b (compensation w.tx (newest_lsn w.tx ws) w.key c ∷ clrs_of set ws) (clrs_of set ws))
-    at true (Sets before after) more = (tt, more)
-    at true (Adds by) more = (tt, more)
-    at false c more = more
+    each : (vs : List StandingUpdate) → AllByRecursion (λ w. is_of set w ≡ true → (next : Option ℕ) → IsOfKnown keys (compensation w.tx next w.key w.change)) vs
+    each [] = tt
+    each (v ∷ vs) = ((λ h next. undo_known keys v.tx (among v.tx h) next v.key v.change), each vs)
 
-pub logged_undone : (keys set : List TxId) (n : ℕ) (l : Local) → All keys (drop n l.log) → All keys (drop n (l.log ++ aborts_of l.log set ++ clrs_of set (standing l.log)))
-logged_undone keys set n l a =
-    logged_more keys n (l.log ++ aborts_of l.log set) (clrs_of set (standing l.log)) (logged_more keys n l.log (aborts_of l.log set) a (aborts_known keys (filter (wrote_in l.log) set))) (clrs_known keys set (standing l.log))
+-- those that an abort takes away
+pub logged_undone : (keys set : List TxId) (n : ℕ) (l : Local) → ((x : TxId) → tx_in x set ≡ true → tx_in x keys ≡ true) → All keys (drop n l.log) → All keys (drop n (l.log ++ aborts_of l.log set ++ clrs_of set (standing l.log)))
+logged_undone keys set n l among a =
+    logged_more keys n (l.log ++ aborts_of l.log set) (clrs_of set (standing l.log)) (logged_more keys n l.log (aborts_of l.log set) a (aborts_known keys (filter (has_standing l.log) set)))
+    (clrs_known keys set (standing l.log) among)
 
-pub logged_without : (keys : List TxId) (tx : TxId) (n : ℕ) (l : Local) → All keys (drop n l.log) → All keys (drop n (without_part tx l).log)
-logged_without keys tx n l a = at (is_present (stage_of l tx))
+pub logged_without : (keys : List TxId) (tx : TxId) (n : ℕ) (l : Local) → ((x : TxId) → tx_in x (doomed_here l tx) ≡ true → tx_in x keys ≡ true) → All keys (drop n l.log) → All keys (drop n (without_part tx l).log)
+logged_without keys tx n l among a = at (is_present (stage_of l tx))
   where
     at : (b : Bool) → All keys (drop n (rolled_back_if b tx l).log)
-    at true = logged_undone keys (doomed_here l tx) n l a
+    at true = logged_undone keys (doomed_here l tx) n l among a
     at false = a
+
+-- one that goes back
+pub logged_back : (keys : List TxId) (tx : TxId) (n d : ℕ) (l : Local) → tx_in tx keys ≡ true → All keys (drop d l.log) → All keys (drop d (roll_to tx n l).log)
+logged_back keys tx n d l own a = logged_more keys d l.log (clrs_by (newest_test n tx (standing l.log)) (standing l.log)) a (rolled_each (IsOfKnown keys) tx n l.log (undo_known keys tx own))
 
 abbrev sent : Shard → TxId → Vote → Option Voter → Shard
 sent s tx vote o = finish_reader tx vote (vote_sent s tx vote o)
@@ -79,24 +88,24 @@ vote_logged keys n s tx (No why) None a = a
 vote_logged keys n s tx (No why) (Some v) a = a
 
 -- after what was due was done
-pub logged_carried : (keys : List TxId) (n : ℕ) (s : Shard) (tx : TxId) (due : Due) → tx_in tx keys ≡ true → All keys (drop n s.local.log) → All keys (drop n (carried s tx due).local.log)
-logged_carried keys n s tx Commit own a = a
-logged_carried keys n s tx (DueVote vote) own a = vote_logged keys n s tx vote (tx_get tx s.voters) a
-logged_carried keys n s tx (DueRuling (CommitVerdict parts)) own a = logged_more keys n s.local.log (CommitRecord tx parts ∷ []) a (own, tt)
-logged_carried keys n s tx (DueRuling Acknowledge) own a = a
-logged_carried keys n s tx (DueRuling (AbortVerdict cause to)) own a = logged_undone keys (doomed_here s.local tx) n s.local a
-logged_carried keys n s tx (DueRuling EndVerdict) own a = logged_more keys n s.local.log (EndRecord tx ∷ []) a (tt, tt)
+pub logged_carried : (keys : List TxId) (n : ℕ) (s : Shard) (tx : TxId) (due : Due) → tx_in tx keys ≡ true → ((x : TxId) → tx_in x (doomed_here s.local tx) ≡ true → tx_in x keys ≡ true) → All keys (drop n s.local.log) → All keys (drop n (carried s tx due).local.log)
+logged_carried keys n s tx Commit own among a = a
+logged_carried keys n s tx (DueVote vote) own among a = vote_logged keys n s tx vote (tx_get tx s.voters) a
+logged_carried keys n s tx (DueRuling (CommitVerdict parts)) own among a = logged_more keys n s.local.log (CommitRecord tx parts ∷ []) a (own, tt)
+logged_carried keys n s tx (DueRuling Acknowledge) own among a = a
+logged_carried keys n s tx (DueRuling (AbortVerdict cause to)) own among a = logged_undone keys (doomed_here s.local tx) n s.local among a
+logged_carried keys n s tx (DueRuling EndVerdict) own among a = logged_more keys n s.local.log (EndRecord tx ∷ []) a (tt, tt)
 
 weaker : (keys more : List TxId) → ((x : TxId) → tx_in x keys ≡ true → tx_in x more ≡ true) → (r : LogRecord) → IsOfKnown keys r → IsOfKnown more r
 weaker keys more h (CommitRecord tx parts) k = h tx k
 weaker keys more h (Prepare tx home ps) k = h tx k
 weaker keys more h (Update tx k b a) e = tt
-weaker keys more h (Clr tx u k a) e = tt
+weaker keys more h (Clr tx u k a) e = h tx e
 weaker keys more h (Abort tx) e = tt
 weaker keys more h (EndRecord tx) e = tt
 weaker keys more h (Restart run epoch) e = tt
 weaker keys more h (Add tx k by) e = tt
-weaker keys more h (Unadd tx u k by) e = tt
+weaker keys more h (Unadd tx u k by) e = h tx e
 
 -- with more that are known
 pub logged_known : (keys more : List TxId) → ((x : TxId) → tx_in x keys ≡ true → tx_in x more ≡ true) → (rs : List LogRecord) → All keys rs → All more rs
@@ -124,12 +133,12 @@ concern_known keys pairs h (r ∷ rs) a x e = ⊎_elim (λ i. one r a.0 i) (λ i
     one (CommitRecord tx parts) k i = ⊎_elim (λ s. subst (λ z. tx_in z keys ≡ true) (tx_true tx x s) k) (λ s. h x tx s) (or_cases (tx_same tx x) (is_pair pairs x tx) i)
     one (Prepare tx home ps) k i = subst (λ z. tx_in z keys ≡ true) (tx_true tx x i) k
     one (Update tx k b a) u i = absurd (both_ways false refl i)
-    one (Clr tx u k a) v i = absurd (both_ways false refl i)
+    one (Clr tx u k a) v i = subst (λ z. tx_in z keys ≡ true) (tx_true tx x i) v
     one (Abort tx) u i = absurd (both_ways false refl i)
     one (EndRecord tx) u i = absurd (both_ways false refl i)
     one (Restart run epoch) u i = absurd (both_ways false refl i)
     one (Add tx k by) u i = absurd (both_ways false refl i)
-    one (Unadd tx u k by) v i = absurd (both_ways false refl i)
+    one (Unadd tx u k by) v i = subst (λ z. tx_in z keys ≡ true) (tx_true tx x i) v
 
 -- whom the records below a front concern are known
 pub landed_known : (keys : List TxId) (pairs : List (TxId × TxId)) (log : List LogRecord) (d n : ℕ) → ((x p : TxId) → is_pair pairs x p ≡ true → tx_in x keys ≡ true) → All keys (drop d log)

@@ -42,7 +42,7 @@ use Rattle.shard_core.proofs.Changing.{room_kept, without_le, cover_purged}
 use Rattle.clv_base.specs.declared.state.Request.{Request}
 use Rattle.two_phase_commit.specs.Coordinated.{state_by}
 use Rattle.protocol_laws.proofs.Laws.{performed_le}
-use Rattle.shard_core.proofs.Taking.{here_in, without_keys, without_prepares, stage_known, known_doomed}
+use Rattle.shard_core.proofs.Taking.{here_in, here_known, without_keys, without_prepares, stage_known, known_doomed}
 use Rattle.shard_core.proofs.Committing.{idle_holds, idle_ready}
 use Rattle.shard_core.proofs.Replied.{Leaves, reply_leaves}
 use Rattle.shard_core.proofs.Granting.{grant_covers}
@@ -160,7 +160,7 @@ dying_changed a tx u f rest whole here e put limit room pairs kept =
     (λ x. whole.prepares x ∙ sym (without_prepares tx l x) ∙ ap (λ (y : TxState). prepare_lsn (y.local).log x) (sym e))
     (without_keeps tx l whole.dependents)
     (subst (λ (x : TxState). All (known_keys V) (drop x.durable (x.local).log)) (sym e)
-    (subst (λ ks. All (ks ++ (keys_of s.voters ++ keys_of s.requests)) (drop t.durable (without_part tx l).log)) (sym (without_keys tx l)) (logged_without (known_keys s) tx t.durable l whole.logged)))
+    (subst (λ ks. All (ks ++ (keys_of s.voters ++ keys_of s.requests)) (drop t.durable (without_part tx l).log)) (sym (without_keys tx l)) (logged_without (known_keys s) tx t.durable l (λ x h. here_known s tx x h) whole.logged)))
     (known_doomed s V tx a.candidates f whole.dependents whole.candidates own (without_keys tx l) refl refl (λ x. noted x ∙ sym (ap (λ b. tx_in x (doomed_by l tx) || b) (ap (tx_in x) rest.none) ∙ or_none (tx_in x (doomed_by l tx)))) places)
     (room_kept s V t u a.outbox a.outbox (without_le s tx) room pairs (omega arith) whole.room)
     rest.ready.requests

@@ -1,9 +1,11 @@
 -- The shard by its parts, and what do_one tells of them.
-use Rattle.std.proofs.Common.{◌≡◌, refl, sym, ap, subst, ◌∙◌, ⊎_elim, ℕ, ◌+◌, true, false, ◌||◌, List, [], ◌∷◌, ◌++◌, length, Option, Some, None, append_assoc, arith}
+use Rattle.std.proofs.Common.{◌≡◌, refl, sym, ap, subst, ◌∙◌, ⊎_elim, ℕ, ◌+◌, Bool, true, false, cond, ◌||◌, List, [], ◌∷◌, ◌++◌, length, Option, Some, None, append_assoc, arith}
 use Rattle.std.proofs.lemmas.Bool.{both_ways, or_cases, and_parts}
-use Rattle.std.specs.List.{AllByRecursion}
+use Rattle.std.specs.List.{AllByRecursion, list_any}
 use Rattle.std.specs.Map.{keys_of}
 use Rattle.clv_base.specs.declared.names.TxId.{TxId}
+use Rattle.clv_base.specs.declared.changes.Change.{Change}
+use Rattle.clv_base.specs.declared.changes.Change.TheVariants.{Sets, Adds}
 use Rattle.clv_base.specs.declared.causes.Vote.{Vote}
 use Rattle.clv_base.specs.declared.causes.Vote.TheVariants.{Yes, Read, No}
 use Rattle.clv_base.specs.declared.state.Held.{Held}
@@ -12,9 +14,9 @@ use Rattle.clv_base.specs.declared.state.Ruling.TheVariants.{Commit as CommitVer
 use Rattle.clv_base.specs.declared.logs.LogRecord.{LogRecord}
 use Rattle.clv_base.specs.declared.logs.LogRecord.TheVariants.{Commit as CommitRecord, End as EndRecord}
 use Rattle.clv_base.specs.Orders.{Table, tx_same, tx_in, tx_get}
-use Rattle.clv_base.specs.Logs.{standing, prepare_lsn, is_prepare_of}
+use Rattle.clv_base.specs.Logs.{StandingUpdate, standing, prepare_lsn, is_prepare_of}
 use Rattle.clv_base.specs.State.{Shard, Local, with_local}
-use Rattle.clv_base.specs.Undo.{doomed_by, doomed_here, aborts_of, clrs_of}
+use Rattle.clv_base.specs.Undo.{doomed_by, doomed_here, aborts_of, newest_lsn, newest_lsns, is_at, compensation, clrs_by, clrs_of, roll_to}
 use Rattle.clv_base.specs.OneShard.{purge}
 use Rattle.clv_base.specs.Due.{due_of, finish_reader}
 use Rattle.clv_base.proofs.SameNames.{or_left, tx_true, tx_self}
@@ -148,6 +150,20 @@ pub undone_prepares : (l : Local) (set : List TxId) (x : TxId) → prepare_lsn (
 undone_prepares l set x =
     ap (λ (log : List LogRecord). prepare_lsn log x) (append_assoc l.log (aborts_of l.log set) (clrs_of set (standing l.log)))
     ∙ place_more 0 (is_prepare_of x) l.log (aborts_of l.log set ++ clrs_of set (standing l.log)) (undone_none (is_prepare_of x) (λ t. refl) (λ t u k a. refl) (λ t u k by. refl) l.log set (standing l.log))
+
+back_none : (x : TxId) (gone : StandingUpdate → Bool) (ws : List StandingUpdate) → list_any (is_prepare_of x) (clrs_by gone ws) ≡ false
+back_none x gone [] = refl
+back_none x gone (w ∷ ws) = at (gone w) w.change (back_none x gone ws)
+  where
+    at : (b : Bool) (c : Change) → list_any (is_prepare_of x) (clrs_by gone ws) ≡ false
+        → list_any (is_prepare_of x) (cond b (compensation w.tx (newest_lsn w.tx ws) w.key c ∷ clrs_by gone ws) (clrs_by gone ws)) ≡ false
+    at true (Sets before after) more = more
+    at true (Adds by) more = more
+    at false c more = more
+
+-- nor by one that goes back
+pub back_prepares : (tx : TxId) (n : ℕ) (l : Local) (x : TxId) → prepare_lsn (roll_to tx n l).log x ≡ prepare_lsn l.log x
+back_prepares tx n l x = let gone = is_at (newest_lsns n tx (standing l.log)) in place_more 0 (is_prepare_of x) l.log (clrs_by gone (standing l.log)) (back_none x gone (standing l.log))
 
 vote_prepares : (s : Shard) (tx : TxId) (vote : Vote) (o : Option Voter) (x : TxId) → prepare_lsn (sent s tx vote o).local.log x ≡ prepare_lsn s.local.log x
 vote_prepares s tx Yes None x = refl

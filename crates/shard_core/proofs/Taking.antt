@@ -4,6 +4,7 @@ use Rattle.std.proofs.lemmas.Bool.{both_ways, or_cases}
 use Rattle.std.specs.Map.{keys_of}
 use Rattle.clv_base.specs.declared.names.TxId.{TxId}
 use Rattle.clv_base.specs.declared.state.Held.{Held}
+use Rattle.clv_base.specs.declared.state.Stage.{Stage}
 use Rattle.clv_base.specs.Orders.{Table, tx_in, tx_get}
 use Rattle.clv_base.specs.Logs.{prepare_lsn}
 use Rattle.clv_base.specs.State.{Shard, Local, is_present}
@@ -57,6 +58,14 @@ stage_known s tx e = part_known s tx (at (tx_get tx s.local.parts) refl e)
     at : (o : Option Held) → tx_get tx s.local.parts ≡ o → is_some (elim o [ Some h ↦ Some h.stage | None ↦ None ]) ≡ true → HasPart s.local.parts tx
     at (Some h) g e = get_has tx h s.local.parts g
     at None g e = absurd (both_ways false refl e)
+
+-- those that its abort takes away have parts
+pub here_known : (s : Shard) (tx x : TxId) → tx_in x (doomed_here s.local tx) ≡ true → tx_in x (known_keys s) ≡ true
+here_known s tx x e = stage_known s x (at (stage_of s.local x) (in_filter (λ t. is_present (stage_of s.local t)) x (doomed_by s.local tx) e).1)
+  where
+    at : (o : Option Stage) → is_present o ≡ true → is_some o ≡ true
+    at (Some st) e = refl
+    at None e = absurd (both_ways false refl e)
 
 -- where only values of the parts changed, and those that depend on one that is known are candidates besides
 pub known_doomed : (s v : Shard) (tx : TxId) (d f : Candidates) → DependentsHaveParts s.local → AreKnown s d → tx_in tx (known_keys s) ≡ true → keys_of v.local.parts ≡ keys_of s.local.parts → v.voters ≡ s.voters → v.requests ≡ s.requests

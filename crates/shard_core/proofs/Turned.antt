@@ -30,6 +30,7 @@ use Rattle.two_phase_commit.specs.Coordinated.{Coordination}
 use Rattle.shard_core.specs.Core.{seen_as}
 use Rattle.shard_core.specs.Whole.{HasRoom, AreKnown, IsOfKnown, IsWhole}
 use Rattle.shard_core.proofs.Logged.{logged_carried}
+use Rattle.shard_core.proofs.Taking.{here_known}
 use Rattle.shard_core.proofs.Seeing.{seen_same, seen_done, known_more, least_in, known_same, places_same, carried_prepares, writes_locked}
 
 split : (txs : List TxId) (tx : TxId) → least txs ≡ Some tx → txs ≡ tx ∷ but_least txs
@@ -109,7 +110,7 @@ module _ (run : ℕ) (shard : ℕ) (places : Table ℕ) (t u : TxState) (p q : V
           logged = subst (λ (x : Shard). AllByRecursion (IsOfKnown (known_keys x)) (drop u.durable (u.local).log)) (sym same)
               (subst (λ ks. AllByRecursion (IsOfKnown ks) (drop u.durable (u.local).log)) (sym keys)
               (subst (λ (l : Local). AllByRecursion (IsOfKnown (known_keys S)) (drop u.durable l.log)) seen.local
-              (subst (λ n. AllByRecursion (IsOfKnown (known_keys S)) (drop n X.local.log)) (sym (kept S tx due).durable ∙ seen.durable) (logged_carried (known_keys S) t.durable S tx due own whole.logged))));
+              (subst (λ n. AllByRecursion (IsOfKnown (known_keys S)) (drop n X.local.log)) (sym (kept S tx due).durable ∙ seen.durable) (logged_carried (known_keys S) t.durable S tx due own (λ x h. here_known S tx x h) whole.logged))));
           candidates = subst (λ (x : Shard). AreKnown x f) (sym same) (record {
             known = subst (AreAmong f.txs) (sym keys) (known_more S tx due e.txs f.txs whole.dependents own known noted.0);
             places = omega (arith, sized, places_were, limit);

@@ -6,3 +6,4 @@ pub mod Requesting
 pub mod Hearing
 pub mod Placed
 pub mod Finished
+pub mod Rolling

@@ -3,7 +3,7 @@ use Rattle.std.specs.Prelude.{◌≡◌, ℕ, ◌+◌, ◌*◌, ◌≤◌, true,
 use Rattle.std.specs.List.{AllByRecursion}
 use Rattle.clv_base.specs.declared.names.TxId.{TxId}
 use Rattle.clv_base.specs.declared.logs.LogRecord.{LogRecord}
-use Rattle.clv_base.specs.declared.logs.LogRecord.TheVariants.{Prepare, Commit}
+use Rattle.clv_base.specs.declared.logs.LogRecord.TheVariants.{Prepare, Commit, Clr, Unadd}
 use Rattle.clv_base.specs.Orders.{Table, tx_in}
 use Rattle.clv_base.specs.State.{Shard}
 use Rattle.protocol_laws.specs.Depending.{DependentsHaveParts}
@@ -30,10 +30,12 @@ pub record AreKnown (s : Shard) (c : Candidates) : Type 0 where
   pub known : AreAmong c.txs (known_keys s)
   pub places : length s.local.parts + length s.voters + length s.requests ≤ c.limit
 
--- a COMMIT and a PREPARE are of a transaction that is known
+-- a COMMIT, a PREPARE, a CLR and an UNADD are of a transaction that is known
 abbrev pub IsOfKnown : List TxId → LogRecord → Type 0
 IsOfKnown keys (Commit tx parts) = tx_in tx keys ≡ true
 IsOfKnown keys (Prepare tx home predecessors) = tx_in tx keys ≡ true
+IsOfKnown keys (Clr tx undo_next key after) = tx_in tx keys ≡ true
+IsOfKnown keys (Unadd tx undo_next key by) = tx_in tx keys ≡ true
 IsOfKnown keys _ = Unit {0}
 
 pub record IsWhole (shard : ℕ) (places : Table ℕ) (t : TxState) (p : Voting) (c : Coordination) (o : Waiting) (d : Candidates) (s : Shard) : Type 0 where

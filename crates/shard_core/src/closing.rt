@@ -5,7 +5,7 @@ ghost use Rattle.std.specs.Map.{keys_of};
 ghost use Rattle.clv_base.specs.declared.names.TxId.{TxId as Tx};
 ghost use Rattle.clv_base.specs.declared.state.Stage.TheVariants.{Active};
 ghost use Rattle.clv_base.specs.Orders.{tx_cmp, tx_get, tx_in, tx_same};
-ghost use Rattle.clv_base.specs.Logs.{wrote_in};
+ghost use Rattle.clv_base.specs.Logs.{has_standing};
 ghost use Rattle.clv_base.specs.Undo.{stage_of as stage_in, doomed_by};
 ghost use Rattle.clv_base.specs.Facts.{undecided_of};
 ghost use Rattle.clv_base.specs.OneShard.{close_part as closed_by, closing as closed_with, purge};
@@ -90,7 +90,7 @@ pub(crate) fn close_noted<S: Store + Drop, L: Locks + Drop>(
     requires active { stage_in transactions.old.local tx ≡ Some Active }
     requires home { home < 16 }
     requires spare { HasSpare 1 transactions.old × (0 < transactions.old.pairs_room) }
-    requires plan { planned tx home plan ≡ closed_with (wrote_in (transactions.old.local).log tx) one_shard tx home (undecided_of transactions.old.local tx) }
+    requires plan { planned tx home plan ≡ closed_with (has_standing (transactions.old.local).log tx) one_shard tx home (undecided_of transactions.old.local tx) }
     requires place { 0 < prepares.old.room }
     requires places { ArePrepares prepares.old.rows (transactions.old.local).log }
     requires room { HasRoomBy (λ t. tx_in t (doomed_by transactions.old.local tx)) candidates.old }

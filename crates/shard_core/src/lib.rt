@@ -21,6 +21,7 @@ mod prepares;
 mod preparing;
 mod reminding;
 mod requesting;
+mod rolling;
 mod sending;
 mod settling;
 mod shard;

@@ -1,14 +1,14 @@
 -- What a call tells, by what the event comes to on the core.
-use Rattle.std.proofs.Common.{◌≡◌, refl, sym, ◌∙◌, ap, subst, ℕ, suc, Bool, true, false, List, ◌++◌, ◌∷◌, [], Option, Some, None, Ok, Err}
+use Rattle.std.proofs.Common.{◌≡◌, refl, sym, ◌∙◌, ◌^◌, ap, subst, ℕ, suc, Bool, true, false, List, ◌++◌, ◌∷◌, [], Option, Some, None, Ok, Err}
 use Rattle.clv_base.specs.declared.events.Event.{Event}
 use Rattle.clv_base.specs.declared.events.Entry.{Entry}
 use Rattle.clv_base.specs.declared.events.Outcome.{Outcome}
-use Rattle.clv_base.specs.declared.events.Outcome.TheVariants.{Answered, Dead, Asked, Acknowledged, Aborted, Dropped, Sent, Taken, Reminded, Out, Durable, Failed, Stopped, Up, Wait, Crowded, NotYet, Nothing, Away, Absent, Stale, Down}
+use Rattle.clv_base.specs.declared.events.Outcome.TheVariants.{Answered, Rolled, Dead, Asked, Acknowledged, Aborted, Dropped, Sent, Taken, Reminded, Out, Durable, Failed, Stopped, Up, Wait, Crowded, NotYet, Nothing, Away, Absent, Stale, Down}
 use Rattle.clv_base.specs.State.{Shard}
 use Rattle.clv_base.specs.Events.{Reply, QuietBeforeWorn, QuietAfterWorn, Does, happen_up, happen, request_epoch, message_stamp, Quiet, stamped, step}
 use Rattle.machine_calls.specs.declared.machine.StepError.{StepError}
 use Rattle.machine_calls.specs.declared.machine.StepError.TheVariants.{Memory, Worn}
-use Rattle.machine_calls.specs.Steps.{entry, is_first_drop, may_want_memory, Tells}
+use Rattle.machine_calls.specs.Steps.{entry, takes_no_memory, may_want_memory, Tells}
 use Rattle.machine_laws.specs.Frame.{stamped_as, reply_as, look_by}
 use Rattle.machine_laws.proofs.Laws.{looks_alike}
 use Rattle.clv_base.specs.declared.names.TxId.{TxId}
@@ -16,7 +16,7 @@ use Rattle.clv_base.specs.declared.events.Event.TheVariants.{Look}
 use Rattle.shard_machine.specs.declared.happening.Happened.TheVariants.{Quiet as QuietHere, Done}
 use Rattle.shard_machine.specs.Happening.{IsQuiet, Happens}
 use Rattle.shard_machine.specs.Stamps.{newest, stamp_by}
-use Rattle.shard_machine.specs.Answers.{is_late, goes_on, Refuses}
+use Rattle.shard_machine.specs.Answers.{is_late, goes_on, Refuses, IsWorn}
 use Rattle.shard_machine.proofs.Telling.{told_done, told_early, told_late, told_worn, told_memory, has_stamp, no_stamp}
 
 -- what a call tells, and the entry that it made, if any
@@ -66,8 +66,21 @@ pub earlier : (l : ℕ) (j : List Entry) (s : Shard) (clock w : ℕ) (e : Event)
     → Told (stamped_as true l j s) clock w e o (stamped_as true l j s)
 earlier l j s clock w e r o alike is = (None, told_early (stamped_as true l j s) clock w e o (alike ∙ ap (reply_as l j) is))
 
+-- no entry was made, since there was no stamp
+worn_as : (s : Shard) (clock w : ℕ) (e : Event) (r : Reply) → happen s e ≡ r → goes_on r ≡ true → stamp_by (newest s.last clock (message_stamp e)) ≡ None → Tells (step s clock w e) s clock w e (Err (Worn (2 ^ 48))) s None
+worn_as s clock w e (QuietBeforeWorn p) is on stamp = absurd cc
+worn_as s clock w e (QuietAfterWorn p) is on stamp = (
+  (
+    ap (λ b. stamped (suc (newest s.last clock (message_stamp e))) w e b (happen s e)) (no_stamp (newest s.last clock (message_stamp e)) stamp)
+        ∙ ap (λ x. stamped (suc (newest s.last clock (message_stamp e))) w e false x) is,
+    refl,
+  ),
+  refl,
+)
+worn_as s clock w e (Does o t) is on stamp = told_worn s t clock w e o is stamp
+
 -- no entry was made, since there was no stamp or no memory
-refused_as : (s : Shard) (clock w : ℕ) (e : Event) (r : Reply) (err : StepError) (m : Option ℕ) → happen s e ≡ r → goes_on r ≡ true → is_first_drop s e ≡ false → stamp_by (newest s.last clock (message_stamp e)) ≡ m
+refused_as : (s : Shard) (clock w : ℕ) (e : Event) (r : Reply) (err : StepError) (m : Option ℕ) → happen s e ≡ r → goes_on r ≡ true → takes_no_memory s e ≡ false → stamp_by (newest s.last clock (message_stamp e)) ≡ m
     → Refuses m err → Tells (step s clock w e) s clock w e (Err err) s None
 refused_as s clock w e (QuietBeforeWorn p) err m is on drop stamp why = absurd cc
 refused_as s clock w e (Does o t) (Worn at) None is on drop stamp why =
@@ -75,14 +88,8 @@ refused_as s clock w e (Does o t) (Worn at) None is on drop stamp why =
 refused_as s clock w e (Does o t) Memory None is on drop stamp why = absurd why
 refused_as s clock w e (Does o t) (Worn at) (Some n) is on drop stamp why = absurd why
 refused_as s clock w e (Does o t) Memory (Some n) is on drop stamp why = told_memory s t clock w e o n is stamp drop
-refused_as s clock w e (QuietAfterWorn p) (Worn at) None is on drop stamp why = (
-  (
-    ap (λ b. stamped (suc (newest s.last clock (message_stamp e))) w e b (happen s e)) (no_stamp (newest s.last clock (message_stamp e)) stamp)
-        ∙ ap (λ x. stamped (suc (newest s.last clock (message_stamp e))) w e false x) is,
-    why,
-  ),
-  refl,
-)
+refused_as s clock w e (QuietAfterWorn p) (Worn at) None is on drop stamp why =
+    subst (λ a. Tells (step s clock w e) s clock w e (Err (Worn a)) s None) (sym why) (worn_as s clock w e (QuietAfterWorn p) is on stamp)
 refused_as s clock w e (QuietAfterWorn p) Memory None is on drop stamp why = absurd why
 refused_as s clock w e (QuietAfterWorn p) (Worn at) (Some n) is on drop stamp why = absurd why
 refused_as s clock w e (QuietAfterWorn p) Memory (Some n) is on drop stamp why =
@@ -94,6 +101,7 @@ refused_as s clock w e (QuietAfterWorn p) Memory (Some n) is on drop stamp why =
     wanted (Wait younger) t = refl
     wanted (Crowded count) t = refl
     wanted (Answered a b) t = absurd cc
+    wanted Rolled t = absurd cc
     wanted (Dead a) t = absurd cc
     wanted Asked t = absurd cc
     wanted Acknowledged t = absurd cc
@@ -120,12 +128,20 @@ alike_on l j (QuietAfterWorn p) on = on
 alike_on l j (Does p t) on = on
 
 pub refused : (l : ℕ) (j k : List Entry) (s d : Shard) (clock w : ℕ) (e : Event) (r : Reply) (err : StepError) (m : Option ℕ) → happen_up (stamped_as true l j s) e ≡ reply_as l j r → goes_on r ≡ true
-    → is_first_drop (stamped_as true l j s) e ≡ false → stamp_by (newest l clock (message_stamp e)) ≡ m → Refuses m err → k ≡ j → d ≡ s → Refused (stamped_as true l j s) clock w e err (stamped_as true l k d)
+    → takes_no_memory (stamped_as true l j s) e ≡ false → stamp_by (newest l clock (message_stamp e)) ≡ m → Refuses m err → k ≡ j → d ≡ s → Refused (stamped_as true l j s) clock w e err (stamped_as true l k d)
 refused l j k s d clock w e r err m alike on drop stamp why kept same = (
   None,
   subst (λ x. Tells (step (stamped_as true l j s) clock w e) (stamped_as true l j s) clock w e (Err err) (stamped_as true l x d) None) (sym kept)
       (subst (λ (x : Shard). Tells (step (stamped_as true l j s) clock w e) (stamped_as true l j s) clock w e (Err err) (stamped_as true l j x) None) (sym same)
       (refused_as (stamped_as true l j s) clock w e (reply_as l j r) err m alike (alike_on l j r on) drop stamp why)),
+)
+
+pub worn : (l : ℕ) (j : List Entry) (s : Shard) (clock w : ℕ) (e : Event) (r : Reply) (err : StepError) → happen_up (stamped_as true l j s) e ≡ reply_as l j r → goes_on r ≡ true → IsWorn (stamp_by (newest l clock (message_stamp e))) err
+    → Refused (stamped_as true l j s) clock w e err (stamped_as true l j s)
+worn l j s clock w e r err alike on (none, is) = (
+  None,
+  subst (λ x. Tells (step (stamped_as true l j s) clock w e) (stamped_as true l j s) clock w e (Err x) (stamped_as true l j s) None) (sym is)
+      (worn_as (stamped_as true l j s) clock w e (reply_as l j r) alike (alike_on l j r on) none),
 )
 
 -- a look, by the epoch that the journal tells

@@ -1,8 +1,9 @@
 -- The start of a flush.
-use Rattle.std.proofs.Common.{◌≡◌, refl, sym, ◌∙◌, ap, subst, ℕ, zero, suc, ◌+◌, ◌-◌, ◌≤◌, ◌<◌, Bool, false, [], drop, take, length, Option, Some, None, is_some, is_none, unwrap_or, length-drop, arith}
+use Rattle.std.proofs.Common.{◌≡◌, refl, sym, ◌∙◌, ap, subst, ℕ, zero, suc, ◌+◌, ◌-◌, ◌≤◌, ◌<◌, Bool, false, [], ◌∷◌, ◌++◌, drop, take, length, Option, Some, None, is_some, is_none, unwrap_or, length-drop, arith}
 use Rattle.std.proofs.lemmas.List.{drop-take}
 use Rattle.clv_base.specs.declared.events.Event.TheVariants.{FlushOut}
 use Rattle.clv_base.specs.declared.events.Outcome.TheVariants.{Out}
+use Rattle.clv_base.specs.declared.events.Entry.{Entry}
 use Rattle.clv_base.specs.Logs.{fitting}
 use Rattle.clv_base.specs.State.{Shard, with_local}
 use Rattle.clv_base.specs.OneShard.{purge}
@@ -14,9 +15,10 @@ use Rattle.protocol_laws.proofs.Laws.{nobody_is_touched, cover_grows, none_is_no
 use Rattle.shard_core.specs.Core.{Core}
 use Rattle.shard_core.specs.Whole.{IsAtRest}
 use Rattle.shard_machine.specs.Journaled.{Journaled}
-use Rattle.machine_laws.specs.Undropped.{undropped}
 use Rattle.machine_laws.specs.Fitting.{IsNamed}
-use Rattle.shard_machine.specs.Machined.{flights, IsRunning}
+use Rattle.shard_machine.specs.Machined.{IsRunning}
+use Rattle.shard_machine.specs.Stamps.{newest, stamp_by}
+use Rattle.shard_machine.proofs.Running.{noted}
 
 -- how many records the next batch has
 abbrev pub next_count : Shard → ℕ
@@ -54,18 +56,17 @@ flown c n r =
     let s : Shard = c.shard in let cover : Cover [] (with_flight n s) = cover_grows [] [] s (with_flight n s) (nobody_is_touched.2 s n) r.ready.cover in
     ap (with_local purge) (nothing_to_do (with_flight n s) (none_is_nothing (with_flight n s) cover)) ∙ ap (with_flight n) r.ready.purged
 
--- what holds of the machine's parts, with a place more for the end of the flush
-pub kept_flown : (c d : Core) (is_up : Bool) (j k : Journaled) (owed n : ℕ) (has : Bool) → d.shard ≡ finish (with_flight n c.shard) → IsAtRest d → k.shard ≡ j.shard → owed + 1 ≤ k.room
-    → IsRunning c is_up j owed has → IsRunning d is_up k (owed + 1) false
-kept_flown c d is_up j k owed n has left rest same room r =
-    let s : Shard = c.shard in let is : d.shard ≡ with_flight n s = left ∙ flown c n r.rest in
-    let f = r.named.fitting in let named : IsNamed (with_flight n s) = record { fitting = record { shard = f.shard; voters = f.voters; requests = f.requests; outbox = f.outbox }; spelled = r.named.spelled } in
+-- what holds of the machine's parts
+pub kept_flown : (c d : Core) (is_up : Bool) (l clock n m : ℕ) (j k : Journaled) (has : Bool) (x : Entry) → d.shard ≡ finish (with_flight m c.shard) → IsAtRest d → k.shard ≡ j.shard → k.entries ≡ j.entries ++ x ∷ [] → stamp_by (newest l clock 0) ≡ Some n
+    → IsRunning c is_up l j has → IsRunning d is_up n k false
+kept_flown c d is_up l clock n m j k has x left rest same grown stamp r =
+    let s : Shard = c.shard in let is : d.shard ≡ with_flight m s = left ∙ flown c m r.rest in
+    let f = r.named.fitting in let named : IsNamed (with_flight m s) = record { fitting = record { shard = f.shard; voters = f.voters; requests = f.requests; outbox = f.outbox }; spelled = r.named.spelled } in
     record {
       rest = rest;
       named = subst IsNamed (sym is) named;
       index = same ∙ r.index ∙ ap (λ (x : Shard). x.shard) (sym is);
-      places = λ up. let places = r.places up in let less : undropped s + 1 ≤ owed + 1 = omega (arith, places) in subst (λ (x : Shard). undropped x + flights x.flight ≤ owed + 1) (sym is) less;
-      room = room;
+      few = (noted c is_up l clock 0 n j k has x same grown stamp r).few;
       gate = λ up. ap (λ (x : Shard). is_none x.flight) (sym is);
     }
 

@@ -1,5 +1,5 @@
 -- The end of a flush.
-use Rattle.std.proofs.Common.{◌≡◌, refl, sym, ◌∙◌, ap, subst, ℕ, ◌+◌, ◌≤◌, Bool, true, false, ◌++◌, ◌∷◌, [], List, Some, None, is_none, arith}
+use Rattle.std.proofs.Common.{◌≡◌, refl, sym, ◌∙◌, ap, subst, ℕ, ◌<◌, Bool, true, false, ◌++◌, ◌∷◌, [], List, length, length-append, Some, None, is_none, arith}
 use Rattle.clv_base.specs.declared.events.Event.TheVariants.{FlushIn}
 use Rattle.clv_base.specs.declared.events.Entry.{Entry}
 use Rattle.clv_base.specs.declared.events.Outcome.{Outcome}
@@ -11,10 +11,9 @@ use Rattle.shard_core.specs.Whole.{IsAtRest}
 use Rattle.shard_machine.specs.Journaled.{Journaled}
 use Rattle.machine_calls.specs.Steps.{entry, Made}
 use Rattle.machine_laws.specs.Frame.{stamped_as}
-use Rattle.machine_laws.specs.Undropped.{undropped}
 use Rattle.machine_laws.specs.Fitting.{IsShort}
-use Rattle.machine_laws.proofs.Laws.{finishes_alike, finishes_stay, landings_keep_parts, landings_keep_names}
-use Rattle.shard_machine.specs.Machined.{flights, IsRunning}
+use Rattle.machine_laws.proofs.Laws.{finishes_alike, finishes_stay, landings_keep_names}
+use Rattle.shard_machine.specs.Machined.{IsRunning}
 
 -- ---- what the end of a flush tells
 
@@ -53,20 +52,15 @@ durable_as is_up l stamp j k s d n w landed grown =
 
 -- ---- what holds of the machine's parts
 
-pub kept_durable : (c d : Core) (is_up : Bool) (j k : Journaled) (owed less n : ℕ) (has : Bool) → is_up ≡ true → c.shard.flight ≡ Some n → d.shard ≡ finish (with_durable n c.shard) → IsAtRest d → IsShort d.shard.local
-    → k.shard ≡ j.shard → owed ≡ less + 1 → less ≤ k.room → IsRunning c is_up j owed has → IsRunning d is_up k less true
-kept_durable c d is_up j k owed less n has up flies landed rest short same one room r =
-    let s : Shard = c.shard in let stay = finishes_stay (with_durable n s) in let parts : undropped d.shard ≡ undropped s = landings_keep_parts s d.shard n true (Durable n) (ap (λ x. Does (Durable n) x) (sym landed)) in
+pub kept_durable : (c d : Core) (is_up : Bool) (l m n : ℕ) (j k : Journaled) (has : Bool) (x : Entry) → c.shard.flight ≡ Some n → d.shard ≡ finish (with_durable n c.shard) → IsAtRest d → IsShort d.shard.local
+    → k.shard ≡ j.shard → k.entries ≡ j.entries ++ x ∷ [] → l < m → IsRunning c is_up l j has → IsRunning d is_up m k true
+kept_durable c d is_up l m n j k has x flies landed rest short same grown more r =
+    let s : Shard = c.shard in let stay = finishes_stay (with_durable n s) in
     let home : d.shard.flight ≡ None = ap (λ (x : Shard). x.flight) landed ∙ stay.1 in
     record {
       rest = rest;
       named = landings_keep_names s d.shard n true (Durable n) (ap (λ x. Does (Durable n) x) (sym landed)) short r.named;
       index = same ∙ r.index ∙ sym (ap (λ (x : Shard). x.shard) landed ∙ stay.0);
-      places = λ u. let places = r.places u in let was : flights s.flight ≡ 1 = ap flights flies in let now : flights d.shard.flight ≡ 0 = ap flights home in omega (arith, places, was, now, parts, one);
-      room = room;
+      few = let one = ap length grown ∙ length-append j.entries (x ∷ []) in let few = r.few in omega (arith, one, few, more);
       gate = λ u. ap is_none (sym home);
     }
-
--- while records are in flight a place is kept for their end, and the gate is away
-pub one_owed : (c : Core) (is_up : Bool) (j : Journaled) (owed n : ℕ) (has : Bool) → is_up ≡ true → c.shard.flight ≡ Some n → IsRunning c is_up j owed has → 1 ≤ owed
-one_owed c is_up j owed n has up flies r = let places = r.places up in let was : flights c.shard.flight ≡ 1 = ap flights flies in omega (arith, places, was)

@@ -11,3 +11,5 @@ pub mod Departing
 pub mod Homing
 pub mod Meaning
 pub mod Naming
+pub mod Numbering
+pub mod Backward

@@ -7,7 +7,7 @@ use Rattle.clv_base.specs.declared.names.TxId.{TxId}
 use Rattle.clv_base.specs.declared.messages.Message.{Message}
 use Rattle.clv_base.specs.declared.messages.Message.TheVariants.{Prepare, Vote as VoteMessage, Decide, Done, Ask}
 use Rattle.clv_base.specs.declared.events.Event.{Event}
-use Rattle.clv_base.specs.declared.events.Event.TheVariants.{Op, Request as RequestEvent, Look, Drop, Send, Deliver, Remind, FlushOut, FlushIn, Stop, Restart}
+use Rattle.clv_base.specs.declared.events.Event.TheVariants.{Op, RollTo, Request as RequestEvent, Look, Drop, Send, Deliver, Remind, FlushOut, FlushIn, Stop, Restart}
 use Rattle.clv_base.specs.declared.events.Outcome.{Outcome}
 use Rattle.clv_base.specs.declared.events.Outcome.TheVariants.{Stale}
 use Rattle.clv_base.specs.declared.events.Entry.{Entry}
@@ -26,7 +26,8 @@ use Rattle.clv_base.specs.Facts.{facts_of, has_durable_commit}
 use Rattle.clv_base.specs.Participant.{taken_by}
 use Rattle.clv_base.specs.Coordinator.{takes_vote, takes_done}
 use Rattle.clv_base.specs.OneShard.{OpReply, OpWaits, OpCrowded, OpDies, OpAnswers, seen_fits, op_reply}
-use Rattle.clv_base.specs.Events.{Reply, QuietBeforeWorn, QuietAfterWorn, Does, op_event, request_by_stage, request_event, epoch_in, request_epoch, look_lost, look_state, look_known, look_event, drop_event, on_prepare, on_vote, on_decide, on_done, on_message, to_of, finish, remind_with, reminders, out_event, happen_up, happen, next_stamp, CallAnswer, Quiet, Worn, Enters, stamped, step}
+use Rattle.clv_base.specs.Backs.{standing_numbers, count_after}
+use Rattle.clv_base.specs.Events.{Reply, QuietBeforeWorn, QuietAfterWorn, Does, op_event, roll_by_stage, roll_event, request_by_stage, request_event, epoch_in, request_epoch, look_lost, look_state, look_known, look_event, drop_event, on_prepare, on_vote, on_decide, on_done, on_message, to_of, finish, remind_with, reminders, out_event, happen_up, happen, next_stamp, CallAnswer, Quiet, Worn, Enters, stamped, step}
 use Rattle.clv_base.specs.declared.events.Outcome.TheVariants.{NotYet, Acknowledged, Down}
 use Rattle.machine_calls.specs.declared.machine.StepError.{StepError}
 use Rattle.machine_calls.specs.declared.machine.StepError.TheVariants.{Memory, Worn as WornError}
@@ -64,6 +65,17 @@ requests_fit s tx touched false = refl
 requests_fit s tx touched true = at (stage_of s.local tx)
   where
     at : (st : Option Stage) → ReplyFits (request_by_stage s tx touched st)
+    at None = refl
+    at (Some Active) = refl
+    at (Some Closed) = refl
+    at (Some (Gone None)) = refl
+    at (Some (Gone (Some doom))) = refl
+
+rolls_fit : (s : Shard) (tx : TxId) (seen upto : ℕ) (b : Bool) → ReplyFits (roll_event s tx seen upto b)
+rolls_fit s tx seen upto false = refl
+rolls_fit s tx seen upto true = at (stage_of s.local tx)
+  where
+    at : (st : Option Stage) → ReplyFits (roll_by_stage s tx (count_after upto (standing_numbers tx s.journal)) st)
     at None = refl
     at (Some Active) = refl
     at (Some Closed) = refl
@@ -130,6 +142,7 @@ flights_fit s None (suc k) = refl
 -- each event but the one by which messages leave
 pub others_fit : (s : Shard) (e : Event) → is_other e ≡ true → ReplyFits (happen_up s e)
 others_fit s (Op tx birth nth seen op) o = ops_fit s (op_reply s.shard s.local tx birth seen op)
+others_fit s (RollTo tx nth seen upto) o = rolls_fit s tx seen upto (seen == s.local.epoch)
 others_fit s (RequestEvent tx touched) o = requests_fit s tx touched (seen_fits s.local.epoch (epoch_in s.shard touched))
 others_fit s (Look tx) o = looks_fit s tx
 others_fit s (Drop tx) o = drops_fit s tx (stage_of s.local tx)

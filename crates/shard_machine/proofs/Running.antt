@@ -1,5 +1,5 @@
--- What holds of the machine's parts holds after an event of the core that makes no part, with its entry.
-use Rattle.std.proofs.Common.{◌≡◌, refl, sym, ◌∙◌, ap, subst, ℕ, ◌+◌, ◌≤◌, Bool, true, [], drop, ◌∷◌, List, Some, None, is_none, arith}
+-- What holds of the machine's parts holds after an event of the core, with its entry.
+use Rattle.std.proofs.Common.{◌≡◌, refl, sym, ◌∙◌, ap, subst, ℕ, suc, ◌<◌, ◌≤◌, max, Bool, true, [], drop, ◌∷◌, ◌++◌, length, List, Some, None, is_none, length-append, arith}
 use Rattle.clv_base.specs.declared.messages.Message.{Message}
 use Rattle.clv_base.specs.declared.events.Event.{Event}
 use Rattle.clv_base.specs.declared.events.Event.TheVariants.{Send}
@@ -14,10 +14,11 @@ use Rattle.shard_core.specs.Whole.{IsAtRest}
 use Rattle.shard_machine.specs.Journaled.{Journaled}
 use Rattle.machine_calls.specs.Events.{event_fits}
 use Rattle.machine_laws.specs.Frame.{stamped_as, reply_as, is_plain, is_grounded}
-use Rattle.machine_laws.specs.Undropped.{undropped, new_parts}
 use Rattle.machine_laws.specs.Fitting.{IsNamed, IsShort, FewUndecided, op_fits}
-use Rattle.machine_laws.proofs.Laws.{events_alike, events_add_parts, events_keep_names, events_stay}
-use Rattle.shard_machine.specs.Machined.{flights, IsRunning}
+use Rattle.machine_laws.proofs.Laws.{events_alike, events_keep_names, events_stay}
+use Rattle.shard_machine.specs.Machined.{IsRunning}
+use Rattle.shard_machine.specs.Stamps.{newest, stamp_by}
+use Rattle.shard_machine.proofs.Telling.{has_stamp}
 
 -- what the event comes to, whatever the journal and the last stamp
 pub goes_as : (l : ℕ) (j : List Entry) (s t : Shard) (e : Event) (o : Outcome) → is_plain e ≡ true → happen_up s e ≡ Does o t → happen (stamped_as true l j s) e ≡ Does o (stamped_as true l j t)
@@ -35,34 +36,48 @@ bare l j s n = record {
   spelled = n.spelled;
 }
 
-pub kept : (c d : Core) (is_up : Bool) (j k : Journaled) (owed : ℕ) (has : Bool) (e : Event) (o : Outcome) → is_plain e ≡ true → is_grounded e ≡ true → new_parts c.shard.local e ≡ 0
-    → happen_up c.shard e ≡ Does o d.shard → IsAtRest d → event_fits c.shard.shard e ≡ true → op_fits e ≡ true → FewUndecided c.shard.local → IsShort c.shard.local → IsShort d.shard.local
-    → k.shard ≡ j.shard → owed ≤ k.room → IsRunning c is_up j owed has → IsRunning d is_up k owed has
-kept c d is_up j k owed has e o plain grounded none does rest fits ops few short after same room r =
-    let s : Shard = stamped_as true 0 [] c.shard in let t : Shard = stamped_as true 0 [] d.shard in
-    let goes : happen s e ≡ Does o t = goes_as 0 [] c.shard d.shard e o plain does in
-    let parts : undropped d.shard ≤ undropped c.shard + new_parts c.shard.local e = events_add_parts s t e o goes in
-    let stay = events_stay c.shard d.shard e o does grounded in
-    let flight : flights d.shard.flight ≡ flights c.shard.flight = ap flights stay.1 in
+-- ---- stamps rise, so there are never as many entries as the next stamp says
+
+rises : (l clock m n : ℕ) → stamp_by (newest l clock m) ≡ Some n → l < n
+rises l clock m n stamp = let is : n ≡ suc (max l (max clock m)) = (has_stamp (newest l clock m) n stamp).0 in omega (arith, is)
+
+pub few_before : (l clock m n : ℕ) (es : List Entry) → length es ≤ l → stamp_by (newest l clock m) ≡ Some n → length es < n
+few_before l clock m n es few stamp = let more : l < n = rises l clock m n stamp in omega (arith, few, more)
+
+few_after : (l clock m n : ℕ) (es fs : List Entry) (x : Entry) → length es ≤ l → stamp_by (newest l clock m) ≡ Some n → fs ≡ es ++ x ∷ [] → length fs ≤ n
+few_after l clock m n es fs x few stamp grown = let more : l < n = rises l clock m n stamp in let one = ap length grown ∙ length-append es (x ∷ []) in omega (arith, few, more, one)
+
+-- ---- what is kept
+
+-- an event of the core, by what it comes to with the machine's journal
+pub kept : (c d : Core) (is_up : Bool) (l clock m n : ℕ) (j k : Journaled) (has : Bool) (e : Event) (o : Outcome) (x : Entry) → is_grounded e ≡ true → happen (stamped_as true l j.entries c.shard) e ≡ Does o (stamped_as true l j.entries d.shard)
+    → IsAtRest d → event_fits c.shard.shard e ≡ true → op_fits e ≡ true → FewUndecided c.shard.local → IsShort c.shard.local → IsShort d.shard.local
+    → k.shard ≡ j.shard → k.entries ≡ j.entries ++ x ∷ [] → stamp_by (newest l clock m) ≡ Some n → IsRunning c is_up l j has → IsRunning d is_up n k has
+kept c d is_up l clock m n j k has e o x grounded does rest fits ops few short after same grown stamp r =
+    let s : Shard = stamped_as true l j.entries c.shard in let t : Shard = stamped_as true l j.entries d.shard in
+    let stay = events_stay s t e o does grounded in
     record {
       rest = rest;
-      named = bare 0 [] d.shard (events_keep_names s t e o goes fits ops few short after (dressed 0 [] c.shard r.named));
+      named = bare l j.entries d.shard (events_keep_names s t e o does fits ops few short after (dressed l j.entries c.shard r.named));
       index = same ∙ r.index ∙ sym stay.0;
-      places = λ up. let places = r.places up in omega (arith, parts, none, flight, places);
-      room = room;
+      few = few_after l clock m n j.entries k.entries x r.few stamp grown;
       gate = λ up. r.gate up ∙ ap is_none (sym stay.1);
     }
 
--- the same where the core's shard stays
-pub stays : (c d : Core) (is_up : Bool) (j k : Journaled) (owed : ℕ) (has : Bool) → IsAtRest d → d.shard ≡ c.shard → k.shard ≡ j.shard → owed ≤ k.room → IsRunning c is_up j owed has → IsRunning d is_up k owed has
-stays c d is_up j k owed has rest same number room r = record {
+-- the same where the core's shard and the entries stay
+pub stays : (c d : Core) (is_up : Bool) (l : ℕ) (j k : Journaled) (has : Bool) → IsAtRest d → d.shard ≡ c.shard → k.shard ≡ j.shard → k.entries ≡ j.entries → IsRunning c is_up l j has → IsRunning d is_up l k has
+stays c d is_up l j k has rest same number none r = record {
   rest = rest;
   named = subst (λ (s : Shard). IsNamed s) (sym same) r.named;
   index = number ∙ r.index ∙ ap (λ (s : Shard). s.shard) (sym same);
-  places = λ up. subst (λ (s : Shard). undropped s + flights s.flight ≤ owed) (sym same) (r.places up);
-  room = room;
+  few = subst (λ (es : List Entry). length es ≤ l) (sym none) r.few;
   gate = λ up. r.gate up ∙ ap (λ (s : Shard). is_none s.flight) (sym same);
 }
+
+-- an entry alone
+pub noted : (c : Core) (is_up : Bool) (l clock m n : ℕ) (j k : Journaled) (has : Bool) (x : Entry) → k.shard ≡ j.shard → k.entries ≡ j.entries ++ x ∷ [] → stamp_by (newest l clock m) ≡ Some n → IsRunning c is_up l j has → IsRunning c is_up n k has
+noted c is_up l clock m n j k has x same grown stamp r =
+    record { rest = r.rest; named = r.named; index = same ∙ r.index; few = few_after l clock m n j.entries k.entries x r.few stamp grown; gate = r.gate }
 
 -- ---- the oldest message leaves
 
@@ -79,24 +94,3 @@ nothing s none = at s.outbox none
     at : (ms : List Message) → first_of ms ≡ None → send_event s ms ≡ QuietBeforeWorn Nothing
     at [] e = refl
     at (n ∷ ns) e = absurd cc
-
--- ---- other events
-
--- an event that may make parts
-pub kept_more : (c d : Core) (is_up : Bool) (j k : Journaled) (owed more : ℕ) (has : Bool) (e : Event) (o : Outcome) → is_plain e ≡ true → is_grounded e ≡ true → owed + new_parts c.shard.local e ≤ more
-    → happen_up c.shard e ≡ Does o d.shard → IsAtRest d → event_fits c.shard.shard e ≡ true → op_fits e ≡ true → FewUndecided c.shard.local → IsShort c.shard.local → IsShort d.shard.local
-    → k.shard ≡ j.shard → more ≤ k.room → IsRunning c is_up j owed has → IsRunning d is_up k more has
-kept_more c d is_up j k owed more has e o plain grounded added does rest fits ops few short after same room r =
-    let s : Shard = stamped_as true 0 [] c.shard in let t : Shard = stamped_as true 0 [] d.shard in
-    let goes : happen s e ≡ Does o t = goes_as 0 [] c.shard d.shard e o plain does in
-    let parts : undropped d.shard ≤ undropped c.shard + new_parts c.shard.local e = events_add_parts s t e o goes in
-    let stay = events_stay c.shard d.shard e o does grounded in
-    let flight : flights d.shard.flight ≡ flights c.shard.flight = ap flights stay.1 in
-    record {
-      rest = rest;
-      named = bare 0 [] d.shard (events_keep_names s t e o goes fits ops few short after (dressed 0 [] c.shard r.named));
-      index = same ∙ r.index ∙ sym stay.0;
-      places = λ up. let places = r.places up in omega (arith, parts, added, flight, places);
-      room = room;
-      gate = λ up. r.gate up ∙ ap is_none (sym stay.1);
-    }

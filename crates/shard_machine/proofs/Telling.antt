@@ -6,7 +6,7 @@ use Rattle.clv_base.specs.declared.events.Outcome.TheVariants.{Down}
 use Rattle.clv_base.specs.State.{Shard}
 use Rattle.clv_base.specs.Events.{QuietBeforeWorn, QuietAfterWorn, Does, happen_up, happen, message_stamp, next_stamp, with_entry, Enters, CallAnswer, stamped, step}
 use Rattle.machine_calls.specs.declared.machine.StepError.TheVariants.{Memory, Worn}
-use Rattle.machine_calls.specs.Steps.{entry, is_first_drop, may_want_memory, Tells}
+use Rattle.machine_calls.specs.Steps.{entry, takes_no_memory, may_want_memory, Tells}
 use Rattle.shard_machine.specs.Stamps.{newest, stamp_by}
 
 -- the stamp is there exactly where the clock isn't worn
@@ -58,7 +58,7 @@ told_worn s u clock w e o does stamp =
     ((ap (λ b. stamped (suc m) w e b (happen s e)) (no_stamp m stamp) ∙ ap (λ r. stamped (suc m) w e false r) does, refl), refl)
 
 -- there was no memory for the entry
-pub told_memory : (s u : Shard) (clock w : ℕ) (e : Event) (o : Outcome) (n : ℕ) → happen s e ≡ Does o u → stamp_by (newest s.last clock (message_stamp e)) ≡ Some n → is_first_drop s e ≡ false
+pub told_memory : (s u : Shard) (clock w : ℕ) (e : Event) (o : Outcome) (n : ℕ) → happen s e ≡ Does o u → stamp_by (newest s.last clock (message_stamp e)) ≡ Some n → takes_no_memory s e ≡ false
     → Tells (step s clock w e) s clock w e (Err Memory) s None
 told_memory s u clock w e o n does stamp other =
     let m = newest s.last clock (message_stamp e) in let has = has_stamp m n stamp in

@@ -23,3 +23,7 @@ Refuses None (Worn at) = at ≡ 2 ^ 48
 Refuses None Memory = ⊥
 Refuses (Some n) (Worn at) = ⊥
 Refuses (Some n) Memory = Unit {0}
+
+-- there is no stamp, and that is why
+abbrev pub IsWorn : Option ℕ → StepError → Type 0
+IsWorn stamp e = (stamp ≡ None) × (e ≡ Worn (2 ^ 48))

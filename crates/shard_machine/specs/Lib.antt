@@ -3,3 +3,4 @@ pub mod Stamps
 pub mod Answers
 pub mod Happening
 pub mod Journaled
+pub mod Numbers

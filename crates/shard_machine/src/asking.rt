@@ -58,7 +58,7 @@ impl<S: Store + Drop, L: Locks + Drop, G: Gate> ShardMachine<S, L, G> {
         if !self.is_up {
             return Ok(Outcome::Down);
         }
-        let stamp = match place_request(&mut self.journal, self.last, clock, self.owed) {
+        let stamp = match place_request(&mut self.journal, self.last, clock) {
             Ok(stamp) => stamp,
             Err(error) => return Err(error),
         };

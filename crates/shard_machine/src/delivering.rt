@@ -38,7 +38,7 @@ impl<S: Store + Drop, L: Locks + Drop, G: Gate> ShardMachine<S, L, G> {
         if is_stale(&self.core, &message) {
             return Ok(Outcome::Stale);
         }
-        let stamp = match place(&mut self.journal, self.last, clock, sent, self.owed, 1) {
+        let stamp = match place(self.last, clock, sent) {
             Ok(stamp) => stamp,
             Err(error) => return Err(error),
         };

@@ -46,8 +46,7 @@ fn next_batch<S: Store + Drop, L: Locks + Drop>(
 }
 
 impl<S: Store + Drop, L: Locks + Drop, G: Gate> ShardMachine<S, L, G> {
-    /// Begins a flush: the gate leaves with the next batch, and a place in the journal is kept for the flush's end. There is a flight exactly where the
-    /// outcome is `Out`.
+    /// Begins a flush: the gate leaves with the next batch. There is a flight exactly where the outcome is `Out`.
     pub fn take_flight(
         &mut self,
         alloc: Global,
@@ -66,7 +65,7 @@ impl<S: Store + Drop, L: Locks + Drop, G: Gate> ShardMachine<S, L, G> {
         if self.core.flight().is_some() {
             return Ok((Outcome::Away, None));
         }
-        let stamp = match place(&mut self.journal, self.last, clock, 0, self.owed, 2) {
+        let stamp = match place(self.last, clock, 0) {
             Ok(stamp) => stamp,
             Err(error) => return Err(error),
         };
@@ -85,7 +84,6 @@ impl<S: Store + Drop, L: Locks + Drop, G: Gate> ShardMachine<S, L, G> {
             Outcome::Out(upto),
         );
         self.last = stamp;
-        self.owed += 1;
         let as_taken = Snapshot::of(&gate);
         let flight = Flight {
             gate,

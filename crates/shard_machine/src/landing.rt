@@ -31,6 +31,7 @@ impl<S: Store + Drop, L: Locks + Drop, G: Gate> ShardMachine<S, L, G> {
     fn end_flight(&mut self, gate: G, upto: u64, stamp: u64, walker: u32) -> Outcome
         requires up { (self.old.shard).is_up ≡ true }
         requires flies { (self.old.shard).flight ≡ Some upto }
+        requires later { (self.old.shard).last < stamp }
         ensures outcome { result ≡ Durable upto }
         ensures shard { self.new.shard ≡ with_entry stamp walker FlushIn (Durable upto) (finish (with_durable upto self.old.shard)) }
         ensures gate { self.new.gate ≡ Some gate }
@@ -46,7 +47,6 @@ impl<S: Store + Drop, L: Locks + Drop, G: Gate> ShardMachine<S, L, G> {
             Outcome::Durable(upto),
         );
         self.last = stamp;
-        self.owed -= 1;
         Outcome::Durable(upto)
     }
 
@@ -54,6 +54,7 @@ impl<S: Store + Drop, L: Locks + Drop, G: Gate> ShardMachine<S, L, G> {
     fn fail_flight(&mut self, gate: G, stamp: u64, walker: u32) -> Outcome
         requires up { (self.old.shard).is_up ≡ true }
         requires flies { (upto : _) × ((self.old.shard).flight ≡ Some upto) }
+        requires later { (self.old.shard).last < stamp }
         ensures outcome { result ≡ Failed }
         ensures shard { self.new.shard ≡ with_entry stamp walker FlushIn Failed (put_down self.old.shard) }
         ensures gate { self.new.gate ≡ Some gate }
@@ -67,13 +68,11 @@ impl<S: Store + Drop, L: Locks + Drop, G: Gate> ShardMachine<S, L, G> {
             Outcome::Failed,
         );
         self.last = stamp;
-        self.owed -= 1;
         self.is_up = false;
         Outcome::Failed
     }
 
-    /// Ends a flush: the gate is home again, and the records in flight are durable exactly where they were pushed. Else the shard is down. Takes no memory:
-    /// the place of its entry in the journal was kept when the gate left.
+    /// Ends a flush: the gate is home again, and the records in flight are durable exactly where they were pushed. Else the shard is down. Takes no memory.
     pub fn land(&mut self, flight: Flight<G>, pushed: bool, clock: u64, walker: u32) -> Outcome
         requires up { (self.old.shard).is_up ≡ true }
         requires flies { (self.old.shard).flight ≡ Some flight.upto }

@@ -1,6 +1,5 @@
 //! A shard's machine: the core with its journal, the stamp of its last entry, and the gate of its log. It promises that each of its calls
-//! is the protocol's event, with its entry; and that where a first drop of a part or the end of a flush is to come there is room for
-//! their entries. Stands on `shard_core` and the laws of `machine_laws`.
+//! is the protocol's event, with its entry, and which take no memory. Stands on `shard_core` and the laws of `machine_laws`.
 #![tactic(auto)]
 
 mod answers;
@@ -20,11 +19,13 @@ mod look_event;
 mod looking;
 mod machine;
 mod making;
+mod numbers;
 mod operating;
 mod operations;
 mod reminding;
 mod reopening;
 mod reviving;
+mod rolling;
 mod sending;
 mod staleness;
 mod stamps;
@@ -36,5 +37,6 @@ pub use happening::Happened;
 pub use journal::Journal;
 pub use look_event::look;
 pub use machine::ShardMachine;
+pub use numbers::Numbers;
 pub use operations::operate;
 pub use staleness::is_stale;

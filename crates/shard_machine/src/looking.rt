@@ -27,7 +27,7 @@ impl<S: Store + Drop, L: Locks + Drop, G: Gate> ShardMachine<S, L, G> {
         match look(&self.core, tx, self.journal.request_epoch(tx)) {
             Happened::Quiet(outcome) => Ok(outcome),
             Happened::Done { outcome, copy } => {
-                match place(&mut self.journal, self.last, clock, 0, self.owed, 1) {
+                match place(self.last, clock, 0) {
                     Ok(stamp) => {
                         enter(&mut self.journal, stamp, walker, Event::Look { tx }, copy);
                         self.last = stamp;

@@ -19,8 +19,6 @@ pub struct ShardMachine<S: Store + Drop, L: Locks + Drop, G: Gate> {
     /// The stamp of the last entry.
     pub(crate) last: u64,
     pub(crate) journal: Journal,
-    /// For so many entries there must be room: of first drops, and of the end of a flush.
-    pub(crate) owed: usize,
     pub(crate) gate: Option<G>,
 }
 
@@ -33,7 +31,7 @@ impl<S: Store + Drop, L: Locks + Drop, G: Gate> Model for ShardMachine<S, L, G> 
 
     ghost view = { λ m. record { shard = stamped_as m.is_up m.last m.journal.entries m.core.shard; gate = m.gate } };
 
-    ghost invariant = { λ m. IsRunning m.core m.is_up m.journal m.owed (is_some m.gate) };
+    ghost invariant = { λ m. IsRunning m.core m.is_up m.last m.journal (is_some m.gate) };
 }
 
 impl<S: Store + Drop, L: Locks + Drop, G: Gate> ShardMachine<S, L, G> {
@@ -95,7 +93,6 @@ impl<S: Store + Drop, L: Locks + Drop, G: Gate> ShardMachine<S, L, G> {
             is_up: _,
             last: _,
             journal,
-            owed: _,
             gate,
         } = self;
         Parts {

@@ -5,7 +5,6 @@ ghost use Rattle.machine_calls.specs.Restored.{IsRestored};
 
 use crate::Journal;
 use crate::machine::ShardMachine;
-use crate::stamps::has_room;
 use lock_table::Locks;
 use log_gate::Gate;
 use machine_calls::Maker;
@@ -31,19 +30,13 @@ impl<S: Store + Drop, L: Locks + Drop, G: Gate> ShardMachine<S, L, G> {
         ensures gate { IfOk result (λ m. m.gate ≡ Some gate) }
         ensures back { IfErr result (λ g. g ≡ gate) }
     {
-        // Each part that is in doubt may be dropped once.
-        let owed = recovered.in_doubt.len();
-        let mut journal = Journal::new(alloc, shard);
-        if !has_room(&mut journal, owed, 0) {
-            return Err(gate);
-        }
+        let journal = Journal::new(alloc, shard);
         match ShardCore::restored(alloc, store, recovered, shard, run, epoch) {
             Ok(core) => Ok(ShardMachine {
                 core,
                 is_up: true,
                 last: 0,
                 journal,
-                owed,
                 gate: Some(gate),
             }),
             Err(_) => Err(gate),

@@ -1,15 +1,13 @@
 //! Operations.
-ghost use Rattle.std.specs.Prelude.{◌≡◌, ◌≤◌, true, Option};
+ghost use Rattle.std.specs.Prelude.{◌≡◌, true, Option};
 ghost use Rattle.clv_base.specs.declared.events.Entry.{Entry};
 ghost use Rattle.clv_base.specs.declared.events.Event.TheVariants.{Op as OpEvent};
 ghost use Rattle.clv_base.specs.Events.{step};
 ghost use Rattle.clv_base.specs.FileRules.{tx_has_spelling};
-ghost use Rattle.clv_base.specs.Undo.{stage_of};
 ghost use Rattle.machine_calls.specs.Steps.{Tells};
-ghost use Rattle.machine_laws.specs.Undropped.{new_part_by};
 
 use crate::machine::ShardMachine;
-use crate::stamps::{enter, place};
+use crate::stamps::{enter, place_op};
 use crate::{Happened, operate};
 use clv_base::events::{Event, Outcome};
 use clv_base::kept::KeptOp;
@@ -19,23 +17,12 @@ use lock_table::Locks;
 use log_gate::Gate;
 use machine_calls::StepError;
 use ordered_store::Store;
-use shard_core::ShardCore;
 use std::alloc::Global;
 use txn_core::fits;
 
-/// How many parts an operation of the transaction would make.
-fn new_parts<S: Store + Drop, L: Locks + Drop>(core: &ShardCore<S, L>, tx: TxId) -> usize
-    ensures parts { result ≡ new_part_by (stage_of (core.now.shard).local tx) }
-    ensures few { result ≤ 1 }
-{
-    match core.stage_of(tx) {
-        None => 1,
-        Some(_) => 0,
-    }
-}
-
 impl<S: Store + Drop, L: Locks + Drop, G: Gate> ShardMachine<S, L, G> {
-    /// An operation. Where it may make a part, a place in the journal is kept for the part's first drop too.
+    /// An operation. `Memory` is also answered to one whose number isn't above those of the transaction's writes that stand, as none is whose session
+    /// numbers its operations in order.
     pub fn operate(
         &mut self,
         alloc: Global,
@@ -54,8 +41,7 @@ impl<S: Store + Drop, L: Locks + Drop, G: Gate> ShardMachine<S, L, G> {
         if !self.is_up {
             return Ok(Outcome::Down);
         }
-        let made = new_parts(&self.core, tx);
-        let stamp = match place(&mut self.journal, self.last, clock, 0, self.owed, made + 1) {
+        let stamp = match place_op(&mut self.journal, self.last, clock, tx, nth) {
             Ok(stamp) => stamp,
             Err(error) => return Err(error),
         };
@@ -75,7 +61,6 @@ impl<S: Store + Drop, L: Locks + Drop, G: Gate> ShardMachine<S, L, G> {
                 };
                 enter(&mut self.journal, stamp, walker, event, copy);
                 self.last = stamp;
-                self.owed += made;
                 Ok(outcome)
             }
             Err(_) => Err(StepError::Memory),

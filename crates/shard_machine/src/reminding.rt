@@ -32,7 +32,7 @@ impl<S: Store + Drop, L: Locks + Drop, G: Gate> ShardMachine<S, L, G> {
         if missing.is_empty() {
             return Ok(Outcome::Nothing);
         }
-        let stamp = match place(&mut self.journal, self.last, clock, 0, self.owed, 1) {
+        let stamp = match place(self.last, clock, 0) {
             Ok(stamp) => stamp,
             Err(error) => return Err(error),
         };

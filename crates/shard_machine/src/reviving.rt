@@ -72,9 +72,7 @@ impl<S: Store + Drop, L: Locks + Drop, G: Gate> ShardMachine<S, L, G> {
         ensures up { OnOk result (self.new.gate ≡ Some gate) }
         ensures back { IfErr result (λ e. (e.1 ≡ gate) × (self.new.gate ≡ None)) }
     {
-        // Each part that is in doubt may be dropped once.
-        let doubtful = recovered.in_doubt.len();
-        let stamp = match place(&mut self.journal, self.last, clock, 0, doubtful, 1) {
+        let stamp = match place(self.last, clock, 0) {
             Ok(stamp) => stamp,
             Err(error) => return Err((error, gate)),
         };
@@ -85,7 +83,6 @@ impl<S: Store + Drop, L: Locks + Drop, G: Gate> ShardMachine<S, L, G> {
         let outcome = Outcome::Up(epoch);
         enter(&mut self.journal, stamp, walker, Event::Restart, outcome);
         self.last = stamp;
-        self.owed = doubtful;
         self.is_up = true;
         match self.gate.replace(gate) {
             None => Ok(Outcome::Up(epoch)),

@@ -7,7 +7,7 @@ ghost use Rattle.machine_calls.specs.Events.{sends_fit};
 ghost use Rattle.machine_calls.specs.Steps.{Tells};
 
 use crate::machine::ShardMachine;
-use crate::stamps::{STAMPS, enter, has_room, next_stamp};
+use crate::stamps::{enter, place};
 use clv_base::events::{Event, Outcome};
 use lock_table::Locks;
 use log_gate::Gate;
@@ -29,12 +29,10 @@ impl<S: Store + Drop, L: Locks + Drop, G: Gate> ShardMachine<S, L, G> {
         let Some(message) = self.core.first_message() else {
             return Ok(Outcome::Nothing);
         };
-        let Some(stamp) = next_stamp(self.last, clock, 0) else {
-            return Err(StepError::Worn { at: STAMPS });
+        let stamp = match place(self.last, clock, 0) {
+            Ok(stamp) => stamp,
+            Err(error) => return Err(error),
         };
-        if !has_room(&mut self.journal, self.owed, 1) {
-            return Err(StepError::Memory);
-        }
         self.core.few_undecided();
         let _before = self.core.log_end();
         self.core.leave_message();

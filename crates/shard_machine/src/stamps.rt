@@ -1,12 +1,14 @@
 //! Stamps and entries.
-ghost use Rattle.std.specs.Prelude.{◌≡◌, ◌<◌, ◌≤◌, ◌+◌, ◌^◌, ◌++◌, ◌∷◌, [], true, Some, IfOk, IfErr, OnOk};
+ghost use Rattle.std.specs.Prelude.{◌≡◌, ◌<◌, ◌++◌, ◌∷◌, [], Some, IfOk, IfErr, OnOk, length};
+ghost use Rattle.clv_base.specs.Backs.{standing_numbers};
 ghost use Rattle.machine_calls.specs.Steps.{entry as entry_of};
-ghost use Rattle.shard_machine.specs.Answers.{Refuses};
-ghost use Rattle.shard_machine.specs.Journaled.{is_request};
+ghost use Rattle.shard_machine.specs.Answers.{Refuses, IsWorn};
+ghost use Rattle.shard_machine.specs.Journaled.{MayNote, MayEnter};
 ghost use Rattle.shard_machine.specs.Stamps.{newest, stamp_by};
 
 use crate::Journal;
 use clv_base::events::{Entry, Event, Outcome};
+use clv_base::names::TxId;
 use machine_calls::StepError;
 
 /// Stamps end below this.
@@ -24,12 +26,57 @@ pub(crate) fn next_stamp(last: u64, clock: u64, message: u64) -> Option<u64>
     }
 }
 
+/// The stamp of the next entry, or why there is none.
+pub(crate) fn place(last: u64, clock: u64, message: u64) -> Result<u64, StepError>
+    ensures ok { IfOk result (λ n. stamp_by (newest last clock message) ≡ Some n) }
+    ensures err { IfErr result (λ e. IsWorn (stamp_by (newest last clock message)) e) }
+{
+    match next_stamp(last, clock, message) {
+        Some(stamp) => Ok(stamp),
+        None => Err(StepError::Worn { at: STAMPS }),
+    }
+}
+
+/// The stamp of a request's entry, where there is room for its epoch.
+pub(crate) fn place_request(journal: &mut Journal, last: u64, clock: u64) -> Result<u64, StepError>
+    ensures ok { IfOk result (λ n. stamp_by (newest last clock 0) ≡ Some n) }
+    ensures place { OnOk result (0 < journal.new.places) }
+    ensures same { journal.new ≡ record journal.old { places = journal.new.places } }
+    ensures err { IfErr result (λ e. Refuses (stamp_by (newest last clock 0)) e) }
+{
+    let stamp = place(last, clock, 0)?;
+    match journal.reserve_request() {
+        Ok(()) => Ok(stamp),
+        Err(_) => Err(StepError::Memory),
+    }
+}
+
+/// The stamp of an operation's entry, where its number may be noted.
+pub(crate) fn place_op(
+    journal: &mut Journal,
+    last: u64,
+    clock: u64,
+    tx: TxId,
+    nth: u64,
+) -> Result<u64, StepError>
+    ensures ok { IfOk result (λ n. stamp_by (newest last clock 0) ≡ Some n) }
+    ensures place { OnOk result (MayNote journal.new.writes nth (standing_numbers tx journal.new.entries)) }
+    ensures same { journal.new ≡ record journal.old { writes = journal.new.writes } }
+    ensures err { IfErr result (λ e. Refuses (stamp_by (newest last clock 0)) e) }
+{
+    let stamp = place(last, clock, 0)?;
+    if journal.reserve_write(tx, nth) {
+        Ok(stamp)
+    } else {
+        Err(StepError::Memory)
+    }
+}
+
 /// The entry goes behind the others. Takes no memory.
 pub(crate) fn enter(journal: &mut Journal, stamp: u64, walker: u32, event: Event, outcome: Outcome)
-    requires room { 0 < journal.old.room }
-    requires place { is_request event ≡ true → 0 < journal.old.places }
+    requires few { length journal.old.entries < stamp }
+    requires place { MayEnter journal.old event }
     ensures entries { journal.new.entries ≡ journal.old.entries ++ entry_of stamp walker event outcome ∷ [] }
-    ensures room { journal.old.room ≡ journal.new.room + 1 }
     ensures shard { journal.new.shard ≡ journal.old.shard }
 {
     journal.push(Entry {
@@ -38,67 +85,6 @@ pub(crate) fn enter(journal: &mut Journal, stamp: u64, walker: u32, event: Event
         event,
         outcome,
     });
-}
-
-/// Room for more entries than there must be room for. Where there is none all stays.
-pub(crate) fn has_room(journal: &mut Journal, owed: usize, more: usize) -> bool
-    ensures ok { result ≡ true → owed + more ≤ journal.new.room }
-    ensures fits { result ≡ true → owed + more < 2 ^ 64 }
-    ensures room { journal.old.room ≤ journal.new.room }
-    ensures same { journal.new ≡ record journal.old { room = journal.new.room } }
-{
-    match owed.checked_add(more) {
-        Some(count) => journal.reserve(count).is_ok(),
-        None => false,
-    }
-}
-
-/// The stamp of the next entry, where there are places in the journal for so many entries more than there must be. Where there are none all stays,
-/// but that there may be more room.
-pub(crate) fn place(
-    journal: &mut Journal,
-    last: u64,
-    clock: u64,
-    message: u64,
-    owed: usize,
-    more: usize,
-) -> Result<u64, StepError>
-    ensures ok { IfOk result (λ n. stamp_by (newest last clock message) ≡ Some n) }
-    ensures room { OnOk result (owed + more ≤ journal.new.room) }
-    ensures fits { OnOk result (owed + more < 2 ^ 64) }
-    ensures grown { journal.old.room ≤ journal.new.room }
-    ensures same { journal.new ≡ record journal.old { room = journal.new.room } }
-    ensures err { IfErr result (λ e. Refuses (stamp_by (newest last clock message)) e) }
-{
-    let Some(stamp) = next_stamp(last, clock, message) else {
-        return Err(StepError::Worn { at: STAMPS });
-    };
-    if has_room(journal, owed, more) {
-        Ok(stamp)
-    } else {
-        Err(StepError::Memory)
-    }
-}
-
-/// The stamp of a request's entry, where there is, too, room for its epoch.
-pub(crate) fn place_request(
-    journal: &mut Journal,
-    last: u64,
-    clock: u64,
-    owed: usize,
-) -> Result<u64, StepError>
-    ensures ok { IfOk result (λ n. stamp_by (newest last clock 0) ≡ Some n) }
-    ensures room { OnOk result (owed + 1 ≤ journal.new.room) }
-    ensures place { OnOk result (0 < journal.new.places) }
-    ensures grown { journal.old.room ≤ journal.new.room }
-    ensures same { journal.new ≡ record journal.old { room = journal.new.room; places = journal.new.places } }
-    ensures err { IfErr result (λ e. Refuses (stamp_by (newest last clock 0)) e) }
-{
-    let stamp = place(journal, last, clock, 0, owed, 1)?;
-    match journal.reserve_request() {
-        Ok(()) => Ok(stamp),
-        Err(_) => Err(StepError::Memory),
-    }
 }
 
 /// Outcomes that come of nothing.

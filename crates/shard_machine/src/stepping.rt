@@ -36,6 +36,12 @@ impl<S: Store + Drop, L: Locks + Drop, G: Gate> ShardMachine<S, L, G> {
                 seen,
                 op,
             } => self.operate(alloc, clock, walker, tx, birth, nth, seen, op.op()),
+            Event::RollTo {
+                tx,
+                nth,
+                seen,
+                upto,
+            } => self.roll_to(clock, walker, tx, nth, seen, upto),
             Event::Request { tx, parts } => self.request(alloc, clock, walker, tx, parts),
             Event::Look { tx } => self.look(clock, walker, tx),
             Event::Drop { tx } => self.drop_part(clock, walker, tx),

@@ -6,7 +6,7 @@ ghost use Rattle.clv_base.specs.Events.{step};
 ghost use Rattle.machine_calls.specs.Steps.{Tells};
 
 use crate::machine::ShardMachine;
-use crate::stamps::{STAMPS, enter, has_room, next_stamp};
+use crate::stamps::{enter, place};
 use clv_base::events::{Event, Outcome};
 use lock_table::Locks;
 use log_gate::Gate;
@@ -22,12 +22,10 @@ impl<S: Store + Drop, L: Locks + Drop, G: Gate> ShardMachine<S, L, G> {
         if !self.is_up {
             return Ok(Outcome::Down);
         }
-        let Some(stamp) = next_stamp(self.last, clock, 0) else {
-            return Err(StepError::Worn { at: STAMPS });
+        let stamp = match place(self.last, clock, 0) {
+            Ok(stamp) => stamp,
+            Err(error) => return Err(error),
         };
-        if !has_room(&mut self.journal, self.owed, 1) {
-            return Err(StepError::Memory);
-        }
         enter(
             &mut self.journal,
             stamp,

@@ -10,10 +10,10 @@ use Rattle.clv_base.specs.declared.ops.Op.{Op}
 use Rattle.clv_base.specs.declared.ops.Op.TheVariants.{Get, Put, Del, Scan, Add}
 use Rattle.clv_base.specs.declared.modes.Need.{Need}
 use Rattle.clv_base.specs.Orders.{tx_get}
-use Rattle.clv_base.specs.Locks.{take_all, violated}
+use Rattle.clv_base.specs.Locks.{take_all}
 use Rattle.clv_base.specs.Needs.{key_of, found_at, inserts, writes_of, value_at, needs_of}
 use Rattle.clv_base.specs.State.{Local}
-use Rattle.clv_base.specs.OneShard.{written, inserted_locks, new_part, add_pairs}
+use Rattle.clv_base.specs.OneShard.{written, inserted_locks, new_part, add_pairs, violated_here}
 use Rattle.shard_ops.specs.Planned.{insert_by, write_by}
 use Rattle.shard_ops.specs.Effects.{performed_by, IsPerformedByPlan}
 
@@ -55,7 +55,7 @@ pub performed_by_plan : IsPerformedByPlan
 unfolding locked_by
 performed_by_plan tx birth op l =
     let needs = needs_of op l.records in
-    let preds = violated tx needs l.locks in
+    let preds = violated_here l tx op in
     let new = inserts op (found_at (key_of op) l.records) in
     let c = writes_at_key op (value_at (key_of op) l.records) in
     subst

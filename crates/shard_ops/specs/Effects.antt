@@ -11,10 +11,10 @@ use Rattle.clv_base.specs.declared.modes.Anchor.TheVariants.{At}
 use Rattle.clv_base.specs.declared.modes.Need.{Need}
 use Rattle.clv_base.specs.Orders.{tx_get}
 use Rattle.clv_base.specs.Modes.{on_key}
-use Rattle.clv_base.specs.Locks.{Locks, take_all, split_gap, violated}
+use Rattle.clv_base.specs.Locks.{Locks, take_all, split_gap}
 use Rattle.clv_base.specs.Needs.{Records, need, needs_of, record_set, found_at, is_there}
 use Rattle.clv_base.specs.State.{Local}
-use Rattle.clv_base.specs.OneShard.{update_of, new_part, add_pairs, performed}
+use Rattle.clv_base.specs.OneShard.{update_of, new_part, add_pairs, violated_here, performed}
 use Rattle.lock_table.specs.Rows.{gaps_held, anchors_of}
 use Rattle.shard_ops.specs.declared.plan.Insert.{Insert}
 use Rattle.shard_ops.specs.declared.plan.Write.{Write}
@@ -81,4 +81,4 @@ abbrev pub IsPerformedByPlan : Type 0
 IsPerformedByPlan =
     (tx : TxId) (birth : Birth) (op : Op) (l : Local)
     → performed tx birth op l
-    ≡ performed_by tx birth (needs_of op l.records) (insert_of op l.records) (write_of op l.records) (violated tx (needs_of op l.records) l.locks) l
+    ≡ performed_by tx birth (needs_of op l.records) (insert_of op l.records) (write_of op l.records) (violated_here l tx op) l

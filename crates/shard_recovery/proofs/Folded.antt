@@ -1,5 +1,5 @@
--- The records of those that win, one record of the log after another.
-use Rattle.std.proofs.Common.{◌≡◌, ℕ, ◌<◌, Bool, true, false, cond, not, ◌||◌, ◌==◌, List, [], ◌∷◌, ◌++◌, Option, Some, None, is_some, refl, sym, ap, ◌∙◌, eq-eqb, arith}
+-- The records of those that win, one write that stands after another.
+use Rattle.std.proofs.Common.{◌≡◌, ℕ, ◌+◌, ◌<◌, Bool, true, false, cond, not, ◌||◌, ◌==◌, List, [], ◌∷◌, drop, get_or, map, length, Option, Some, None, is_some, refl, sym, ap, ◌∙◌, eq-eqb, arith}
 use Rattle.std.specs.List.{filter}
 use Rattle.std.specs.Map.{lookup}
 use Rattle.std.specs.declared.cmp.Ordering.{Ordering}
@@ -8,22 +8,28 @@ use Rattle.std.specs.Ordering.{nat_cmp, match_ordering}
 use Rattle.std.specs.Cmp.{unsigned_tied}
 use Rattle.std.specs.FinMap.{put}
 use Rattle.std.specs.FinMap.Entries.{by_order}
+use Rattle.std.proofs.Math.Path.{fun_ext}
 use Rattle.std.proofs.lemmas.Bool.{ne_eqb}
+use Rattle.std.proofs.lemmas.List.{drop_more}
 use Rattle.std.proofs.lemmas.Bool.Decides.{nat_tests}
 use Rattle.clv_base.specs.declared.values.Value.{Value as ValueType}
 use Rattle.clv_base.specs.declared.names.TxId.{TxId}
 use Rattle.clv_base.specs.declared.logs.LogRecord.{LogRecord}
-use Rattle.clv_base.specs.declared.logs.LogRecord.TheVariants.{Update, Clr, Prepare, Commit, Abort, End, Restart, Add, Unadd}
+use Rattle.clv_base.specs.declared.changes.Change.{Change}
+use Rattle.clv_base.specs.declared.changes.Change.TheVariants.{Sets, Adds}
 use Rattle.clv_base.specs.declared.modes.Found.TheVariants.{Absent}
 use Rattle.clv_base.specs.Orders.{Table, tx_in}
-use Rattle.clv_base.specs.Maps.{KeyMap, map_get, map_set, map_add}
-use Rattle.clv_base.specs.Logs.{is_commit_of, committed_in, is_winner, in_doubt, fold_updates}
+use Rattle.clv_base.specs.Maps.{KeyMap, map_get, map_set}
+use Rattle.clv_base.specs.Logs.{StandingUpdate, standing, is_commit_of, committed_in, is_winner, in_doubt, fold_updates}
 use Rattle.clv_base.specs.Needs.{Records, found_at, found_by, live_of, value_at, record_set}
+use Rattle.clv_base.specs.OneShard.{update_of}
 use Rattle.clv_base.specs.Restarts.{records_of, with_ghosts, ghost_if_absent}
 use Rattle.log_analysis.specs.declared.facts.TxFacts.{TxFacts}
 use Rattle.log_analysis.specs.Facts.{Knows, known}
 use Rattle.cascade_undo.proofs.Laws.{both}
-use Rattle.shard_recovery.specs.Winning.{wins_in, records_after}
+use Rattle.shard_recovery.specs.Winning.{wins_in, with_ghost, records_after}
+use Rattle.law_base.proofs.Lists.{elem_at}
+use Rattle.log_analysis.proofs.Laws.Standing.{write_inside, write_there}
 use Rattle.law_base.proofs.Logs.{place_is as is_some_place}
 use Rattle.law_base.proofs.Numbers.{unequal_flip as apart}
 use Rattle.law_base.proofs.Names.{set_by}
@@ -106,59 +112,38 @@ value_of k (e ∷ es) = at (k == e.0) (value_of k es) ∙ ap (λ b. cond b (Some
     at true more = refl
     at false more = more
 
--- ---- one record more
+-- ---- the same by other tests
 
-pub fold_more : (keep : TxId → Bool) (xs : List LogRecord) (r : LogRecord) (m : KeyMap) → fold_updates keep (xs ++ r ∷ []) m ≡ fold_updates keep (r ∷ []) (fold_updates keep xs m)
-fold_more keep [] r m = refl
-fold_more keep (Update tx key before after ∷ xs) r m = fold_more keep xs r (cond (keep tx) (map_set key after m) m)
-fold_more keep (Clr tx undo_next key after ∷ xs) r m = fold_more keep xs r m
-fold_more keep (Prepare tx home predecessors ∷ xs) r m = fold_more keep xs r m
-fold_more keep (Commit tx parts ∷ xs) r m = fold_more keep xs r m
-fold_more keep (Abort tx ∷ xs) r m = fold_more keep xs r m
-fold_more keep (End tx ∷ xs) r m = fold_more keep xs r m
-fold_more keep (Restart run epoch ∷ xs) r m = fold_more keep xs r m
-fold_more keep (Add tx key by ∷ xs) r m = fold_more keep xs r (cond (keep tx) (map_add key by m) m)
-fold_more keep (Unadd tx undo_next key by ∷ xs) r m = fold_more keep xs r m
+pub fold_alike : (f g : TxId → Bool) → ((t : TxId) → f t ≡ g t) → (log : List LogRecord) (m : KeyMap) → fold_updates f log m ≡ fold_updates g log m
+fold_alike f g h log m = ap (λ (keep : TxId → Bool). fold_updates keep log m) (fun_ext h)
 
-pub fold_alike : (f g : TxId → Bool) → ((t : TxId) → f t ≡ g t) → (xs : List LogRecord) (m : KeyMap) → fold_updates f xs m ≡ fold_updates g xs m
-fold_alike f g h [] m = refl
-fold_alike f g h (Update tx key before after ∷ xs) m = ap (λ b. fold_updates f xs (cond b (map_set key after m) m)) (h tx) ∙ fold_alike f g h xs (cond (g tx) (map_set key after m) m)
-fold_alike f g h (Clr tx undo_next key after ∷ xs) m = fold_alike f g h xs m
-fold_alike f g h (Prepare tx home predecessors ∷ xs) m = fold_alike f g h xs m
-fold_alike f g h (Commit tx parts ∷ xs) m = fold_alike f g h xs m
-fold_alike f g h (Abort tx ∷ xs) m = fold_alike f g h xs m
-fold_alike f g h (End tx ∷ xs) m = fold_alike f g h xs m
-fold_alike f g h (Restart run epoch ∷ xs) m = fold_alike f g h xs m
-fold_alike f g h (Add tx key by ∷ xs) m = ap (λ b. fold_updates f xs (cond b (map_add key by m) m)) (h tx) ∙ fold_alike f g h xs (cond (g tx) (map_add key by m) m)
-fold_alike f g h (Unadd tx undo_next key by ∷ xs) m = fold_alike f g h xs m
-
-pub ghosts_alike : (ts us : List TxId) → ((t : TxId) → tx_in t ts ≡ tx_in t us) → (xs : List LogRecord) (rs : Records) → with_ghosts ts xs rs ≡ with_ghosts us xs rs
+pub ghosts_alike : (ts us : List TxId) → ((t : TxId) → tx_in t ts ≡ tx_in t us) → (ws : List StandingUpdate) (rs : Records) → with_ghosts ts ws rs ≡ with_ghosts us ws rs
 ghosts_alike ts us h [] rs = refl
-ghosts_alike ts us h (Update tx key before after ∷ xs) rs =
-    ap (λ b. with_ghosts ts xs (cond b (ghost_if_absent key rs (found_at key rs)) rs)) (h tx) ∙ ghosts_alike ts us h xs (cond (tx_in tx us) (ghost_if_absent key rs (found_at key rs)) rs)
-ghosts_alike ts us h (Clr tx undo_next key after ∷ xs) rs = ghosts_alike ts us h xs rs
-ghosts_alike ts us h (Prepare tx home predecessors ∷ xs) rs = ghosts_alike ts us h xs rs
-ghosts_alike ts us h (Commit tx parts ∷ xs) rs = ghosts_alike ts us h xs rs
-ghosts_alike ts us h (Abort tx ∷ xs) rs = ghosts_alike ts us h xs rs
-ghosts_alike ts us h (End tx ∷ xs) rs = ghosts_alike ts us h xs rs
-ghosts_alike ts us h (Restart run epoch ∷ xs) rs = ghosts_alike ts us h xs rs
-ghosts_alike ts us h (Add tx key by ∷ xs) rs =
-    ap (λ b. with_ghosts ts xs (cond b (ghost_if_absent key rs (found_at key rs)) rs)) (h tx) ∙ ghosts_alike ts us h xs (cond (tx_in tx us) (ghost_if_absent key rs (found_at key rs)) rs)
-ghosts_alike ts us h (Unadd tx undo_next key by ∷ xs) rs = ghosts_alike ts us h xs rs
+ghosts_alike ts us h (w ∷ ws) rs =
+    ap (λ b. with_ghosts ts ws (cond b (ghost_if_absent w.key rs (found_at w.key rs)) rs)) (h w.tx)
+    ∙ ghosts_alike ts us h ws (cond (tx_in w.tx us) (ghost_if_absent w.key rs (found_at w.key rs)) rs)
 
-pub ghosts_of_nobody : (txs : List TxId) (xs : List LogRecord) (rs : Records) → txs ≡ [] → rs ≡ with_ghosts txs xs rs
+pub ghosts_of_nobody : (txs : List TxId) (ws : List StandingUpdate) (rs : Records) → txs ≡ [] → rs ≡ with_ghosts txs ws rs
 ghosts_of_nobody txs [] rs none = refl
-ghosts_of_nobody txs (Update tx key before after ∷ xs) rs none =
-    ghosts_of_nobody txs xs rs none ∙ ap (λ b. with_ghosts txs xs (cond b (ghost_if_absent key rs (found_at key rs)) rs)) (sym (ap (tx_in tx) none))
-ghosts_of_nobody txs (Clr tx undo_next key after ∷ xs) rs none = ghosts_of_nobody txs xs rs none
-ghosts_of_nobody txs (Prepare tx home predecessors ∷ xs) rs none = ghosts_of_nobody txs xs rs none
-ghosts_of_nobody txs (Commit tx parts ∷ xs) rs none = ghosts_of_nobody txs xs rs none
-ghosts_of_nobody txs (Abort tx ∷ xs) rs none = ghosts_of_nobody txs xs rs none
-ghosts_of_nobody txs (End tx ∷ xs) rs none = ghosts_of_nobody txs xs rs none
-ghosts_of_nobody txs (Restart run epoch ∷ xs) rs none = ghosts_of_nobody txs xs rs none
-ghosts_of_nobody txs (Add tx key by ∷ xs) rs none =
-    ghosts_of_nobody txs xs rs none ∙ ap (λ b. with_ghosts txs xs (cond b (ghost_if_absent key rs (found_at key rs)) rs)) (sym (ap (tx_in tx) none))
-ghosts_of_nobody txs (Unadd tx undo_next key by ∷ xs) rs none = ghosts_of_nobody txs xs rs none
+ghosts_of_nobody txs (w ∷ ws) rs none =
+    ghosts_of_nobody txs ws rs none ∙ ap (λ b. with_ghosts txs ws (cond b (ghost_if_absent w.key rs (found_at w.key rs)) rs)) (sym (ap (tx_in w.tx) none))
+
+-- ---- one write more
+
+-- a ghost by the record of a write
+pub ghost_by : (txs : List TxId) (tx : TxId) (key : ℕ) (c : Change) (rs : Records) → with_ghost txs (update_of tx key c) rs ≡ cond (tx_in tx txs) (ghost_if_absent key rs (found_at key rs)) rs
+ghost_by txs tx key (Sets before after) rs = refl
+ghost_by txs tx key (Adds by) rs = refl
+
+-- with the write at one more LSN of what stands, from the newest on
+pub ghosts_step :
+    (txs : List TxId) (log : List LogRecord) (lsns : List ℕ) (i : ℕ) (r : LogRecord) (now next start : Records) → lsns ≡ map (λ w. w.lsn) (standing log) → i < length lsns → r ≡ get_or log (get_or lsns i 0) r
+    → with_ghosts txs (drop i (standing log)) now ≡ with_ghosts txs (standing log) start → next ≡ with_ghost txs r now → with_ghosts txs (drop (i + 1) (standing log)) next ≡ with_ghosts txs (standing log) start
+ghosts_step txs log lsns i r now next start are l is so_far made =
+    let ws = standing log in let inside = write_inside log lsns i are l in let d = elem_at ws i inside in let w = get_or ws i d in
+    ap (with_ghosts txs (drop (i + 1) ws)) (made ∙ ap (λ q. with_ghost txs q now) (is ∙ write_there log lsns i are l d r) ∙ ghost_by txs w.tx w.key w.change now)
+    ∙ ap (λ vs. with_ghosts txs vs now) (sym (drop_more ws i d inside))
+    ∙ so_far
 
 -- ---- who wins
 
@@ -167,8 +152,8 @@ wins_known m log doubtful t knows = ap (λ b. b || tx_in t doubtful) (ap (λ (f 
 
 -- the records of a restart, from sets that have the same members
 pub filled : (shard : ℕ) (log : List LogRecord) (names doubtful : List TxId) (first last : Records) → ((t : TxId) → tx_in t names ≡ tx_in t doubtful) → doubtful ≡ in_doubt shard log
-    → first ≡ records_of (fold_updates (wins_in log names) log []) → last ≡ with_ghosts names log first → last ≡ records_after shard log
+    → first ≡ records_of (fold_updates (wins_in log names) log []) → last ≡ with_ghosts names (standing log) first → last ≡ records_after shard log
 filled shard log names doubtful first last same is f l =
     let alike : (t : TxId) → tx_in t names ≡ tx_in t (in_doubt shard log) = λ t. same t ∙ ap (tx_in t) is in
-    l ∙ ghosts_alike names (in_doubt shard log) alike log first
-    ∙ ap (with_ghosts (in_doubt shard log) log) (f ∙ ap records_of (fold_alike (wins_in log names) (is_winner shard log) (λ t. ap (λ b. committed_in log t || b) (alike t)) log []))
+    l ∙ ghosts_alike names (in_doubt shard log) alike (standing log) first
+    ∙ ap (with_ghosts (in_doubt shard log) (standing log)) (f ∙ ap records_of (fold_alike (wins_in log names) (is_winner shard log) (λ t. ap (λ b. committed_in log t || b) (alike t)) log []))

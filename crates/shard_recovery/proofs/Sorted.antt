@@ -1,21 +1,24 @@
 -- Writes in the order of their keys leave the map that they leave in the log's order.
-use Rattle.std.proofs.Common.{◌≡◌, ℕ, ◌<◌, Bool, true, false, cond, not, ◌&&◌, ◌==◌, List, [], ◌∷◌, ◌++◌, ◌+◌, length, take, get_or, Option, Some, None, refl, sym, ap, ◌∙◌, eqb-true, arith}
+use Rattle.std.proofs.Common.{◌≡◌, ℕ, ◌<◌, Bool, true, false, cond, not, ◌&&◌, ◌==◌, List, [], ◌∷◌, ◌++◌, ◌+◌, ◌-◌, ◌≤◌, length, drop, get_or, map, Option, Some, None, append-nil, refl, sym, ap, ◌∙◌, eqb-true, arith}
 use Rattle.std.specs.List.{filter, cons_option}
 use Rattle.std.specs.List.Sorted.{ties, IsStableByKey}
 use Rattle.std.specs.Ordering.{nat_cmp, is_lt}
 use Rattle.std.specs.FinMap.{find}
-use Rattle.std.proofs.lemmas.List.{take_more}
-use Rattle.std.proofs.lemmas.List.Elements.{filter_map-append}
+use Rattle.std.proofs.lemmas.List.{drop_more}
 use Rattle.std.proofs.lemmas.Bool.Decides.{nat_tests}
 use Rattle.clv_base.specs.declared.values.Value.{Value as ValueType}
 use Rattle.clv_base.specs.declared.names.TxId.{TxId}
 use Rattle.clv_base.specs.declared.logs.LogRecord.{LogRecord}
-use Rattle.clv_base.specs.declared.logs.LogRecord.TheVariants.{Update, Clr, Prepare, Commit, Abort, End, Restart, Add, Unadd}
+use Rattle.clv_base.specs.declared.changes.Change.{Change}
+use Rattle.clv_base.specs.declared.changes.Change.TheVariants.{Sets, Adds}
 use Rattle.clv_base.specs.declared.values.Value.TheVariants.{Num, Bytes}
-use Rattle.clv_base.specs.Maps.{KeyMap, map_get, map_set, map_add}
+use Rattle.clv_base.specs.Maps.{KeyMap, map_get, map_set}
 use Rattle.clv_base.specs.Folding.{IsRising}
-use Rattle.clv_base.specs.Logs.{fold_updates}
+use Rattle.clv_base.specs.Logs.{StandingUpdate, standing, with_change, fold_writes}
+use Rattle.clv_base.specs.OneShard.{update_of}
 use Rattle.clv_base.proofs.Folding.{get_set, rising_set, same_map}
+use Rattle.law_base.proofs.Lists.{elem_at}
+use Rattle.log_analysis.proofs.Laws.Standing.{write_inside, write_there}
 use Rattle.shard_recovery.specs.declared.writes.Write.{Write}
 use Rattle.shard_recovery.specs.declared.writes.Left.TheVariants.{Nothing, More}
 use Rattle.shard_recovery.specs.Winning.{set_by, left_at, kept_write, kept_writes, writes_after}
@@ -24,11 +27,16 @@ pub writes_more : (ws : List Write) (w : Write) (m : KeyMap) → writes_after (w
 writes_more [] w m = refl
 writes_more (v ∷ ws) w m = writes_more ws w (map_set v.key (left_at v.left (map_get v.key m)) m)
 
-pub kept_more : (keep : TxId → Bool) (log : List LogRecord) (i : ℕ) (r : LogRecord) → i < length log → r ≡ get_or log i r
-    → kept_writes keep (take (i + 1) log) ≡ kept_writes keep (take i log) ++ cons_option (kept_write keep r) []
-kept_more keep log i r within is =
-    ap (kept_writes keep) (take_more log i r within) ∙ filter_map-append (kept_write keep) (take i log) (get_or log i r ∷ [])
-    ∙ ap (λ x. kept_writes keep (take i log) ++ cons_option (kept_write keep x) []) (sym is)
+-- with the write at one more LSN of what stands, from the oldest on
+pub kept_more :
+    (keep : TxId → Bool) (log : List LogRecord) (lsns : List ℕ) (n : ℕ) (r : LogRecord) → lsns ≡ map (λ w. w.lsn) (standing log) → 0 < n → n ≤ length lsns → r ≡ get_or log (get_or lsns (n - 1) 0) r
+    → kept_writes keep (drop (n - 1) (standing log)) ≡ kept_writes keep (drop n (standing log)) ++ cons_option (kept_write keep r) []
+kept_more keep log lsns n r are some within is =
+    let i = n - 1 in let l : i < length lsns = omega arith in let ws = standing log in
+    let inside = write_inside log lsns i are l in let d = elem_at ws i inside in let next : i + 1 ≡ n = omega arith in
+    ap (kept_writes keep) (drop_more ws i d inside)
+    ∙ ap (λ q. kept_writes keep (drop (i + 1) ws) ++ cons_option (kept_write keep q) []) (sym (is ∙ write_there log lsns i are l d r))
+    ∙ ap (λ k. kept_writes keep (drop k ws) ++ cons_option (kept_write keep r) []) next
 
 -- an UPDATE leaves what it sets
 set_is : (after v : Option ValueType) → left_at (set_by after) v ≡ after
@@ -36,27 +44,22 @@ set_is None v = refl
 set_is (Some (Num n)) v = refl
 set_is (Some (Bytes b)) v = refl
 
-pub kept_fold : (keep : TxId → Bool) (log : List LogRecord) (m : KeyMap) → writes_after (kept_writes keep log) m ≡ fold_updates keep log m
+kept_one : (keep : TxId → Bool) (tx : TxId) (key : ℕ) (c : Change) (vs : List Write) (m : KeyMap)
+    → writes_after (vs ++ cons_option (kept_write keep (update_of tx key c)) []) m ≡ cond (keep tx) (with_change key c (writes_after vs m)) (writes_after vs m)
+kept_one keep tx key (Sets before after) vs m = at (keep tx)
+  where
+    at : (b : Bool) → writes_after (vs ++ cons_option (cond b (Some (record { key = key; left = set_by after })) None) []) m ≡ cond b (map_set key after (writes_after vs m)) (writes_after vs m)
+    at true = writes_more vs (record { key = key; left = set_by after }) m ∙ ap (λ x. map_set key x (writes_after vs m)) (set_is after (map_get key (writes_after vs m)))
+    at false = ap (λ l. writes_after l m) (append-nil vs)
+kept_one keep tx key (Adds by) vs m = at (keep tx)
+  where
+    at : (b : Bool) → writes_after (vs ++ cons_option (cond b (Some (record { key = key; left = More by })) None) []) m ≡ cond b (with_change key (Adds by) (writes_after vs m)) (writes_after vs m)
+    at true = writes_more vs (record { key = key; left = More by }) m
+    at false = ap (λ l. writes_after l m) (append-nil vs)
+
+pub kept_fold : (keep : TxId → Bool) (ws : List StandingUpdate) (m : KeyMap) → writes_after (kept_writes keep ws) m ≡ fold_writes keep ws m
 kept_fold keep [] m = refl
-kept_fold keep (Update tx key before after ∷ rs) m = at (kept_fold keep rs) (keep tx)
-  where
-    at : ((n : KeyMap) → writes_after (kept_writes keep rs) n ≡ fold_updates keep rs n) → (b : Bool)
-        → writes_after (cons_option (cond b (Some (record { key = key; left = set_by after })) None) (kept_writes keep rs)) m ≡ fold_updates keep rs (cond b (map_set key after m) m)
-    at more true = ap (λ x. writes_after (kept_writes keep rs) (map_set key x m)) (set_is after (map_get key m)) ∙ more (map_set key after m)
-    at more false = more m
-kept_fold keep (Clr tx undo_next key after ∷ rs) m = kept_fold keep rs m
-kept_fold keep (Prepare tx home predecessors ∷ rs) m = kept_fold keep rs m
-kept_fold keep (Commit tx parts ∷ rs) m = kept_fold keep rs m
-kept_fold keep (Abort tx ∷ rs) m = kept_fold keep rs m
-kept_fold keep (End tx ∷ rs) m = kept_fold keep rs m
-kept_fold keep (Restart run epoch ∷ rs) m = kept_fold keep rs m
-kept_fold keep (Add tx key by ∷ rs) m = at (kept_fold keep rs) (keep tx)
-  where
-    at : ((n : KeyMap) → writes_after (kept_writes keep rs) n ≡ fold_updates keep rs n) → (b : Bool)
-        → writes_after (cons_option (cond b (Some (record { key = key; left = More by })) None) (kept_writes keep rs)) m ≡ fold_updates keep rs (cond b (map_add key by m) m)
-    at more true = more (map_add key by m)
-    at more false = more m
-kept_fold keep (Unadd tx undo_next key by ∷ rs) m = kept_fold keep rs m
+kept_fold keep (w ∷ ws) m = kept_one keep w.tx w.key w.change (kept_writes keep ws) m ∙ ap (λ n. cond (keep w.tx) (with_change w.key w.change n) n) (kept_fold keep ws m)
 
 -- ---- the value at one key
 

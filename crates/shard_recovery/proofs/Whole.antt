@@ -26,7 +26,7 @@ fewer f (t ∷ ts) = at (f t) (fewer f ts)
     at false h = omega arith
 
 -- ABORTs leave what stands
-standing_aborts : (log : List LogRecord) (txs : List TxId) → standing (log ++ aborts txs) ≡ standing log
+pub standing_aborts : (log : List LogRecord) (txs : List TxId) → standing (log ++ aborts txs) ≡ standing log
 standing_aborts log [] = ap standing (append-nil log)
 standing_aborts log (t ∷ ts) = ap standing (sym (append_assoc log (Abort t ∷ []) (aborts ts))) ∙ standing_aborts (log ++ Abort t ∷ []) ts ∙ standing_more log (Abort t)
 

@@ -1,6 +1,6 @@
 -- The records that a log leaves of those that win in it.
-use Rattle.std.specs.Prelude.{ℕ, Bool, ◌||◌, cond, List, [], ◌∷◌, Option, Some, None}
-use Rattle.std.specs.List.{filter_map}
+use Rattle.std.specs.Prelude.{ℕ, Bool, ◌||◌, cond, List, [], ◌∷◌, ◌++◌, Option, Some, None}
+use Rattle.std.specs.List.{cons_option}
 use Rattle.clv_base.specs.declared.names.TxId.{TxId}
 use Rattle.clv_base.specs.declared.logs.LogRecord.{LogRecord}
 use Rattle.clv_base.specs.declared.logs.LogRecord.TheVariants.{Update, Add}
@@ -8,9 +8,10 @@ use Rattle.clv_base.specs.Orders.{tx_in}
 use Rattle.clv_base.specs.declared.values.Value.{Value}
 use Rattle.clv_base.specs.declared.values.Value.TheVariants as values
 use Rattle.clv_base.specs.Maps.{KeyMap, map_get, map_set, plus}
-use Rattle.clv_base.specs.Logs.{committed_in, in_doubt, is_winner, fold_updates}
-use Rattle.clv_base.specs.Needs.{Records}
-use Rattle.clv_base.specs.Restarts.{records_of, with_ghosts}
+use Rattle.clv_base.specs.Logs.{StandingUpdate, committed_in, in_doubt, is_winner, standing, fold_updates}
+use Rattle.clv_base.specs.Needs.{Records, found_at}
+use Rattle.clv_base.specs.OneShard.{update_of}
+use Rattle.clv_base.specs.Restarts.{records_of, ghost_if_absent, with_ghosts}
 use Rattle.shard_recovery.specs.declared.writes.Write.{Write}
 use Rattle.shard_recovery.specs.declared.writes.Left.{Left}
 use Rattle.shard_recovery.specs.declared.writes.Left.TheVariants.{Nothing, Num, Bytes, More}
@@ -37,15 +38,23 @@ kept_write keep (Update tx key before after) = cond (keep tx) (Some (record { ke
 kept_write keep (Add tx key by) = cond (keep tx) (Some (record { key = key; left = More by })) None
 kept_write keep _ = None
 
--- what the UPDATEs and ADDs of those that are kept write, in the log's order
-abbrev pub kept_writes : (TxId → Bool) → List LogRecord → List Write
-kept_writes keep log = filter_map (kept_write keep) log
+-- what the writes, given newest first, of those that are kept write, in the log's order
+abbrev pub kept_writes : (TxId → Bool) → List StandingUpdate → List Write
+kept_writes keep [] = []
+kept_writes keep (w ∷ ws) = kept_writes keep ws ++ cons_option (kept_write keep (update_of w.tx w.key w.change)) []
 
 -- the map after these writes, one after another
 abbrev pub writes_after : List Write → KeyMap → KeyMap
 writes_after [] m = m
 writes_after (w ∷ ws) m = writes_after ws (map_set w.key (left_at w.left (map_get w.key m)) m)
 
--- the records of a shard whose log is this, as a restart leaves them: the map of the winners' writes, with ghosts at the keys of those in doubt
+-- the records, with a ghost at the key of an UPDATE or ADD of one of these, where there is none
+abbrev pub with_ghost : List TxId → LogRecord → Records → Records
+with_ghost txs (Update tx key before after) rs = cond (tx_in tx txs) (ghost_if_absent key rs (found_at key rs)) rs
+with_ghost txs (Add tx key by) rs = cond (tx_in tx txs) (ghost_if_absent key rs (found_at key rs)) rs
+with_ghost txs _ rs = rs
+
+-- the records of a shard whose log is this, as a restart leaves them: the map of the winners' standing writes, with ghosts at the keys of those in
+-- doubt
 abbrev pub records_after : ℕ → List LogRecord → Records
-records_after shard log = with_ghosts (in_doubt shard log) log (records_of (fold_updates (is_winner shard log) log []))
+records_after shard log = with_ghosts (in_doubt shard log) (standing log) (records_of (fold_updates (is_winner shard log) log []))

@@ -15,14 +15,14 @@ use log_analysis::LogFacts;
 use log_buffer::LogBuffer;
 use std::alloc::{AllocError, Global};
 
-/// How many UPDATEs and ADDs these transactions have together. No more of their writes stand.
-fn updates_of(buffer: &LogBuffer<LogRecord>, txs: &[TxId]) -> usize
+/// How many writes of these transactions stand, if each is there once.
+fn writes_standing(buffer: &LogBuffer<LogRecord>, txs: &[TxId]) -> usize
     ensures { length (writes_of txs.now (standing buffer.now.records)) ≤ result }
 {
     let _no_more_than_all = buffer.end();
     let mut count: usize = 0;
     for tx in txs {
-        count = count.saturating_add(buffer.updates(*tx));
+        count = count.saturating_add(buffer.standing_writes(*tx));
     }
     count
 }
@@ -42,7 +42,7 @@ fn buffer_of(
         Ok(buffer) => buffer,
         Err(_) => return Err(AllocError),
     };
-    let count = updates_of(&buffer, losers).saturating_add(losers.len());
+    let count = writes_standing(&buffer, losers).saturating_add(losers.len());
     buffer.reserve(count.saturating_add(1))?;
     Ok(buffer)
 }

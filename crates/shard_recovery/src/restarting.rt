@@ -62,7 +62,7 @@ pub(crate) fn restart_by<S: Store>(
     ensures fronts { IfOk result (λ b. (b.durable ≡ length records.items) × (b.taken ≡ length records.items)) }
     ensures records { IfOk result (λ b. (shard : ℕ) → doubtful.now ≡ in_doubt shard records.items → S.records store.new ≡ (local_after shard epoch (log_after_restart shard records.items run epoch)).records) }
 {
-    let records = with_room(records, losers)?;
+    let records = with_room(records, &facts, losers)?;
     fill(alloc, store, &facts, &records, doubtful)?;
     rewrite(alloc, facts, records, losers, run, epoch)
 }

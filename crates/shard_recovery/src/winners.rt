@@ -1,12 +1,12 @@
 //! The records that a log leaves of those that win in it.
-ghost use Rattle.std.specs.Prelude.{◌≡◌, ◌≤◌, ◌<◌, ◌+◌, ◌==◌, ℕ, [], ◌∷◌, None, not, OnOk};
+ghost use Rattle.std.specs.Prelude.{◌≡◌, ◌≤◌, ◌<◌, ◌+◌, ◌==◌, ℕ, [], None, map, not, OnOk};
 ghost use Rattle.std.specs.List.{filter};
 ghost use Rattle.clv_base.specs.Maps.{KeyMap, map_set};
-ghost use Rattle.clv_base.specs.Logs.{fold_updates, in_doubt};
+ghost use Rattle.clv_base.specs.Logs.{fold_updates, in_doubt, standing};
 ghost use Rattle.clv_base.specs.Needs.{record_set, is_there, live_of, value_at};
 ghost use Rattle.clv_base.specs.Restarts.{records_of, with_ghosts};
 ghost use Rattle.log_analysis.specs.Facts.{Knows};
-ghost use Rattle.shard_recovery.specs.Winning.{wins_in, left_at, writes_after, records_after};
+ghost use Rattle.shard_recovery.specs.Winning.{wins_in, left_at, writes_after, with_ghost, records_after};
 
 use crate::writes::{Left, Write, by_key};
 use clv_base::changes::plus;
@@ -14,7 +14,7 @@ use clv_base::logs::LogRecord;
 use clv_base::modes::Found;
 use clv_base::names::TxId;
 use clv_base::values::Value;
-use log_analysis::{LogFacts, TxSet};
+use log_analysis::{LogFacts, TxSet, standing_lsns};
 use ordered_store::Store;
 use std::alloc::{AllocError, Global};
 
@@ -82,7 +82,7 @@ fn put_all<S: Store>(store: &mut S, writes: &[Write]) -> Result<(), AllocError>
     Ok(())
 }
 
-/// Does the UPDATEs and ADDs of the winners again in an empty store.
+/// Does the UPDATEs and ADDs of the winners that stand again in an empty store.
 fn fold<S: Store>(
     alloc: Global,
     store: &mut S,
@@ -121,7 +121,7 @@ fn is_absent(found: &Found) -> bool
 /// Makes a ghost at the key of an UPDATE or ADD of one of these, where there is no record.
 fn haunt_one<S: Store>(store: &mut S, doubtful: &TxSet, found: &LogRecord)
     requires { 0 < S.room store.old }
-    ensures records { S.records store.new ≡ with_ghosts doubtful.now (found.now ∷ []) (S.records store.old) }
+    ensures records { S.records store.new ≡ with_ghost doubtful.now found.now (S.records store.old) }
     ensures room { S.room store.old ≤ S.room store.new + 1 }
 {
     match found {
@@ -134,31 +134,44 @@ fn haunt_one<S: Store>(store: &mut S, doubtful: &TxSet, found: &LogRecord)
     }
 }
 
-/// Makes a ghost at each key that these wrote and that has no record.
-fn haunt_all<S: Store>(store: &mut S, doubtful: &TxSet, log: &[LogRecord]) -> Result<(), AllocError>
-    ensures ok { OnOk result (S.records store.new ≡ with_ghosts doubtful.now log.now (S.records store.old)) }
+/// Makes a ghost at each key that these wrote and that has no record, by what stands at these LSNs, the newest first.
+fn haunt_at<S: Store>(
+    store: &mut S,
+    doubtful: &TxSet,
+    log: &[LogRecord],
+    lsns: &[u64],
+) -> Result<(), AllocError>
+    requires { lsns.now ≡ map (λ w. w.lsn) (standing log.now) }
+    ensures ok { OnOk result (S.records store.new ≡ with_ghosts doubtful.now (standing log.now) (S.records store.old)) }
 {
-    for found in log {
+    for place in 0..lsns.len() {
         store.reserve(1)?;
-        haunt_one(store, doubtful, found);
+        haunt_one(store, doubtful, &log[lsns[place] as usize]);
     }
     Ok(())
 }
 
-/// The same, and nothing at all where these are none.
+/// The same by what stands in the log, and nothing at all where these are none.
 #[tactic(auto, using(crate::proofs::Folded::ghosts_of_nobody))]
-fn haunt<S: Store>(store: &mut S, doubtful: &TxSet, log: &[LogRecord]) -> Result<(), AllocError>
-    ensures ok { OnOk result (S.records store.new ≡ with_ghosts doubtful.now log.now (S.records store.old)) }
+fn haunt<S: Store>(
+    alloc: Global,
+    store: &mut S,
+    doubtful: &TxSet,
+    log: &[LogRecord],
+) -> Result<(), AllocError>
+    ensures ok { OnOk result (S.records store.new ≡ with_ghosts doubtful.now (standing log.now) (S.records store.old)) }
 {
     if doubtful.is_empty() {
         return Ok(());
     }
-    haunt_all(store, doubtful, log)
+    let lsns = standing_lsns(alloc, log)?;
+    haunt_at(store, doubtful, log, &lsns)
 }
 
 /// Puts the records of a shard whose log is this, and known, into an empty store, as a restart leaves them: the values that the UPDATEs and ADDs
-/// of the committed and of those in doubt leave, in the log's order, and ghosts at the keys that those in doubt wrote and that have no value. An
-/// `Err` leaves the store in the middle of it. Besides the store it takes a list of what those write, which goes at the return.
+/// of the committed and of those in doubt that stand leave, in the log's order, and ghosts at the keys that those in doubt so wrote and that have
+/// no value. An `Err` leaves the store in the middle of it. Besides the store it takes a list of what those write, which goes at the return, and
+/// before it one of the LSNs of what stands.
 pub(crate) fn fill<S: Store>(
     alloc: Global,
     store: &mut S,
@@ -172,5 +185,5 @@ pub(crate) fn fill<S: Store>(
 {
     let names = TxSet::of(alloc, doubtful)?;
     fold(alloc, store, facts, &names, log)?;
-    haunt(store, &names, log)
+    haunt(alloc, store, &names, log)
 }

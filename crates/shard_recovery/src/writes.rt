@@ -1,7 +1,7 @@
-//! What those that win in a log wrote, in the order that a store takes it in.
-ghost use Rattle.std.specs.Prelude.{◌≡◌, List, [], IfOk};
+//! What those that win in a log wrote, of what stands, in the order that a store takes it in.
+ghost use Rattle.std.specs.Prelude.{◌≡◌, List, [], map, IfOk};
 ghost use Rattle.std.specs.List.Sorted.{IsNonDecreasingBy};
-ghost use Rattle.clv_base.specs.Logs.{fold_updates};
+ghost use Rattle.clv_base.specs.Logs.{fold_updates, standing};
 ghost use Rattle.clv_base.specs.declared.logs.LogRecord.{LogRecord as Record};
 ghost use Rattle.log_analysis.specs.Facts.{Knows};
 ghost use Rattle.shard_recovery.specs.Winning.{wins_in, set_by, kept_write, kept_writes, writes_after};
@@ -10,7 +10,7 @@ use clv_base::logs::LogRecord;
 use clv_base::names::TxId;
 use clv_base::texts::ByteText;
 use clv_base::values::Value;
-use log_analysis::{LogFacts, TxSet};
+use log_analysis::{LogFacts, TxSet, standing_lsns};
 use std::alloc::{AllocError, Global};
 
 /// What a write leaves at its key: no value, this one, or that which is there with a number added.
@@ -74,7 +74,29 @@ fn written(facts: &LogFacts, doubtful: &TxSet, found: &LogRecord) -> Option<Writ
     }
 }
 
-/// What the winners wrote, in the log's order.
+/// What the winners wrote of what stands at these LSNs, the newest first, in the log's order.
+fn gather_at(
+    alloc: Global,
+    facts: &LogFacts,
+    doubtful: &TxSet,
+    log: &[LogRecord],
+    lsns: &[u64],
+) -> Result<Vec<Write>, AllocError>
+    requires knows { Knows facts.now log.now }
+    requires stand { lsns.now ≡ map (λ w. w.lsn) (standing log.now) }
+    ensures { IfOk result (λ ws. ws.items ≡ kept_writes (wins_in log.now doubtful.now) (standing log.now)) }
+{
+    let mut writes = Vec::new(alloc);
+    for place in (0..lsns.len()).rev() {
+        if let Some(write) = written(facts, doubtful, &log[lsns[place] as usize]) {
+            writes.push(write)?;
+        }
+    }
+    Ok(writes)
+}
+
+/// What the winners wrote and stands, in the log's order. What its transaction took back is not done first and undone then: between the two an
+/// in-doubt one's value may have come and gone that a later abort takes away.
 fn gather(
     alloc: Global,
     facts: &LogFacts,
@@ -82,19 +104,14 @@ fn gather(
     log: &[LogRecord],
 ) -> Result<Vec<Write>, AllocError>
     requires knows { Knows facts.now log.now }
-    ensures { IfOk result (λ ws. ws.items ≡ kept_writes (wins_in log.now doubtful.now) log.now) }
+    ensures { IfOk result (λ ws. ws.items ≡ kept_writes (wins_in log.now doubtful.now) (standing log.now)) }
 {
-    let mut writes = Vec::new(alloc);
-    for found in log {
-        if let Some(write) = written(facts, doubtful, found) {
-            writes.push(write)?;
-        }
-    }
-    Ok(writes)
+    let lsns = standing_lsns(alloc, log)?;
+    gather_at(alloc, facts, doubtful, log, &lsns)
 }
 
-/// What the winners wrote, by rising keys, as a store takes it fastest, and in the log's order at each key: it leaves the same map. A log
-/// whose keys rise is in this order already, and costs one look at each.
+/// The same by rising keys, as a store takes it fastest, and in the log's order at each key: it leaves the same map. A log whose keys rise is in
+/// this order already, and costs one look at each.
 pub(crate) fn by_key(
     alloc: Global,
     facts: &LogFacts,

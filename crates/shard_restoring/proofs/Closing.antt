@@ -5,18 +5,16 @@ use Rattle.std.specs.declared.cmp.Ordering.{Ordering}
 use Rattle.std.specs.declared.cmp.Ordering.TheVariants.{Less, Equal, Greater}
 use Rattle.std.specs.Ordering.{match_ordering}
 use Rattle.clv_base.specs.declared.names.TxId.{TxId}
-use Rattle.clv_base.specs.declared.logs.LogRecord.{LogRecord}
-use Rattle.clv_base.specs.declared.logs.LogRecord.TheVariants.{Update, Clr, Prepare, Commit, Abort, End, Restart, Add, Unadd}
 use Rattle.clv_base.specs.declared.modes.Anchor.{Anchor}
 use Rattle.clv_base.specs.declared.modes.Anchor.TheVariants.{At}
 use Rattle.clv_base.specs.declared.modes.Holder.{Holder}
 use Rattle.clv_base.specs.declared.modes.Mode.{Mode}
 use Rattle.clv_base.specs.declared.modes.Part.{Part}
-use Rattle.clv_base.specs.declared.modes.Part.TheVariants.{I, X}
 use Rattle.clv_base.specs.Orders.{tx_same, tx_in}
 use Rattle.clv_base.specs.Locks.{Locks, row_cmp, with_mode, take_one, close_holder, close_locks}
-use Rattle.clv_base.specs.Restarts.{restored_locks}
-use Rattle.shard_restoring.specs.Opened.{open_lock, with_update, open_locks, close_each}
+use Rattle.clv_base.specs.Logs.{StandingUpdate}
+use Rattle.clv_base.specs.Restarts.{restored_locks, part_of}
+use Rattle.shard_restoring.specs.Opened.{open_lock, open_locks, close_each}
 use Rattle.law_base.proofs.Names.{shut_lock}
 
 -- ---- one transaction's locks are closed
@@ -84,33 +82,17 @@ taken_shut ts tx k part locks = at (tx_in tx ts) (each_shuts ts tx part)
     at true shuts = each_take ts (At k) (open_lock tx part) locks ∙ ap (λ h. take_one (At k) h (close_each ts locks)) (shuts refl)
     at false shuts = refl
 
-shut_open : (ts : List TxId) (log : List LogRecord) (locks : Locks) → close_each ts (open_locks ts log locks) ≡ restored_locks ts log (close_each ts locks)
+shut_open : (ts : List TxId) (ws : List StandingUpdate) (locks : Locks) → close_each ts (open_locks ts ws locks) ≡ restored_locks ts ws (close_each ts locks)
 shut_open ts [] locks = refl
-shut_open ts (Update tx k b a ∷ log) locks = shut_open ts log (cond (tx_in tx ts) (take_one (At k) (open_lock tx X) locks) locks) ∙ ap (restored_locks ts log) (taken_shut ts tx k X locks)
-shut_open ts (Clr tx u k a ∷ log) locks = shut_open ts log locks
-shut_open ts (Prepare tx home ps ∷ log) locks = shut_open ts log locks
-shut_open ts (Commit tx ps ∷ log) locks = shut_open ts log locks
-shut_open ts (Abort tx ∷ log) locks = shut_open ts log locks
-shut_open ts (End tx ∷ log) locks = shut_open ts log locks
-shut_open ts (Restart run epoch ∷ log) locks = shut_open ts log locks
-shut_open ts (Add tx k by ∷ log) locks = shut_open ts log (cond (tx_in tx ts) (take_one (At k) (open_lock tx I) locks) locks) ∙ ap (restored_locks ts log) (taken_shut ts tx k I locks)
-shut_open ts (Unadd tx u k by ∷ log) locks = shut_open ts log locks
+shut_open ts (w ∷ ws) locks =
+    shut_open ts ws (cond (tx_in w.tx ts) (take_one (At w.key) (open_lock w.tx (part_of w.change)) locks) locks) ∙ ap (restored_locks ts ws) (taken_shut ts w.tx w.key (part_of w.change) locks)
 
 -- sets with the same members
-update_alike : (ss ts : List TxId) → ((t : TxId) → tx_in t ss ≡ tx_in t ts) → (r : LogRecord) (locks : Locks) → with_update ss r locks ≡ with_update ts r locks
-update_alike ss ts same (Update tx k b a) locks = ap (λ c. cond c (take_one (At k) (open_lock tx X) locks) locks) (same tx)
-update_alike ss ts same (Clr tx u k a) locks = refl
-update_alike ss ts same (Prepare tx home ps) locks = refl
-update_alike ss ts same (Commit tx ps) locks = refl
-update_alike ss ts same (Abort tx) locks = refl
-update_alike ss ts same (End tx) locks = refl
-update_alike ss ts same (Restart run epoch) locks = refl
-update_alike ss ts same (Add tx k by) locks = ap (λ c. cond c (take_one (At k) (open_lock tx I) locks) locks) (same tx)
-update_alike ss ts same (Unadd tx u k by) locks = refl
-
-open_alike : (ss ts : List TxId) → ((t : TxId) → tx_in t ss ≡ tx_in t ts) → (log : List LogRecord) (locks : Locks) → open_locks ss log locks ≡ open_locks ts log locks
+open_alike : (ss ts : List TxId) → ((t : TxId) → tx_in t ss ≡ tx_in t ts) → (ws : List StandingUpdate) (locks : Locks) → open_locks ss ws locks ≡ open_locks ts ws locks
 open_alike ss ts same [] locks = refl
-open_alike ss ts same (r ∷ log) locks = open_alike ss ts same log (with_update ss r locks) ∙ ap (open_locks ts log) (update_alike ss ts same r locks)
+open_alike ss ts same (w ∷ ws) locks =
+    open_alike ss ts same ws (cond (tx_in w.tx ss) (take_one (At w.key) (open_lock w.tx (part_of w.change)) locks) locks)
+    ∙ ap (λ c. open_locks ts ws (cond c (take_one (At w.key) (open_lock w.tx (part_of w.change)) locks) locks)) (same w.tx)
 
-pub shut_restored : (ss ts : List TxId) → ((t : TxId) → tx_in t ss ≡ tx_in t ts) → (log : List LogRecord) → close_each ts (open_locks ss log []) ≡ restored_locks ts log []
-shut_restored ss ts same log = ap (close_each ts) (open_alike ss ts same log []) ∙ shut_open ts log [] ∙ ap (restored_locks ts log) (close_none ts)
+pub shut_restored : (ss ts : List TxId) → ((t : TxId) → tx_in t ss ≡ tx_in t ts) → (ws : List StandingUpdate) → close_each ts (open_locks ss ws []) ≡ restored_locks ts ws []
+shut_restored ss ts same ws = ap (close_each ts) (open_alike ss ts same ws []) ∙ shut_open ts ws [] ∙ ap (restored_locks ts ws) (close_none ts)

@@ -21,7 +21,7 @@ use Rattle.txn_core.proofs.Laws.{count_owed_fewer}
 use Rattle.shard_restoring.proofs.Updates.{restored_away}
 use Rattle.law_base.proofs.Names.{restored_there, own_in}
 use Rattle.law_base.proofs.Lists.{all_mono}
-use Rattle.law_base.proofs.Logs.{has_update, restored_have, standing_updates, locks_hold, ghosts_there}
+use Rattle.law_base.proofs.Logs.{has_write_at, each_write_at, restored_have, locks_hold, ghosts_there}
 
 -- ---- a lock with key I is a lock
 
@@ -61,16 +61,16 @@ module _ (shard epoch : ℕ) (log : List LogRecord) where
   here_in : (t : TxId) → is_here l t ≡ true → tx_in t txs ≡ true
   here_in t h = ⊎_elim (λ i. i) (λ o. absurd (both_ways _ (ap here_by (restored_away txs t o)) h)) (cases_Bool (tx_in t txs))
 
-  held : (w : StandingUpdate) → has_update log w.tx w.key ≡ true → IsHeld l w
+  held : (w : StandingUpdate) → has_write_at (standing log) w.tx w.key ≡ true → IsHeld l w
   held w u = λ h.
       let i = here_in w.tx h in (
-        there_by (record_at w.key l.records) (ghosts_there txs log (records_of (fold_updates (is_winner shard log) log [])) w.tx w.key i u),
-        lock_from w.tx w.key l.locks (locks_hold txs log [] w.tx w.key i u),
+        there_by (record_at w.key l.records) (ghosts_there txs (standing log) (records_of (fold_updates (is_winner shard log) log [])) w.tx w.key i u),
+        lock_from w.tx w.key l.locks (locks_hold txs (standing log) [] w.tx w.key i u),
       )
 
   pub restored_sound : (ss : List TxId) (room : ℕ) → ((t : TxId) → tx_in t ss ≡ tx_in t txs) → owed_by (λ t. tx_in t ss) log ≤ room → IsSound l room
   restored_sound ss room same enough = record {
     successors = restored_have (λ t. is_here l t ≡ true) log txs (all_mono (λ t. tx_in t txs ≡ true) (λ t. is_here l t ≡ true) in_here txs (own_in txs));
-    writes = all_mono (λ w. has_update log w.tx w.key ≡ true) (IsHeld l) held (standing log) (standing_updates log);
+    writes = all_mono (λ w. has_write_at (standing log) w.tx w.key ≡ true) (IsHeld l) held (standing log) (each_write_at (standing log));
     room = let a = count_owed_fewer (is_here l) (λ t. tx_in t ss) log (λ t h. same t ∙ here_in t h) in omega (arith, a, enough);
   }

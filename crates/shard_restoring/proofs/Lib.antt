@@ -1,6 +1,7 @@
 mod Doubted
 mod Updates
 mod Closing
+mod Opening
 mod Listed
 mod Settling
 mod Kept

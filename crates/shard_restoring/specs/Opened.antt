@@ -11,7 +11,8 @@ use Rattle.clv_base.specs.declared.modes.Part.TheVariants.{I, X}
 use Rattle.clv_base.specs.Orders.{tx_in}
 use Rattle.clv_base.specs.Modes.{on_key}
 use Rattle.clv_base.specs.Locks.{Locks, take_one, close_locks, holder_of}
-use Rattle.clv_base.specs.Restarts.{old_birth}
+use Rattle.clv_base.specs.Logs.{StandingUpdate}
+use Rattle.clv_base.specs.Restarts.{old_birth, part_of}
 
 -- a lock on a key, still active
 abbrev pub open_lock : TxId → Part → Holder
@@ -23,10 +24,10 @@ with_update txs (Update tx key before after) locks = cond (tx_in tx txs) (take_o
 with_update txs (Add tx key by) locks = cond (tx_in tx txs) (take_one (At key) (open_lock tx I) locks) locks
 with_update txs _ locks = locks
 
--- with those on the keys of all their UPDATEs and ADDs
-abbrev pub open_locks : List TxId → List LogRecord → Locks → Locks
+-- with those on the keys of these writes of them
+abbrev pub open_locks : List TxId → List StandingUpdate → Locks → Locks
 open_locks txs [] locks = locks
-open_locks txs (r ∷ log) locks = open_locks txs log (with_update txs r locks)
+open_locks txs (w ∷ ws) locks = open_locks txs ws (cond (tx_in w.tx txs) (take_one (At w.key) (open_lock w.tx (part_of w.change)) locks) locks)
 
 -- the locks of each of the transactions are closed, one after another
 abbrev pub close_each : List TxId → Locks → Locks

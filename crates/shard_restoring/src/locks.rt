@@ -1,9 +1,10 @@
 //! The locks of those in doubt.
-ghost use Rattle.std.specs.Prelude.{◌≡◌, [], OnOk, IfOk};
+ghost use Rattle.std.specs.Prelude.{◌≡◌, [], map, OnOk, IfOk};
 ghost use Rattle.clv_base.specs.declared.names.TxId.{TxId as Tx};
 ghost use Rattle.clv_base.specs.declared.modes.Anchor.TheVariants.{At};
 ghost use Rattle.clv_base.specs.Orders.{tx_in};
 ghost use Rattle.clv_base.specs.Locks.{take_one};
+ghost use Rattle.clv_base.specs.Logs.{standing};
 ghost use Rattle.clv_base.specs.Restarts.{restored_locks};
 ghost use Rattle.shard_restoring.specs.Opened.{open_lock, with_update, open_locks, close_each};
 
@@ -12,7 +13,7 @@ use clv_base::logs::LogRecord;
 use clv_base::modes::{Anchor, Mode, Need, Part};
 use clv_base::names::TxId;
 use lock_table::{Locks, Memory};
-use log_analysis::TxSet;
+use log_analysis::{TxSet, standing_lsns};
 use std::alloc::Global;
 
 /// Takes a part on a record.
@@ -51,14 +52,38 @@ fn take_update<L: Locks>(locks: &mut L, doubtful: &TxSet, found: &LogRecord) -> 
     Ok(())
 }
 
-/// So on the keys of all UPDATEs and ADDs of these.
-fn take_updates<L: Locks>(locks: &mut L, doubtful: &TxSet, log: &[LogRecord]) -> Result<(), Memory>
-    ensures { OnOk result (L.rows locks.new ≡ open_locks doubtful.now log.now (L.rows locks.old)) }
+/// So on the keys of all writes of these that stand, at these LSNs.
+fn take_updates<L: Locks>(
+    locks: &mut L,
+    doubtful: &TxSet,
+    log: &[LogRecord],
+    lsns: &[u64],
+) -> Result<(), Memory>
+    requires { lsns.now ≡ map (λ w. w.lsn) (standing log.now) }
+    ensures { OnOk result (L.rows locks.new ≡ open_locks doubtful.now (standing log.now) (L.rows locks.old)) }
 {
-    for found in log {
-        take_update(locks, doubtful, found)?;
+    for lsn in lsns {
+        take_update(locks, doubtful, &log[*lsn as usize])?;
     }
     Ok(())
+}
+
+/// The same, by the log alone, which isn't looked at where these are none.
+fn take_standing<L: Locks>(
+    alloc: Global,
+    locks: &mut L,
+    doubtful: &TxSet,
+    log: &[LogRecord],
+) -> Result<(), Memory>
+    ensures { OnOk result (L.rows locks.new ≡ open_locks doubtful.now (standing log.now) (L.rows locks.old)) }
+{
+    if doubtful.is_empty() {
+        return Ok(());
+    }
+    let Ok(lsns) = standing_lsns(alloc, log) else {
+        return Err(Memory);
+    };
+    take_updates(locks, doubtful, log, &lsns)
 }
 
 /// The locks of the transactions are closed. Takes no memory.
@@ -70,8 +95,8 @@ fn close_all<L: Locks>(locks: &mut L, txs: &[TxId])
     }
 }
 
-/// The locks of the transactions, which are those of the set, closed: key I on each key that they only added to, key X on each other one that
-/// they wrote.
+/// The locks of the transactions, which are those of the set, closed: on the key of each of their writes that stand, key I where they only added
+/// there, else key X.
 pub(crate) fn locks_of<L: Locks + Drop>(
     alloc: Global,
     txs: &[TxId],
@@ -79,10 +104,10 @@ pub(crate) fn locks_of<L: Locks + Drop>(
     log: &[LogRecord],
 ) -> Result<L, Memory>
     requires { (t : Tx) → tx_in t doubtful.now ≡ tx_in t txs.now }
-    ensures { IfOk result (λ locks. L.rows locks ≡ restored_locks txs.now log.now []) }
+    ensures { IfOk result (λ locks. L.rows locks ≡ restored_locks txs.now (standing log.now) []) }
 {
     let mut locks = L::empty(alloc)?;
-    take_updates(&mut locks, doubtful, log)?;
+    take_standing(alloc, &mut locks, doubtful, log)?;
     close_all(&mut locks, txs);
     Ok(locks)
 }

@@ -1,13 +1,13 @@
 //! The transactions of a shard after a restart.
-ghost use Rattle.std.specs.Prelude.{◌≡◌, ◌≤◌, ◌+◌, [], true, length, map, OnOk, IfOk};
+ghost use Rattle.std.specs.Prelude.{◌≡◌, ◌≤◌, ◌+◌, [], true, map, length, OnOk, IfOk, if◌then◌else◌};
 ghost use Rattle.std.specs.List.{filter, list_all};
 ghost use Rattle.std.specs.List.Sorted.{IsStrictlySortedBy};
 ghost use Rattle.clv_base.specs.declared.names.TxId.{TxId as Tx};
 ghost use Rattle.clv_base.specs.FileRules.{has_spelling};
-ghost use Rattle.clv_base.specs.Logs.{in_doubt as in_doubt_in, wrote_in};
-ghost use Rattle.clv_base.specs.Orders.{tx_in, tx_cmp, pair_cmp};
+ghost use Rattle.clv_base.specs.Logs.{in_doubt as in_doubt_in, has_standing, standing};
+ghost use Rattle.clv_base.specs.Orders.{tx_in, tx_same, tx_cmp, pair_cmp};
 ghost use Rattle.clv_base.specs.Restarts.{homes_of, local_after, restored_locks, restored_pairs, restored_parts};
-ghost use Rattle.txn_core.specs.Sound.{is_update_by, owed_by, updates_by};
+ghost use Rattle.txn_core.specs.Sound.{owed_by};
 ghost use Rattle.txn_core.specs.State.{AreSettled};
 
 use crate::deps::deps_of;
@@ -25,49 +25,39 @@ use std::alloc::{AllocError, Global};
 use tx_table::PartTable;
 use txn_core::ShardTx;
 
-/// Whether a record is an UPDATE or ADD of one of these.
-fn is_update(doubtful: &TxSet, found: &LogRecord) -> bool
-    ensures { result ≡ is_update_by (λ t. tx_in t doubtful.now) found.now }
+/// How many records the undo of a transaction may write: a CLR or UNADD for each of its writes that stand, and an ABORT where there is one.
+fn owed_to_one(buffer: &LogBuffer<LogRecord>, tx: TxId) -> Result<usize, AllocError>
+    ensures { IfOk result (λ count. count ≡ length (filter (λ w. tx_same tx w.tx) (standing buffer.now.records)) + (if has_standing buffer.now.records tx then 1 else 0)) }
 {
-    match found {
-        LogRecord::Update { tx, .. } | LogRecord::Add { tx, .. } => doubtful.contains(*tx),
-        _ => false,
+    let clrs = buffer.standing_writes(tx);
+    if buffer.has_standing(tx) {
+        return clrs.checked_add(1).ok_or(AllocError);
     }
+    Ok(clrs)
 }
 
-/// How many UPDATEs and ADDs of these the log has.
-fn count_updates(doubtful: &TxSet, log: &[LogRecord]) -> usize
-    ensures { result ≡ updates_by (λ t. tx_in t doubtful.now) log.now }
+/// So of these together.
+fn owed_to(buffer: &LogBuffer<LogRecord>, txs: &[TxId]) -> Result<usize, AllocError>
+    requires { IsStrictlySortedBy tx_cmp txs.now }
+    ensures { IfOk result (λ count. count ≡ owed_by (λ t. tx_in t txs.now) buffer.now.records) }
 {
-    log.iter()
-        .filter(|found| is_update(doubtful, found))
-        .count()
+    let mut count: usize = 0;
+    for tx in txs {
+        let own = owed_to_one(buffer, *tx)?;
+        count = count.checked_add(own).ok_or(AllocError)?;
+    }
+    Ok(count)
 }
 
-/// How many of these transactions have an UPDATE or ADD.
-fn count_writers(buffer: &LogBuffer<LogRecord>, txs: &[TxId]) -> usize
-    ensures { result ≡ length (filter (wrote_in buffer.now.records) txs.now) }
-{
-    txs.iter().filter(|tx| buffer.wrote(**tx)).count()
-}
-
-/// Makes room for a CLR or UNADD for each write of these, and an ABORT for each that wrote. They are given as a list and as a set.
-fn reserve_undo(
-    buffer: &mut LogBuffer<LogRecord>,
-    txs: &[TxId],
-    doubtful: &TxSet,
-) -> Result<(), AllocError>
-    requires { (t : Tx) → tx_in t doubtful.now ≡ tx_in t txs.now }
-    ensures ok { OnOk result (owed_by (λ t. tx_in t doubtful.now) buffer.old.records ≤ buffer.new.room) }
+/// Makes room for these.
+fn reserve_undo(buffer: &mut LogBuffer<LogRecord>, txs: &[TxId]) -> Result<(), AllocError>
+    requires { IsStrictlySortedBy tx_cmp txs.now }
+    ensures ok { OnOk result (owed_by (λ t. tx_in t txs.now) buffer.old.records ≤ buffer.new.room) }
     ensures records { buffer.new.records ≡ buffer.old.records }
     ensures fronts { (buffer.new.durable ≡ buffer.old.durable) × (buffer.new.taken ≡ buffer.old.taken) }
 {
-    let clrs = count_updates(doubtful, buffer.records(0, buffer.end()));
-    let aborts = count_writers(buffer, txs);
-    let Some(room) = clrs.checked_add(aborts) else {
-        return Err(AllocError);
-    };
-    buffer.reserve(room)
+    let count = owed_to(buffer, txs)?;
+    buffer.reserve(count)
 }
 
 /// Those in doubt, as a list and as a set.
@@ -109,7 +99,7 @@ fn left_of<L: Locks + Drop>(
     requires same { (t : Tx) → tx_in t doubtful.now ≡ tx_in t txs.now }
     requires rising { IsStrictlySortedBy tx_cmp txs.now }
     requires pairs { IsStrictlySortedBy pair_cmp pairs.now }
-    ensures locks { IfOk result (λ m. L.rows m.locks ≡ restored_locks txs.now log.now []) }
+    ensures locks { IfOk result (λ m. L.rows m.locks ≡ restored_locks txs.now (standing log.now) []) }
     ensures parts { IfOk result (λ m. m.parts.entries ≡ restored_parts txs.now) }
     ensures pairs { IfOk result (λ m. m.deps.pairs ≡ pairs.now) }
     ensures settled { IfOk result (λ m. AreSettled m.deps.commits log.now) }
@@ -133,7 +123,7 @@ fn left_in<L: Locks + Drop>(
 ) -> Result<Left<L>, Memory>
     requires rising { IsStrictlySortedBy tx_cmp (map (λ d. d.0) in_doubt.now) }
     requires pairs { IsStrictlySortedBy pair_cmp pairs.now }
-    ensures locks { IfOk result (λ m. L.rows m.locks ≡ restored_locks (map (λ d. d.0) in_doubt.now) buffer.old.records []) }
+    ensures locks { IfOk result (λ m. L.rows m.locks ≡ restored_locks (map (λ d. d.0) in_doubt.now) (standing buffer.old.records) []) }
     ensures parts { IfOk result (λ m. m.parts.entries ≡ restored_parts (map (λ d. d.0) in_doubt.now)) }
     ensures pairs { IfOk result (λ m. m.deps.pairs ≡ pairs.now) }
     ensures settled { IfOk result (λ m. AreSettled m.deps.commits buffer.old.records) }
@@ -142,7 +132,7 @@ fn left_in<L: Locks + Drop>(
     ensures fronts { (buffer.new.durable ≡ buffer.old.durable) × (buffer.new.taken ≡ buffer.old.taken) }
 {
     let doubtful = doubtful_of(alloc, in_doubt)?;
-    let Ok(()) = reserve_undo(buffer, &doubtful.txs, &doubtful.set) else {
+    let Ok(()) = reserve_undo(buffer, &doubtful.txs) else {
         return Err(Memory);
     };
     let log = buffer.records(0, buffer.end());

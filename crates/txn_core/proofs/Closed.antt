@@ -13,7 +13,7 @@ use Rattle.clv_base.specs.declared.state.Stage.TheVariants.{Active}
 use Rattle.clv_base.specs.declared.state.Held.{Held}
 use Rattle.clv_base.specs.Orders.{Table, tx_same, tx_in, anchor_same}
 use Rattle.clv_base.specs.Facts.{undecided_of}
-use Rattle.clv_base.specs.Logs.{wrote_in, StandingUpdate, standing, standing_from}
+use Rattle.clv_base.specs.Logs.{has_standing, StandingUpdate, standing, standing_from}
 use Rattle.clv_base.specs.Locks.{Locks, close_locks}
 use Rattle.clv_base.specs.Needs.{Records, is_locked_or_live, without_ghosts}
 use Rattle.clv_base.specs.State.{Local, is_present}
@@ -28,7 +28,6 @@ use Rattle.cascade_undo.proofs.Laws.{all_mono}
 use Rattle.shard_ops.specs.Ghosts.{GhostsAreLocked}
 use Rattle.txn_core.specs.State.{TxState}
 use Rattle.txn_core.specs.Sound.{is_here, has_lock, IsHeld, owed_by, IsSound, SpendsSpare, UsesSpare}
-use Rattle.txn_core.proofs.Writers.{NoUpdate}
 use Rattle.txn_core.proofs.Owing.{owed-still, count_owed_fewer}
 use Rattle.txn_core.proofs.Undoing.{lock_is_held, release_keeps, all_filter}
 use Rattle.law_base.proofs.Bools.{not_true as not_false}
@@ -37,19 +36,18 @@ use Rattle.law_base.proofs.Bools.{not_true as not_false}
 
 pub record Plain (more : List LogRecord) : Type 0 where
   pub standing : (n : ℕ) (ws : List StandingUpdate) → standing_from n more ws ≡ ws
-  pub updates : NoUpdate more
 
 pub plain_commit : (tx : TxId) (parts : List ℕ) → Plain (Commit tx parts ∷ [])
-plain_commit tx parts = record { standing = λ n ws. refl; updates = λ test. refl }
+plain_commit tx parts = record { standing = λ n ws. refl }
 
 pub plain_prepare : (tx : TxId) (home : ℕ) (ps : List TxId) → Plain (Prepare tx home ps ∷ [])
-plain_prepare tx home ps = record { standing = λ n ws. refl; updates = λ test. refl }
+plain_prepare tx home ps = record { standing = λ n ws. refl }
 
 pub plain_end : (tx : TxId) → Plain (End tx ∷ [])
-plain_end tx = record { standing = λ n ws. refl; updates = λ test. refl }
+plain_end tx = record { standing = λ n ws. refl }
 
 plain_none : Plain []
-plain_none = record { standing = λ n ws. refl; updates = λ test. refl }
+plain_none = record { standing = λ n ws. refl }
 
 pub plain_closing : (wrote one : Bool) (tx : TxId) (home : ℕ) (us : List TxId) → Plain (closing wrote one tx home us)
 plain_closing true true tx home [] = plain_commit tx []
@@ -67,12 +65,12 @@ changed l locks parts more = record { records = l.records; locks = locks; parts 
 module _ (l : Local) (locks : Locks) (parts : Table Held) (more : List LogRecord) (plain : Plain more) (here : (t : TxId) → is_here (changed l locks parts more) t ≡ is_here l t) where
   pub spare_plain : owed_by (is_here (changed l locks parts more)) (l.log ++ more) ≤ owed_by (is_here l) l.log
   spare_plain =
-      let a = owed-still (is_here (changed l locks parts more)) l.log more plain.updates in
+      let a = owed-still (is_here (changed l locks parts more)) l.log more (standing_plain l.log more plain) in
       let b = count_owed_fewer (is_here (changed l locks parts more)) (is_here l) l.log (λ t h. sym (here t) ∙ h) in omega (arith, a, b)
 
   pub back_plain : owed_by (is_here l) l.log ≤ owed_by (is_here (changed l locks parts more)) (l.log ++ more)
   back_plain =
-      let a = owed-still (is_here (changed l locks parts more)) l.log more plain.updates in
+      let a = owed-still (is_here (changed l locks parts more)) l.log more (standing_plain l.log more plain) in
       let b = count_owed_fewer (is_here l) (is_here (changed l locks parts more)) l.log (λ t h. here t ∙ h) in omega (arith, a, b)
 
   pairs_again : (ps : List (TxId × TxId)) → AllByRecursion (λ p. is_here l p.0 ≡ true) ps → AllByRecursion (λ p. is_here (changed l locks parts more) p.0 ≡ true) ps
@@ -119,15 +117,15 @@ closed_ghosts tx locks rs h = ghosts_alike tx locks rs ∙ h
 
 pub closed_fewer : (l : Local) (tx : TxId) (home : ℕ) (one : Bool) → stage_of l tx ≡ Some Active → owed_by (is_here (close_part tx home one l)) (close_part tx home one l).log ≤ owed_by (is_here l) l.log
 closed_fewer l tx home one active =
-    spare_plain l (close_locks tx l.locks) (closed_in tx l.parts) (closing (wrote_in l.log tx) one tx home (undecided_of l tx)) (plain_closing (wrote_in l.log tx) one tx home (undecided_of l tx)) (closed_here l tx active)
+    spare_plain l (close_locks tx l.locks) (closed_in tx l.parts) (closing (has_standing l.log tx) one tx home (undecided_of l tx)) (plain_closing (has_standing l.log tx) one tx home (undecided_of l tx)) (closed_here l tx active)
 
 pub closed_back : (l : Local) (tx : TxId) (home : ℕ) (one : Bool) → stage_of l tx ≡ Some Active → owed_by (is_here l) l.log ≤ owed_by (is_here (close_part tx home one l)) (close_part tx home one l).log
 closed_back l tx home one active =
-    back_plain l (close_locks tx l.locks) (closed_in tx l.parts) (closing (wrote_in l.log tx) one tx home (undecided_of l tx)) (plain_closing (wrote_in l.log tx) one tx home (undecided_of l tx)) (closed_here l tx active)
+    back_plain l (close_locks tx l.locks) (closed_in tx l.parts) (closing (has_standing l.log tx) one tx home (undecided_of l tx)) (plain_closing (has_standing l.log tx) one tx home (undecided_of l tx)) (closed_here l tx active)
 
 pub closed_sound : (l : Local) (tx : TxId) (home : ℕ) (one : Bool) (spare left : ℕ) → stage_of l tx ≡ Some Active → IsSound l spare → owed_by (is_here l) l.log ≤ left → IsSound (close_part tx home one l) left
 closed_sound l tx home one spare left active sound room =
-    sound_plain l (close_locks tx l.locks) (closed_in tx l.parts) (closing (wrote_in l.log tx) one tx home (undecided_of l tx)) (plain_closing (wrote_in l.log tx) one tx home (undecided_of l tx)) (closed_here l tx active)
+    sound_plain l (close_locks tx l.locks) (closed_in tx l.parts) (closing (has_standing l.log tx) one tx home (undecided_of l tx)) (plain_closing (has_standing l.log tx) one tx home (undecided_of l tx)) (closed_here l tx active)
     spare left (λ t k h. closed_locks_keep tx t k l.locks h) sound room
 
 -- ---- a part that is finished
@@ -167,7 +165,7 @@ uses_like n s t m parts log h =
 -- ---- a record more
 
 pub more_owed : (l : Local) (more : List LogRecord) → Plain more → owed_by (is_here (record l { log = l.log ++ more })) (l.log ++ more) ≡ owed_by (is_here l) l.log
-more_owed l more plain = owed-still (is_here l) l.log more plain.updates
+more_owed l more plain = owed-still (is_here l) l.log more (standing_plain l.log more plain)
 
 pub more_sound : (l : Local) (more : List LogRecord) (spare left : ℕ) → Plain more → IsSound l spare → owed_by (is_here l) l.log ≤ left → IsSound (record l { log = l.log ++ more }) left
 more_sound l more spare left plain sound room = sound_plain l l.locks l.parts more plain (λ t. refl) spare left (λ t k h. h) sound room

@@ -1,7 +1,7 @@
 -- How many of a list pass a test.
 use Rattle.std.proofs.Common.{◌≡◌, ◌+◌, ◌≤◌, Bool, true, false, cond, not, ◌&&◌, ◌||◌, List, [], ◌∷◌, length, refl, sym, ap, ◌∙◌, arith}
-use Rattle.std.proofs.lemmas.Bool.{both_ways}
-use Rattle.std.specs.List.{filter}
+use Rattle.std.proofs.lemmas.Bool.{both_ways, false_from_ne_true}
+use Rattle.std.specs.List.{AllByRecursion, filter}
 use Rattle.std.specs.List.Sorted.{IsStrictlySortedBy}
 use Rattle.clv_base.specs.declared.names.TxId.{TxId}
 use Rattle.clv_base.specs.Orders.{tx_cmp, tx_same, tx_in}
@@ -43,6 +43,26 @@ module _ {A : Type 0} where
       at false true false f g h = absurd (both_ways false refl (g refl))
       at false false true f g h = omega arith
       at false false false f g h = omega arith
+
+-- of these a stricter test passes no more
+pub count-within : {A : Type 0} (p q : A → Bool) (xs : List A) → AllByRecursion (λ x. p x ≡ true → q x ≡ true) xs → length (filter p xs) ≤ length (filter q xs)
+count-within p q [] h = omega arith
+count-within p q (x ∷ xs) h = let a = count-first p x xs in let b = count-first q x xs in let more = count-within p q xs h.1 in let one = at (p x) (q x) h.0 in omega (arith, a, b, more, one)
+  where
+    at : (a b : Bool) → (a ≡ true → b ≡ true) → one_if a ≤ one_if b
+    at true true h = omega arith
+    at true false h = absurd (both_ways false refl (h refl))
+    at false true h = omega arith
+    at false false h = omega arith
+
+-- of those that are kept as many pass, where all that pass are kept
+pub count-kept : {A : Type 0} (p keep : A → Bool) (xs : List A) → ((x : A) → p x ≡ true → keep x ≡ true) → length (filter p (filter keep xs)) ≡ length (filter p xs)
+count-kept p keep [] h = refl
+count-kept p keep (x ∷ xs) h = let a = count-first p x xs in let more = count-kept p keep xs h in let one = at (keep x) (h x) in omega (arith, a, more, one)
+  where
+    at : (b : Bool) → (p x ≡ true → b ≡ true) → length (filter p (cond b (x ∷ filter keep xs) (filter keep xs))) ≡ one_if (p x) + length (filter p (filter keep xs))
+    at true h = count-first p x (filter keep xs)
+    at false h = let none = ap one_if (false_from_ne_true (p x) (λ e. both_ways false refl (h e))) in omega (arith, none)
 
 -- two tests of which one passes wherever a third does pass together no less than that
 pub count-covered : {A : Type 0} (p q r : A → Bool) (xs : List A) → ((x : A) → r x ≡ true → p x ≡ false → q x ≡ true) → length (filter r xs) ≤ length (filter p xs) + length (filter q xs)

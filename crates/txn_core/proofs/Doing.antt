@@ -1,8 +1,7 @@
 -- What is granted leaves a state of which all can still be taken away.
-use Rattle.std.proofs.Common.{◌≡◌, ℕ, suc, ◌+◌, ◌≤◌, ◌⊎◌, inl, inr, ⊎_elim, Bool, true, false, cond, ◌&&◌, ◌||◌, ◌==◌, List, [], ◌∷◌, length, zero, Option, Some, None, is_none, is_some, refl, sym, ap, subst, ◌∙◌, arith}
-use Rattle.std.specs.Prelude.{slice_get}
+use Rattle.std.proofs.Common.{◌≡◌, ℕ, ◌+◌, ◌≤◌, ◌⊎◌, inl, inr, ⊎_elim, Bool, true, false, cond, ◌&&◌, ◌||◌, ◌==◌, List, [], ◌∷◌, length, Option, Some, None, is_none, is_some, refl, sym, ap, subst, ◌∙◌, arith}
 use Rattle.std.proofs.lemmas.Bool.{both_ways, cases_Bool, cond-true, false_from_ne_true}
-use Rattle.std.specs.List.{AllByRecursion, list_any}
+use Rattle.std.specs.List.{AllByRecursion}
 use Rattle.std.specs.BTreeSet.{insert_key}
 use Rattle.std.specs.declared.cmp.Ordering.{Ordering}
 use Rattle.std.specs.declared.cmp.Ordering.TheVariants.{Less, Equal, Greater}
@@ -25,26 +24,24 @@ use Rattle.clv_base.specs.Orders.{tx_same, tx_get, pair_cmp, pair_insert, anchor
 use Rattle.clv_base.specs.declared.changes.Change.{Change}
 use Rattle.clv_base.specs.declared.changes.Change.TheVariants.{Sets, Adds}
 use Rattle.clv_base.specs.declared.values.Value.TheVariants.{Num, Bytes}
-use Rattle.clv_base.specs.Logs.{StandingUpdate, standing, standing_after, wrote_in, is_update_of}
+use Rattle.clv_base.specs.Logs.{StandingUpdate, standing, standing_after, has_standing}
 use Rattle.clv_base.specs.Locks.{Locks, take_all, split_gap}
 use Rattle.clv_base.specs.Needs.{Records, found_at, found_by, is_there, live_of, record_set, needs_of, needs_by, inserts, writes_of}
 use Rattle.clv_base.specs.State.{Local, is_present}
 use Rattle.clv_base.specs.Undo.{stage_of}
 use Rattle.clv_base.specs.OneShard.{update_of, new_part, active_part, add_pairs}
-use Rattle.clv_base.proofs.SameNames.{or_left, or_right, tx_true, tx_self, tx_flip}
+use Rattle.clv_base.proofs.SameNames.{or_left, tx_true, tx_self, tx_flip}
 use Rattle.law_base.proofs.Cells.{record_at}
 use Rattle.law_base.proofs.Tables.{get_put, stage_in, stage_by as stage_at}
 use Rattle.law_base.proofs.Anchors.{record_at_set}
-use Rattle.law_base.proofs.Undoing.{standing_append}
+use Rattle.law_base.proofs.Standing.{all_stand, standing_append}
 use Rattle.law_base.proofs.LockRows.{holds, asks, need_asks, anchor_self, all_keeps, all_gives, split_keeps}
 use Rattle.law_base.proofs.Stages.{other_part}
-use Rattle.cascade_undo.proofs.Laws.{IsIn, in_log}
 use Rattle.shard_ops.specs.declared.plan.Insert.{Insert}
 use Rattle.shard_ops.specs.declared.plan.Write.{Write}
 use Rattle.shard_ops.specs.Planned.{insert_by, write_by, insert_of, write_of}
 use Rattle.shard_ops.specs.Effects.{performed_by, locks_after, records_after, log_after, new_key, record_count, CanSet, CanWrite}
-use Rattle.txn_core.specs.Sound.{is_here, has_lock, IsHeld, owed_by, owed_more, IsSound, may_work, has_need, IsCovered}
-use Rattle.txn_core.proofs.Writers.{own_update}
+use Rattle.txn_core.specs.Sound.{is_here, has_lock, IsHeld, owed_by, owed_for, owed_more, IsSound, may_work, has_need, IsCovered}
 use Rattle.txn_core.proofs.Owing.{owed-one, owed-own, owed_of_others, count_owed_fewer}
 use Rattle.txn_core.proofs.Undoing.{lock_is_held}
 use Rattle.law_base.proofs.Lists.{all_both, all_mono as all_weaker}
@@ -89,16 +86,6 @@ all_insert_key R P k (x ∷ xs) h a = at (R k x) (all_insert_key R P k xs h a.1)
 all_add : (P : TxId × TxId → Type 0) (tx : TxId) (ps : List TxId) (pairs : List (TxId × TxId)) → ((p : TxId) → P (tx, p)) → AllByRecursion P pairs → AllByRecursion P (add_pairs tx ps pairs)
 all_add P tx [] pairs h a = a
 all_add P tx (p ∷ ps) pairs h a = all_add P tx ps (pair_insert (tx, p) pairs) h (all_insert_key pair_cmp P (tx, p) pairs (h p) a)
-
--- ---- the log tells who wrote
-
-any_at : (f : LogRecord → Bool) (log : List LogRecord) (n : ℕ) (r : LogRecord) → slice_get log n ≡ Some r → f r ≡ true → list_any f log ≡ true
-any_at f [] n r e h = absurd cc
-any_at f (x ∷ xs) zero r e h = let same : x ≡ r = cc in or_left _ _ (ap f same ∙ h)
-any_at f (x ∷ xs) (suc n) r e h = or_right (f x) _ (any_at f xs n r e h)
-
-wrote_by : (log : List LogRecord) (w : StandingUpdate) → IsIn log w → wrote_in log w.tx ≡ true
-wrote_by log w i = any_at (is_update_of w.tx) log w.lsn (update_of w.tx w.key w.change) i (own_update w.tx w.tx w.key w.change ∙ tx_self w.tx)
 
 -- ---- records and locks stay
 
@@ -175,20 +162,20 @@ module _ (tx : TxId) (birth : Birth) (needs : List Need) (insert : Option Insert
   here_keeps m u h = ⊎_elim (λ s. subst (λ x. is_here after x ≡ true) (sym (tx_true u tx s)) (own_here m)) (λ n. others u n ∙ h) (cases_Bool (tx_same u tx))
 
   abbrev Known : Type 0
-  Known = (is_here l tx ≡ true) ⊎ (wrote_in l.log tx ≡ false)
+  Known = (is_here l tx ≡ true) ⊎ (has_standing l.log tx ≡ false)
 
-  held_still : Known → (w : StandingUpdate) → IsHeld l w × IsIn l.log w → IsHeld after w
+  held_still : Known → (w : StandingUpdate) → IsHeld l w × (has_standing l.log w.tx ≡ true) → IsHeld after w
   held_still known w h here =
       let before : is_here l w.tx ≡ true =
       ⊎_elim
       (λ s. let name = tx_true w.tx tx s in
-      ⊎_elim (λ k. subst (λ x. is_here l x ≡ true) (sym name) k) (λ n. absurd (both_ways _ n (subst (λ x. wrote_in l.log x ≡ true) name (wrote_by l.log w h.1)))) known)
+      ⊎_elim (λ k. subst (λ x. is_here l x ≡ true) (sym name) k) (λ n. absurd (both_ways _ n (subst (λ x. has_standing l.log x ≡ true) name h.1))) known)
       (λ n. sym (others w.tx n) ∙ here) (cases_Bool (tx_same w.tx tx)) in
       let held = h.0 before in
       (after_keeps write w.key l.records held.0, lock_stays tx birth needs l.locks insert w.tx w.key held.1)
 
   standing_still : Known → AllByRecursion (IsHeld l) (standing l.log) → AllByRecursion (IsHeld after) (standing l.log)
-  standing_still known a = all_weaker (λ w. IsHeld l w × IsIn l.log w) (IsHeld after) (held_still known) (standing l.log) (all_both (IsHeld l) (IsIn l.log) (standing l.log) a (in_log l.log))
+  standing_still known a = all_weaker (λ w. IsHeld l w × (has_standing l.log w.tx ≡ true)) (IsHeld after) (held_still known) (standing l.log) (all_both (IsHeld l) (λ w. has_standing l.log w.tx ≡ true) (standing l.log) a (all_stand l.log))
 
   owed_before : Known → owed_by (is_here after) l.log ≤ owed_by (is_here l) l.log
   owed_before known =
@@ -204,30 +191,33 @@ stands_then : (n : ℕ) (tx : TxId) (key : ℕ) (c : Change) (ws : List Standing
 stands_then n tx key (Sets b a) ws = refl
 stands_then n tx key (Adds by) ws = refl
 
+one_more : (tx : TxId) (w : Write) (log : List LogRecord) → standing (log_after tx (Some w) log) ≡ record { lsn = 0 + length log; tx = tx; key = w.key; change = w.change } ∷ standing log
+one_more tx w log = standing_append 0 log (update_of tx w.key w.change ∷ []) [] ∙ stands_then (0 + length log) tx w.key w.change (standing log)
+
 written_all : (P : StandingUpdate → Type 0) (tx : TxId) (write : Option Write) (log : List LogRecord) → AllByRecursion P (standing log)
     → ((w : Write) → write ≡ Some w → (n : ℕ) → P (record { lsn = n; tx = tx; key = w.key; change = w.change })) → AllByRecursion P (standing (log_after tx write log))
 written_all P tx None log a new = a
 written_all P tx (Some w) log a new =
-    subst (AllByRecursion P) (sym (standing_append 0 log (update_of tx w.key w.change ∷ []) [] ∙ stands_then (0 + length log) tx w.key w.change (standing log))) (new w refl (0 + length log), a)
+    subst (AllByRecursion P) (sym (one_more tx w log)) (new w refl (0 + length log), a)
 
-owed_written : (test : TxId → Bool) (tx : TxId) (write : Option Write) (log : List LogRecord) → owed_by test (log_after tx write log) ≤ owed_by test log + owed_more (wrote_in log tx) write
+owed_written : (test : TxId → Bool) (tx : TxId) (write : Option Write) (log : List LogRecord) → owed_by test (log_after tx write log) ≤ owed_by test log + owed_more (has_standing log tx) write
 owed_written test tx None log = omega arith
-owed_written test tx (Some w) log = owed-one test log tx w.key w.change
+owed_written test tx (Some w) log = let e = ap (owed_for test) (one_more tx w log) in let a = owed-one test (record { lsn = 0 + length log; tx = tx; key = w.key; change = w.change }) (standing log) in omega (arith, e, a)
 
-owed_own : (test : TxId → Bool) (tx : TxId) (write : Option Write) (log : List LogRecord) → test tx ≡ true → owed_by test log + owed_more (wrote_in log tx) write ≤ owed_by test (log_after tx write log)
+owed_own : (test : TxId → Bool) (tx : TxId) (write : Option Write) (log : List LogRecord) → test tx ≡ true → owed_by test log + owed_more (has_standing log tx) write ≤ owed_by test (log_after tx write log)
 owed_own test tx None log own = omega arith
-owed_own test tx (Some w) log own = owed-own test log tx w.key w.change own
+owed_own test tx (Some w) log own = let e = ap (owed_for test) (one_more tx w log) in let a = owed-own test (record { lsn = 0 + length log; tx = tx; key = w.key; change = w.change }) (standing log) own in omega (arith, e, a)
 
 -- what is reserved beyond the undo of the parts that are here stays so
 pub spare_performed : (tx : TxId) (birth : Birth) (needs : List Need) (insert : Option Insert) (write : Option Write) (preds : List TxId) (l : Local) (spare left : ℕ)
-    → (is_here l tx ≡ true) ⊎ (wrote_in l.log tx ≡ false) → spare + owed_more (wrote_in l.log tx) write ≤ left
+    → (is_here l tx ≡ true) ⊎ (has_standing l.log tx ≡ false) → spare + owed_more (has_standing l.log tx) write ≤ left
     → spare + owed_by (is_here (performed_by tx birth needs insert write preds l)) (log_after tx write l.log) ≤ left + owed_by (is_here l) l.log
 spare_performed tx birth needs insert write preds l spare left known room =
     let a = owed_before tx birth needs insert write preds l known in let b = owed_written (is_here (performed_by tx birth needs insert write preds l)) tx write l.log in omega (arith, a, b, room)
 
 -- nor is there more of it
 pub back_performed : (tx : TxId) (birth : Birth) (needs : List Need) (insert : Option Insert) (write : Option Write) (preds : List TxId) (l : Local) (spare left : ℕ)
-    → may_work (stage_of l tx) ≡ true → left ≤ spare + owed_more (wrote_in l.log tx) write
+    → may_work (stage_of l tx) ≡ true → left ≤ spare + owed_more (has_standing l.log tx) write
     → left + owed_by (is_here l) l.log ≤ spare + owed_by (is_here (performed_by tx birth needs insert write preds l)) (log_after tx write l.log)
 back_performed tx birth needs insert write preds l spare left work room =
     let a = count_owed_fewer (is_here l) (is_here (performed_by tx birth needs insert write preds l)) l.log (here_keeps tx birth needs insert write preds l work) in
@@ -235,8 +225,8 @@ back_performed tx birth needs insert write preds l spare left work room =
 
 -- what is done by a plan that locks what it writes
 pub sound_performed : (tx : TxId) (birth : Birth) (needs : List Need) (insert : Option Insert) (write : Option Write) (preds : List TxId) (l : Local) (spare left : ℕ)
-    → IsSound l spare → may_work (stage_of l tx) ≡ true → (is_here l tx ≡ true) ⊎ (wrote_in l.log tx ≡ false) → IsCovered needs insert write
-    → spare + owed_more (wrote_in l.log tx) write ≤ left → IsSound (performed_by tx birth needs insert write preds l) left
+    → IsSound l spare → may_work (stage_of l tx) ≡ true → (is_here l tx ≡ true) ⊎ (has_standing l.log tx ≡ false) → IsCovered needs insert write
+    → spare + owed_more (has_standing l.log tx) write ≤ left → IsSound (performed_by tx birth needs insert write preds l) left
 sound_performed tx birth needs insert write preds l spare left sound work known covered room = record {
   successors =
       all_add (λ p. is_here (performed_by tx birth needs insert write preds l) p.0 ≡ true) tx preds l.pairs (λ p. own_here tx birth needs insert write preds l work)
@@ -262,7 +252,7 @@ can_write (Some w) room rs enough can = at w.after can
 
 -- ---- what is known of a transaction that may work
 
-pub known_from : (l : Local) (tx : TxId) (stage : Option Stage) → stage ≡ stage_of l tx → may_work (stage_of l tx) ≡ true → (is_none stage && wrote_in l.log tx) ≡ false → (is_here l tx ≡ true) ⊎ (wrote_in l.log tx ≡ false)
+pub known_from : (l : Local) (tx : TxId) (stage : Option Stage) → stage ≡ stage_of l tx → may_work (stage_of l tx) ≡ true → (is_none stage && has_standing l.log tx) ≡ false → (is_here l tx ≡ true) ⊎ (has_standing l.log tx ≡ false)
 known_from l tx None same work e = inr e
 known_from l tx (Some s) same work e = inl (subst (λ o. is_present o ≡ true) same (work_here s (ap may_work same ∙ work)))
 

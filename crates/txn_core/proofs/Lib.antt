@@ -18,3 +18,4 @@ mod Roomier
 pub mod Totals
 pub mod Returning
 mod Births
+mod Backing

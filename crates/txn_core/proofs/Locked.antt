@@ -16,7 +16,7 @@ use Rattle.clv_base.specs.Logs.{StandingUpdate, standing}
 use Rattle.clv_base.specs.Locks.{Locks}
 use Rattle.clv_base.specs.Needs.{Records, found_by, is_there, record_set, is_locked_or_live}
 use Rattle.clv_base.specs.State.{Local}
-use Rattle.clv_base.specs.Undo.{undone_at, records_without}
+use Rattle.clv_base.specs.Undo.{is_of, undone_at, records_without}
 use Rattle.clv_base.specs.OneShard.{purge}
 use Rattle.clv_base.proofs.SameNames.{or_left, or_right, tx_self, nat_cmp_true}
 use Rattle.law_base.proofs.Anchors.{record_kept}
@@ -90,30 +90,42 @@ module _ (tx : TxId) (birth : Birth) (needs : List Need) (insert : Option Insert
 
 -- ---- what is undone
 
--- where no lock is, the set wrote nothing
-none_written : (set : List TxId) (k : ℕ) (locks : Locks) (ws : List StandingUpdate) → AllByRecursion (λ (w : StandingUpdate). tx_in w.tx set ≡ true → is_held_at w.key locks ≡ true) ws
-    → is_held_at k locks ≡ false → AllByRecursion (λ (w : StandingUpdate). w.key ≡ k → tx_in w.tx set ≡ false) ws
-none_written set k locks ws a free =
-    all_weaker (λ (w : StandingUpdate). tx_in w.tx set ≡ true → is_held_at w.key locks ≡ true) (λ (w : StandingUpdate). w.key ≡ k → tx_in w.tx set ≡ false)
+-- each write that goes has a lock on its record
+abbrev pub AreLocked : (StandingUpdate → Bool) → Locks → List StandingUpdate → Type 0
+AreLocked gone locks ws = AllByRecursion (λ (w : StandingUpdate). gone w ≡ true → is_held_at w.key locks ≡ true) ws
+
+-- where no lock is, none goes
+none_written : (gone : StandingUpdate → Bool) (k : ℕ) (locks : Locks) (ws : List StandingUpdate) → AreLocked gone locks ws → is_held_at k locks ≡ false → AllByRecursion (λ (w : StandingUpdate). w.key ≡ k → gone w ≡ false) ws
+none_written gone k locks ws a free =
+    all_weaker (λ (w : StandingUpdate). gone w ≡ true → is_held_at w.key locks ≡ true) (λ (w : StandingUpdate). w.key ≡ k → gone w ≡ false)
     (λ w h same. false_from_ne_true _ (λ i. both_ways _ (ap (λ j. is_held_at j locks) same ∙ free) (h i))) ws a
 
-undone_all : (set : List TxId) (ws : List StandingUpdate) (locks : Locks) (rs : Records) → AllByRecursion (λ (w : StandingUpdate). tx_in w.tx set ≡ true → is_held_at w.key locks ≡ true) ws
-    → AllStay locks rs → AllStay locks (records_without set ws rs)
-undone_all set ws locks [] held a = tt
-undone_all set ws locks (r ∷ rs) held a = (at (is_held_at r.0 locks) refl, undone_all set ws locks rs held a.1)
+undone_all : (gone : StandingUpdate → Bool) (ws : List StandingUpdate) (locks : Locks) (rs : Records) → AreLocked gone locks ws → AllStay locks rs → AllStay locks (records_without gone ws rs)
+undone_all gone ws locks [] held a = tt
+undone_all gone ws locks (r ∷ rs) held a = (at (is_held_at r.0 locks) refl, undone_all gone ws locks rs held a.1)
   where
-    at : (b : Bool) → is_held_at r.0 locks ≡ b → is_locked_or_live locks (r.0, undone_at set r.0 ws r.1) ≡ true
-    at true h = held_stays locks r.0 h (undone_at set r.0 ws r.1)
-    at false h = ap (λ v. is_locked_or_live locks (r.0, v)) (unwritten set r.0 ws r.1 (none_written set r.0 locks ws held h)) ∙ a.0
+    at : (b : Bool) → is_held_at r.0 locks ≡ b → is_locked_or_live locks (r.0, undone_at gone r.0 ws r.1) ≡ true
+    at true h = held_stays locks r.0 h (undone_at gone r.0 ws r.1)
+    at false h = ap (λ v. is_locked_or_live locks (r.0, v)) (unwritten gone r.0 ws r.1 (none_written gone r.0 locks ws held h)) ∙ a.0
 
--- an undo of parts that are here leaves ghosts alone that their locks are on
+-- an undo of parts' writes leaves ghosts alone that their locks are on
+pub back_ghosts_are_locked : (gone : StandingUpdate → Bool) (l : Local) → AllByRecursion (IsHeld l) (standing l.log) → AllByRecursion (λ w. gone w ≡ true → is_here l w.tx ≡ true) (standing l.log)
+    → GhostsAreLocked l.locks l.records → GhostsAreLocked l.locks (records_without gone (standing l.log) l.records)
+back_ghosts_are_locked gone l held here locked =
+    all_stay (is_locked_or_live l.locks) (records_without gone (standing l.log) l.records)
+    (undone_all gone (standing l.log) l.locks l.records (locks_of (standing l.log) held here) (all_pass (is_locked_or_live l.locks) l.records locked))
+  where
+    locks_of : (ws : List StandingUpdate) → AllByRecursion (IsHeld l) ws → AllByRecursion (λ w. gone w ≡ true → is_here l w.tx ≡ true) ws → AreLocked gone l.locks ws
+    locks_of [] a b = tt
+    locks_of (w ∷ ws) a b = ((λ i. lock_on w.tx w.key l.locks (a.0 (b.0 i)).1), locks_of ws a.1 b.1)
+
 pub undone_ghosts_are_locked : (set : List TxId) (l : Local) (spare : ℕ) → IsSound l spare → ((t : TxId) → tx_in t set ≡ true → is_here l t ≡ true)
-    → GhostsAreLocked l.locks l.records → GhostsAreLocked l.locks (records_without set (standing l.log) l.records)
-undone_ghosts_are_locked set l spare sound here locked =
-    all_stay (is_locked_or_live l.locks) (records_without set (standing l.log) l.records)
-    (undone_all set (standing l.log) l.locks l.records
-    (all_mono (IsHeld l) (λ (w : StandingUpdate). tx_in w.tx set ≡ true → is_held_at w.key l.locks ≡ true) (λ w h i. lock_on w.tx w.key l.locks (h (here w.tx i)).1) (standing l.log) sound.writes)
-    (all_pass (is_locked_or_live l.locks) l.records locked))
+    → GhostsAreLocked l.locks l.records → GhostsAreLocked l.locks (records_without (is_of set) (standing l.log) l.records)
+undone_ghosts_are_locked set l spare sound here locked = back_ghosts_are_locked (is_of set) l sound.writes (each (standing l.log)) locked
+  where
+    each : (ws : List StandingUpdate) → AllByRecursion (λ w. tx_in w.tx set ≡ true → is_here l w.tx ≡ true) ws
+    each [] = tt
+    each (w ∷ ws) = (here w.tx, each ws)
 
 -- ---- a purge
 

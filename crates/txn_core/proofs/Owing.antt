@@ -1,194 +1,150 @@
 -- How many records an undo writes.
-use Rattle.std.proofs.Common.{◌≡◌, ℕ, suc, ◌+◌, ◌≤◌, Bool, true, false, cond, not, ◌&&◌, List, [], ◌∷◌, ◌++◌, map, length, refl, ap, arith}
-use Rattle.std.proofs.lemmas.Bool.{both_ways, cond_both}
+use Rattle.std.proofs.Common.{◌≡◌, ℕ, ◌+◌, ◌≤◌, ⊎_elim, Bool, true, false, cond, not, ◌&&◌, ◌||◌, List, [], ◌∷◌, ◌++◌, length, refl, sym, ap, subst, ◌∙◌, arith}
+use Rattle.std.proofs.lemmas.Bool.{both_ways, cases_Bool, false_from_ne_true}
 use Rattle.std.proofs.lemmas.List.{length-map}
-use Rattle.std.specs.List.{filter}
-use Rattle.std.specs.List.Sorted.{IsStrictlySortedBy}
+use Rattle.std.specs.List.{AllByRecursion, filter}
 use Rattle.clv_base.specs.declared.names.TxId.{TxId}
 use Rattle.clv_base.specs.declared.logs.LogRecord.{LogRecord}
-use Rattle.clv_base.specs.declared.logs.LogRecord.TheVariants.{Update, Clr, Prepare, Commit, Abort, End, Restart, Add, Unadd}
-use Rattle.clv_base.specs.Orders.{tx_cmp, tx_same, tx_in}
-use Rattle.clv_base.specs.declared.changes.Change.{Change}
-use Rattle.clv_base.specs.declared.changes.Change.TheVariants.{Sets, Adds}
-use Rattle.clv_base.specs.Logs.{StandingUpdate, wrote_in, without_newest, standing_from, standing}
-use Rattle.clv_base.specs.Undo.{aborts_of, clrs_of, compensation, newest_lsn}
-use Rattle.clv_base.specs.OneShard.{update_of}
-use Rattle.cascade_undo.specs.Writes.{writes_of}
-use Rattle.txn_core.specs.Sound.{is_update_by, updates_by, writers, owed_by}
-use Rattle.txn_core.proofs.Counting.{count-first, count-fewer, count-apart, count-covered, in_set}
-use Rattle.txn_core.proofs.Writers.{NoUpdate, update_passes, wrote_at_most, writers-still, writers-one, writers_of_others}
-use Rattle.law_base.proofs.Numbers.{one_if, one_at_most}
+use Rattle.clv_base.specs.declared.logs.LogRecord.TheVariants.{Abort}
+use Rattle.clv_base.specs.Orders.{tx_same, tx_in}
+use Rattle.clv_base.specs.Logs.{StandingUpdate, has_standing, standing, writers}
+use Rattle.clv_base.specs.Undo.{aborts_of, clrs_of}
+use Rattle.law_base.specs.Undone.{stays_by, stays_of}
+use Rattle.clv_base.proofs.SameNames.{tx_true}
 use Rattle.law_base.proofs.Bools.{none_or}
+use Rattle.law_base.proofs.Numbers.{one_if}
+use Rattle.law_base.proofs.Sets.{Rise}
+use Rattle.law_base.proofs.Standing.{has_filter, has_write}
+use Rattle.law_base.proofs.Undoing.{standing_undone}
+use Rattle.cascade_undo.specs.Writes.{writes_of}
+use Rattle.txn_core.specs.Sound.{owed_by, owed_for, writers_by, writes_by}
+use Rattle.txn_core.proofs.Counting.{count-first, count-fewer, count-apart, count-covered, count-kept, count-within, in_set}
+use Rattle.txn_core.proofs.Writers.{none_own, writers_alike, writers_gone, writers_of_others, writers_one, wrote_at_most}
 
--- ---- CLRs
+-- an undo of a set writes a CLR or UNADD for each of the set's standing writes, and an ABORT for each of the set that has one
+pub undo_at_most : (set : List TxId) (log : List LogRecord) → Rise set → length (aborts_of log set) + length (writes_of set (standing log)) ≤ owed_by (in_set set) log
+undo_at_most set log s = let a = wrote_at_most set (standing log) s in let c = length-map (filter (has_standing log) set) (λ t. Abort t) in omega (arith, a, c)
 
-fewer_without : (set : List TxId) (t : TxId) (ws : List StandingUpdate) → length (writes_of set (without_newest t ws)) ≤ length (writes_of set ws)
-fewer_without set t [] = omega arith
-fewer_without set t (w ∷ ws) =
-    let b = count-first (λ (v : StandingUpdate). tx_in v.tx set) w ws in
-    cond_both (tx_same t w.tx) ws (w ∷ without_newest t ws) (λ l. length (writes_of set l) ≤ length (writes_of set (w ∷ ws))) (λ e. omega (arith, b))
-    (λ e. let a = count-first (λ (v : StandingUpdate). tx_in v.tx set) w (without_newest t ws) in let more = fewer_without set t ws in omega (arith, a, b, more))
-
-stand_at_most : (set : List TxId) (n : ℕ) (log : List LogRecord) (ws : List StandingUpdate) → length (writes_of set (standing_from n log ws)) ≤ updates_by (in_set set) log + length (writes_of set ws)
-stand_at_most set n [] ws = omega arith
-stand_at_most set n (Update tx key before after ∷ rs) ws =
-    let a = count-first (is_update_by (in_set set)) (Update tx key before after) rs in
-    let w : StandingUpdate = record { lsn = n; tx = tx; key = key; change = Sets before after } in
-    let b = count-first (λ (v : StandingUpdate). tx_in v.tx set) w ws in let more = stand_at_most set (suc n) rs (w ∷ ws) in omega (arith, a, b, more)
-stand_at_most set n (Clr tx undo_next key after ∷ rs) ws = let more = stand_at_most set (suc n) rs (without_newest tx ws) in let less = fewer_without set tx ws in omega (arith, more, less)
-stand_at_most set n (Prepare tx home predecessors ∷ rs) ws = stand_at_most set (suc n) rs ws
-stand_at_most set n (Commit tx parts ∷ rs) ws = stand_at_most set (suc n) rs ws
-stand_at_most set n (Abort tx ∷ rs) ws = stand_at_most set (suc n) rs ws
-stand_at_most set n (End tx ∷ rs) ws = stand_at_most set (suc n) rs ws
-stand_at_most set n (Restart run epoch ∷ rs) ws = stand_at_most set (suc n) rs ws
-stand_at_most set n (Add tx key by ∷ rs) ws =
-    let a = count-first (is_update_by (in_set set)) (Add tx key by) rs in
-    let w : StandingUpdate = record { lsn = n; tx = tx; key = key; change = Adds by } in
-    let b = count-first (λ (v : StandingUpdate). tx_in v.tx set) w ws in let more = stand_at_most set (suc n) rs (w ∷ ws) in omega (arith, a, b, more)
-stand_at_most set n (Unadd tx undo_next key by ∷ rs) ws = let more = stand_at_most set (suc n) rs (without_newest tx ws) in let less = fewer_without set tx ws in omega (arith, more, less)
-
--- an undo of a set writes at most a CLR or UNADD for each of the set's UPDATEs and ADDs, and an ABORT for each of the set that wrote
-pub undo_at_most : (set : List TxId) (log : List LogRecord) → IsStrictlySortedBy tx_cmp set
-    → length (aborts_of log set) + length (writes_of set (standing log)) ≤ owed_by (in_set set) log
-undo_at_most set log s =
-    let a = wrote_at_most set log s in let b = stand_at_most set 0 log [] in let c = length-map (filter (wrote_in log) set) (λ t. Abort t) in omega (arith, a, b, c)
-
--- ---- the log after it
-
-updates-append : (test : TxId → Bool) (xs ys : List LogRecord) → updates_by test (xs ++ ys) ≡ updates_by test xs + updates_by test ys
-updates-append test [] ys = omega arith
-updates-append test (x ∷ xs) ys = let a = count-first (is_update_by test) x (xs ++ ys) in let b = count-first (is_update_by test) x xs in let more = updates-append test xs ys in omega (arith, a, b, more)
-
--- no more by records that are no UPDATEs or ADDs
-pub owed-still : (test : TxId → Bool) (log more : List LogRecord) → NoUpdate more → owed_by test (log ++ more) ≡ owed_by test log
-owed-still test log more h = let a = updates-append test log more in let b = h test in let c = writers-still test log more h in omega (arith, a, b, c)
-
--- two more by the first UPDATE or ADD of a transaction, one by each later one
-pub owed-one : (test : TxId → Bool) (log : List LogRecord) (tx : TxId) (k : ℕ) (change : Change)
-    → owed_by test (log ++ update_of tx k change ∷ []) ≤ owed_by test log + cond (wrote_in log tx) 1 2
-owed-one test log tx k change =
-    let a = updates-append test log (update_of tx k change ∷ []) in let b = count-first (is_update_by test) (update_of tx k change) [] in let c = one_at_most (test tx) in
-    let p = ap one_if (update_passes test tx k change) in
-    let d = writers-one test tx k change log in let e = at (wrote_in log tx) (test tx) in omega (arith, a, b, c, d, e, p)
-  where
-    at : (b t : Bool) → one_if (not b && t) + 1 ≤ cond b 1 2
-    at true t = omega arith
-    at false t = let one = one_at_most t in omega (arith, one)
-
--- and no fewer where the transaction passes
-pub owed-own : (test : TxId → Bool) (log : List LogRecord) (tx : TxId) (k : ℕ) (change : Change) → test tx ≡ true
-    → owed_by test log + cond (wrote_in log tx) 1 2 ≤ owed_by test (log ++ update_of tx k change ∷ [])
-owed-own test log tx k change own =
-    let a = updates-append test log (update_of tx k change ∷ []) in let b = count-first (is_update_by test) (update_of tx k change) [] in let c = ap one_if own in
-    let p = ap one_if (update_passes test tx k change) in
-    let d = writers-one test tx k change log in let e = at (wrote_in log tx) (test tx) own in omega (arith, a, b, c, d, e, p)
-  where
-    at : (b t : Bool) → t ≡ true → cond b 1 2 ≤ one_if (not b && t) + 1
-    at true true e = omega arith
-    at true false e = absurd (both_ways false refl e)
-    at false true e = omega arith
-    at false false e = absurd (both_ways false refl e)
-
-none_aborts : (test : TxId → Bool) (ts : List TxId) → updates_by test (map (λ t. Abort t) ts) ≡ 0
-none_aborts test [] = refl
-none_aborts test (t ∷ ts) = none_aborts test ts
-
-none_clrs : (test : TxId → Bool) (set : List TxId) (ws : List StandingUpdate) → updates_by test (clrs_of set ws) ≡ 0
-none_clrs test set [] = refl
-none_clrs test set (w ∷ ws) =
-    cond_both (tx_in w.tx set) (compensation w.tx (newest_lsn w.tx ws) w.key w.change ∷ clrs_of set ws) (clrs_of set ws) (λ l. updates_by test l ≡ 0) (λ e. at w.change (none_clrs test set ws)) (λ e. none_clrs test set ws)
-  where
-    at : (c : Change) → updates_by test (clrs_of set ws) ≡ 0 → updates_by test (compensation w.tx (newest_lsn w.tx ws) w.key c ∷ clrs_of set ws) ≡ 0
-    at (Sets before after) more = more
-    at (Adds by) more = more
-
-pub owed-undone : (test : TxId → Bool) (set : List TxId) (ws : List StandingUpdate) (log : List LogRecord) → owed_by test (log ++ aborts_of log set ++ clrs_of set ws) ≡ owed_by test log
-owed-undone test set ws log =
-    let a = owed-still test (log ++ aborts_of log set) (clrs_of set ws) (λ t. none_clrs t set ws) in
-    let b = owed-still test log (aborts_of log set) (λ t. none_aborts t (filter (wrote_in log) set)) in omega (arith, a, b)
-
--- ---- UPDATEs and ADDs by tests of their transactions
-
-by_test : (p q : TxId → Bool) → ((t : TxId) → p t ≡ true → q t ≡ true) → (r : LogRecord) → is_update_by p r ≡ true → is_update_by q r ≡ true
-by_test p q h (Update tx key before after) e = h tx e
-by_test p q h (Clr tx undo_next key after) e = absurd (both_ways false refl e)
-by_test p q h (Prepare tx home predecessors) e = absurd (both_ways false refl e)
-by_test p q h (Commit tx parts) e = absurd (both_ways false refl e)
-by_test p q h (Abort tx) e = absurd (both_ways false refl e)
-by_test p q h (End tx) e = absurd (both_ways false refl e)
-by_test p q h (Restart run epoch) e = absurd (both_ways false refl e)
-by_test p q h (Add tx key by) e = h tx e
-by_test p q h (Unadd tx undo_next key by) e = absurd (both_ways false refl e)
-
-by_other : (p q : TxId → Bool) → ((t : TxId) → p t ≡ true → q t ≡ false) → (r : LogRecord) → is_update_by p r ≡ true → is_update_by q r ≡ false
-by_other p q h (Update tx key before after) e = h tx e
-by_other p q h (Clr tx undo_next key after) e = refl
-by_other p q h (Prepare tx home predecessors) e = refl
-by_other p q h (Commit tx parts) e = refl
-by_other p q h (Abort tx) e = refl
-by_other p q h (End tx) e = refl
-by_other p q h (Restart run epoch) e = refl
-by_other p q h (Add tx key by) e = h tx e
-by_other p q h (Unadd tx undo_next key by) e = refl
-
-by_either : (p q r : TxId → Bool) → ((t : TxId) → r t ≡ true → p t ≡ false → q t ≡ true) → (e : LogRecord) → is_update_by r e ≡ true → is_update_by p e ≡ false → is_update_by q e ≡ true
-by_either p q r h (Update tx key before after) a b = h tx a b
-by_either p q r h (Clr tx undo_next key after) a b = a
-by_either p q r h (Prepare tx home predecessors) a b = a
-by_either p q r h (Commit tx parts) a b = a
-by_either p q r h (Abort tx) a b = a
-by_either p q r h (End tx) a b = a
-by_either p q r h (Restart run epoch) a b = a
-by_either p q r h (Add tx key by) a b = h tx a b
-by_either p q r h (Unadd tx undo_next key by) a b = a
+-- ---- by tests of transactions
 
 -- by a stricter test no more is owed
 pub count_owed_fewer : (p q : TxId → Bool) (log : List LogRecord) → ((t : TxId) → p t ≡ true → q t ≡ true) → owed_by p log ≤ owed_by q log
 count_owed_fewer p q log h =
-    let a = count-fewer (is_update_by p) (is_update_by q) log (by_test p q h) in let b = count-fewer p q (writers log) h in omega (arith, a, b)
+    let a = count-fewer (λ (w : StandingUpdate). p w.tx) (λ w. q w.tx) (standing log) (λ w. h w.tx) in let b = count-fewer p q (writers (standing log)) h in omega (arith, a, b)
 
 -- by two tests that exclude each other no more than by a wider one
 pub count_owed_apart : (p q r : TxId → Bool) (log : List LogRecord) → ((t : TxId) → p t ≡ true → r t ≡ true) → ((t : TxId) → q t ≡ true → r t ≡ true) → ((t : TxId) → p t ≡ true → q t ≡ false)
     → owed_by p log + owed_by q log ≤ owed_by r log
 count_owed_apart p q r log f g h =
-    let a = count-apart (is_update_by p) (is_update_by q) (is_update_by r) log (by_test p r f) (by_test q r g) (by_other p q h) in
-    let b = count-apart p q r (writers log) f g h in omega (arith, a, b)
+    let a = count-apart (λ (w : StandingUpdate). p w.tx) (λ w. q w.tx) (λ w. r w.tx) (standing log) (λ w. f w.tx) (λ w. g w.tx) (λ w. h w.tx) in
+    let b = count-apart p q r (writers (standing log)) f g h in omega (arith, a, b)
 
 -- by two tests of which one passes wherever a third does, no less than by that
 pub count_owed_covered : (p q r : TxId → Bool) (log : List LogRecord) → ((t : TxId) → r t ≡ true → p t ≡ false → q t ≡ true) → owed_by r log ≤ owed_by p log + owed_by q log
 count_owed_covered p q r log h =
-    let a = count-covered (is_update_by p) (is_update_by q) (is_update_by r) log (by_either p q r h) in let b = count-covered p q r (writers log) h in omega (arith, a, b)
+    let a = count-covered (λ (w : StandingUpdate). p w.tx) (λ w. q w.tx) (λ w. r w.tx) (standing log) (λ w. h w.tx) in let b = count-covered p q r (writers (standing log)) h in omega (arith, a, b)
 
-updates_of_others : (tx : TxId) (p q : TxId → Bool) (log : List LogRecord) → wrote_in log tx ≡ false → ((t : TxId) → tx_same tx t ≡ false → p t ≡ true → q t ≡ true) → updates_by p log ≤ updates_by q log
-updates_of_others tx p q [] e h = omega arith
-updates_of_others tx p q (Update t key before after ∷ rs) e h =
-    let parts = none_or (tx_same tx t) (wrote_in rs tx) e in let more = updates_of_others tx p q rs parts.1 h in
-    let a = count-first (is_update_by p) (Update t key before after) rs in let b = count-first (is_update_by q) (Update t key before after) rs in
-    let c = fewer (p t) (q t) (h t parts.0) in omega (arith, a, b, c, more)
+-- to one of whom nothing stands nothing is owed
+pub owed_of_others : (tx : TxId) (p q : TxId → Bool) (log : List LogRecord) → has_standing log tx ≡ false → ((t : TxId) → tx_same tx t ≡ false → p t ≡ true → q t ≡ true) → owed_by p log ≤ owed_by q log
+owed_of_others tx p q log e h =
+    let a = count-within (λ (w : StandingUpdate). p w.tx) (λ w. q w.tx) (standing log) (all_by (standing log) (none_own tx (standing log) e)) in
+    let b = writers_of_others tx p q (standing log) e h in omega (arith, a, b)
   where
-    fewer : (a b : Bool) → (a ≡ true → b ≡ true) → one_if a ≤ one_if b
-    fewer true true h = omega arith
-    fewer true false h = absurd (both_ways false refl (h refl))
-    fewer false true h = omega arith
-    fewer false false h = omega arith
-updates_of_others tx p q (Clr t undo_next key after ∷ rs) e h = updates_of_others tx p q rs e h
-updates_of_others tx p q (Prepare t home predecessors ∷ rs) e h = updates_of_others tx p q rs e h
-updates_of_others tx p q (Commit t parts ∷ rs) e h = updates_of_others tx p q rs e h
-updates_of_others tx p q (Abort t ∷ rs) e h = updates_of_others tx p q rs e h
-updates_of_others tx p q (End t ∷ rs) e h = updates_of_others tx p q rs e h
-updates_of_others tx p q (Restart run epoch ∷ rs) e h = updates_of_others tx p q rs e h
-updates_of_others tx p q (Add t key by ∷ rs) e h =
-    let parts = none_or (tx_same tx t) (wrote_in rs tx) e in let more = updates_of_others tx p q rs parts.1 h in
-    let a = count-first (is_update_by p) (Add t key by) rs in let b = count-first (is_update_by q) (Add t key by) rs in
-    let c = fewer (p t) (q t) (h t parts.0) in omega (arith, a, b, c, more)
-  where
-    fewer : (a b : Bool) → (a ≡ true → b ≡ true) → one_if a ≤ one_if b
-    fewer true true h = omega arith
-    fewer true false h = absurd (both_ways false refl (h refl))
-    fewer false true h = omega arith
-    fewer false false h = omega arith
-updates_of_others tx p q (Unadd t undo_next key by ∷ rs) e h = updates_of_others tx p q rs e h
+    all_by : (ws : List StandingUpdate) → AllByRecursion (λ w. tx_same tx w.tx ≡ false) ws → AllByRecursion (λ w. p w.tx ≡ true → q w.tx ≡ true) ws
+    all_by [] a = tt
+    all_by (w ∷ ws) a = (h w.tx a.0, all_by ws a.1)
 
--- to one that wrote nothing nothing is owed
-pub owed_of_others : (tx : TxId) (p q : TxId → Bool) (log : List LogRecord) → wrote_in log tx ≡ false → ((t : TxId) → tx_same tx t ≡ false → p t ≡ true → q t ≡ true) → owed_by p log ≤ owed_by q log
-owed_of_others tx p q log e h = let a = updates_of_others tx p q log e h in let b = writers_of_others tx p q log e h in omega (arith, a, b)
+-- ---- the log after it
+
+-- by records that leave what stands no more and no less is owed
+pub owed-still : (test : TxId → Bool) (log more : List LogRecord) → standing (log ++ more) ≡ standing log → owed_by test (log ++ more) ≡ owed_by test log
+owed-still test log more e = ap (owed_for test) e
+
+-- nor by the undo of those that don't pass
+pub owed-undone : (test : TxId → Bool) (set : List TxId) (log : List LogRecord) → ((t : TxId) → test t ≡ true → tx_in t set ≡ false) → owed_by test (log ++ aborts_of log set ++ clrs_of set (standing log)) ≡ owed_by test log
+owed-undone test set log out =
+    let e = ap (owed_for test) (standing_undone set log) in
+    let a = count-kept (λ (w : StandingUpdate). test w.tx) (stays_of set) (standing log) (λ w h. ap not (out w.tx h)) in
+    let b = writers_alike test (filter (stays_of set) (standing log)) (standing log) (λ t h. has_filter (λ u. not (tx_in u set)) (standing log) t ∙ ap (λ c. not c && has_write (standing log) t) (out t h)) in
+    omega (arith, e, a, b)
+
+-- ---- a write more
+
+-- two more by the first standing write of a transaction, one by each later one
+pub owed-one : (test : TxId → Bool) (w : StandingUpdate) (ws : List StandingUpdate) → owed_for test (w ∷ ws) ≤ owed_for test ws + cond (has_write ws w.tx) 1 2
+owed-one test w ws =
+    let a = count-first (λ (v : StandingUpdate). test v.tx) w ws in let b = writers_one test w ws in let c = at (has_write ws w.tx) (test w.tx) in omega (arith, a, b, c)
+  where
+    at : (x p : Bool) → one_if p + one_if (not x && p) ≤ cond x 1 2
+    at true true = omega arith
+    at true false = omega arith
+    at false true = omega arith
+    at false false = omega arith
+
+-- and no less for one that passes
+pub owed-own : (test : TxId → Bool) (w : StandingUpdate) (ws : List StandingUpdate) → test w.tx ≡ true → owed_for test ws + cond (has_write ws w.tx) 1 2 ≤ owed_for test (w ∷ ws)
+owed-own test w ws own =
+    let a = count-first (λ (v : StandingUpdate). test v.tx) w ws in let b = writers_one test w ws in let passes = ap one_if own in
+    let c = at (has_write ws w.tx) (test w.tx) own in omega (arith, a, b, c, passes)
+  where
+    at : (x p : Bool) → p ≡ true → cond x 1 2 ≤ 1 + one_if (not x && p)
+    at x false e = absurd (both_ways false refl e)
+    at true true e = omega arith
+    at false true e = omega arith
+
+-- ---- writes that are taken back
+
+-- some writes of a transaction
+abbrev pub AreOf : TxId → (StandingUpdate → Bool) → List StandingUpdate → Type 0
+AreOf tx gone ws = AllByRecursion (λ w. tx_same tx w.tx ≡ false → gone w ≡ false) ws
+
+-- what isn't owed any more: a CLR or UNADD for each that goes, and an ABORT where none is left
+abbrev pub owed_less : TxId → (StandingUpdate → Bool) → List StandingUpdate → ℕ
+owed_less tx gone ws = length (filter gone ws) + one_if (has_write ws tx && not (has_write (filter (stays_by gone) ws) tx))
+
+module _ (test : TxId → Bool) (tx : TxId) (own : test tx ≡ true) (gone : StandingUpdate → Bool) where
+  writes_back : (ws : List StandingUpdate) → AreOf tx gone ws → writes_by test (filter (stays_by gone) ws) + length (filter gone ws) ≡ writes_by test ws
+  writes_back [] mine = refl
+  writes_back (w ∷ ws) mine =
+      let more = writes_back ws mine.1 in let a = count-first (λ (v : StandingUpdate). test v.tx) w ws in let b = count-first gone w ws in
+      let c = at (gone w) refl in omega (arith, more, a, b, c)
+    where
+      passes : gone w ≡ true → test w.tx ≡ true
+      passes g = ⊎_elim (λ s. ap test (sym (tx_true tx w.tx s)) ∙ own) (λ s. absurd (both_ways _ (mine.0 s) g)) (cases_Bool (tx_same tx w.tx))
+
+      at : (b : Bool) → gone w ≡ b → writes_by test (cond (not b) (w ∷ filter (stays_by gone) ws) (filter (stays_by gone) ws)) + one_if b ≡ writes_by test (filter (stays_by gone) ws) + one_if (test w.tx)
+      at true g = let p = ap one_if (passes g) in omega (arith, p)
+      at false g = let a = count-first (λ (v : StandingUpdate). test v.tx) w (filter (stays_by gone) ws) in omega (arith, a)
+
+  others_stay : (ws : List StandingUpdate) → AreOf tx gone ws → (t : TxId) → tx_same tx t ≡ false → has_write (filter (stays_by gone) ws) t ≡ has_write ws t
+  others_stay [] mine t o = refl
+  others_stay (w ∷ ws) mine t o = at (gone w) refl (others_stay ws mine.1 t o)
+    where
+      at : (b : Bool) → gone w ≡ b → has_write (filter (stays_by gone) ws) t ≡ has_write ws t → has_write (cond (not b) (w ∷ filter (stays_by gone) ws) (filter (stays_by gone) ws)) t ≡ (tx_same t w.tx || has_write ws t)
+      at true g more =
+          let other : tx_same t w.tx ≡ false = false_from_ne_true _ (λ s. both_ways _ (mine.0 (ap (tx_same tx) (sym (tx_true t w.tx s)) ∙ o)) g) in
+          more ∙ sym (ap (λ b. b || has_write ws t) other)
+      at false g more = ap (λ b. tx_same t w.tx || b) more
+
+  fewer_left : (ws : List StandingUpdate) (t : TxId) → has_write ws t ≡ false → has_write (filter (stays_by gone) ws) t ≡ false
+  fewer_left [] t e = refl
+  fewer_left (w ∷ ws) t e = let p = none_or (tx_same t w.tx) (has_write ws t) e in at (gone w) (fewer_left ws t p.1) p.0
+    where
+      at : (b : Bool) → has_write (filter (stays_by gone) ws) t ≡ false → tx_same t w.tx ≡ false → has_write (cond (not b) (w ∷ filter (stays_by gone) ws) (filter (stays_by gone) ws)) t ≡ false
+      at true more o = more
+      at false more o = ap (λ b. b || has_write (filter (stays_by gone) ws) t) o ∙ more
+
+  alike : (ws : List StandingUpdate) → AreOf tx gone ws → has_write (filter (stays_by gone) ws) tx ≡ has_write ws tx → writers_by test (filter (stays_by gone) ws) ≡ writers_by test ws
+  alike ws mine e =
+      writers_alike test (filter (stays_by gone) ws) ws
+      (λ t _. ⊎_elim (λ s. subst (λ u. has_write (filter (stays_by gone) ws) u ≡ has_write ws u) (tx_true tx t s) e) (λ o. others_stay ws mine t o) (cases_Bool (tx_same tx t)))
+
+  -- so much less is owed by each test that the transaction passes
+  pub owed-back : (ws : List StandingUpdate) → AreOf tx gone ws → owed_for test (filter (stays_by gone) ws) + owed_less tx gone ws ≡ owed_for test ws
+  owed-back ws mine = let a = writes_back ws mine in let b = at (has_write ws tx) (has_write (filter (stays_by gone) ws) tx) refl refl in omega (arith, a, b)
+    where
+      at : (s l : Bool) → has_write ws tx ≡ s → has_write (filter (stays_by gone) ws) tx ≡ l → writers_by test (filter (stays_by gone) ws) + one_if (s && not l) ≡ writers_by test ws
+      at true false s l = writers_gone test tx ws (filter (stays_by gone) ws) own s l (λ u o. others_stay ws mine u o)
+      at false true s l = absurd (both_ways _ (fewer_left ws tx s) l)
+      at true true s l = let e = alike ws mine (l ∙ sym s) in omega (arith, e)
+      at false false s l = let e = alike ws mine (l ∙ sym s) in omega (arith, e)

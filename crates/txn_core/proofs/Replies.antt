@@ -11,10 +11,10 @@ use Rattle.clv_base.specs.declared.state.Stage.TheVariants.{Active, Closed, Gone
 use Rattle.clv_base.specs.declared.modes.Decision.{Decision}
 use Rattle.clv_base.specs.declared.modes.Decision.TheVariants.{Grant as IsGranted, Wait as IsToWait, Die as IsToDie}
 use Rattle.clv_base.specs.Needs.{needs_of}
-use Rattle.clv_base.specs.Locks.{decide, violated}
+use Rattle.clv_base.specs.Locks.{decide}
 use Rattle.clv_base.specs.State.{Local, is_present}
 use Rattle.clv_base.specs.Undo.{stage_of}
-use Rattle.clv_base.specs.OneShard.{OpDies, OpCrowded, op_active, op_decided, op_granted, without_part, rolled_back_if, undecided_after, undecided_with, performed, OpAnswers}
+use Rattle.clv_base.specs.OneShard.{OpDies, OpCrowded, op_active, op_decided, op_granted, without_part, rolled_back_if, undecided_after, undecided_with, violated_here, performed, OpAnswers}
 use Rattle.cascade_undo.specs.Dependencies.{Dependencies}
 use Rattle.cascade_undo.proofs.Laws.{AreInLog, undecided_like_log}
 use Rattle.shard_ops.specs.Met.{undecided_by_grant}
@@ -41,8 +41,8 @@ more_than : (n : ℕ) → 1024 < n → nat_lt 1024 n ≡ true
 more_than n h = grind (arith, nat_tests)
 
 module _ (d : Dependencies) (l : Local) (tx : TxId) (birth : Birth) (op : Op) (pairs : d.pairs ≡ l.pairs) (settled : AreInLog d l) where
-  undecided_same : undecided_by_grant d tx (needs_of op l.records) l.locks ≡ undecided_after l tx op
-  undecided_same = undecided_like_log d l pairs settled tx (violated tx (needs_of op l.records) l.locks)
+  undecided_same : undecided_by_grant l.log d tx (needs_of op l.records) l.locks ≡ undecided_after l tx op
+  undecided_same = undecided_like_log d l pairs settled tx (violated_here l tx op)
 
   decided_as : (x : Decision) → decide tx birth (needs_of op l.records) l.locks ≡ x → op_active l tx birth op ≡ op_decided l tx birth op x
   decided_as x e = ap (op_decided l tx birth op) e
@@ -50,7 +50,7 @@ module _ (d : Dependencies) (l : Local) (tx : TxId) (birth : Birth) (op : Op) (p
   granted_as : (b : Bool) → decide tx birth (needs_of op l.records) l.locks ≡ IsGranted → nat_lt 1024 (length (undecided_after l tx op)) ≡ b → op_active l tx birth op ≡ op_granted l tx birth op b
   granted_as b e n = decided_as IsGranted e ∙ ap (op_granted l tx birth op) n
 
-  pub judged_is : (x : Decided) → may_work (stage_of l tx) ≡ true → IsDecided l.records l.locks d tx birth op x → IsJudged l tx birth op (op_active l tx birth op) (judged_by (stage_of l tx) x)
+  pub judged_is : (x : Decided) → may_work (stage_of l tx) ≡ true → IsDecided l.records l.locks l.log d tx birth op x → IsJudged l tx birth op (op_active l tx birth op) (judged_by (stage_of l tx) x)
   judged_is (GrantedSo plan preds) m h =
       let few : length (undecided_after l tx op) ≤ 1024 = subst (λ us. length us ≤ 1024) undecided_same h.3 in
       (granted_as false h.0 (at_most _ few) ∙ ap (λ a. OpAnswers a (performed tx birth op l)) (sym h.1.answer), h.1, h.2, m, subst (λ us. length (undecided_with l tx us) ≤ 1024) (sym h.2) few)

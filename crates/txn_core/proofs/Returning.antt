@@ -7,7 +7,6 @@ use Rattle.clv_base.specs.declared.logs.LogRecord.{LogRecord}
 use Rattle.clv_base.specs.declared.state.Held.{Held}
 use Rattle.clv_base.specs.declared.state.Stage.TheVariants.{Active}
 use Rattle.clv_base.specs.Orders.{Table, tx_same, tx_in}
-use Rattle.clv_base.specs.Logs.{standing}
 use Rattle.clv_base.specs.State.{Local, is_present}
 use Rattle.clv_base.specs.Undo.{stage_of, take_away, release_parts}
 use Rattle.clv_base.specs.OneShard.{marked_in, mark_dropped, close_part}
@@ -18,7 +17,7 @@ use Rattle.txn_core.specs.State.{TxState, IsSameBut}
 use Rattle.txn_core.specs.Sound.{is_here, is_in, owed_by, IsKept, KeepsSpare, SpendsSpare}
 use Rattle.txn_core.proofs.Counting.{in_set}
 use Rattle.txn_core.proofs.Owing.{count_owed_fewer, count_owed_apart, count_owed_covered, owed-undone}
-use Rattle.txn_core.proofs.Undoing.{still_here}
+use Rattle.txn_core.proofs.Undoing.{gone_here, still_here}
 use Rattle.txn_core.proofs.Closed.{finished_here, still_here as others_here, spare_finished, closed_fewer, closed_back}
 
 -- ---- an undo of a set
@@ -30,7 +29,7 @@ module _ (set : List TxId) (tx : TxId) (l : Local) where
   pub spare_back : (spare left : ℕ) → left + owed_by (in_set set) l.log ≤ spare
       → left + owed_by (is_here l) l.log ≤ spare + owed_by (is_here (take_away set tx l)) (take_away set tx l).log
   spare_back spare left room =
-      let same = owed-undone (is_here (take_away set tx l)) set (standing l.log) l.log in
+      let same = owed-undone (is_here (take_away set tx l)) set l.log (λ t h. (gone_here set tx l t h).0) in
       let cover = count_owed_covered (is_here (take_away set tx l)) (in_set set) (is_here l) l.log gone_or_here in omega (arith, same, cover, room)
 
 -- ---- a part that is finished

@@ -6,9 +6,8 @@ use Rattle.clv_base.specs.declared.logs.LogRecord.{LogRecord}
 use Rattle.clv_base.specs.declared.logs.LogRecord.TheVariants.{Abort}
 use Rattle.clv_base.specs.declared.changes.Change.{Change}
 use Rattle.clv_base.specs.declared.changes.Change.TheVariants.{Sets, Adds}
-use Rattle.clv_base.specs.Orders.{tx_in}
-use Rattle.clv_base.specs.Logs.{StandingUpdate, is_commit_of, commit_lsn, wrote_in}
-use Rattle.clv_base.specs.Undo.{aborts_of, clrs_of, newest_lsn, compensation}
+use Rattle.clv_base.specs.Logs.{StandingUpdate, is_commit_of, commit_lsn, has_standing}
+use Rattle.clv_base.specs.Undo.{is_of, aborts_of, clrs_by, clrs_of, newest_lsn, compensation}
 use Rattle.clv_base.specs.OneShard.{update_of}
 use Rattle.shard_ops.specs.declared.plan.Write.{Write}
 use Rattle.shard_ops.specs.Effects.{log_after}
@@ -28,17 +27,20 @@ aborts_alone : (t : TxId) (ts : List TxId) → list_any (is_commit_of t) (map (�
 aborts_alone t [] = refl
 aborts_alone t (u ∷ us) = aborts_alone t us
 
-clrs_alone : (t : TxId) (set : List TxId) (ws : List StandingUpdate) → list_any (is_commit_of t) (clrs_of set ws) ≡ false
-clrs_alone t set [] = refl
-clrs_alone t set (w ∷ ws) = at (tx_in w.tx set) w.change (clrs_alone t set ws)
+clrs_alone : (t : TxId) (gone : StandingUpdate → Bool) (ws : List StandingUpdate) → list_any (is_commit_of t) (clrs_by gone ws) ≡ false
+clrs_alone t gone [] = refl
+clrs_alone t gone (w ∷ ws) = at (gone w) w.change (clrs_alone t gone ws)
   where
-    at : (b : Bool) (c : Change) → list_any (is_commit_of t) (clrs_of set ws) ≡ false
-        → list_any (is_commit_of t) (cond b (compensation w.tx (newest_lsn w.tx ws) w.key c ∷ clrs_of set ws) (clrs_of set ws)) ≡ false
+    at : (b : Bool) (c : Change) → list_any (is_commit_of t) (clrs_by gone ws) ≡ false
+        → list_any (is_commit_of t) (cond b (compensation w.tx (newest_lsn w.tx ws) w.key c ∷ clrs_by gone ws) (clrs_by gone ws)) ≡ false
     at true (Sets before after) more = more
     at true (Adds by) more = more
     at false c more = more
 
+pub commit_lsn-back : (t : TxId) (gone : StandingUpdate → Bool) (ws : List StandingUpdate) (log : List LogRecord) → commit_lsn (log ++ clrs_by gone ws) t ≡ commit_lsn log t
+commit_lsn-back t gone ws log = place_from-more 0 (is_commit_of t) log (clrs_by gone ws) (clrs_alone t gone ws)
+
 pub commit_lsn-undone : (t : TxId) (set : List TxId) (ws : List StandingUpdate) (log : List LogRecord) → commit_lsn (log ++ aborts_of log set ++ clrs_of set ws) t ≡ commit_lsn log t
 commit_lsn-undone t set ws log =
-    place_from-more 0 (is_commit_of t) (log ++ aborts_of log set) (clrs_of set ws) (clrs_alone t set ws)
-    ∙ place_from-more 0 (is_commit_of t) log (aborts_of log set) (aborts_alone t (filter (wrote_in log) set))
+    commit_lsn-back t (is_of set) ws (log ++ aborts_of log set)
+    ∙ place_from-more 0 (is_commit_of t) log (aborts_of log set) (aborts_alone t (filter (has_standing log) set))

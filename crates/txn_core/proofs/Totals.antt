@@ -1,5 +1,5 @@
 -- What is owed to transactions, added up one by one.
-use Rattle.std.proofs.Common.{◌≡◌, ℕ, zero, suc, ◌+◌, ◌-◌, ◌<◌, ◌≤◌, ⊎_elim, min, Bool, true, false, not, ◌&&◌, ◌||◌, List, [], ◌∷◌, length, take, get_or, Option, Some, None, refl, sym, ap, ◌∙◌, arith}
+use Rattle.std.proofs.Common.{◌≡◌, ℕ, zero, suc, ◌+◌, ◌-◌, ◌<◌, ◌≤◌, ⊎_elim, min, Bool, true, false, ◌||◌, List, [], ◌∷◌, length, take, get_or, Option, Some, None, refl, sym, ap, ◌∙◌, arith}
 use Rattle.std.proofs.Math.Nat.{min-eq_left, min-eq_right}
 use Rattle.std.proofs.lemmas.Bool.{both_ways, cases_lt}
 use Rattle.std.specs.List.{filter}
@@ -7,28 +7,26 @@ use Rattle.std.specs.List.Sorted.{IsStrictlySortedBy}
 use Rattle.std.specs.Map.{keys_of}
 use Rattle.clv_base.specs.declared.names.TxId.{TxId}
 use Rattle.clv_base.specs.declared.logs.LogRecord.{LogRecord}
-use Rattle.clv_base.specs.declared.logs.LogRecord.TheVariants.{Update, Clr, Prepare, Commit, Abort, End, Restart, Add, Unadd}
 use Rattle.clv_base.specs.declared.state.Held.{Held}
-use Rattle.clv_base.specs.Logs.{wrote_in, is_update_of}
+use Rattle.clv_base.specs.Logs.{StandingUpdate, has_standing, standing, writers}
 use Rattle.clv_base.specs.Orders.{tx_cmp, tx_same, tx_in, tx_get}
 use Rattle.clv_base.specs.State.{Local, is_present}
 use Rattle.clv_base.proofs.SameNames.{tx_true}
 use Rattle.tx_table.specs.Parts.{is_here as here_by, parts_here}
 use Rattle.tx_table.specs.Index.{passes}
 use Rattle.tx_table.proofs.Laws.{index_has}
-use Rattle.txn_core.specs.Sound.{is_here, is_update_by, updates_by, writers, writers_by, owed_by, IsSound}
-use Rattle.txn_core.proofs.Counting.{count-first, count-unless, in_set}
+use Rattle.txn_core.specs.Sound.{is_here, writers_by, writes_by, owed_by, IsSound}
+use Rattle.txn_core.proofs.Counting.{count-first, count-fewer, one_more, one_new, in_set}
 use Rattle.txn_core.proofs.Owing.{count_owed_fewer}
+use Rattle.txn_core.proofs.Writers.{writers_in}
 use Rattle.law_base.proofs.Numbers.{one_if}
+use Rattle.law_base.proofs.Sets.{same_flip, writers_rise}
+use Rattle.law_base.proofs.Standing.{count_writes, has_write}
 use Rattle.law_base.proofs.Names.{above_not_in}
-
--- UPDATEs and ADDs of one
-abbrev pub updates_of : List LogRecord → TxId → ℕ
-updates_of log t = length (filter (is_update_of t) log)
 
 -- what is owed to one
 abbrev pub owed_of : List LogRecord → TxId → ℕ
-owed_of log t = updates_of log t + one_if (wrote_in log t)
+owed_of log t = count_writes t (standing log) + one_if (has_standing log t)
 
 -- to each of these
 abbrev pub total_of : List LogRecord → List TxId → ℕ
@@ -46,95 +44,39 @@ total_front log [] (suc i) = omega arith
 total_front log (t ∷ ts) zero = omega arith
 total_front log (t ∷ ts) (suc i) = let more = total_front log ts i in omega (arith, more)
 
--- one that isn't among the others counts for itself, by its UPDATEs and ADDs
-one_apart : (t : TxId) (ts : List TxId) (log : List LogRecord) → tx_in t ts ≡ false → updates_by (in_set (t ∷ ts)) log ≡ updates_of log t + updates_by (in_set ts) log
+-- one that isn't among the others counts for itself, by its writes
+one_apart : (t : TxId) (ts : List TxId) (ws : List StandingUpdate) → tx_in t ts ≡ false → writes_by (in_set (t ∷ ts)) ws ≡ count_writes t ws + writes_by (in_set ts) ws
 one_apart t ts [] out = refl
-one_apart t ts (Update tx key before after ∷ rs) out =
-    let a = count-first (is_update_by (in_set (t ∷ ts))) (Update tx key before after) rs in let b = count-first (is_update_of t) (Update tx key before after) rs in
-    let c = count-first (is_update_by (in_set ts)) (Update tx key before after) rs in let more = one_apart t ts rs out in
-    let one = at (tx_same t tx) (tx_in tx ts) (λ e. ap (λ x. tx_in x ts) (sym (tx_true t tx e)) ∙ out) in omega (arith, a, b, c, more, one)
+one_apart t ts (w ∷ ws) out =
+    let a = count-first (λ (v : StandingUpdate). in_set (t ∷ ts) v.tx) w ws in let b = count-first (λ (v : StandingUpdate). tx_same t v.tx) w ws in
+    let c = count-first (λ (v : StandingUpdate). in_set ts v.tx) w ws in let more = one_apart t ts ws out in
+    let one = at (tx_same t w.tx) (tx_in w.tx ts) (λ e. ap (λ x. tx_in x ts) (sym (tx_true t w.tx e)) ∙ out) in omega (arith, a, b, c, more, one)
   where
     at : (a b : Bool) → (a ≡ true → b ≡ false) → one_if (a || b) ≡ one_if a + one_if b
     at true true h = absurd (both_ways true (h refl) refl)
     at true false h = omega arith
     at false true h = omega arith
     at false false h = omega arith
-one_apart t ts (Clr tx undo_next key after ∷ rs) out = one_apart t ts rs out
-one_apart t ts (Prepare tx home predecessors ∷ rs) out = one_apart t ts rs out
-one_apart t ts (Commit tx parts ∷ rs) out = one_apart t ts rs out
-one_apart t ts (Abort tx ∷ rs) out = one_apart t ts rs out
-one_apart t ts (End tx ∷ rs) out = one_apart t ts rs out
-one_apart t ts (Restart run epoch ∷ rs) out = one_apart t ts rs out
-one_apart t ts (Add tx key by ∷ rs) out =
-    let a = count-first (is_update_by (in_set (t ∷ ts))) (Add tx key by) rs in let b = count-first (is_update_of t) (Add tx key by) rs in
-    let c = count-first (is_update_by (in_set ts)) (Add tx key by) rs in let more = one_apart t ts rs out in
-    let one = at (tx_same t tx) (tx_in tx ts) (λ e. ap (λ x. tx_in x ts) (sym (tx_true t tx e)) ∙ out) in omega (arith, a, b, c, more, one)
-  where
-    at : (a b : Bool) → (a ≡ true → b ≡ false) → one_if (a || b) ≡ one_if a + one_if b
-    at true true h = absurd (both_ways true (h refl) refl)
-    at true false h = omega arith
-    at false true h = omega arith
-    at false false h = omega arith
-one_apart t ts (Unadd tx undo_next key by ∷ rs) out = one_apart t ts rs out
 
 -- and as a writer
-one_writes : (t : TxId) (ts : List TxId) (log : List LogRecord) → tx_in t ts ≡ false → writers_by (in_set (t ∷ ts)) log ≡ one_if (wrote_in log t) + writers_by (in_set ts) log
-one_writes t ts [] out = refl
-one_writes t ts (Update tx key before after ∷ rs) out =
-    let a = count-unless (in_set (t ∷ ts)) (wrote_in rs tx) tx (writers rs) in let b = count-unless (in_set ts) (wrote_in rs tx) tx (writers rs) in let more = one_writes t ts rs out in
-    let one = at (wrote_in rs tx) (wrote_in rs t) (tx_same t tx) (tx_in tx ts) (λ e. ap (wrote_in rs) (sym (tx_true t tx e))) (λ e. ap (λ x. tx_in x ts) (sym (tx_true t tx e)) ∙ out) in
-    omega (arith, a, b, more, one)
-  where
-    at : (w v s i : Bool) → (s ≡ true → w ≡ v) → (s ≡ true → i ≡ false) → one_if (not w && (s || i)) + one_if v ≡ one_if (s || v) + one_if (not w && i)
-    at true true true i g h = omega arith
-    at true false true i g h = absurd (both_ways true (g refl) refl)
-    at false true true i g h = absurd (both_ways false refl (g refl))
-    at false false true true g h = absurd (both_ways true (h refl) refl)
-    at false false true false g h = omega arith
-    at true v false i g h = omega arith
-    at false v false i g h = omega arith
-one_writes t ts (Clr tx undo_next key after ∷ rs) out = one_writes t ts rs out
-one_writes t ts (Prepare tx home predecessors ∷ rs) out = one_writes t ts rs out
-one_writes t ts (Commit tx parts ∷ rs) out = one_writes t ts rs out
-one_writes t ts (Abort tx ∷ rs) out = one_writes t ts rs out
-one_writes t ts (End tx ∷ rs) out = one_writes t ts rs out
-one_writes t ts (Restart run epoch ∷ rs) out = one_writes t ts rs out
-one_writes t ts (Add tx key by ∷ rs) out =
-    let a = count-unless (in_set (t ∷ ts)) (wrote_in rs tx) tx (writers rs) in let b = count-unless (in_set ts) (wrote_in rs tx) tx (writers rs) in let more = one_writes t ts rs out in
-    let one = at (wrote_in rs tx) (wrote_in rs t) (tx_same t tx) (tx_in tx ts) (λ e. ap (wrote_in rs) (sym (tx_true t tx e))) (λ e. ap (λ x. tx_in x ts) (sym (tx_true t tx e)) ∙ out) in
-    omega (arith, a, b, more, one)
-  where
-    at : (w v s i : Bool) → (s ≡ true → w ≡ v) → (s ≡ true → i ≡ false) → one_if (not w && (s || i)) + one_if v ≡ one_if (s || v) + one_if (not w && i)
-    at true true true i g h = omega arith
-    at true false true i g h = absurd (both_ways true (g refl) refl)
-    at false true true i g h = absurd (both_ways false refl (g refl))
-    at false false true true g h = absurd (both_ways true (h refl) refl)
-    at false false true false g h = omega arith
-    at true v false i g h = omega arith
-    at false v false i g h = omega arith
-one_writes t ts (Unadd tx undo_next key by ∷ rs) out = one_writes t ts rs out
+one_writes : (t : TxId) (ts : List TxId) (ws : List StandingUpdate) → tx_in t ts ≡ false → writers_by (in_set (t ∷ ts)) ws ≡ one_if (has_write ws t) + writers_by (in_set ts) ws
+one_writes t ts ws out =
+    let turned = λ (x : TxId). ap (λ b. b || in_set ts x) (same_flip t x) in
+    let a = count-fewer (in_set (t ∷ ts)) (λ x. tx_same x t || in_set ts x) (writers ws) (λ x h. sym (turned x) ∙ h) in
+    let b = count-fewer (λ x. tx_same x t || in_set ts x) (in_set (t ∷ ts)) (writers ws) (λ x h. turned x ∙ h) in
+    let most = one_more t (in_set ts) (writers ws) (writers_rise ws) in let least = one_new t (in_set ts) (writers ws) out in
+    let own = ap one_if (writers_in ws t) in omega (arith, a, b, most, least, own)
 
 none_pass : {A : Type 0} (f : A → Bool) → ((x : A) → f x ≡ false) → (xs : List A) → length (filter f xs) ≡ 0
 none_pass f h [] = refl
 none_pass f h (x ∷ xs) = let a = count-first f x xs in let b = ap one_if (h x) in let more = none_pass f h xs in omega (arith, a, b, more)
 
-no_update : (r : LogRecord) → is_update_by (in_set []) r ≡ false
-no_update (Update tx key before after) = refl
-no_update (Clr tx undo_next key after) = refl
-no_update (Prepare tx home predecessors) = refl
-no_update (Commit tx parts) = refl
-no_update (Abort tx) = refl
-no_update (End tx) = refl
-no_update (Restart run epoch) = refl
-no_update (Add tx key by) = refl
-no_update (Unadd tx undo_next key by) = refl
-
 -- each of some that rise counts once
 pub total_told : (log : List LogRecord) (ts : List TxId) → IsStrictlySortedBy tx_cmp ts → total_of log ts ≡ owed_by (in_set ts) log
 unfolding IsStrictlySortedBy
-total_told log [] s = let a = none_pass (is_update_by (in_set [])) no_update log in let b = none_pass (in_set []) (λ t. refl) (writers log) in omega (arith, a, b)
+total_told log [] s = let a = none_pass (λ (w : StandingUpdate). in_set [] w.tx) (λ w. refl) (standing log) in let b = none_pass (in_set []) (λ t. refl) (writers (standing log)) in omega (arith, a, b)
 total_told log (t ∷ ts) s =
-    let more = total_told log ts s.1 in let out = above_not_in t ts s.0 in let a = one_apart t ts log out in let b = one_writes t ts log out in omega (arith, more, a, b)
+    let more = total_told log ts s.1 in let out = above_not_in t ts s.0 in let a = one_apart t ts (standing log) out in let b = one_writes t ts (standing log) out in omega (arith, more, a, b)
 
 -- no more than is owed to all, at each step of the sum
 pub total_fits : (log : List LogRecord) (ts : List TxId) (i : ℕ) → IsStrictlySortedBy tx_cmp ts → total_of log (take i ts) ≤ owed_by (in_set ts) log

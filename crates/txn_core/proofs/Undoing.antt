@@ -15,7 +15,7 @@ use Rattle.clv_base.specs.Logs.{StandingUpdate, standing}
 use Rattle.clv_base.specs.Locks.{Locks, release}
 use Rattle.clv_base.specs.Needs.{found_at, found_by, is_there}
 use Rattle.clv_base.specs.State.{Local, is_present}
-use Rattle.clv_base.specs.Undo.{aborts_of, doomed_by, doomed_here, with_successors, successors_through, undone_at, records_without, take_away}
+use Rattle.clv_base.specs.Undo.{aborts_of, doomed_by, doomed_here, with_successors, successors_through, is_of, undone_at, records_without, take_away}
 use Rattle.clv_base.specs.declared.state.Held.{Held}
 use Rattle.clv_base.specs.declared.logs.LogRecord.{LogRecord}
 use Rattle.clv_base.specs.Orders.{Table}
@@ -184,19 +184,19 @@ some_there : (v : Option ValueType) → is_there (found_by (Some v)) ≡ true
 some_there None = refl
 some_there (Some v) = refl
 
-reset_keeps : (txs : List TxId) (ws : List StandingUpdate) (k : ℕ) (o : Option (Option ValueType)) → is_there (found_by o) ≡ true → is_there (found_by (reset txs ws k o)) ≡ true
-reset_keeps txs ws k None e = e
-reset_keeps txs ws k (Some v) e = some_there (undone_at txs k ws v)
+reset_keeps : (gone : StandingUpdate → Bool) (ws : List StandingUpdate) (k : ℕ) (o : Option (Option ValueType)) → is_there (found_by o) ≡ true → is_there (found_by (reset gone ws k o)) ≡ true
+reset_keeps gone ws k None e = e
+reset_keeps gone ws k (Some v) e = some_there (undone_at gone k ws v)
 
-undo_keeps : (set : List TxId) (ws : List StandingUpdate) (k : ℕ) (l : Local) → is_there (found_at k l.records) ≡ true → is_there (found_at k (records_without set ws l.records)) ≡ true
-undo_keeps set ws k l h = ap (λ o. is_there (found_by o)) (record_undone set ws l.records k) ∙ reset_keeps set ws k (record_at k l.records) h
+pub undo_keeps : (gone : StandingUpdate → Bool) (ws : List StandingUpdate) (k : ℕ) (l : Local) → is_there (found_at k l.records) ≡ true → is_there (found_at k (records_without gone ws l.records)) ≡ true
+undo_keeps gone ws k l h = ap (λ o. is_there (found_by o)) (record_undone gone ws l.records k) ∙ reset_keeps gone ws k (record_at k l.records) h
 
 pub all_filter : {A : Type 0} (P Q : A → Type 0) (f : A → Bool) (xs : List A) → ((x : A) → P x → f x ≡ true → Q x) → AllByRecursion P xs → AllByRecursion Q (filter f xs)
 all_filter P Q f [] h a = tt
 all_filter P Q f (x ∷ xs) h a = cond_both (f x) (x ∷ filter f xs) (filter f xs) (AllByRecursion Q) (λ e. (h x a.0 e, all_filter P Q f xs h a.1)) (λ e. all_filter P Q f xs h a.1)
 
 module _ (set : List TxId) (tx : TxId) (l : Local) where
-  gone_here : (t : TxId) → is_here (take_away set tx l) t ≡ true → (tx_in t set ≡ false) × (is_here l t ≡ true)
+  pub gone_here : (t : TxId) → is_here (take_away set tx l) t ≡ true → (tx_in t set ≡ false) × (is_here l t ≡ true)
   gone_here t h =
       let out : tx_in t set ≡ false = false_from_ne_true _ (λ i. both_ways _ (own_go set (Some tx) t l.parts i) h) in
       (out, ap is_present (sym (stage_other set (Some tx) t l.parts out)) ∙ h)
@@ -208,7 +208,7 @@ module _ (set : List TxId) (tx : TxId) (l : Local) where
   pub spare_away : (spare left : ℕ) → ((t : TxId) → tx_in t set ≡ true → is_here l t ≡ true) → spare ≤ left + owed_by (in_set set) l.log
       → spare + owed_by (is_here (take_away set tx l)) (take_away set tx l).log ≤ left + owed_by (is_here l) l.log
   spare_away spare left all room =
-      let same = owed-undone (is_here (take_away set tx l)) set (standing l.log) l.log in
+      let same = owed-undone (is_here (take_away set tx l)) set l.log (λ t h. (gone_here t h).0) in
       let apart = count_owed_apart (is_here (take_away set tx l)) (in_set set) (is_here l) l.log (λ t h. (gone_here t h).1) all (λ t h. (gone_here t h).0) in omega (arith, same, apart, room)
 
   -- a set whose members were all here leaves a sound state
@@ -218,7 +218,7 @@ module _ (set : List TxId) (tx : TxId) (l : Local) where
     writes =
         subst (AllByRecursion (IsHeld (take_away set tx l))) (sym (standing_undone set l.log))
         (all_filter (IsHeld l) (IsHeld (take_away set tx l)) (stays_of set) (standing l.log)
-        (λ w h e i. let q = gone_here w.tx i in let held = h q.1 in (undo_keeps set (standing l.log) w.key l held.0, release_keeps set w.tx w.key l.locks q.0 held.1)) sound.writes);
+        (λ w h e i. let q = gone_here w.tx i in let held = h q.1 in (undo_keeps (is_of set) (standing l.log) w.key l held.0, release_keeps set w.tx w.key l.locks q.0 held.1)) sound.writes);
     room = let a = spare_away spare left all room in omega (arith, a, sound.room);
   }
 

@@ -1,235 +1,140 @@
--- How many transactions wrote in a log.
-use Rattle.std.proofs.Common.{◌≡◌, ℕ, ◌+◌, ◌≤◌, ⊎_elim, Bool, true, false, cond, not, ◌&&◌, ◌||◌, List, [], ◌∷◌, ◌++◌, length, refl, sym, ap, subst, ◌∙◌, arith}
-use Rattle.std.proofs.lemmas.Bool.{both_ways, or_cases}
-use Rattle.std.specs.List.{filter}
+-- How many transactions have a standing write.
+use Rattle.std.proofs.Common.{◌≡◌, ◌+◌, ◌≤◌, Bool, true, false, cond, not, ◌&&◌, ◌||◌, List, [], ◌∷◌, length, refl, sym, ap, ◌∙◌, arith}
+use Rattle.std.specs.List.{AllByRecursion, filter}
 use Rattle.std.specs.List.Sorted.{IsStrictlySortedBy}
-use Rattle.clv_base.specs.declared.changes.Change.{Change}
-use Rattle.clv_base.specs.declared.changes.Change.TheVariants.{Sets, Adds}
+use Rattle.std.specs.declared.cmp.Ordering.{Ordering}
+use Rattle.std.specs.declared.cmp.Ordering.TheVariants.{Less, Equal, Greater}
+use Rattle.std.specs.Ordering.{is_eq, match_ordering}
 use Rattle.clv_base.specs.declared.names.TxId.{TxId}
-use Rattle.clv_base.specs.declared.logs.LogRecord.{LogRecord}
-use Rattle.clv_base.specs.declared.logs.LogRecord.TheVariants.{Update, Clr, Prepare, Commit, Abort, End, Restart, Add, Unadd}
-use Rattle.clv_base.specs.Orders.{tx_cmp, tx_same, tx_in}
-use Rattle.clv_base.specs.Logs.{wrote_in, is_update_of}
-use Rattle.clv_base.specs.OneShard.{update_of}
-use Rattle.clv_base.proofs.SameNames.{or_right, tx_true}
-use Rattle.txn_core.specs.Sound.{is_update_by, updates_by, writers, writers_by}
-use Rattle.txn_core.proofs.Counting.{count-first, count-fewer, count-unless, one_more, one_new, in_set}
+use Rattle.clv_base.specs.Orders.{tx_cmp, tx_same, tx_in, tx_insert}
+use Rattle.clv_base.specs.Logs.{StandingUpdate, writers}
+use Rattle.clv_base.proofs.SameNames.{tx_true}
+use Rattle.law_base.proofs.Bools.{and_no, none_or}
+use Rattle.law_base.proofs.Names.{above_not_in, tx_in-insert}
 use Rattle.law_base.proofs.Numbers.{one_if}
-use Rattle.law_base.proofs.Bools.{none_or}
-use Rattle.law_base.proofs.Sets.{same_flip as same_flipped}
+use Rattle.law_base.proofs.Sets.{Rise, filter_rises, insert_rises, same_flip, same_list, tx_total, writers_rise}
+use Rattle.law_base.proofs.Standing.{has_write}
+use Rattle.txn_core.specs.Sound.{writers_by}
+use Rattle.txn_core.proofs.Counting.{count-fewer, count-first, count-within, one_more, in_set}
+
+-- ---- who they are
+
+pub writers_in : (ws : List StandingUpdate) (t : TxId) → tx_in t (writers ws) ≡ has_write ws t
+writers_in [] t = refl
+writers_in (w ∷ ws) t = tx_in-insert w.tx t (writers ws) ∙ ap (λ b. b || tx_in t (writers ws)) (same_flip w.tx t) ∙ ap (λ b. tx_same t w.tx || b) (writers_in ws t)
+
+passing_in : (f : TxId → Bool) (t : TxId) (xs : List TxId) → tx_in t (filter f xs) ≡ (f t && tx_in t xs)
+passing_in f t [] = sym (and_no (f t))
+passing_in f t (x ∷ xs) = at (f x) (tx_same x t) refl refl (passing_in f t xs)
+  where
+    at : (b c : Bool) → f x ≡ b → tx_same x t ≡ c → tx_in t (filter f xs) ≡ (f t && tx_in t xs) → tx_in t (cond b (x ∷ filter f xs) (filter f xs)) ≡ (f t && (c || tx_in t xs))
+    at true true k s more = ap (λ b. b || tx_in t (filter f xs)) s ∙ sym (ap (λ b. b && true) (ap f (sym (tx_true x t s)) ∙ k))
+    at true false k s more = ap (λ b. b || tx_in t (filter f xs)) s ∙ more
+    at false true k s more = more ∙ ap (λ b. b && tx_in t xs) (ap f (sym (tx_true x t s)) ∙ k) ∙ sym (ap (λ b. b && true) (ap f (sym (tx_true x t s)) ∙ k))
+    at false false k s more = more
+
+under : (a b c : Bool) → (a ≡ true → b ≡ c) → (a && b) ≡ (a && c)
+under true b c h = h refl
+under false b c h = refl
+
+-- those that pass are as many where the same ones of them have a write
+pub writers_alike : (test : TxId → Bool) (ws vs : List StandingUpdate) → ((t : TxId) → test t ≡ true → has_write ws t ≡ has_write vs t) → writers_by test ws ≡ writers_by test vs
+writers_alike test ws vs h =
+    ap length (same_list (filter test (writers ws)) (filter test (writers vs)) (filter_rises test (writers ws) (writers_rise ws)) (filter_rises test (writers vs) (writers_rise vs))
+    (λ t. passing_in test t (writers ws) ∙ ap (λ b. test t && b) (writers_in ws t) ∙ under (test t) (has_write ws t) (has_write vs t) (h t)
+    ∙ sym (passing_in test t (writers vs) ∙ ap (λ b. test t && b) (writers_in vs t))))
 
 -- ---- those of a set
 
--- who wrote of a set whose members rise is a writer
-pub wrote_at_most : (set : List TxId) (log : List LogRecord) → IsStrictlySortedBy tx_cmp set → length (filter (wrote_in log) set) ≤ writers_by (in_set set) log
-wrote_at_most set [] s = let e = none set in omega (arith, e)
+-- of a set whose members rise they are those of whom a write stands
+pub wrote_at_most : (set : List TxId) (ws : List StandingUpdate) → Rise set → length (filter (has_write ws) set) ≤ writers_by (in_set set) ws
+wrote_at_most set ws s =
+    let same : length (filter (has_write ws) set) ≡ writers_by (in_set set) ws = ap length (same_list (filter (has_write ws) set) (filter (in_set set) (writers ws)) (filter_rises (has_write ws) set s) (filter_rises (in_set set) (writers ws) (writers_rise ws))
+    (λ t. passing_in (has_write ws) t set ∙ turned (has_write ws t) (tx_in t set) ∙ sym (passing_in (in_set set) t (writers ws) ∙ ap (λ b. tx_in t set && b) (writers_in ws t)))) in
+    omega (arith, same)
   where
-    none : (xs : List TxId) → length (filter (wrote_in []) xs) ≡ 0
+    turned : (a b : Bool) → (a && b) ≡ (b && a)
+    turned true true = refl
+    turned true false = refl
+    turned false true = refl
+    turned false false = refl
+
+writers_wrote : (set : List TxId) (ws : List StandingUpdate) → writers_by (in_set set) ws ≤ length (filter (has_write ws) set)
+writers_wrote [] ws = let e = none (writers ws) in omega (arith, e)
+  where
+    none : (xs : List TxId) → length (filter (in_set []) xs) ≡ 0
     none [] = refl
     none (x ∷ xs) = none xs
-wrote_at_most set (Update tx key before after ∷ rs) s = at (wrote_in rs tx) refl (wrote_at_most set rs s)
+writers_wrote (t ∷ ts) ws =
+    let more = writers_wrote ts ws in let one = one_more t (in_set ts) (writers ws) (writers_rise ws) in
+    let same = count-fewer (in_set (t ∷ ts)) (λ x. tx_same x t || in_set ts x) (writers ws) (λ x h. sym (ap (λ b. b || in_set ts x) (same_flip t x)) ∙ h) in
+    let own = ap one_if (writers_in ws t) in let first = count-first (has_write ws) t ts in
+    omega (arith, more, one, same, own, first)
+
+-- ---- a write more
+
+above_less : (t x : TxId) (xs : List TxId) → tx_cmp t x ≡ Less → AllByRecursion (λ y. tx_cmp x y ≡ Less) xs → AllByRecursion (λ y. tx_cmp t y ≡ Less) xs
+above_less t x [] l a = tt
+above_less t x (y ∷ ys) l a = (tx_total.trans t x y l a.0, above_less t x ys l a.1)
+
+-- one more name counts once, where it is new and passes
+pub count-insert : (f : TxId → Bool) (t : TxId) (xs : List TxId) → Rise xs → length (filter f (tx_insert t xs)) ≡ length (filter f xs) + one_if (not (tx_in t xs) && f t)
+unfolding IsStrictlySortedBy
+count-insert f t [] s = let a = count-first f t [] in omega (arith, a)
+count-insert f t (x ∷ xs) s = at (tx_cmp t x) refl (count-insert f t xs s.1)
   where
-    at : (b : Bool) → wrote_in rs tx ≡ b → length (filter (wrote_in rs) set) ≤ writers_by (in_set set) rs
-        → length (filter (λ x. tx_same x tx || wrote_in rs x) set) ≤ length (filter (in_set set) (cond b (writers rs) (tx ∷ writers rs)))
-    at true e more =
-        let fewer = count-fewer (λ x. tx_same x tx || wrote_in rs x) (wrote_in rs) set
-        (λ x h. ⊎_elim (λ s. subst (λ y. wrote_in rs y ≡ true) (sym (tx_true x tx s)) e) (λ w. w) (or_cases (tx_same x tx) (wrote_in rs x) h)) in omega (arith, fewer, more)
-    at false e more = let a = one_more tx (wrote_in rs) set s in let b = count-first (in_set set) tx (writers rs) in omega (arith, a, b, more)
-wrote_at_most set (Clr tx undo_next key after ∷ rs) s = wrote_at_most set rs s
-wrote_at_most set (Prepare tx home predecessors ∷ rs) s = wrote_at_most set rs s
-wrote_at_most set (Commit tx parts ∷ rs) s = wrote_at_most set rs s
-wrote_at_most set (Abort tx ∷ rs) s = wrote_at_most set rs s
-wrote_at_most set (End tx ∷ rs) s = wrote_at_most set rs s
-wrote_at_most set (Restart run epoch ∷ rs) s = wrote_at_most set rs s
-wrote_at_most set (Add tx key by ∷ rs) s = at (wrote_in rs tx) refl (wrote_at_most set rs s)
+    at : (o : Ordering) → tx_cmp t x ≡ o → length (filter f (tx_insert t xs)) ≡ length (filter f xs) + one_if (not (tx_in t xs) && f t)
+        → length (filter f (match_ordering o (t ∷ x ∷ xs) (x ∷ xs) (x ∷ tx_insert t xs))) ≡ length (filter f (x ∷ xs)) + one_if (not (tx_in t (x ∷ xs)) && f t)
+    at Less o more =
+        let a = count-first f t (x ∷ xs) in
+        let new = ap (λ b. one_if (not b && f t)) (above_not_in t (x ∷ xs) (o, above_less t x xs o s.0)) in omega (arith, a, new)
+    at Equal o more = let there = ap (λ b. one_if (not (b || tx_in t xs) && f t)) (same_flip x t ∙ ap is_eq o) in omega (arith, there)
+    at Greater o more =
+        let a = count-first f x (tx_insert t xs) in let b = count-first f x xs in
+        let other = ap (λ b. one_if (not (b || tx_in t xs) && f t)) (same_flip x t ∙ ap is_eq o) in omega (arith, a, b, more, other)
+
+pub writers_one : (test : TxId → Bool) (w : StandingUpdate) (ws : List StandingUpdate) → writers_by test (w ∷ ws) ≡ writers_by test ws + one_if (not (has_write ws w.tx) && test w.tx)
+writers_one test w ws = let a = count-insert test w.tx (writers ws) (writers_rise ws) in let b = ap (λ c. one_if (not c && test w.tx)) (writers_in ws w.tx) in omega (arith, a, b)
+
+-- ---- a write fewer
+
+-- of one of whom none stands any more
+pub writers_gone : (test : TxId → Bool) (t : TxId) (ws vs : List StandingUpdate) → test t ≡ true → has_write ws t ≡ true → has_write vs t ≡ false → ((u : TxId) → tx_same t u ≡ false → has_write vs u ≡ has_write ws u)
+    → writers_by test vs + 1 ≡ writers_by test ws
+writers_gone test t ws vs own stood gone others =
+    let a = count-insert test t (writers vs) (writers_rise vs) in
+    let new = ap (λ b. one_if (not b && test t)) (writers_in vs t ∙ gone) in let passes = ap one_if own in
+    let same = ap (λ xs. length (filter test xs)) (same_list (tx_insert t (writers vs)) (writers ws) (insert_rises t (writers vs) (writers_rise vs)) (writers_rise ws)
+    (λ u. tx_in-insert t u (writers vs) ∙ ap (λ b. tx_same t u || b) (writers_in vs u) ∙ at u (tx_same t u) refl ∙ sym (writers_in ws u))) in
+    omega (arith, a, new, passes, same)
   where
-    at : (b : Bool) → wrote_in rs tx ≡ b → length (filter (wrote_in rs) set) ≤ writers_by (in_set set) rs
-        → length (filter (λ x. tx_same x tx || wrote_in rs x) set) ≤ length (filter (in_set set) (cond b (writers rs) (tx ∷ writers rs)))
-    at true e more =
-        let fewer = count-fewer (λ x. tx_same x tx || wrote_in rs x) (wrote_in rs) set
-        (λ x h. ⊎_elim (λ s. subst (λ y. wrote_in rs y ≡ true) (sym (tx_true x tx s)) e) (λ w. w) (or_cases (tx_same x tx) (wrote_in rs x) h)) in omega (arith, fewer, more)
-    at false e more = let a = one_more tx (wrote_in rs) set s in let b = count-first (in_set set) tx (writers rs) in omega (arith, a, b, more)
-wrote_at_most set (Unadd tx undo_next key by ∷ rs) s = wrote_at_most set rs s
-
--- and each writer of a set is one who wrote
-writers_wrote : (set : List TxId) (log : List LogRecord) → writers_by (in_set set) log ≤ length (filter (wrote_in log) set)
-writers_wrote set [] = omega arith
-writers_wrote set (Update tx key before after ∷ rs) = at (wrote_in rs tx) refl (writers_wrote set rs)
-  where
-    at : (b : Bool) → wrote_in rs tx ≡ b → writers_by (in_set set) rs ≤ length (filter (wrote_in rs) set)
-        → length (filter (in_set set) (cond b (writers rs) (tx ∷ writers rs))) ≤ length (filter (λ x. tx_same x tx || wrote_in rs x) set)
-    at true e more =
-        let wider = count-fewer (wrote_in rs) (λ x. tx_same x tx || wrote_in rs x) set (λ x h. or_right (tx_same x tx) (wrote_in rs x) h) in omega (arith, wider, more)
-    at false e more = let a = one_new tx (wrote_in rs) set e in let b = count-first (in_set set) tx (writers rs) in omega (arith, a, b, more)
-writers_wrote set (Clr tx undo_next key after ∷ rs) = writers_wrote set rs
-writers_wrote set (Prepare tx home predecessors ∷ rs) = writers_wrote set rs
-writers_wrote set (Commit tx parts ∷ rs) = writers_wrote set rs
-writers_wrote set (Abort tx ∷ rs) = writers_wrote set rs
-writers_wrote set (End tx ∷ rs) = writers_wrote set rs
-writers_wrote set (Restart run epoch ∷ rs) = writers_wrote set rs
-writers_wrote set (Add tx key by ∷ rs) = at (wrote_in rs tx) refl (writers_wrote set rs)
-  where
-    at : (b : Bool) → wrote_in rs tx ≡ b → writers_by (in_set set) rs ≤ length (filter (wrote_in rs) set)
-        → length (filter (in_set set) (cond b (writers rs) (tx ∷ writers rs))) ≤ length (filter (λ x. tx_same x tx || wrote_in rs x) set)
-    at true e more =
-        let wider = count-fewer (wrote_in rs) (λ x. tx_same x tx || wrote_in rs x) set (λ x h. or_right (tx_same x tx) (wrote_in rs x) h) in omega (arith, wider, more)
-    at false e more = let a = one_new tx (wrote_in rs) set e in let b = count-first (in_set set) tx (writers rs) in omega (arith, a, b, more)
-writers_wrote set (Unadd tx undo_next key by ∷ rs) = writers_wrote set rs
-
-pub writers_at_most : (test : TxId → Bool) (set : List TxId) (log : List LogRecord) → ((t : TxId) → test t ≡ true → tx_in t set ≡ true) → writers_by test log ≤ length (filter (wrote_in log) set)
-writers_at_most test set log h = let a = count-fewer test (in_set set) (writers log) h in let b = writers_wrote set log in omega (arith, a, b)
-
--- ---- records that are no UPDATEs or ADDs
-
-abbrev pub NoUpdate : List LogRecord → Type 0
-NoUpdate more = (test : TxId → Bool) → updates_by test more ≡ 0
-
-no_writer : (more : List LogRecord) → NoUpdate more → (t : TxId) → wrote_in more t ≡ false
-no_writer [] h t = refl
-no_writer (Update tx key before after ∷ rs) h t = absurd (let e = h (λ u. true) in omega (arith, e))
-no_writer (Clr tx undo_next key after ∷ rs) h t = no_writer rs h t
-no_writer (Prepare tx home predecessors ∷ rs) h t = no_writer rs h t
-no_writer (Commit tx parts ∷ rs) h t = no_writer rs h t
-no_writer (Abort tx ∷ rs) h t = no_writer rs h t
-no_writer (End tx ∷ rs) h t = no_writer rs h t
-no_writer (Restart run epoch ∷ rs) h t = no_writer rs h t
-no_writer (Add tx key by ∷ rs) h t = absurd (let e = h (λ u. true) in omega (arith, e))
-no_writer (Unadd tx undo_next key by ∷ rs) h t = no_writer rs h t
-
-no_writers : (more : List LogRecord) → NoUpdate more → writers more ≡ []
-no_writers [] h = refl
-no_writers (Update tx key before after ∷ rs) h = absurd (let e = h (λ u. true) in omega (arith, e))
-no_writers (Clr tx undo_next key after ∷ rs) h = no_writers rs h
-no_writers (Prepare tx home predecessors ∷ rs) h = no_writers rs h
-no_writers (Commit tx parts ∷ rs) h = no_writers rs h
-no_writers (Abort tx ∷ rs) h = no_writers rs h
-no_writers (End tx ∷ rs) h = no_writers rs h
-no_writers (Restart run epoch ∷ rs) h = no_writers rs h
-no_writers (Add tx key by ∷ rs) h = absurd (let e = h (λ u. true) in omega (arith, e))
-no_writers (Unadd tx undo_next key by ∷ rs) h = no_writers rs h
-
-wrote_before : (log more : List LogRecord) → NoUpdate more → (t : TxId) → wrote_in (log ++ more) t ≡ wrote_in log t
-wrote_before [] more h t = no_writer more h t
-wrote_before (r ∷ rs) more h t = ap (λ b. is_update_of t r || b) (wrote_before rs more h t)
-
-writers_before : (log more : List LogRecord) → NoUpdate more → writers (log ++ more) ≡ writers log
-writers_before [] more h = no_writers more h
-writers_before (Update tx key before after ∷ rs) more h =
-    ap (λ b. cond b (writers (rs ++ more)) (tx ∷ writers (rs ++ more))) (wrote_before rs more h tx) ∙ ap (λ ws. cond (wrote_in rs tx) ws (tx ∷ ws)) (writers_before rs more h)
-writers_before (Clr tx undo_next key after ∷ rs) more h = writers_before rs more h
-writers_before (Prepare tx home predecessors ∷ rs) more h = writers_before rs more h
-writers_before (Commit tx parts ∷ rs) more h = writers_before rs more h
-writers_before (Abort tx ∷ rs) more h = writers_before rs more h
-writers_before (End tx ∷ rs) more h = writers_before rs more h
-writers_before (Restart run epoch ∷ rs) more h = writers_before rs more h
-writers_before (Add tx key by ∷ rs) more h =
-    ap (λ b. cond b (writers (rs ++ more)) (tx ∷ writers (rs ++ more))) (wrote_before rs more h tx) ∙ ap (λ ws. cond (wrote_in rs tx) ws (tx ∷ ws)) (writers_before rs more h)
-writers_before (Unadd tx undo_next key by ∷ rs) more h = writers_before rs more h
-
-pub writers-still : (test : TxId → Bool) (log more : List LogRecord) → NoUpdate more → writers_by test (log ++ more) ≡ writers_by test log
-writers-still test log more h = ap (λ ws. length (filter test ws)) (writers_before log more h)
-
--- ---- an UPDATE or ADD more
-
-pub own_update : (t tx : TxId) (key : ℕ) (c : Change) → is_update_of t (update_of tx key c) ≡ tx_same t tx
-own_update t tx key (Sets before after) = refl
-own_update t tx key (Adds by) = refl
-
-pub update_passes : (test : TxId → Bool) (tx : TxId) (key : ℕ) (c : Change) → is_update_by test (update_of tx key c) ≡ test tx
-update_passes test tx key (Sets before after) = refl
-update_passes test tx key (Adds by) = refl
-
-one_writer : (tx : TxId) (key : ℕ) (c : Change) → writers (update_of tx key c ∷ []) ≡ tx ∷ []
-one_writer tx key (Sets before after) = refl
-one_writer tx key (Adds by) = refl
-
-module _ (test : TxId → Bool) (tx : TxId) (key : ℕ) (change : Change) where
-  abbrev with_one : List LogRecord → List LogRecord
-  with_one log = log ++ update_of tx key change ∷ []
-
-  wrote_after : (log : List LogRecord) (t : TxId) → wrote_in (with_one log) t ≡ (wrote_in log t || tx_same t tx)
-  wrote_after [] t = ap (λ b. b || false) (own_update t tx key change) ∙ or_none (tx_same t tx)
-    where
-      or_none : (b : Bool) → (b || false) ≡ b
-      or_none true = refl
-      or_none false = refl
-  wrote_after (r ∷ rs) t = ap (λ b. is_update_of t r || b) (wrote_after rs t) ∙ regroup (is_update_of t r) (wrote_in rs t) (tx_same t tx)
-    where
-      regroup : (a b c : Bool) → (a || (b || c)) ≡ ((a || b) || c)
-      regroup true b c = refl
-      regroup false b c = refl
-
-  pub writers-one : (log : List LogRecord) → writers_by test (with_one log) ≡ writers_by test log + one_if (not (wrote_in log tx) && test tx)
-  writers-one [] = let e = ap (λ l. length (filter test l)) (one_writer tx key change) in let a = count-first test tx [] in omega (arith, a, e)
-  writers-one (Update t k b a ∷ rs) =
-      let wrote = ap (λ x. length (filter test (cond x (writers (with_one rs)) (t ∷ writers (with_one rs))))) (wrote_after rs t) in
-      let now = count-unless test (wrote_in rs t || tx_same t tx) t (writers (with_one rs)) in let was = count-unless test (wrote_in rs t) t (writers rs) in
-      let more = writers-one rs in
-      let one = at (wrote_in rs t) (tx_same t tx) (tx_same tx t) (test t) (wrote_in rs tx) (test tx) (same_flipped t tx) (λ s. ap (wrote_in rs) (tx_true t tx s)) (λ s. ap test (tx_true t tx s)) in
-      omega (arith, wrote, now, was, more, one)
-    where
-      at : (x s f p y q : Bool) → s ≡ f → (s ≡ true → x ≡ y) → (s ≡ true → p ≡ q) → one_if (not (x || s) && p) + one_if (not y && q) ≡ one_if (not x && p) + one_if (not (f || y) && q)
-      at x true false p y q same g h = absurd (both_ways true same refl)
-      at x false true p y q same g h = absurd (both_ways false refl same)
-      at true false false p y q same g h = omega arith
-      at false false false p y q same g h = omega arith
-      at true true true p true q same g h = omega arith
-      at true true true p false q same g h = absurd (both_ways true (g refl) refl)
-      at false true true p true q same g h = absurd (both_ways false refl (g refl))
-      at false true true p false q same g h = let e = ap one_if (h refl) in omega (arith, e)
-  writers-one (Clr t undo_next k a ∷ rs) = writers-one rs
-  writers-one (Prepare t home predecessors ∷ rs) = writers-one rs
-  writers-one (Commit t parts ∷ rs) = writers-one rs
-  writers-one (Abort t ∷ rs) = writers-one rs
-  writers-one (End t ∷ rs) = writers-one rs
-  writers-one (Restart run epoch ∷ rs) = writers-one rs
-  writers-one (Add t k by ∷ rs) =
-      let wrote = ap (λ x. length (filter test (cond x (writers (with_one rs)) (t ∷ writers (with_one rs))))) (wrote_after rs t) in
-      let now = count-unless test (wrote_in rs t || tx_same t tx) t (writers (with_one rs)) in let was = count-unless test (wrote_in rs t) t (writers rs) in
-      let more = writers-one rs in
-      let one = at (wrote_in rs t) (tx_same t tx) (tx_same tx t) (test t) (wrote_in rs tx) (test tx) (same_flipped t tx) (λ s. ap (wrote_in rs) (tx_true t tx s)) (λ s. ap test (tx_true t tx s)) in
-      omega (arith, wrote, now, was, more, one)
-    where
-      at : (x s f p y q : Bool) → s ≡ f → (s ≡ true → x ≡ y) → (s ≡ true → p ≡ q) → one_if (not (x || s) && p) + one_if (not y && q) ≡ one_if (not x && p) + one_if (not (f || y) && q)
-      at x true false p y q same g h = absurd (both_ways true same refl)
-      at x false true p y q same g h = absurd (both_ways false refl same)
-      at true false false p y q same g h = omega arith
-      at false false false p y q same g h = omega arith
-      at true true true p true q same g h = omega arith
-      at true true true p false q same g h = absurd (both_ways true (g refl) refl)
-      at false true true p true q same g h = absurd (both_ways false refl (g refl))
-      at false true true p false q same g h = let e = ap one_if (h refl) in omega (arith, e)
-  writers-one (Unadd t undo_next k by ∷ rs) = writers-one rs
+    at : (u : TxId) (b : Bool) → tx_same t u ≡ b → (b || has_write vs u) ≡ has_write ws u
+    at u true s = sym (ap (has_write ws) (sym (tx_true t u s)) ∙ stood)
+    at u false s = others u s
 
 -- ---- those of others
 
--- one that wrote nothing doesn't count
-pub writers_of_others : (tx : TxId) (p q : TxId → Bool) (log : List LogRecord) → wrote_in log tx ≡ false → ((t : TxId) → tx_same tx t ≡ false → p t ≡ true → q t ≡ true) → writers_by p log ≤ writers_by q log
-writers_of_others tx p q [] e h = omega arith
-writers_of_others tx p q (Update t key before after ∷ rs) e h =
-    let parts = none_or (tx_same tx t) (wrote_in rs tx) e in let more = writers_of_others tx p q rs parts.1 h in
-    let a = count-unless p (wrote_in rs t) t (writers rs) in let b = count-unless q (wrote_in rs t) t (writers rs) in
-    let c = fewer (wrote_in rs t) (p t) (q t) (h t parts.0) in omega (arith, a, b, c, more)
+writers_all : (P : TxId → Type 0) (ws : List StandingUpdate) → AllByRecursion (λ w. P w.tx) ws → AllByRecursion P (writers ws)
+writers_all P [] a = tt
+writers_all P (w ∷ ws) a = with_one w.tx (writers ws) a.0 (writers_all P ws a.1)
   where
-    fewer : (x a b : Bool) → (a ≡ true → b ≡ true) → one_if (not x && a) ≤ one_if (not x && b)
-    fewer true a b h = omega arith
-    fewer false true true h = omega arith
-    fewer false true false h = absurd (both_ways false refl (h refl))
-    fewer false false b h = omega arith
-writers_of_others tx p q (Clr t undo_next key after ∷ rs) e h = writers_of_others tx p q rs e h
-writers_of_others tx p q (Prepare t home predecessors ∷ rs) e h = writers_of_others tx p q rs e h
-writers_of_others tx p q (Commit t parts ∷ rs) e h = writers_of_others tx p q rs e h
-writers_of_others tx p q (Abort t ∷ rs) e h = writers_of_others tx p q rs e h
-writers_of_others tx p q (End t ∷ rs) e h = writers_of_others tx p q rs e h
-writers_of_others tx p q (Restart run epoch ∷ rs) e h = writers_of_others tx p q rs e h
-writers_of_others tx p q (Add t key by ∷ rs) e h =
-    let parts = none_or (tx_same tx t) (wrote_in rs tx) e in let more = writers_of_others tx p q rs parts.1 h in
-    let a = count-unless p (wrote_in rs t) t (writers rs) in let b = count-unless q (wrote_in rs t) t (writers rs) in
-    let c = fewer (wrote_in rs t) (p t) (q t) (h t parts.0) in omega (arith, a, b, c, more)
+    with_one : (t : TxId) (xs : List TxId) → P t → AllByRecursion P xs → AllByRecursion P (tx_insert t xs)
+    with_one t [] h a = (h, tt)
+    with_one t (x ∷ xs) h a = at (tx_cmp t x) (with_one t xs h a.1)
+      where
+        at : (o : Ordering) → AllByRecursion P (tx_insert t xs) → AllByRecursion P (match_ordering o (t ∷ x ∷ xs) (x ∷ xs) (x ∷ tx_insert t xs))
+        at Less more = (h, a)
+        at Equal more = a
+        at Greater more = (a.0, more)
+
+pub none_own : (t : TxId) (ws : List StandingUpdate) → has_write ws t ≡ false → AllByRecursion (λ w. tx_same t w.tx ≡ false) ws
+none_own t [] e = tt
+none_own t (w ∷ ws) e = let p = none_or (tx_same t w.tx) (has_write ws t) e in (p.0, none_own t ws p.1)
+
+-- one of whom nothing stands doesn't count
+pub writers_of_others : (tx : TxId) (p q : TxId → Bool) (ws : List StandingUpdate) → has_write ws tx ≡ false → ((t : TxId) → tx_same tx t ≡ false → p t ≡ true → q t ≡ true) → writers_by p ws ≤ writers_by q ws
+writers_of_others tx p q ws e h = count-within p q (writers ws) (all_by (writers ws) (writers_all (λ t. tx_same tx t ≡ false) ws (none_own tx ws e)))
   where
-    fewer : (x a b : Bool) → (a ≡ true → b ≡ true) → one_if (not x && a) ≤ one_if (not x && b)
-    fewer true a b h = omega arith
-    fewer false true true h = omega arith
-    fewer false true false h = absurd (both_ways false refl (h refl))
-    fewer false false b h = omega arith
-writers_of_others tx p q (Unadd t undo_next key by ∷ rs) e h = writers_of_others tx p q rs e h
+    all_by : (xs : List TxId) → AllByRecursion (λ t. tx_same tx t ≡ false) xs → AllByRecursion (λ t. p t ≡ true → q t ≡ true) xs
+    all_by [] a = tt
+    all_by (x ∷ xs) a = (h x a.0, all_by xs a.1)

@@ -1,16 +1,15 @@
 -- What holds of a shard's transactions, whatever was done: what a part did can be taken away.
-use Rattle.std.specs.Prelude.{◌≡◌, ℕ, ◌+◌, ◌≤◌, ◌⊎◌, min, Bool, true, false, cond, not, ◌&&◌, List, [], ◌∷◌, length, Option, Some, None}
+use Rattle.std.specs.Prelude.{◌≡◌, ℕ, ◌+◌, ◌≤◌, ◌⊎◌, min, Bool, true, false, cond, not, ◌&&◌, List, length, Option, Some, None}
 use Rattle.std.specs.List.{AllByRecursion, filter, list_any}
 use Rattle.clv_base.specs.declared.names.TxId.{TxId}
 use Rattle.clv_base.specs.declared.logs.LogRecord.{LogRecord}
-use Rattle.clv_base.specs.declared.logs.LogRecord.TheVariants.{Update, Add}
 use Rattle.clv_base.specs.declared.modes.Anchor.TheVariants.{At}
 use Rattle.clv_base.specs.declared.modes.Need.{Need}
 use Rattle.clv_base.specs.declared.state.Stage.{Stage}
 use Rattle.clv_base.specs.declared.state.Stage.TheVariants.{Active, Closed, Gone}
 use Rattle.clv_base.specs.declared.state.Held.{Held}
 use Rattle.clv_base.specs.Orders.{Table, tx_same, tx_get, anchor_same}
-use Rattle.clv_base.specs.Logs.{StandingUpdate, standing, wrote_in, committed_in}
+use Rattle.clv_base.specs.Logs.{StandingUpdate, standing, writers, committed_in}
 use Rattle.clv_base.specs.Facts.{predecessors_of}
 use Rattle.clv_base.specs.Locks.{Locks}
 use Rattle.clv_base.specs.Needs.{found_at, is_there}
@@ -38,41 +37,30 @@ has_lock t k locks = list_any (λ r. anchor_same (At k) r.0 && tx_same t (r.1).t
 abbrev pub IsHeld : Local → StandingUpdate → Type 0
 IsHeld l w = is_here l w.tx ≡ true → (is_there (found_at w.key l.records) ≡ true) × (has_lock w.tx w.key l.locks ≡ true)
 
--- whether a record is an UPDATE or ADD of a transaction that passes
-abbrev pub is_update_by : (TxId → Bool) → LogRecord → Bool
-is_update_by test (Update tx key before after) = test tx
-is_update_by test (Add tx key by) = test tx
-is_update_by test _ = false
+-- how many of these writes are of transactions that pass, and how many such transactions have one
+abbrev pub writes_by : (TxId → Bool) → List StandingUpdate → ℕ
+writes_by test ws = length (filter (λ w. test w.tx) ws)
 
--- how many UPDATEs and ADDs of such transactions the log has
-abbrev pub updates_by : (TxId → Bool) → List LogRecord → ℕ
-updates_by test log = length (filter (is_update_by test) log)
+abbrev pub writers_by : (TxId → Bool) → List StandingUpdate → ℕ
+writers_by test ws = length (filter test (writers ws))
 
--- the transactions that wrote in the log, each once
-abbrev pub writers : List LogRecord → List TxId
-writers [] = []
-writers (Update tx key before after ∷ rs) = cond (wrote_in rs tx) (writers rs) (tx ∷ writers rs)
-writers (Add tx key by ∷ rs) = cond (wrote_in rs tx) (writers rs) (tx ∷ writers rs)
-writers (_ ∷ rs) = writers rs
+-- how many records the undo of such transactions may write: a CLR or UNADD for each of their writes that stand, and an ABORT for each that has one
+abbrev pub owed_for : (TxId → Bool) → List StandingUpdate → ℕ
+owed_for test ws = writes_by test ws + writers_by test ws
 
--- how many such transactions wrote in the log
-abbrev pub writers_by : (TxId → Bool) → List LogRecord → ℕ
-writers_by test log = length (filter test (writers log))
-
--- how many records the undo of such transactions may write: a CLR or UNADD for each of their writes, and an ABORT for each that wrote
 abbrev pub owed_by : (TxId → Bool) → List LogRecord → ℕ
-owed_by test log = updates_by test log + writers_by test log
+owed_by test log = owed_for test (standing log)
 
--- how many more that are after one more write: a CLR or UNADD, and an ABORT unless its transaction wrote before
+-- how many more that are after one more write: a CLR or UNADD, and an ABORT unless a write of its transaction stood before
 abbrev pub owed_more : Bool → Option Write → ℕ
-owed_more wrote None = 0
-owed_more wrote (Some w) = cond wrote 1 2
+owed_more stood None = 0
+owed_more stood (Some w) = cond stood 1 2
 
 pub record IsSound (l : Local) (spare : ℕ) : Type 0 where
   -- each that depends on another has its part here
   pub successors : AllByRecursion (λ p. is_here l p.0 ≡ true) l.pairs
   pub writes : AllByRecursion (IsHeld l) (standing l.log)
-  -- so much room is in the log: for a CLR or UNADD for each write of a part that is here, and an ABORT for each that wrote
+  -- so much room is in the log: for a CLR or UNADD for each standing write of a part that is here, and an ABORT for each that has one
   pub room : owed_by (is_here l) l.log ≤ spare
 
 -- no transaction has more than 1,024 predecessors without a COMMIT
@@ -89,12 +77,12 @@ pub record IsKept (commits : Table ℕ) (l : Local) (spare : ℕ) : Type 0 where
   -- the records, and all that those to come are made of
   pub spelled : IsSpelled l
 
--- room beyond a CLR or UNADD for each write of a part that is here, and an ABORT for each that wrote, never shrinks: what was reserved for more stays
--- reserved. The other way round it never grows: what was reserved for an undo that isn't wanted any more is given back
+-- room beyond the undo of the parts that are here (a CLR or UNADD for each of their standing writes, and an ABORT for each that has one) never shrinks:
+-- what was reserved for more stays reserved. The other way round it never grows: what was reserved for an undo that isn't wanted any more is given back
 abbrev pub KeepsSpare : TxState → TxState → Type 0
 KeepsSpare s t = s.room + owed_by (is_here t.local) (t.local).log ≤ t.room + owed_by (is_here s.local) (s.local).log
 
--- room for so many records beyond a CLR or UNADD for each write of a part that is here, and an ABORT for each that wrote
+-- room for so many records beyond the undo of the parts that are here
 abbrev pub HasSpare : ℕ → TxState → Type 0
 HasSpare n s = n + owed_by (is_here s.local) (s.local).log ≤ s.room
 
@@ -106,8 +94,7 @@ SpendsSpare n s t = s.room + owed_by (is_here t.local) (t.local).log ≤ n + t.r
 abbrev pub UsesSpare : ℕ → TxState → TxState → Type 0
 UsesSpare n s t = n + t.room + owed_by (is_here s.local) (s.local).log ≡ s.room + owed_by (is_here t.local) (t.local).log
 
--- without the room that is beyond so many records, beside a CLR or UNADD for each write of a part that is here and an ABORT for each that wrote, and
--- beyond so many settled transactions
+-- without the room that is beyond so many records, beside the undo of the parts that are here, and beyond so many settled transactions
 abbrev pub trimmed : ℕ → TxState → TxState
 trimmed n s = record s { room = min s.room (n + owed_by (is_here s.local) (s.local).log); pairs_room = min s.pairs_room n }
 

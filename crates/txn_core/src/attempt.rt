@@ -1,9 +1,7 @@
 //! An operation, up to the rolling back of a part that dies.
 ghost use Rattle.std.specs.Prelude.{◌≡◌, ◌≤◌, true, length, IfOk, OnErr};
 ghost use Rattle.clv_base.specs.FileRules.{tx_has_spelling};
-ghost use Rattle.clv_base.specs.Needs.{needs_of};
-ghost use Rattle.clv_base.specs.Locks.{violated as violated_by};
-ghost use Rattle.clv_base.specs.OneShard.{OpAnswers, op_reply, performed, undecided_with};
+ghost use Rattle.clv_base.specs.OneShard.{OpAnswers, op_reply, performed, undecided_with, violated_here};
 ghost use Rattle.protocol_laws.specs.Spelled.{fits_op};
 ghost use Rattle.shard_ops.specs.Planned.{IsPlanOf};
 ghost use Rattle.clv_base.specs.Undo.{stage_of as stage_in};
@@ -80,7 +78,7 @@ impl<S: Store + Drop, L: Locks + Drop> ShardTx<S, L> {
         requires stage { stage ≡ stage_in self.old.local tx }
         requires plan { IsPlanOf op.now (self.old.local).records plan }
         requires work { may_work (stage_in self.old.local tx) ≡ true }
-        requires violated { violated.now ≡ violated_by tx (needs_of op.now (self.old.local).records) (self.old.local).locks }
+        requires violated { violated.now ≡ violated_here self.old.local tx op.now }
         requires few { length (undecided_with self.old.local tx violated.now) ≤ 1024 }
         requires name { tx_has_spelling tx ≡ true }
         ensures ok { IfOk result (λ a. ComesTo (OpAnswers plan.answer (performed tx birth op.now self.old.local)) tx self.old a self.new) }

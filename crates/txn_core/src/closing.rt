@@ -4,7 +4,7 @@ ghost use Rattle.std.specs.List.Sorted.{IsStrictlySortedBy};
 ghost use Rattle.std.specs.Map.{keys_of};
 ghost use Rattle.clv_base.specs.declared.state.Stage.TheVariants.{Active};
 ghost use Rattle.clv_base.specs.Orders.{tx_cmp};
-ghost use Rattle.clv_base.specs.Logs.{wrote_in};
+ghost use Rattle.clv_base.specs.Logs.{has_standing};
 ghost use Rattle.clv_base.specs.Undo.{stage_of as stage_in};
 ghost use Rattle.clv_base.specs.Facts.{undecided_of};
 ghost use Rattle.clv_base.specs.OneShard.{close_part as closed_by, closing};
@@ -46,9 +46,9 @@ impl<S: Store + Drop, L: Locks + Drop> ShardTx<S, L> {
         }
     }
 
-    /// The active part of a transaction is closed: its locks may be violated from now on. Where it wrote, the log gets a COMMIT, if this shard is
-    /// the only one and no predecessor is undecided, else a PREPARE for the home, which lists the undecided ones. Where there is no memory all
-    /// is as before. There is no more room afterwards than before, also where nothing was written.
+    /// The active part of a transaction is closed: its locks may be violated from now on. Where a write of it stands, the log gets a COMMIT, if this
+    /// shard is the only one and no predecessor is undecided, else a PREPARE for the home, which lists the undecided ones. Where there is no memory
+    /// all is as before. There is no more room afterwards than before, also where nothing was written.
     pub fn close_part(
         &mut self,
         alloc: Global,
@@ -59,7 +59,7 @@ impl<S: Store + Drop, L: Locks + Drop> ShardTx<S, L> {
         requires active { stage_in self.old.local tx ≡ Some Active }
         requires home { home < 16 }
         ensures ok { OnOk result (IsSameBut self.old (closed_by tx home one_shard self.old.local) self.new) }
-        ensures written { IfOk result (IsClosing (self.old.local).log tx home (closing (wrote_in (self.old.local).log tx) one_shard tx home (undecided_of self.old.local tx))) }
+        ensures written { IfOk result (IsClosing (self.old.local).log tx home (closing (has_standing (self.old.local).log tx) one_shard tx home (undecided_of self.old.local tx))) }
         ensures err { OnErr result (IsSameBut self.old self.old.local self.new) }
         ensures room { KeepsSpare self.old self.new }
         ensures given_back { KeepsSpare self.new self.old }
@@ -88,7 +88,7 @@ impl<S: Store + Drop, L: Locks + Drop> ShardTx<S, L> {
         tx: TxId,
         one_shard: bool,
     ) -> Result<ClosingPlan, Memory>
-        ensures { IfOk result (λ plan. (home : ℕ) → planned tx home plan ≡ closing (wrote_in (self.now.local).log tx) one_shard tx home (undecided_of self.now.local tx)) }
+        ensures { IfOk result (λ plan. (home : ℕ) → planned tx home plan ≡ closing (has_standing (self.now.local).log tx) one_shard tx home (undecided_of self.now.local tx)) }
     {
         closing_plan(alloc, &self.buffer, &self.deps, tx, one_shard)
     }
@@ -98,11 +98,11 @@ impl<S: Store + Drop, L: Locks + Drop> ShardTx<S, L> {
         requires active { stage_in self.old.local tx ≡ Some Active }
         requires home { home < 16 }
         requires room { HasSpare 1 self.old × (0 < self.old.pairs_room) }
-        requires plan { planned tx home plan ≡ closing (wrote_in (self.old.local).log tx) one_shard tx home (undecided_of self.old.local tx) }
+        requires plan { planned tx home plan ≡ closing (has_standing (self.old.local).log tx) one_shard tx home (undecided_of self.old.local tx) }
         ensures closed { IsSameBut self.old (closed_by tx home one_shard self.old.local) self.new }
-        ensures written { IsClosing (self.old.local).log tx home (closing (wrote_in (self.old.local).log tx) one_shard tx home (undecided_of self.old.local tx)) result }
+        ensures written { IsClosing (self.old.local).log tx home (closing (has_standing (self.old.local).log tx) one_shard tx home (undecided_of self.old.local tx)) result }
         ensures room { SpendsSpare 1 self.old self.new }
-        ensures spent { UsesSpare (length (closing (wrote_in (self.old.local).log tx) one_shard tx home (undecided_of self.old.local tx))) self.old self.new }
+        ensures spent { UsesSpare (length (closing (has_standing (self.old.local).log tx) one_shard tx home (undecided_of self.old.local tx))) self.old self.new }
         ensures pairs_room { self.old.pairs_room ≤ self.new.pairs_room + 1 }
         ensures pairs_given_back { self.new.pairs_room ≤ self.old.pairs_room }
         ensures rising { IsStrictlySortedBy tx_cmp (keys_of (self.old.local).parts) }

@@ -3,9 +3,11 @@ ghost use Rattle.std.specs.Prelude.{◌≡◌, IfOk};
 ghost use Rattle.txn_core.specs.Judged.{IsDecided, decided_by};
 
 use cascade_undo::Deps;
+use clv_base::logs::LogRecord;
 use clv_base::names::{Birth, TxId};
 use clv_base::ops::Op;
 use lock_table::{Locks, Memory};
+use log_buffer::LogBuffer;
 use ordered_store::Store;
 use shard_ops::{Meeting, Plan, meet, plan_of};
 use std::alloc::Global;
@@ -41,17 +43,18 @@ pub(crate) fn decide<S: Store, L: Locks>(
     store: &S,
     locks: &L,
     deps: &Deps,
+    buffer: &LogBuffer<LogRecord>,
     tx: TxId,
     birth: Birth,
     op: &Op,
 ) -> Result<Decided, Memory>
-    ensures { IfOk result (IsDecided (S.records store.now) (L.rows locks.now) deps.now tx birth op.now) }
+    ensures { IfOk result (IsDecided (S.records store.now) (L.rows locks.now) buffer.now.records deps.now tx birth op.now) }
 {
     let plan = match plan_of(alloc, store, op) {
         Ok(plan) => plan,
         Err(memory) => return Err(memory),
     };
-    match meet(alloc, locks, deps, tx, birth, plan.needs.as_slice()) {
+    match meet(alloc, locks, deps, buffer, tx, birth, plan.needs.as_slice()) {
         Ok(meeting) => Ok(with_plan(plan, meeting)),
         Err(memory) => Err(memory),
     }

@@ -89,7 +89,16 @@ impl<S: Store + Drop, L: Locks + Drop> ShardTx<S, L> {
         requires work { may_work (stage_in self.now.local tx) ≡ true }
         ensures { IfOk result (IsJudged self.now.local tx birth op.now (op_active self.now.local tx birth op.now)) }
     {
-        match decide(alloc, &self.store, &self.locks, &self.deps, tx, birth, op) {
+        match decide(
+            alloc,
+            &self.store,
+            &self.locks,
+            &self.deps,
+            &self.buffer,
+            tx,
+            birth,
+            op,
+        ) {
             Ok(decided) => Ok(outcome_of(stage, decided)),
             Err(memory) => Err(memory),
         }

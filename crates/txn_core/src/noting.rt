@@ -37,7 +37,7 @@ impl<S: Store + Drop, L: Locks + Drop> ShardTx<S, L> {
     }
 
     /// Whom the records from the durable front up to this one concern are candidates besides: of a COMMIT its transaction and those that depend on
-    /// it, of a PREPARE its transaction. Takes no memory.
+    /// it, of a PREPARE, a CLR or an UNADD its transaction. Takes no memory.
     pub fn note_landed(&self, upto: u64, candidates: &mut Candidates)
         requires front { (self.now.durable ≤ upto) × (upto ≤ length (self.now.local).log) }
         requires room { HasRoomBy (concern (self.now.local).pairs (slice_range (self.now.local).log self.now.durable upto)) candidates.old }
@@ -61,6 +61,8 @@ fn note_record(deps: &Deps, one: &LogRecord, candidates: &mut Candidates)
             candidates.insert_all(deps.successors(*tx));
         }
         LogRecord::Prepare { tx, .. } => candidates.insert(*tx),
+        LogRecord::Clr { tx, .. } => candidates.insert(*tx),
+        LogRecord::Unadd { tx, .. } => candidates.insert(*tx),
         _ => {}
     }
 }

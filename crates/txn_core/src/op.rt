@@ -42,7 +42,7 @@ impl<S: Store + Drop, L: Locks + Drop> ShardTx<S, L> {
     /// An operation of a transaction with this birth; `seen` is the epoch that its session was answered here at its first touch, none at the
     /// first. It is answered what the protocol says, and leaves the state that the protocol says, without the ghosts that bear no lock. After a
     /// quiet answer all is as before, and where there is no memory too. `Memory` is also answered in place of a grant to a transaction that has
-    /// no part here and yet a write in the log, from before a restart. The room in the log beyond the undo of the parts that are here is as it
+    /// no part here and yet a write that stands in the log, from before a restart. The room in the log beyond the undo of the parts that are here is as it
     /// was, and so is the room for dependencies.
     pub fn op(
         &mut self,

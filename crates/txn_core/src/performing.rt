@@ -5,7 +5,7 @@ ghost use Rattle.clv_base.specs.Orders.{tx_get};
 ghost use Rattle.shard_ops.specs.Planned.{needed};
 ghost use Rattle.shard_ops.specs.Effects.{record_count, CanWrite, performed_by};
 ghost use Rattle.txn_core.specs.State.{IsSameBut};
-ghost use Rattle.clv_base.specs.Logs.{wrote_in};
+ghost use Rattle.clv_base.specs.Logs.{has_standing};
 ghost use Rattle.clv_base.specs.Undo.{stage_of as stage_in};
 ghost use Rattle.clv_base.specs.OneShard.{undecided_with};
 ghost use Rattle.cascade_undo.specs.Dependencies.{MayFollow};
@@ -23,12 +23,12 @@ use ordered_store::Store;
 use shard_ops::{Plan, Write, enter_part, reserve_locks, take_locks, write_down};
 use std::alloc::Global;
 
-/// Whether a transaction has no part here, and yet a write in the log, from before a restart. Its session is told of the restart before it
-/// may come again, so what is made of it doesn't matter.
+/// Whether a transaction has no part here, and yet a write that stands in the log, from before a restart. Its session is told of the restart before
+/// it may come again, so what is made of it doesn't matter.
 fn was_before(stage: Option<Stage>, buffer: &LogBuffer<LogRecord>, tx: TxId) -> bool
-    ensures { result ≡ (is_none stage && wrote_in buffer.now.records tx) }
+    ensures { result ≡ (is_none stage && has_standing buffer.now.records tx) }
 {
-    stage.is_none() && buffer.wrote(tx)
+    stage.is_none() && buffer.has_standing(tx)
 }
 
 /// Makes room for so many records beside what was reserved before. An `Err` changes nothing.
@@ -46,21 +46,21 @@ pub(crate) fn reserve_records(buffer: &mut LogBuffer<LogRecord>, count: usize) -
     }
 }
 
-/// Makes room for the record of a write and for the one that may undo it, and for an ABORT where it is the first of the transaction. An `Err` changes
-/// nothing.
+/// Makes room for the record of a write and for the one that may undo it, and for an ABORT where no other of the transaction stands. An `Err`
+/// changes nothing.
 fn reserve_log(
     buffer: &mut LogBuffer<LogRecord>,
     tx: TxId,
     write: &Option<Write>,
 ) -> Result<(), Memory>
-    ensures ok { OnOk result (buffer.new.room ≡ buffer.old.room + record_count write.now + owed_more (wrote_in buffer.old.records tx) write.now) }
+    ensures ok { OnOk result (buffer.new.room ≡ buffer.old.room + record_count write.now + owed_more (has_standing buffer.old.records tx) write.now) }
     ensures refused { OnErr result (buffer.new ≡ buffer.old) }
     ensures same { buffer.new ≡ record buffer.old { room = buffer.new.room } }
 {
     if write.is_none() {
         return Ok(());
     }
-    let places = if buffer.wrote(tx) { 2 } else { 3 };
+    let places = if buffer.has_standing(tx) { 2 } else { 3 };
     reserve_records(buffer, places)
 }
 

@@ -3,7 +3,7 @@ ghost use Rattle.std.specs.Prelude.{◌≡◌, ◌≤◌, ◌<◌, ◌+◌, ◌+
 ghost use Rattle.clv_base.specs.declared.names.TxId.{TxId as Tx};
 ghost use Rattle.std.specs.List.{filter};
 ghost use Rattle.clv_base.specs.Orders.{tx_get};
-ghost use Rattle.clv_base.specs.Logs.{wrote_in};
+ghost use Rattle.clv_base.specs.Logs.{has_standing};
 ghost use Rattle.clv_base.specs.OneShard.{closing};
 ghost use Rattle.cascade_undo.specs.Dependencies.{undecided_by};
 ghost use Rattle.txn_core.specs.Closings.{planned, IsClosing};
@@ -26,7 +26,7 @@ pub enum Closing {
     Commit(u64),
     /// A PREPARE, at this LSN.
     Prepare(u64),
-    /// None, as the part only read.
+    /// None, as no write of the part stands.
     Silent,
 }
 
@@ -37,7 +37,7 @@ pub enum ClosingPlan {
     Commit,
     /// A PREPARE, with the predecessors without a COMMIT.
     Prepare { predecessors: TxList },
-    /// None, as the part only read.
+    /// None, as no write of the part stands.
     Silent,
 }
 
@@ -68,7 +68,7 @@ fn open_predecessors(alloc: Global, deps: &Deps, tx: TxId) -> Result<TxList, Mem
     }
 }
 
-/// The record for a part that wrote.
+/// The record for a part of which a write stands.
 fn plan_by(one_shard: bool, predecessors: TxList) -> ClosingPlan
     ensures { (tx : Tx) (home : ℕ) → planned tx home result ≡ closing true one_shard tx home predecessors }
 {
@@ -79,7 +79,7 @@ fn plan_by(one_shard: bool, predecessors: TxList) -> ClosingPlan
     }
 }
 
-/// Which record is to close the transaction's part: none where it only read; a COMMIT where this shard is the only one and no predecessor is
+/// Which record is to close the transaction's part: none where no write of it stands; a COMMIT where this shard is the only one and no predecessor is
 /// undecided; else a PREPARE.
 pub(crate) fn closing_plan(
     alloc: Global,
@@ -88,9 +88,9 @@ pub(crate) fn closing_plan(
     tx: TxId,
     one_shard: bool,
 ) -> Result<ClosingPlan, Memory>
-    ensures { IfOk result (λ plan. (home : ℕ) → planned tx home plan ≡ closing (wrote_in buffer.now.records tx) one_shard tx home (undecided_by deps.now tx)) }
+    ensures { IfOk result (λ plan. (home : ℕ) → planned tx home plan ≡ closing (has_standing buffer.now.records tx) one_shard tx home (undecided_by deps.now tx)) }
 {
-    if !buffer.wrote(tx) {
+    if !buffer.has_standing(tx) {
         return Ok(ClosingPlan::Silent);
     }
     match open_predecessors(alloc, deps, tx) {

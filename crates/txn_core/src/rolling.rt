@@ -1,14 +1,15 @@
-//! Taking away a transaction's part with all that depend on it.
-ghost use Rattle.std.specs.Prelude.{◌≡◌, ◌≤◌, true, false, is_some, IsTrue};
-ghost use Rattle.clv_base.specs.Undo.{stage_of as stage_in, roll_back as without};
+//! Taking away a transaction's part with all that depend on it, or its newest writes.
+ghost use Rattle.std.specs.Prelude.{◌≡◌, ◌≤◌, true, false, is_some, Some, IsTrue};
+ghost use Rattle.clv_base.specs.declared.state.Stage.TheVariants.{Active};
+ghost use Rattle.clv_base.specs.Undo.{stage_of as stage_in, roll_back as without, roll_to as without_newest};
 ghost use Rattle.clv_base.specs.OneShard.{drop_part as dropped_from, purge};
 ghost use Rattle.txn_core.specs.State.{IsSameBut};
 ghost use Rattle.txn_core.specs.Sound.{is_here, KeepsSpare};
 
 use crate::ending::{end_parts, mark_dropped};
 use crate::shard::ShardTx;
-use crate::trimming::room_beyond;
-use cascade_undo::roll_back;
+use crate::trimming::{owed_to, room_beyond};
+use cascade_undo::{roll_back, roll_to};
 use clv_base::names::TxId;
 use clv_base::state::Stage;
 use lock_table::Locks;
@@ -56,5 +57,23 @@ impl<S: Store + Drop, L: Locks + Drop> ShardTx<S, L> {
         }
         mark_dropped(&mut self.parts, tx);
         true
+    }
+
+    /// The active transaction goes back: its newest writes here that stand, so many of them, are taken back, and the log gets a CLR or UNADD for
+    /// each; its locks and its part stay, and nobody else is concerned. The room for their undo is used by these records, and what isn't wanted any
+    /// more is given back. Takes no memory, and time in these writes alone.
+    pub fn roll_to(&mut self, tx: TxId, count: usize)
+        requires { stage_in self.old.local tx ≡ Some Active }
+        ensures rolled { IsSameBut self.old (without_newest tx count self.old.local) self.new }
+        ensures room { KeepsSpare self.old self.new }
+        ensures given_back { KeepsSpare self.new self.old }
+        ensures pairs_room { self.new.pairs_room ≡ self.old.pairs_room }
+    {
+        let _end = self.buffer.end();
+        let _room = self.buffer.room();
+        let others = room_beyond(&self.buffer, &[tx]);
+        roll_to(&mut self.store, &mut self.buffer, tx, count);
+        let own = owed_to(&self.buffer, &[tx]);
+        self.buffer.trim(others + own);
     }
 }

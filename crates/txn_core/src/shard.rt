@@ -47,8 +47,8 @@ impl<S: Store + Drop, L: Locks + Drop> ShardTx<S, L> {
 
     /// The transactions of a shard, made of what they work on: the dependencies have the COMMITs of the log; each that depends on another has
     /// its part here; each part's writes that stand have their records, and its locks; each ghost bears a lock; each record of the log
-    /// has a spelling; and the log has room for a CLR or UNADD for each write of a part that isn't gone, and an ABORT for each that wrote.
-    /// Takes no memory.
+    /// has a spelling; and the log has room for a CLR or UNADD for each standing write of a part that isn't gone, and an ABORT for each that has
+    /// one. Takes no memory.
     pub fn new(
         shard: u32,
         epoch: u64,

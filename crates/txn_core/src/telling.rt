@@ -79,11 +79,12 @@ impl<S: Store + Drop, L: Locks + Drop> ShardTx<S, L> {
         PartFacts {
             state: state_of(stage),
             now: self.epoch,
-            updates: self.buffer.wrote(tx),
+            updates: self.buffer.has_standing(tx),
             restored: is_restored(part),
             doom: doom_of(stage),
             prepare,
             commit: self.deps.settled_at(tx),
+            rolled: self.buffer.rolled(tx),
             undecided: self.deps.undecided(tx),
             due_lsn: self.deps.due_lsn(tx),
             durable: self.buffer.durable(),

@@ -14,9 +14,9 @@ use ordered_store::Store;
 use std::alloc::Global;
 use tx_table::PartTable;
 
-/// How many records the undo of these transactions, each of which is named once, may write: a CLR or UNADD for each of their writes, and an
-/// ABORT for each that wrote.
-fn owed_to(buffer: &LogBuffer<LogRecord>, txs: &[TxId]) -> usize
+/// How many records the undo of these transactions, each of which is named once, may write: a CLR or UNADD for each of their writes that stand,
+/// and an ABORT for each that has one.
+pub(crate) fn owed_to(buffer: &LogBuffer<LogRecord>, txs: &[TxId]) -> usize
     requires rising { IsStrictlySortedBy tx_cmp txs.now }
     requires room { owed_by (λ t. tx_in t txs.now) buffer.now.records ≤ buffer.now.room }
     ensures { result ≡ owed_by (λ t. tx_in t txs.now) buffer.now.records }
@@ -24,7 +24,7 @@ fn owed_to(buffer: &LogBuffer<LogRecord>, txs: &[TxId]) -> usize
     let _no_more_than_reserved = buffer.room();
     let mut count = 0;
     for tx in txs {
-        count += buffer.updates(*tx) + usize::from(buffer.wrote(*tx));
+        count += buffer.standing_writes(*tx) + usize::from(buffer.has_standing(*tx));
     }
     count
 }
@@ -52,8 +52,7 @@ pub(crate) fn room_without(buffer: &LogBuffer<LogRecord>, parts: &PartTable, tx:
 }
 
 impl<S: Store + Drop, L: Locks + Drop> ShardTx<S, L> {
-    /// Gives back the room that is beyond so many records, beside a CLR or UNADD for each write of a part that is here and an ABORT for each
-    /// that wrote, and beyond so many settled transactions. It costs what is here. Where there is no memory to list that, all is as before.
+    /// Gives back the room that is beyond so many records, beside the undo of the parts that are here, and beyond so many settled transactions. It costs what is here. Where there is no memory to list that, all is as before.
     pub fn trim(&mut self, alloc: Global, count: usize) -> Result<(), Memory>
         ensures ok { OnOk result (self.new ≡ trimmed count self.old) }
         ensures err { OnErr result (self.new ≡ self.old) }

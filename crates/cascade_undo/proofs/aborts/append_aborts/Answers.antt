@@ -10,7 +10,7 @@ pub append_abort-requires : goal.append_abort-requires
 unfolding nobody
 append_abort-requires c =
     let set = c.args.set.now in let i = c.loop-tx.tx-index in let within : i < length set = c.loop-tx-test.true in
-    next_fits c.args.buffer.now.records set i nobody within c.loop-tx.buffer.records c.loop-tx.invariant.writers c.loop-tx.invariant.log
+    next_fits c.args.buffer.now.records set i nobody within c.loop-tx.buffer.records c.loop-tx.invariant.standing c.loop-tx.invariant.log
     c.args.buffer.now.room c.loop-tx.buffer.room c.requires c.loop-tx.invariant.room
 
 pub loop-tx-preserved : goal.loop-tx-preserved
@@ -19,10 +19,9 @@ loop-tx-preserved c =
     let set = c.args.set.now in let i = c.loop-tx.tx-index in let within : i < length set = c.loop-tx-test.true in
     let first = c.args.buffer.now.records in let log = c.loop-tx.buffer.records in let after = c.append_abort.new.buffer.records in
     record {
-      log = log_more first set i nobody within log c.loop-tx.invariant.writers c.loop-tx.invariant.log after c.append_abort.ensures.log;
+      log = log_more first set i nobody within log c.loop-tx.invariant.standing c.loop-tx.invariant.log after c.append_abort.ensures.log;
       standing = c.append_abort.ensures.standing ∙ c.loop-tx.invariant.standing;
-      writers = λ t. c.append_abort.ensures.writers t ∙ c.loop-tx.invariant.writers t;
       durable = c.append_abort.ensures.fronts.0 ∙ c.loop-tx.invariant.durable;
       taken = c.append_abort.ensures.fronts.1 ∙ c.loop-tx.invariant.taken;
-      room = room_more first set i nobody within log c.loop-tx.invariant.writers c.loop-tx.invariant.log after c.args.buffer.now.room c.loop-tx.buffer.room c.append_abort.new.buffer.room c.append_abort.ensures.log c.loop-tx.invariant.room c.append_abort.ensures.room;
+      room = room_more first set i nobody within log c.loop-tx.invariant.standing c.loop-tx.invariant.log after c.args.buffer.now.room c.loop-tx.buffer.room c.append_abort.new.buffer.room c.append_abort.ensures.log c.loop-tx.invariant.room c.append_abort.ensures.room;
     }

@@ -3,7 +3,7 @@ use Rattle.std.proofs.Common.{◌≡◌, ◌≤◌, ◌∙◌, sym, ap, subst, L
 use Rattle.std.specs.List.Sorted.{IsStrictlySortedBy}
 use Rattle.clv_base.specs.declared.names.TxId.{TxId}
 use Rattle.clv_base.specs.Orders.{tx_in, pair_cmp}
-use Rattle.clv_base.specs.Logs.{in_doubt}
+use Rattle.clv_base.specs.Logs.{in_doubt, standing}
 use Rattle.clv_base.specs.State.{Local}
 use Rattle.clv_base.specs.Restarts.{restored_locks, restored_parts}
 use Rattle.txn_core.specs.Sound.{owed_by, IsKept}
@@ -28,7 +28,7 @@ pub new-requires : goal.new-requires
 new-requires g c =
     let log = c.args.buffer.records in let shard = c.args.shard in let epoch = c.args.epoch in let txs = in_doubt shard log in let left = c.in_ok-left.left in let e = c.in_ok-left.ensures in
     let names = ap (map (λ d. d.0)) c.requires.in_doubt ∙ firsts_are log txs in
-    let locks : g.L.Locks.rows left.locks ≡ restored_locks txs log [] = e.locks ∙ ap (λ (ts : List TxId). restored_locks ts log []) names in
+    let locks : g.L.Locks.rows left.locks ≡ restored_locks txs (standing log) [] = e.locks ∙ ap (λ (ts : List TxId). restored_locks ts (standing log) []) names in
     let parts : left.parts.entries ≡ restored_parts txs = e.parts ∙ ap restored_parts names in
     let kept = c.left_in.ensures.records in let room = c.left_in.new.buffer.room in
     let enough = subst (λ (ts : List TxId). owed_by (λ t. tx_in t ts) log ≤ room) names e.room in
@@ -40,6 +40,6 @@ pub returns-clause-local : goal.returns-clause-local
 returns-clause-local g c =
     let log = c.args.buffer.records in let shard = c.args.shard in let txs = in_doubt shard log in let left = c.in_ok-left.left in let e = c.in_ok-left.ensures in
     let names = ap (map (λ d. d.0)) c.requires.in_doubt ∙ firsts_are log txs in
-    let locks : g.L.Locks.rows left.locks ≡ restored_locks txs log [] = e.locks ∙ ap (λ (ts : List TxId). restored_locks ts log []) names in
+    let locks : g.L.Locks.rows left.locks ≡ restored_locks txs (standing log) [] = e.locks ∙ ap (λ (ts : List TxId). restored_locks ts (standing log) []) names in
     c.new.ensures.local
     ∙ local_is shard c.args.epoch log (g.S.Store.records c.args.store) (g.L.Locks.rows left.locks) left.parts.entries left.deps.pairs c.left_in.new.buffer.records c.requires.records locks (e.parts ∙ ap restored_parts names) (e.pairs ∙ c.requires.pairs) c.left_in.ensures.records

@@ -32,3 +32,13 @@ pub returns-in-Prepare-clause-txs : goal.returns-in-Prepare-clause-txs
 returns-in-Prepare-clause-txs c =
     let pairs = c.args.deps.now.pairs in let tx = c.in-Prepare.tx in let txs = c.args.candidates.now.txs in
     λ x. ap (λ z. tx_in x z.txs) c.insert-in-Prepare.ensures ∙ insert_in tx x txs ∙ sym (ap (λ r. concerns pairs r x || tx_in x txs) c.in-Prepare.is)
+
+pub returns-in-Clr-clause-txs : goal.returns-in-Clr-clause-txs
+returns-in-Clr-clause-txs c =
+    let pairs = c.args.deps.now.pairs in let tx = c.in-Clr.tx in let txs = c.args.candidates.now.txs in
+    λ x. ap (λ z. tx_in x z.txs) c.insert-in-Clr.ensures ∙ insert_in tx x txs ∙ sym (ap (λ r. concerns pairs r x || tx_in x txs) c.in-Clr.is)
+
+pub returns-in-Unadd-clause-txs : goal.returns-in-Unadd-clause-txs
+returns-in-Unadd-clause-txs c =
+    let pairs = c.args.deps.now.pairs in let tx = c.in-Unadd.tx in let txs = c.args.candidates.now.txs in
+    λ x. ap (λ z. tx_in x z.txs) c.insert-in-Unadd.ensures ∙ insert_in tx x txs ∙ sym (ap (λ r. concerns pairs r x || tx_in x txs) c.in-Unadd.is)

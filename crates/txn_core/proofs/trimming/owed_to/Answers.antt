@@ -13,21 +13,21 @@ pub overflow_add-count : goal.overflow_add-count
 overflow_add-count c =
     let log = c.args.buffer.now.records in let txs = c.args.txs.now in let i = c.loop-tx.tx-index in
     let next = total_next log txs i (record { run = 0; session = 0; serial = 0 }) c.loop-tx-test.true in let most = total_fits log txs (suc i) c.requires.rising in let room = c.room-no_more_than_reserved in
-    let aborts = c.from.ensures ∙ byte_is c.wrote.result ∙ ap one_if c.wrote.ensures in
-    omega (arith, next, most, room.ensures, room.type_inv, c.updates.ensures, aborts, c.requires.room)
+    let aborts = c.from.ensures ∙ byte_is c.has_standing.result ∙ ap one_if c.has_standing.ensures in
+    omega (arith, next, most, room.ensures, room.type_inv, c.standing_writes.ensures, aborts, c.requires.room)
 
 pub overflow_add-count-in-loop-tx : goal.overflow_add-count-in-loop-tx
 overflow_add-count-in-loop-tx c =
     let log = c.args.buffer.now.records in let txs = c.args.txs.now in let i = c.loop-tx.tx-index in
     let next = total_next log txs i (record { run = 0; session = 0; serial = 0 }) c.loop-tx-test.true in let most = total_fits log txs (suc i) c.requires.rising in let room = c.room-no_more_than_reserved in
-    let aborts = c.from.ensures ∙ byte_is c.wrote.result ∙ ap one_if c.wrote.ensures in
-    omega (arith, c.loop-tx.invariant, next, most, room.ensures, room.type_inv, c.updates.ensures, aborts, c.requires.room)
+    let aborts = c.from.ensures ∙ byte_is c.has_standing.result ∙ ap one_if c.has_standing.ensures in
+    omega (arith, c.loop-tx.invariant, next, most, room.ensures, room.type_inv, c.standing_writes.ensures, aborts, c.requires.room)
 
 pub loop-tx-preserved : goal.loop-tx-preserved
 loop-tx-preserved c =
     let log = c.args.buffer.now.records in let txs = c.args.txs.now in let i = c.loop-tx.tx-index in
-    let next = total_next log txs i (record { run = 0; session = 0; serial = 0 }) c.loop-tx-test.true in let aborts = c.from.ensures ∙ byte_is c.wrote.result ∙ ap one_if c.wrote.ensures in
-    rw add-one (omega (arith, c.loop-tx.invariant, next, c.updates.ensures, aborts))
+    let next = total_next log txs i (record { run = 0; session = 0; serial = 0 }) c.loop-tx-test.true in let aborts = c.from.ensures ∙ byte_is c.has_standing.result ∙ ap one_if c.has_standing.ensures in
+    rw add-one (omega (arith, c.loop-tx.invariant, next, c.standing_writes.ensures, aborts))
 
 pub returns : goal.returns
 returns c =

@@ -6,6 +6,4 @@ use Rattle.interleaving_core.proofs.sessions.Session.follow_op.Goals as goal
 pub returns : goal.returns
 returns c splits seen t h =
     let a = op_goes_on splits c.args.shard c.args.nth seen c.args.op.now c.args.outcome.now (session_for c.args.self.now c.args.tx c.args.birth) t h in
-    let b = c.follow_birth.ensures a.before a.is in
-    c.follow_answer.ensures t (let l = b.1 in let e = ap (λ u. (u.tx).serial) b.0 in omega (Rattle.std.proofs.Common.arith, l, e))
-    (ap (λ u. op_answered c.args.shard c.args.nth c.args.op.now u c.args.outcome.now) b.0 ∙ a.answered)
+    c.follow_answer.ensures t (ap (λ u. op_answered c.args.shard c.args.nth c.args.op.now u c.args.outcome.now) (c.follow_birth.ensures a.before a.is) ∙ a.answered)

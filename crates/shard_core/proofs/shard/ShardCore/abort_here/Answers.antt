@@ -15,7 +15,7 @@ use Rattle.due_step.specs.Noting.{known_keys}
 use Rattle.shard_core.proofs.Logged.{All, logged_undone}
 use Rattle.shard_core.proofs.Changing.{room_kept, rolled_le}
 use Rattle.shard_core.proofs.Parts.{Parts, seen, Changed, changed, rest_of}
-use Rattle.shard_core.proofs.Taking.{here_in, rolled_keys, rolled_prepares, known_doomed}
+use Rattle.shard_core.proofs.Taking.{here_in, here_known, rolled_keys, rolled_prepares, known_doomed}
 use Rattle.shard_core.proofs.shard.ShardCore.abort_here.Given as given
 use Rattle.shard_core.proofs.shard.ShardCore.abort_here.Goals as goal
 
@@ -52,7 +52,7 @@ the_change g c =
     (λ x. c.self.invariant.prepares x ∙ sym (rolled_prepares tx l x) ∙ ap (λ (x' : TxState). prepare_lsn (x'.local).log x) (sym e.aborted))
     (rolled_keeps tx l c.self.invariant.dependents)
     (subst (λ (x : TxState). All (known_keys V) (drop x.durable (x.local).log)) (sym e.aborted)
-    (subst (λ ks. All (ks ++ (keys_of s.voters ++ keys_of s.requests)) (drop i.transactions.durable (roll_back tx l).log)) (sym (rolled_keys tx l)) (logged_undone (known_keys s) (doomed_here l tx) i.transactions.durable l c.self.invariant.logged)))
+    (subst (λ ks. All (ks ++ (keys_of s.voters ++ keys_of s.requests)) (drop i.transactions.durable (roll_back tx l).log)) (sym (rolled_keys tx l)) (logged_undone (known_keys s) (doomed_here l tx) i.transactions.durable l (λ x h. here_known s tx x h) c.self.invariant.logged)))
     (known_doomed s V tx i.candidates c.abort_noted.new.candidates c.self.invariant.dependents c.self.invariant.candidates known (rolled_keys tx l) refl refl e.txs e.limit)
     (room_kept s V i.transactions c.abort_noted.new.transactions i.outbox i.outbox (rolled_le s tx) e.room e.pairs_room (omega arith) c.self.invariant.room)
     rest.ready.requests

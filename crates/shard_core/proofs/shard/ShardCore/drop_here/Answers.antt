@@ -16,7 +16,7 @@ use Rattle.due_step.specs.Noting.{known_keys}
 use Rattle.shard_core.proofs.Logged.{All, logged_without}
 use Rattle.shard_core.proofs.Changing.{room_kept, dropped_le}
 use Rattle.shard_core.proofs.Parts.{Parts, seen, Changed, changed, rest_of}
-use Rattle.shard_core.proofs.Taking.{here_in, dropped_keys, without_prepares, stage_known, known_doomed}
+use Rattle.shard_core.proofs.Taking.{here_in, here_known, dropped_keys, without_prepares, stage_known, known_doomed}
 use Rattle.shard_core.proofs.shard.ShardCore.drop_here.Given as given
 use Rattle.shard_core.proofs.shard.ShardCore.drop_here.Goals as goal
 
@@ -53,7 +53,7 @@ the_change g c =
     (λ x. c.self.invariant.prepares x ∙ sym (without_prepares tx l x) ∙ ap (λ (x' : TxState). prepare_lsn (x'.local).log x) (sym e.dropped))
     (drop_keeps tx l c.self.invariant.dependents)
     (subst (λ (x : TxState). All (known_keys V) (drop x.durable (x.local).log)) (sym e.dropped)
-    (subst (λ ks. All (ks ++ (keys_of s.voters ++ keys_of s.requests)) (drop i.transactions.durable (drop_part tx l).log)) (sym (dropped_keys tx l)) (logged_without (known_keys s) tx i.transactions.durable l c.self.invariant.logged)))
+    (subst (λ ks. All (ks ++ (keys_of s.voters ++ keys_of s.requests)) (drop i.transactions.durable (drop_part tx l).log)) (sym (dropped_keys tx l)) (logged_without (known_keys s) tx i.transactions.durable l (λ x h. here_known s tx x h) c.self.invariant.logged)))
     (known_doomed s V tx i.candidates c.drop_noted.new.candidates c.self.invariant.dependents c.self.invariant.candidates known (dropped_keys tx l) refl refl e.txs e.limit)
     (room_kept s V i.transactions c.drop_noted.new.transactions i.outbox i.outbox (dropped_le s tx) e.room e.pairs_room (omega arith) c.self.invariant.room)
     rest.ready.requests

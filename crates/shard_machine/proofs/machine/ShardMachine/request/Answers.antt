@@ -1,5 +1,5 @@
 -- A request, and its entry.
-use Rattle.std.proofs.Common.{◌≡◌, refl, sym, ◌∙◌, ap, subst, true, ◌++◌, ◌∷◌, [], ◌≤◌, is_some, arith}
+use Rattle.std.proofs.Common.{◌≡◌, refl, sym, ◌∙◌, ap, subst, true, ◌++◌, ◌∷◌, [], ◌≤◌, length, is_some}
 use Rattle.std.proofs.lemmas.Bool.{and_from}
 use Rattle.clv_base.specs.declared.events.Event.{Event}
 use Rattle.clv_base.specs.declared.events.Event.TheVariants.{Request}
@@ -12,7 +12,7 @@ use Rattle.machine_calls.specs.Steps.{entry}
 use Rattle.machine_laws.specs.Frame.{stamped_as}
 use Rattle.machine_laws.proofs.Laws.{events_alike}
 use Rattle.shard_machine.specs.Machined.{Machined}
-use Rattle.shard_machine.proofs.Running.{kept, stays}
+use Rattle.shard_machine.proofs.Running.{goes_as, few_before, kept, stays}
 use Rattle.shard_machine.proofs.Answering.{Told, entered, twice, on_up}
 use Rattle.shard_machine.proofs.Touching.{touched_as}
 use Rattle.shard_machine.proofs.machine.ShardMachine.request.Goals as goal
@@ -29,14 +29,20 @@ pub request-requires-clause-own : goal.request-requires-clause-own
 request-requires-clause-own g c =
     let fit = subst (λ (v : Machined _). touched_fit (v.shard).shard c.args.touched ≡ true) (sym c.self.view_is) c.requires.fits in (touched_as c.self.inside.core.shard.shard c.args.touched fit).own
 
+pub enter-requires-clause-few : goal.enter-requires-clause-few
+enter-requires-clause-few g c =
+    let i = c.self.inside in
+    few_before i.last c.args.clock 0 c.in-Ok.stamp c.place_request.new.journal.entries (subst (λ (x : Journaled). length x.entries ≤ i.last) (sym c.place_request.ensures.same) c.self.invariant.few) c.in-Ok.ensures.ok
+
 pub invariant_of-self-in-Ok-request : goal.invariant_of-self-in-Ok-request
 invariant_of-self-in-Ok-request g c =
     let i = c.self.inside in let s : Shard = i.core.shard in let e : Event = Request c.args.tx c.args.touched in let d = c.request.new.self in let k = c.enter.new.journal in
     let fit : touched_fit s.shard c.args.touched ≡ true = subst (λ (v : Machined _). touched_fit (v.shard).shard c.args.touched ≡ true) (sym c.self.view_is) c.requires.fits in
-    let does : happen_up s e ≡ Does (requested c.in-Ok-request.answer) d.shard = c.in-Ok-request.ensures.ok in
-    let has = c.in-Ok.ensures.room in let less = c.enter.ensures.room in let room : i.owed ≤ k.room = omega (arith, has, less) in
-    kept i.core d i.is_up i.journal k i.owed (is_some i.gate) e (requested c.in-Ok-request.answer) refl refl refl does c.request.ensures.still (and_from _ _ c.requires.spelled fit) refl c.few_undecided.ensures
-    c.log_end-before.ensures.short c.log_end-after.ensures.short (c.enter.ensures.shard ∙ ap (λ (x : Journaled). x.shard) c.place_request.ensures.same) room c.self.invariant
+    let does : happen_up s e ≡ Does (requested c.in-Ok-request.answer) d.shard = c.in-Ok-request.ensures.ok in let x = entry c.in-Ok.stamp c.args.walker (Request c.args.tx c.in-Some.parts) c.outcome_of-copy.result in
+    kept i.core d i.is_up i.last c.args.clock 0 c.in-Ok.stamp i.journal k (is_some i.gate) e (requested c.in-Ok-request.answer) x refl (goes_as i.last i.journal.entries s d.shard e (requested c.in-Ok-request.answer) refl does)
+    c.request.ensures.still (and_from _ _ c.requires.spelled fit) refl c.few_undecided.ensures
+    c.log_end-before.ensures.short c.log_end-after.ensures.short (c.enter.ensures.shard ∙ ap (λ (x : Journaled). x.shard) c.place_request.ensures.same)
+    (c.enter.ensures.entries ∙ ap (λ (y : Journaled). y.entries ++ x ∷ []) c.place_request.ensures.same) c.in-Ok.ensures.ok c.self.invariant
 
 pub returns-in-Ok-request-clause-told : goal.returns-in-Ok-request-clause-told
 returns-in-Ok-request-clause-told g c =
@@ -54,15 +60,16 @@ returns-in-Ok-request-clause-told g c =
 -- where there is no memory there is only more room in the journal
 pub invariant_of-self : goal.invariant_of-self
 invariant_of-self g c =
-    let i = c.self.inside in let k = c.place_request.new.journal in let more = c.place_request.ensures.grown in let has = c.self.invariant.room in
-    stays i.core i.core i.is_up i.journal k i.owed (is_some i.gate) c.self.invariant.rest refl (ap (λ (x : Journaled). x.shard) c.place_request.ensures.same) (omega (arith, more, has)) c.self.invariant
+    let i = c.self.inside in
+    stays i.core i.core i.is_up i.last i.journal c.place_request.new.journal (is_some i.gate) c.self.invariant.rest refl (ap (λ (x : Journaled). x.shard) c.place_request.ensures.same) (ap (λ (x : Journaled). x.entries) c.place_request.ensures.same) c.self.invariant
 
 pub invariant_of-self-in_default : goal.invariant_of-self-in_default
 invariant_of-self-in_default g c =
-    let i = c.self.inside in let k = c.place_request.new.journal in let more = c.place_request.ensures.grown in let has = c.self.invariant.room in
-    stays i.core i.core i.is_up i.journal k i.owed (is_some i.gate) c.self.invariant.rest refl (ap (λ (x : Journaled). x.shard) c.place_request.ensures.same) (omega (arith, more, has)) c.self.invariant
+    let i = c.self.inside in
+    stays i.core i.core i.is_up i.last i.journal c.place_request.new.journal (is_some i.gate) c.self.invariant.rest refl (ap (λ (x : Journaled). x.shard) c.place_request.ensures.same) (ap (λ (x : Journaled). x.entries) c.place_request.ensures.same) c.self.invariant
 
 pub invariant_of-self-in-Err-request : goal.invariant_of-self-in-Err-request
 invariant_of-self-in-Err-request g c =
-    let i = c.self.inside in let k = c.place_request.new.journal in let more = c.place_request.ensures.grown in let has = c.self.invariant.room in
-    stays i.core c.request.new.self i.is_up i.journal k i.owed (is_some i.gate) c.request.ensures.still c.in-Err-request.ensures.err (ap (λ (x : Journaled). x.shard) c.place_request.ensures.same) (omega (arith, more, has)) c.self.invariant
+    let i = c.self.inside in
+    stays i.core c.request.new.self i.is_up i.last i.journal c.place_request.new.journal (is_some i.gate) c.request.ensures.still c.in-Err-request.ensures.err (ap (λ (x : Journaled). x.shard) c.place_request.ensures.same)
+    (ap (λ (x : Journaled). x.entries) c.place_request.ensures.same) c.self.invariant

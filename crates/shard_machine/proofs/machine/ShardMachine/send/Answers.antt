@@ -1,35 +1,35 @@
 -- The oldest message leaves, and its entry is made.
-use Rattle.std.proofs.Common.{◌≡◌, refl, sym, ◌∙◌, ap, subst, ◌++◌, ◌∷◌, [], ◌+◌, ◌≤◌, true, Option, Some, Ok, is_some, arith}
+use Rattle.std.proofs.Common.{◌≡◌, refl, sym, subst, ◌++◌, ◌∷◌, [], true, Option, Some, Ok, is_some}
 use Rattle.clv_base.specs.declared.events.Entry.{Entry}
 use Rattle.clv_base.specs.declared.events.Event.TheVariants.{Send}
 use Rattle.clv_base.specs.declared.events.Outcome.TheVariants.{Sent}
 use Rattle.clv_base.specs.State.{Shard}
 use Rattle.clv_base.specs.Events.{happen, Does, step}
-use Rattle.shard_machine.specs.Journaled.{Journaled}
 use Rattle.machine_calls.specs.Steps.{entry, Tells}
 use Rattle.machine_laws.specs.Frame.{stamped_as}
 use Rattle.shard_machine.specs.Machined.{Machined}
 use Rattle.shard_machine.proofs.Telling.{told_done}
-use Rattle.shard_machine.proofs.Running.{kept, goes_as, sent}
+use Rattle.shard_machine.proofs.Running.{kept, few_before, goes_as, sent}
 use Rattle.shard_machine.proofs.Outcomes.{first_fits}
 use Rattle.shard_machine.proofs.machine.ShardMachine.send.Goals as goal
 
-pub invariant_of-self-2 : goal.invariant_of-self-2
-invariant_of-self-2 g c =
+pub enter-requires-clause-few : goal.enter-requires-clause-few
+enter-requires-clause-few g c = few_before c.self.inside.last c.args.clock 0 c.in-Ok.stamp c.self.inside.journal.entries c.self.invariant.few c.in-Ok.ensures.ok
+
+pub invariant_of-self : goal.invariant_of-self
+invariant_of-self g c =
     let i = c.self.inside in let d = c.leave_message.new.self in
-    let has : i.owed + 1 ≤ c.has_room.new.journal.room = c.if-not-has_room.ensures.ok refl in let less = c.enter.ensures.room in
-    let room : i.owed ≤ c.enter.new.journal.room = omega (arith, has, less) in
-    kept i.core d i.is_up i.journal c.enter.new.journal i.owed (is_some i.gate) Send (Sent c.in-Some.message) refl refl refl
-    (sent i.core.shard d.shard c.in-Some.message (sym c.in-Some.ensures) c.leave_message.ensures.sent) c.leave_message.ensures.rest refl refl c.few_undecided.ensures c.log_end-before.ensures.short
-    c.log_end-after.ensures.short (c.enter.ensures.shard ∙ ap (λ (j : Journaled). j.shard) c.has_room.ensures.same) room c.self.invariant
+    kept i.core d i.is_up i.last c.args.clock 0 c.in-Ok.stamp i.journal c.enter.new.journal (is_some i.gate) Send (Sent c.in-Some.message) _ refl
+    (goes_as i.last i.journal.entries i.core.shard d.shard Send (Sent c.in-Some.message) refl (sent i.core.shard d.shard c.in-Some.message (sym c.in-Some.ensures) c.leave_message.ensures.sent)) c.leave_message.ensures.rest refl refl
+    c.few_undecided.ensures c.log_end-before.ensures.short c.log_end-after.ensures.short c.enter.ensures.shard c.enter.ensures.entries c.in-Ok.ensures.ok c.self.invariant
 
 pub returns-clause-told : goal.returns-clause-told
 returns-clause-told g c =
-    let i = c.self.inside in let d = c.leave_message.new.self in let n = c.in-Some-next_stamp.stamp in let w = c.args.walker in let m = c.in-Some.message in
+    let i = c.self.inside in let d = c.leave_message.new.self in let n = c.in-Ok.stamp in let w = c.args.walker in let m = c.in-Some.message in
     let s : Shard = stamped_as true i.last i.journal.entries i.core.shard in let t : Shard = stamped_as true i.last i.journal.entries d.shard in
     let does : happen s Send ≡ Does (Sent m) t = goes_as i.last i.journal.entries i.core.shard d.shard Send (Sent m) refl (sent i.core.shard d.shard m (sym c.in-Some.ensures) c.leave_message.ensures.sent) in
-    let told = told_done s t c.args.clock w Send (Sent m) (Sent m) n does refl (sym c.in-Some-next_stamp.ensures) refl in
-    let journal : c.enter.new.journal.entries ≡ i.journal.entries ++ entry n w Send (Sent m) ∷ [] = c.enter.ensures.entries ∙ ap (λ (j : Journaled). j.entries ++ entry n w Send (Sent m) ∷ []) c.has_room.ensures.same in
+    let told = told_done s t c.args.clock w Send (Sent m) (Sent m) n does refl c.in-Ok.ensures.ok refl in
+    let journal : c.enter.new.journal.entries ≡ i.journal.entries ++ entry n w Send (Sent m) ∷ [] = c.enter.ensures.entries in
     let up : i.is_up ≡ true = c.if-not-self.false in
     subst (λ (v : Machined _). (x : Option Entry) × Tells (step v.shard c.args.clock w Send) v.shard c.args.clock w Send (Ok (Sent m)) (stamped_as i.is_up n c.enter.new.journal.entries d.shard) x) c.self.view_is (
       Some (entry n w Send (Sent m)),

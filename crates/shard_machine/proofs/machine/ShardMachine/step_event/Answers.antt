@@ -14,6 +14,11 @@ returns-in-Op-clause-told g c =
     subst (λ (e : Event). (x : Option Entry) × Tells (step s c.args.clock c.args.walker e) s c.args.clock c.args.walker e c.operate.result t x)
     (ap (λ o. OpEvent c.in-Op.tx c.in-Op.birth c.in-Op.nth c.in-Op.seen o) c.op.ensures ∙ sym c.in-Op.is) c.operate.ensures.told
 
+pub returns-in-RollTo-clause-told : goal.returns-in-RollTo-clause-told
+returns-in-RollTo-clause-told g c =
+    let s = c.args.self.now.shard in let t = c.roll_to.new.self.shard in
+    subst (λ (e : Event). (x : Option Entry) × Tells (step s c.args.clock c.args.walker e) s c.args.clock c.args.walker e c.roll_to.result t x) (sym c.in-RollTo.is) c.roll_to.ensures.told
+
 pub returns-in-Request-clause-told : goal.returns-in-Request-clause-told
 returns-in-Request-clause-told g c =
     let s = c.args.self.now.shard in let t = c.request.new.self.shard in

@@ -4,10 +4,8 @@ use Rattle.clv_base.specs.declared.names.TxId.{TxId}
 use Rattle.clv_base.specs.declared.names.Birth.{Birth}
 use Rattle.clv_base.specs.declared.ops.Op.{Op}
 use Rattle.clv_base.specs.declared.modes.Need.{Need}
-use Rattle.clv_base.specs.Needs.{needs_of}
-use Rattle.clv_base.specs.Locks.{violated}
 use Rattle.clv_base.specs.State.{Local}
-use Rattle.clv_base.specs.OneShard.{performed, OpAnswers}
+use Rattle.clv_base.specs.OneShard.{performed, violated_here, OpAnswers}
 use Rattle.protocol_laws.specs.Spelled.{IsSpelled}
 use Rattle.protocol_laws.proofs.Laws.{operations_keep}
 use Rattle.shard_ops.specs.declared.plan.Insert.{Insert}
@@ -21,14 +19,14 @@ use Rattle.txn_core.proofs.Doing.{covers}
 use Rattle.txn_core.proofs.shard.ShardTx.grant.Goals as goal
 
 -- what is done by a plan is what the operation does
-as_planned : IsPerformedByPlan → (tx : TxId) (birth : Birth) (op : Op) (l : Local) (p : Plan) (vs : List TxId) → IsPlanOf op l.records p → vs ≡ violated tx (needs_of op l.records) l.locks
+as_planned : IsPerformedByPlan → (tx : TxId) (birth : Birth) (op : Op) (l : Local) (p : Plan) (vs : List TxId) → IsPlanOf op l.records p → vs ≡ violated_here l tx op
     → performed tx birth op l ≡ performed_by tx birth (needed p.needs) p.insert p.write vs l
 as_planned law tx birth op l p vs is all =
     let by : List Need → Option Insert → Option Write → List TxId → Local = λ needs insert write preds. performed_by tx birth needs insert write preds l in
     law tx birth op l
-    ∙ ap (λ ns. by ns (insert_of op l.records) (write_of op l.records) (violated tx (needs_of op l.records) l.locks)) (sym is.needs)
-    ∙ ap (λ i. by (needed p.needs) i (write_of op l.records) (violated tx (needs_of op l.records) l.locks)) (sym is.insert)
-    ∙ ap (λ w. by (needed p.needs) p.insert w (violated tx (needs_of op l.records) l.locks)) (sym is.write)
+    ∙ ap (λ ns. by ns (insert_of op l.records) (write_of op l.records) (violated_here l tx op)) (sym is.needs)
+    ∙ ap (λ i. by (needed p.needs) i (write_of op l.records) (violated_here l tx op)) (sym is.insert)
+    ∙ ap (λ w. by (needed p.needs) p.insert w (violated_here l tx op)) (sym is.write)
     ∙ ap (λ preds. by (needed p.needs) p.insert p.write preds) (sym all)
 
 pub perform-requires-clause-covered : goal.perform-requires-clause-covered

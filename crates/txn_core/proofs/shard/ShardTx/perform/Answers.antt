@@ -1,7 +1,7 @@
 -- The log has a write more, so what is settled stays so; what was done is locked, so all can still be taken away; and its undo has room of its own.
 use Rattle.std.proofs.Common.{◌≡◌, ◌+◌, ◌≤◌, true, length, sym, ap, subst, ◌∙◌, arith, refl}
 use Rattle.clv_base.specs.Orders.{tx_get}
-use Rattle.clv_base.specs.Logs.{commit_lsn, wrote_in}
+use Rattle.clv_base.specs.Logs.{commit_lsn, has_standing}
 use Rattle.clv_base.specs.State.{Local}
 use Rattle.clv_base.specs.Undo.{stage_of}
 use Rattle.clv_base.specs.OneShard.{add_pairs, undecided_with}
@@ -42,7 +42,7 @@ invariant_of-self-2 g c =
     let work : may_work (stage_of l tx) ≡ true = subst (λ (v : TxState). may_work (stage_of v.local tx) ≡ true) (sym c.self.view_is) c.requires.work in
     let stage = subst (λ (v : TxState). c.args.stage ≡ stage_of v.local tx) (sym c.self.view_is) c.requires.stage in
     let known = known_from l tx c.args.stage stage work (sym c.was_before.ensures ∙ c.if-was_before.false) in
-    let reserved : c.reserve_log.new.buffer.room ≡ s.buffer.room + record_count write + owed_more (wrote_in s.buffer.records tx) write = c.in-Ok-reserve_log.ensures.ok in
+    let reserved : c.reserve_log.new.buffer.room ≡ s.buffer.room + record_count write + owed_more (has_standing s.buffer.records tx) write = c.in-Ok-reserve_log.ensures.ok in
     let after = sound_performed tx birth needs plan.insert write c.args.violated.now l s.buffer.room left c.self.invariant.sound work known c.requires.covered (omega (arith, reserved, c.write_down.ensures.room)) in
     let records = c.write_down.ensures.records ∙ ap (records_after write) c.reserve_rest.ensures.records in
     let locks = c.take_locks.ensures ∙ ap (λ n. locks_after tx birth n plan.insert (g.L.Locks.rows c.reserve_locks.new.locks)) c.as_slice-2.ensures ∙ ap (locks_after tx birth needs plan.insert) c.reserve_locks.ensures.rows in
@@ -73,7 +73,7 @@ returns-clause-room g c =
     let work : may_work (stage_of l tx) ≡ true = subst (λ (v : TxState). may_work (stage_of v.local tx) ≡ true) (sym c.self.view_is) c.requires.work in
     let stage = subst (λ (v : TxState). c.args.stage ≡ stage_of v.local tx) (sym c.self.view_is) c.requires.stage in
     let known = known_from l tx c.args.stage stage work (sym c.was_before.ensures ∙ c.if-was_before.false) in
-    let reserved : c.reserve_log.new.buffer.room ≡ s.buffer.room + record_count write + owed_more (wrote_in s.buffer.records tx) write = c.in-Ok-reserve_log.ensures.ok in
+    let reserved : c.reserve_log.new.buffer.room ≡ s.buffer.room + record_count write + owed_more (has_standing s.buffer.records tx) write = c.in-Ok-reserve_log.ensures.ok in
     let spare = spare_performed tx birth needs plan.insert write violated l s.buffer.room now.room known (omega (arith, reserved, c.write_down.ensures.room)) in
     let log = c.write_down.ensures.log ∙ ap (λ b. log_after tx write b.records) c.reserve_log.ensures.same in
     let view : TxState = record { shard = s.shard; local = l; durable = s.buffer.durable; taken = s.buffer.taken; room = s.buffer.room; pairs_room = s.deps.room } in
@@ -88,7 +88,7 @@ returns-clause-given_back g c =
     let l : Local = record { records = g.S.Store.records s.store; locks = g.L.Locks.rows s.locks; parts = s.parts.entries; pairs = s.deps.pairs; log = s.buffer.records; epoch = s.epoch } in
     let write = plan.write in let needs = needed plan.needs in let violated = c.args.violated.now in let now = c.write_down.new.buffer in
     let work : may_work (stage_of l tx) ≡ true = subst (λ (v : TxState). may_work (stage_of v.local tx) ≡ true) (sym c.self.view_is) c.requires.work in
-    let reserved : c.reserve_log.new.buffer.room ≡ s.buffer.room + record_count write + owed_more (wrote_in s.buffer.records tx) write = c.in-Ok-reserve_log.ensures.ok in
+    let reserved : c.reserve_log.new.buffer.room ≡ s.buffer.room + record_count write + owed_more (has_standing s.buffer.records tx) write = c.in-Ok-reserve_log.ensures.ok in
     let back = back_performed tx birth needs plan.insert write violated l s.buffer.room now.room work (omega (arith, reserved, c.write_down.ensures.room)) in
     let log = c.write_down.ensures.log ∙ ap (λ b. log_after tx write b.records) c.reserve_log.ensures.same in
     let view : TxState = record { shard = s.shard; local = l; durable = s.buffer.durable; taken = s.buffer.taken; room = s.buffer.room; pairs_room = s.deps.room } in

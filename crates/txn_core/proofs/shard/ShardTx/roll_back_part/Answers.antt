@@ -9,7 +9,7 @@ use Rattle.clv_base.specs.Locks.{Locks, release}
 use Rattle.clv_base.specs.Needs.{without_ghosts}
 use Rattle.clv_base.specs.OneShard.{purge}
 use Rattle.clv_base.specs.State.{Local}
-use Rattle.clv_base.specs.Undo.{doomed_by, take_away, roll_back, records_without, aborts_of, clrs_of, gone_in, pairs_without}
+use Rattle.clv_base.specs.Undo.{doomed_by, take_away, roll_back, is_of, records_without, aborts_of, clrs_of, gone_in, pairs_without}
 use Rattle.cascade_undo.specs.Writes.{writes_of, HaveRecords}
 use Rattle.log_buffer.specs.Buffers.{Buffer}
 use Rattle.txn_core.specs.State.{TxState}
@@ -52,8 +52,8 @@ release_all-requires g c =
     let s = c.self.inside in let tx = c.args.tx in let sound = c.self.invariant.sound in
     let l : Local = record { records = g.S.Store.records s.store; locks = g.L.Locks.rows s.locks; parts = s.parts.entries; pairs = s.deps.pairs; log = s.buffer.records; epoch = s.epoch } in
     let here : is_here l tx ≡ true = subst (λ (v : TxState). is_here v.local tx ≡ true) (sym c.self.view_is) c.requires in
-    let undone = c.roll_back.ensures.records ∙ ap (λ (m : List TxId). records_without m (standing l.log) l.records) c.mark_dependents.ensures.marked in
-    ghosts_same l.locks l.locks (records_without (doomed_by l tx) (standing l.log) l.records) (g.S.Store.records c.roll_back.new.store) refl undone (undone_ghosts_are_locked (doomed_by l tx) l s.buffer.room sound (each_here l s.buffer.room sound tx here) c.self.invariant.ghosts)
+    let undone = c.roll_back.ensures.records ∙ ap (λ (m : List TxId). records_without (is_of m) (standing l.log) l.records) c.mark_dependents.ensures.marked in
+    ghosts_same l.locks l.locks (records_without (is_of (doomed_by l tx)) (standing l.log) l.records) (g.S.Store.records c.roll_back.new.store) refl undone (undone_ghosts_are_locked (doomed_by l tx) l s.buffer.room sound (each_here l s.buffer.room sound tx here) c.self.invariant.ghosts)
 
 pub invariant_of-self : goal.invariant_of-self
 invariant_of-self g c =
@@ -68,7 +68,7 @@ invariant_of-self g c =
     let told = subst (λ (m : List TxId). kept + owed_by (in_set m) l.log ≡ s.buffer.room) (c.marks.ensures.marked ∙ marked) c.room_beyond-kept.ensures in
     let back : c.trim.new.self ≡ record c.roll_back.new.buffer { room = kept } = c.trim.ensures ∙ ap (λ n. record c.roll_back.new.buffer { room = n }) (min-eq_right (omega (arith, told, most, spent))) in
     let left = sound_away set tx l s.buffer.room kept sound (each_here l s.buffer.room sound tx here) (omega (arith, told)) in
-    let undone = c.roll_back.ensures.records ∙ ap (λ (m : List TxId). records_without m (standing l.log) l.records) marked in
+    let undone = c.roll_back.ensures.records ∙ ap (λ (m : List TxId). records_without (is_of m) (standing l.log) l.records) marked in
     let locks = c.release_all.ensures.rows ∙ ap (λ (m : List TxId). release m l.locks) (c.marks-2.ensures.marked ∙ marked) in
     let records =
     c.release_all.ensures.records ∙ ap (λ (k : Locks). without_ghosts k (g.S.Store.records c.roll_back.new.store)) locks
@@ -85,7 +85,7 @@ invariant_of-self g c =
           ∙ sym (ap (λ m. commit_lsn m t) c.roll_back.ensures.log ∙ commit_lsn-undone t c.mark_dependents.new.self.marked (standing l.log) l.log);
       sound = sound_more (purge (take_away set tx l)) _ kept kept away (omega arith)
           (sound_purged (take_away set tx l) kept left);
-      ghosts = ghosts_same _ _ _ _ locks records (purged_are_locked (release set l.locks) (records_without set (standing l.log) l.records));
+      ghosts = ghosts_same _ _ _ _ locks records (purged_are_locked (release set l.locks) (records_without (is_of set) (standing l.log) l.records));
       few = few_same (take_away set tx l).log c.roll_back.new.buffer.records (pairs_without set l.pairs) _ log pairs
           (few_undone l.log (aborts_of l.log set) (clrs_of set (standing l.log)) (pairs_without set l.pairs) (few_without set l.log l.pairs c.self.invariant.few));
       spelled = spelled_same _ (purge (roll_back tx l)) (away ∙ ap (λ (m : List TxId). purge (take_away m tx l)) (sym (doomed_are_here l s.buffer.room sound tx here)))
@@ -105,7 +105,7 @@ returns-clause-without g c =
     let kept = c.room_beyond-kept.result in
     let told = subst (λ (m : List TxId). kept + owed_by (in_set m) l.log ≡ s.buffer.room) (c.marks.ensures.marked ∙ marked) c.room_beyond-kept.ensures in
     let back : c.trim.new.self ≡ record c.roll_back.new.buffer { room = kept } = c.trim.ensures ∙ ap (λ n. record c.roll_back.new.buffer { room = n }) (min-eq_right (omega (arith, told, most, spent))) in
-    let undone = c.roll_back.ensures.records ∙ ap (λ (m : List TxId). records_without m (standing l.log) l.records) marked in
+    let undone = c.roll_back.ensures.records ∙ ap (λ (m : List TxId). records_without (is_of m) (standing l.log) l.records) marked in
     let locks = c.release_all.ensures.rows ∙ ap (λ (m : List TxId). release m l.locks) (c.marks-2.ensures.marked ∙ marked) in
     let records =
     c.release_all.ensures.records ∙ ap (λ (k : Locks). without_ghosts k (g.S.Store.records c.roll_back.new.store)) locks
