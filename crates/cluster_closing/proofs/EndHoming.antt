@@ -6,7 +6,7 @@ use mathlib.Core.Logic.{dite}
 use native.Mathlib.Decide.{ℕ_discrete}
 use Rattle.clv_base.specs.declared.logs.LogRecord.{LogRecord}
 use Rattle.clv_base.specs.declared.events.Event.{Event}
-use Rattle.clv_base.specs.declared.events.Event.TheVariants.{Op, Request, Look, Drop, Send, Deliver, Remind, FlushOut, FlushIn, Stop, Restart}
+use Rattle.clv_base.specs.declared.events.Event.TheVariants.{Op, RollTo, Request, Look, Drop, Send, Deliver, Remind, FlushOut, FlushIn, Stop, Restart}
 use Rattle.clv_base.specs.declared.events.Outcome.{Outcome}
 use Rattle.clv_base.specs.declared.events.Outcome.TheVariants.{Durable, Failed}
 use Rattle.clv_base.specs.State.{Shard}
@@ -59,6 +59,7 @@ becomes_taken s t w Stop o k b h = stopped s.is_up refl b
         by true up q = both_ways t.is_up (ap (λ u. u.is_up) (sym (does_after (sym (ap (λ x. elim x [ true ↦ Rattle.clv_base.specs.Events.happen_up s Stop | false ↦ Rattle.clv_base.specs.Events.QuietBeforeWorn Rattle.clv_base.specs.declared.events.Outcome.TheVariants.Down ]) up) ∙ q)))) a
         by false down q = absurd (let z = sym (ap (λ x. elim x [ true ↦ Rattle.clv_base.specs.Events.happen_up s Stop | false ↦ Rattle.clv_base.specs.Events.QuietBeforeWorn Rattle.clv_base.specs.declared.events.Outcome.TheVariants.Down ]) down) ∙ q in cc)
 becomes_taken s t w (Op tx birth nth seen op) o k b h = let c = does_calm s t (Op tx birth nth seen op) o b.1 refl refl in calm_taken s t k k c.is_up c.flight refl h
+becomes_taken s t w (RollTo tx nth seen upto) o k b h = let c = does_calm s t (RollTo tx nth seen upto) o b refl refl in calm_taken s t k k c.is_up c.flight refl h
 becomes_taken s t w (Request tx ts) o k b h = let c = does_calm s t (Request tx ts) o b refl refl in calm_taken s t k k c.is_up c.flight refl h
 becomes_taken s t w (Look tx) o k b h = let c = does_calm s t (Look tx) o b refl refl in calm_taken s t k k c.is_up c.flight refl h
 becomes_taken s t w (Drop tx) o k b h = let c = does_calm s t (Drop tx) o b refl refl in calm_taken s t k k c.is_up c.flight refl h

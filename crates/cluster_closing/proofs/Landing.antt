@@ -5,7 +5,7 @@ use mathlib.Core.Logic.{dite}
 use native.Mathlib.Decide.{ℕ_discrete}
 use Rattle.clv_base.specs.declared.logs.LogRecord.{LogRecord}
 use Rattle.clv_base.specs.declared.events.Event.{Event}
-use Rattle.clv_base.specs.declared.events.Event.TheVariants.{Op, Request, Look, Drop, Send, Deliver, Remind, FlushOut, FlushIn, Stop, Restart}
+use Rattle.clv_base.specs.declared.events.Event.TheVariants.{Op, RollTo, Request, Look, Drop, Send, Deliver, Remind, FlushOut, FlushIn, Stop, Restart}
 use Rattle.clv_base.specs.declared.events.Outcome.{Outcome}
 use Rattle.clv_base.specs.declared.events.Entry.{Entry}
 use Rattle.clv_base.specs.State.{Shard}
@@ -43,6 +43,7 @@ takes_not : (t : Option ℕ) (w v : ℕ) (e : Event) → (v == w) ≡ false → 
 takes_not t w v FlushOut d h = d
 takes_not t w v FlushIn d h = refl
 takes_not t w v (Op tx birth nth s op) d h = h
+takes_not t w v (RollTo tx nth s upto) d h = h
 takes_not t w v (Request tx ts) d h = h
 takes_not t w v (Look tx) d h = h
 takes_not t w v (Drop tx) d h = h
@@ -61,6 +62,7 @@ others_take t w (Fetched v ∷ ns) none h = others_take t w ns (first_other w (F
 
 single_takes : (t : Option ℕ) (v : ℕ) (e : Event) → is_single e ≡ true → taker_after t v e ≡ t
 single_takes t v (Op tx birth nth s op) h = refl
+single_takes t v (RollTo tx nth s upto) h = refl
 single_takes t v (Request tx ts) h = refl
 single_takes t v (Look tx) h = refl
 single_takes t v (Drop tx) h = refl

@@ -2,7 +2,7 @@
 use Rattle.std.proofs.Common.{◌≡◌, refl, sym, subst, ℕ, ◌<◌, ◌==◌, Bool, true, false, not, cond, List, [], ◌∷◌, map, length, get_or, ⊎_elim, Option, Some, None}
 use Rattle.std.proofs.lemmas.Bool.{eq-eqb, and_from}
 use Rattle.clv_base.specs.declared.events.Event.{Event}
-use Rattle.clv_base.specs.declared.events.Event.TheVariants.{Op, Request, Look, Drop, Send, Deliver, Remind, FlushOut, FlushIn, Stop, Restart}
+use Rattle.clv_base.specs.declared.events.Event.TheVariants.{Op, RollTo, Request, Look, Drop, Send, Deliver, Remind, FlushOut, FlushIn, Stop, Restart}
 use Rattle.clv_base.specs.State.{Shard}
 use Rattle.clv_base.specs.Journals.{after_entry}
 use Rattle.journal_laws.specs.Notes.{MayNotes, RestartsByHolder, ends_holding, entries_of_notes}
@@ -40,6 +40,7 @@ all_made (Fetched v ∷ ns) h = none_fetched v ns (h v)
 not_restart : (w : ℕ) (e : Event) → RestartsByHolder None w e → not (ends_holding e) ≡ true
 not_restart w Restart h = absurd (let k : None ≡ Some w = h in cc)
 not_restart w (Op tx birth nth seen op) h = refl
+not_restart w (RollTo tx nth seen upto) h = refl
 not_restart w (Request tx ts) h = refl
 not_restart w (Look tx) h = refl
 not_restart w (Drop tx) h = refl

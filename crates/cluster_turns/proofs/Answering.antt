@@ -5,7 +5,7 @@ use Rattle.std.specs.List.{AllByRecursion}
 use Rattle.std.proofs.lemmas.Bool.{both_ways}
 use Rattle.std.proofs.lemmas.List.Elements.{filter-append}
 use Rattle.clv_base.specs.declared.events.Event.{Event}
-use Rattle.clv_base.specs.declared.events.Event.TheVariants.{Op, Request, Look, Drop, Send, Deliver, Remind, FlushOut, FlushIn, Stop, Restart}
+use Rattle.clv_base.specs.declared.events.Event.TheVariants.{Op, RollTo, Request, Look, Drop, Send, Deliver, Remind, FlushOut, FlushIn, Stop, Restart}
 use Rattle.clv_base.specs.declared.events.Outcome.{Outcome}
 use Rattle.clv_base.specs.declared.events.Outcome.TheVariants.{Failed, Out}
 use Rattle.clv_base.specs.declared.events.Entry.{Entry}
@@ -33,6 +33,7 @@ use Rattle.law_base.proofs.Lists.{some_inside as past}
 
 pub turned_event : (e : Event) (r : Result Outcome StepError) → takes_no_flight e r ≡ true → is_turned e ≡ true
 turned_event (Op tx birth nth seen op) r h = refl
+turned_event (RollTo tx nth seen upto) r h = refl
 turned_event (Request tx ts) r h = refl
 turned_event (Look tx) r h = refl
 turned_event (Drop tx) r h = refl
@@ -46,6 +47,7 @@ turned_event Restart r h = absurd (both_ways false refl h)
 
 never_fails : (e : Event) → is_turned e ≡ true → may_come_to e Failed ≡ true → {X : Type 0} → X
 never_fails (Op tx birth nth seen op) k h = absurd (both_ways false refl h)
+never_fails (RollTo tx nth seen upto) k h = absurd (both_ways false refl h)
 never_fails (Request tx ts) k h = absurd (both_ways false refl h)
 never_fails (Look tx) k h = absurd (both_ways false refl h)
 never_fails (Drop tx) k h = absurd (both_ways false refl h)

@@ -4,7 +4,7 @@ use Rattle.std.specs.Prelude.{max}
 use Rattle.std.specs.List.{AllByRecursion}
 use Rattle.std.proofs.lemmas.Bool.{ltb-false}
 use Rattle.clv_base.specs.declared.events.Event.{Event}
-use Rattle.clv_base.specs.declared.events.Event.TheVariants.{Op, Request, Look, Drop, Send, Deliver, Remind, FlushOut, FlushIn, Stop, Restart}
+use Rattle.clv_base.specs.declared.events.Event.TheVariants.{Op, RollTo, Request, Look, Drop, Send, Deliver, Remind, FlushOut, FlushIn, Stop, Restart}
 use Rattle.clv_base.specs.declared.events.Outcome.{Outcome}
 use Rattle.clv_base.specs.declared.events.Entry.{Entry}
 use Rattle.clv_base.specs.State.{Shard}
@@ -78,6 +78,7 @@ among_in_time clock n e (f ∷ fs) a (Rattle.std.proofs.Common.inr h) = among_in
 -- what a walker delivers has a stamp of its own entries
 pub sent_in_time : (clock : ℕ) (es : History) (e : Event) → AllByRecursion (λ f. (f.1).stamp ≤ clock) es → WasSent es e → message_stamp e ≤ clock
 sent_in_time clock es (Op tx birth nth seen op) a h = omega arith
+sent_in_time clock es (RollTo tx nth seen upto) a h = omega arith
 sent_in_time clock es (Request tx ts) a h = omega arith
 sent_in_time clock es (Look tx) a h = omega arith
 sent_in_time clock es (Drop tx) a h = omega arith

@@ -9,7 +9,7 @@ use Rattle.clv_base.specs.declared.causes.Vote.{Vote}
 use Rattle.clv_base.specs.declared.causes.Vote.TheVariants.{Yes, Read, No}
 use Rattle.clv_base.specs.declared.logs.LogRecord.{LogRecord}
 use Rattle.clv_base.specs.declared.events.Event.{Event}
-use Rattle.clv_base.specs.declared.events.Event.TheVariants.{Op as OpEvent, Request as RequestEvent, Look, Drop, Send, Deliver, Remind, FlushOut, FlushIn, Stop, Restart}
+use Rattle.clv_base.specs.declared.events.Event.TheVariants.{Op as OpEvent, RollTo, Request as RequestEvent, Look, Drop, Send, Deliver, Remind, FlushOut, FlushIn, Stop, Restart}
 use Rattle.clv_base.specs.declared.events.Outcome.{Outcome}
 use Rattle.clv_base.specs.declared.events.Outcome.TheVariants.{Durable, Failed}
 use Rattle.clv_base.specs.declared.events.Entry.{Entry}
@@ -38,7 +38,7 @@ use Rattle.clv_base.specs.Machines.{BecomesBy, Runs}
 use Rattle.clv_base.proofs.SameNames.{tx_true}
 use Rattle.law_base.proofs.Lists.{all_mono}
 use Rattle.law_base.proofs.Rows.{rows_put, rows_get}
-use Rattle.history_cases.proofs.Stepping.{commits, votes, rules, KeptByDue, settled, Step, op_dies, op_answers, request_refused, request_doomed, request_again, request_new, request_closes, looks_well, looks_ill, drops, sends, prepare_closes, prepare_again, vote_counts, decision_comes, decision_again, done_counts, asked, reminds, flushes, Happens, finishes, stops, happened}
+use Rattle.history_cases.proofs.Stepping.{commits, votes, rules, KeptByDue, settled, Step, op_dies, op_answers, request_refused, request_doomed, request_again, request_new, request_closes, looks_well, looks_ill, drops, sends, prepare_closes, prepare_again, vote_counts, decision_comes, decision_again, done_counts, asked, reminds, flushes, roll_refused, roll_doomed, roll_late, roll_unknown, rolls_back, Happens, finishes, stops, happened}
 use Rattle.journal_laws.specs.Endings.{ActiveAreFound}
 use Rattle.journal_laws.proofs.Laws.{runs_go_on, runs_find_active}
 use Rattle.law_base.proofs.Names.{in_doomed}
@@ -196,6 +196,11 @@ rows_step s _ (done_counts u from stamp q g h) f a = a
 rows_step s _ (asked u from stamp) f a = a
 rows_step s _ (reminds m ms g h) f a = a
 rows_step s _ (flushes n g h) f a = a
+rows_step s _ (roll_refused u nth seen upto h) f a = a
+rows_step s _ (roll_doomed u nth seen upto doom g h) f a = a
+rows_step s _ (roll_late u nth seen upto g h) f a = a
+rows_step s _ (roll_unknown u nth seen upto g h) f a = a
+rows_step s _ (rolls_back u nth seen upto g h) f a = a
 
 rows_happens : (s t : Shard) {e : Event} {o : Outcome} → Happens s e o t → ActiveAreFound s → Rows s.local.parts → Rows t.local.parts
 rows_happens s _ (finishes {t = x} u h) f a = finish_rows x (rows_step s x h f a)
@@ -217,6 +222,7 @@ rows_becomes : (s t : Shard) (e : Event) (o : Outcome) → BecomesBy s e o t →
 rows_becomes s t FlushIn o b f a = subst (λ x. Rows x.local.parts) (sym b.2) (rows_flush s o b.1 a)
 rows_becomes s t Restart o (u, (kept, epoch, after, r, p, q)) f a = subst (λ x. Rows x.local.parts) (sym q) (rows_restored (in_doubt s.shard after))
 rows_becomes s t (OpEvent u b nth seen op) o x f a = rows_event s t (OpEvent u b nth seen op) o x.1 f a
+rows_becomes s t (RollTo u nth seen upto) o x f a = rows_event s t (RollTo u nth seen upto) o x f a
 rows_becomes s t (RequestEvent u ts) o x f a = rows_event s t (RequestEvent u ts) o x f a
 rows_becomes s t (Look u) o x f a = rows_event s t (Look u) o x f a
 rows_becomes s t (Drop u) o x f a = rows_event s t (Drop u) o x f a

@@ -10,7 +10,7 @@ use Rattle.clv_base.specs.declared.causes.Vote.{Vote}
 use Rattle.clv_base.specs.declared.causes.Vote.TheVariants.{Yes, Read, No}
 use Rattle.clv_base.specs.declared.logs.LogRecord.{LogRecord}
 use Rattle.clv_base.specs.declared.events.Event.{Event}
-use Rattle.clv_base.specs.declared.events.Event.TheVariants.{Op as OpEvent, Request as RequestEvent, Look, Drop, Send, Deliver, Remind, FlushOut, FlushIn, Stop, Restart}
+use Rattle.clv_base.specs.declared.events.Event.TheVariants.{Op as OpEvent, RollTo, Request as RequestEvent, Look, Drop, Send, Deliver, Remind, FlushOut, FlushIn, Stop, Restart}
 use Rattle.clv_base.specs.declared.events.Outcome.{Outcome}
 use Rattle.clv_base.specs.declared.events.Outcome.TheVariants.{Durable, Failed}
 use Rattle.clv_base.specs.declared.events.Entry.{Entry}
@@ -32,7 +32,7 @@ use Rattle.clv_base.specs.Events.{Does, happen, finish, with_durable}
 use Rattle.clv_base.specs.Journals.{flush_state, FlushMay, has_equal_active_birth}
 use Rattle.clv_base.specs.Restarts.{revived}
 use Rattle.clv_base.specs.Machines.{BecomesBy, Makes, Runs}
-use Rattle.history_cases.proofs.Stepping.{commits, votes, rules, KeptByDue, settled, Step, op_dies, op_answers, request_refused, request_doomed, request_again, request_new, request_closes, looks_well, looks_ill, drops, sends, prepare_closes, prepare_again, vote_counts, decision_comes, decision_again, done_counts, asked, reminds, flushes, Happens, finishes, stops, happened}
+use Rattle.history_cases.proofs.Stepping.{commits, votes, rules, KeptByDue, settled, Step, op_dies, op_answers, request_refused, request_doomed, request_again, request_new, request_closes, looks_well, looks_ill, drops, sends, prepare_closes, prepare_again, vote_counts, decision_comes, decision_again, done_counts, asked, reminds, flushes, roll_refused, roll_doomed, roll_late, roll_unknown, rolls_back, Happens, finishes, stops, happened}
 use Rattle.turn_lock.specs.Journals.{GrownByOthers}
 use Rattle.journal_laws.specs.Births.{LeavesBirth, BearsWalker}
 use Rattle.journal_laws.specs.Walkers.{by_walker}
@@ -48,7 +48,7 @@ use Rattle.law_base.proofs.Bools.{not_true}
 
 -- ---- an event keeps it
 
-abbrev Has : ℕ → Local → Type 0
+abbrev pub Has : ℕ → Local → Type 0
 Has n l = l.epoch ≡ n
 
 has_written : (n : ℕ) (u : TxId) (w : Option (ℕ × Change)) (l : Local) → Has n l → Has n (written u w l)
@@ -130,6 +130,11 @@ has_step n s _ (done_counts u from stamp q g h) a = a
 has_step n s _ (asked u from stamp) a = a
 has_step n s _ (reminds m ms g h) a = a
 has_step n s _ (flushes k g h) a = a
+has_step n s _ (roll_refused u nth seen upto h) a = a
+has_step n s _ (roll_doomed u nth seen upto doom g h) a = a
+has_step n s _ (roll_late u nth seen upto g h) a = a
+has_step n s _ (roll_unknown u nth seen upto g h) a = a
+has_step n s _ (rolls_back u nth seen upto g h) a = a
 
 has_happens : (n : ℕ) (s t : Shard) {e : Event} {o : Outcome} → Happens s e o t → Has n s.local → Has n t.local
 has_happens n s _ (finishes {t = x} u h) a = finish_has n x (has_step n s x h a)
@@ -138,7 +143,7 @@ has_happens n s _ (stops u) a = a
 pub epoch_stays : (s t : Shard) (e : Event) (o : Outcome) → happen s e ≡ Does o t → t.local.epoch ≡ s.local.epoch
 epoch_stays s t e o h = has_happens s.local.epoch s t (happened s t e o h) refl
 
-flush_has : (n : ℕ) (s : Shard) (o : Outcome) → FlushMay s o → Has n s.local → Has n (flush_state s o).local
+pub flush_has : (n : ℕ) (s : Shard) (o : Outcome) → FlushMay s o → Has n s.local → Has n (flush_state s o).local
 flush_has n s (Durable k) f a = finish_has n (with_durable k s) a
 flush_has n s Failed f a = a
 flush_has n s _ f a = absurd f
@@ -150,10 +155,10 @@ was_up s t e o true up h = up
 was_up s t e o false down h = nothing_happens s e o t down h
 
 -- the shard was up, and its epoch stays
-abbrev Steady : Shard → Shard → Type 0
+abbrev pub Steady : Shard → Shard → Type 0
 Steady s t = (s.is_up ≡ true) × (t.local.epoch ≡ s.local.epoch)
 
-steady_by : (s t : Shard) (e : Event) (o : Outcome) → happen s e ≡ Does o t → Steady s t
+pub steady_by : (s t : Shard) (e : Event) (o : Outcome) → happen s e ≡ Does o t → Steady s t
 steady_by s t e o h = (was_up s t e o s.is_up refl h, epoch_stays s t e o h)
 
 module _ (part : Option ℕ) (birth : Birth) where
@@ -183,6 +188,7 @@ module _ (part : Option ℕ) (birth : Birth) where
       at FlushIn is = let b = becomes FlushIn is in steady_unless s u x m (b.0, ap (λ z. z.local.epoch) b.2 ∙ flush_has s.local.epoch s x.outcome b.1 refl) leaves h
       at Restart is = restarts_unless s u x m (becomes Restart is)
       at (OpEvent v b0 nth seen op) is = steady (OpEvent v b0 nth seen op) is (becomes (OpEvent v b0 nth seen op) is).1
+      at (RollTo v nth seen upto) is = steady (RollTo v nth seen upto) is (becomes (RollTo v nth seen upto) is)
       at (RequestEvent v ts) is = steady (RequestEvent v ts) is (becomes (RequestEvent v ts) is)
       at (Look v) is = steady (Look v) is (becomes (Look v) is)
       at (Drop v) is = steady (Drop v) is (becomes (Drop v) is)

@@ -9,7 +9,7 @@ use Rattle.clv_base.specs.declared.names.TxId.{TxId}
 use Rattle.clv_base.specs.declared.names.Birth.{Birth}
 use Rattle.clv_base.specs.declared.ops.Op.TheVariants.{Get}
 use Rattle.clv_base.specs.declared.events.Event.{Event}
-use Rattle.clv_base.specs.declared.events.Event.TheVariants.{Op, Request, Look, Drop, Send, Deliver, Remind, FlushOut, FlushIn, Stop, Restart}
+use Rattle.clv_base.specs.declared.events.Event.TheVariants.{Op, RollTo, Request, Look, Drop, Send, Deliver, Remind, FlushOut, FlushIn, Stop, Restart}
 use Rattle.clv_base.specs.declared.events.Outcome.{Outcome}
 use Rattle.clv_base.specs.declared.events.Entry.{Entry}
 use Rattle.clv_base.proofs.SameNames.{nat_cmp_true}
@@ -131,6 +131,7 @@ old_leaves tx birth clock l (e ∷ es) h = (leaves e.event h.0, old_leaves tx bi
   where
     leaves : (x : Event) → IsBornBy clock x → LeavesBirth tx birth x
     leaves (Op u b nth seen op) k = and_right (not (tx_same tx u)) (is_eq (birth_cmp birth b)) (greater birth.stamp b.stamp (omega arith) _)
+    leaves (RollTo u nth seen upto) k = tt
     leaves (Request u ts) k = tt
     leaves (Look u) k = tt
     leaves (Drop u) k = tt

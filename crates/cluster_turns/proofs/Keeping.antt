@@ -5,7 +5,7 @@ use Rattle.std.proofs.lemmas.Bool.{eq-eqb}
 use mathlib.Core.Logic.{dite}
 use native.Mathlib.Decide.{ℕ_discrete}
 use Rattle.clv_base.specs.declared.events.Event.{Event}
-use Rattle.clv_base.specs.declared.events.Event.TheVariants.{Op, Request, Look, Drop, Send, Deliver, Remind, FlushOut, FlushIn, Stop, Restart}
+use Rattle.clv_base.specs.declared.events.Event.TheVariants.{Op, RollTo, Request, Look, Drop, Send, Deliver, Remind, FlushOut, FlushIn, Stop, Restart}
 use Rattle.clv_base.specs.declared.events.Outcome.{Outcome}
 use Rattle.clv_base.specs.declared.events.Entry.{Entry}
 use Rattle.clv_base.specs.State.{Shard}
@@ -90,6 +90,7 @@ born_later c d l es h = all_mono (λ e. IsBornBy c e.event) (λ e. IsBornBy d e.
   where
     later : (e : Event) → IsBornBy c e → IsBornBy d e
     later (Op tx birth nth seen op) k = omega arith
+    later (RollTo tx nth seen upto) k = tt
     later (Request tx ts) k = tt
     later (Look tx) k = tt
     later (Drop tx) k = tt
@@ -135,6 +136,7 @@ born_turns c d l (t ∷ ts) h = (later t.event h.0, born_turns c d l ts h.1)
   where
     later : (e : Event) → IsBornBy c e → IsBornBy d e
     later (Op tx birth nth seen op) k = omega arith
+    later (RollTo tx nth seen upto) k = tt
     later (Request tx us) k = tt
     later (Look tx) k = tt
     later (Drop tx) k = tt

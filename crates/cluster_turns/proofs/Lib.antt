@@ -8,12 +8,16 @@ pub mod Freely
 pub mod Epochs
 pub mod Dropping
 pub mod Unbearing
+pub mod Reaching
 pub mod Taking
 pub mod Replying
 pub mod Answering
 pub mod States
 pub mod Touching
+pub mod Touches
+pub mod Noting
 pub mod BirthsGoing
 pub mod Within
+pub mod Written
 pub mod Laws
 pub mod Dating

@@ -11,7 +11,7 @@ use Rattle.clv_base.specs.declared.causes.AbortCause.TheVariants.{Restarted}
 use Rattle.clv_base.specs.declared.messages.Message.{Message}
 use Rattle.clv_base.specs.declared.messages.Message.TheVariants.{Prepare, Vote as VoteMessage, Decide, Done, Ask}
 use Rattle.clv_base.specs.declared.events.Event.{Event}
-use Rattle.clv_base.specs.declared.events.Event.TheVariants.{Op as OpEvent, Request as RequestEvent, Look, Drop, Send, Deliver, Remind, FlushOut, FlushIn, Stop, Restart}
+use Rattle.clv_base.specs.declared.events.Event.TheVariants.{Op as OpEvent, RollTo, Request as RequestEvent, Look, Drop, Send, Deliver, Remind, FlushOut, FlushIn, Stop, Restart}
 use Rattle.clv_base.specs.declared.events.Outcome.{Outcome}
 use Rattle.clv_base.specs.declared.events.Outcome.TheVariants.{Acknowledged, Aborted, Failed, NotYet, Stale, Down}
 use Rattle.clv_base.specs.declared.events.Entry.{Entry}
@@ -29,12 +29,13 @@ use Rattle.clv_base.specs.declared.state.Taken.{Taken as DecisionTaken}
 use Rattle.clv_base.specs.declared.state.Taken.TheVariants.{Done as IsDone, Waiting as IsAwaited, Stale as IsStale}
 use Rattle.clv_base.specs.State.{Local, Shard}
 use Rattle.clv_base.specs.Undo.{stage_of}
+use Rattle.clv_base.specs.Backs.{standing_numbers, count_after}
 use Rattle.clv_base.specs.Needs.{Records, needs_of, answer_of}
 use Rattle.clv_base.specs.Facts.{facts_of, has_durable_commit}
 use Rattle.clv_base.specs.Participant.{taken_by}
 use Rattle.clv_base.specs.Coordinator.{takes_vote, takes_done}
 use Rattle.clv_base.specs.OneShard.{OpReply, OpWaits, OpCrowded, OpDies, OpAnswers, seen_fits, op_reply, op_seen, op_by_stage, op_decided, op_granted}
-use Rattle.clv_base.specs.Events.{Reply, QuietBeforeWorn, QuietAfterWorn, Does, finish, op_event, epoch_in, request_by_stage, request_event, look_lost, look_state, look_known, look_event, request_epoch, drop_event, on_prepare, on_vote, on_decide, on_done, on_message, to_of, send_event, reminders, remind_with, out_event, taken, happen_up, happen, Quiet, Enters, next_stamp, stamped, step, land_up, land, put_down}
+use Rattle.clv_base.specs.Events.{Reply, QuietBeforeWorn, QuietAfterWorn, Does, finish, op_event, roll_by_stage, roll_event, epoch_in, request_by_stage, request_event, look_lost, look_state, look_known, look_event, request_epoch, drop_event, on_prepare, on_vote, on_decide, on_done, on_message, to_of, send_event, reminders, remind_with, out_event, taken, happen_up, happen, Quiet, Enters, next_stamp, stamped, step, land_up, land, put_down}
 use Rattle.machine_calls.specs.declared.machine.StepError.{StepError}
 use Rattle.machine_calls.specs.Steps.{Tells}
 use Rattle.machine_laws.specs.Homes.{is_turned}
@@ -99,7 +100,18 @@ op_fits s tx birth nth seen op (OpCrowded count) a = record { quiet = refl; come
 op_fits s tx birth nth seen op (OpDies cause l) a = record { quiet = refl; comes = refl; down = refl }
 op_fits s tx birth nth seen op (OpAnswers answer l) a = record { quiet = refl; comes = a; down = refl }
 
--- ---- a request, a look, a drop
+-- ---- a going back, a request, a look, a drop
+
+rolled_fits : (s : Shard) (tx : TxId) (nth seen upto n : ℕ) (st : Option Stage) → Fits true (RollTo tx nth seen upto) (roll_by_stage s tx n st)
+rolled_fits s tx nth seen upto n None = record { quiet = refl; comes = refl; down = refl }
+rolled_fits s tx nth seen upto n (Some Active) = record { quiet = refl; comes = refl; down = refl }
+rolled_fits s tx nth seen upto n (Some Closed) = record { quiet = refl; comes = refl; down = refl }
+rolled_fits s tx nth seen upto n (Some (Gone None)) = record { quiet = refl; comes = refl; down = refl }
+rolled_fits s tx nth seen upto n (Some (Gone (Some doom))) = record { quiet = refl; comes = refl; down = refl }
+
+roll_fits : (s : Shard) (tx : TxId) (nth seen upto : ℕ) (fits : Bool) → Fits true (RollTo tx nth seen upto) (roll_event s tx seen upto fits)
+roll_fits s tx nth seen upto false = record { quiet = refl; comes = refl; down = refl }
+roll_fits s tx nth seen upto true = rolled_fits s tx nth seen upto (count_after upto (standing_numbers tx s.journal)) (stage_of s.local tx)
 
 request_fits : (s : Shard) (tx : TxId) (ts : List (ℕ × ℕ)) (st : Option Stage) → Fits true (RequestEvent tx ts) (request_by_stage s tx ts st)
 request_fits s tx ts None = record { quiet = refl; comes = refl; down = refl }
@@ -194,6 +206,7 @@ out_fits s None (suc k) = record { quiet = refl; comes = refl; down = refl }
 up_fits : (s : Shard) (e : Event) → is_turned e ≡ true → Fits true e (happen_up s e)
 up_fits s (OpEvent tx birth nth seen op) k =
     op_fits s tx birth nth seen op (op_reply s.shard s.local tx birth seen op) (seen_answers_fit tx birth op s.shard s.local seen (seen_fits s.local.epoch seen))
+up_fits s (RollTo tx nth seen upto) k = roll_fits s tx nth seen upto (seen == s.local.epoch)
 up_fits s (RequestEvent tx ts) k = asked_fits s tx ts (seen_fits s.local.epoch (epoch_in s.shard ts))
 up_fits s (Look tx) k = look_fits s tx
 up_fits s (Drop tx) k = drop_fits s tx (stage_of s.local tx)
@@ -207,6 +220,7 @@ up_fits s Restart k = absurd (both_ways false refl k)
 
 down_fits : (e : Event) → is_turned e ≡ true → Fits false e (QuietBeforeWorn Down)
 down_fits (OpEvent tx birth nth seen op) k = record { quiet = refl; comes = refl; down = refl }
+down_fits (RollTo tx nth seen upto) k = record { quiet = refl; comes = refl; down = refl }
 down_fits (RequestEvent tx ts) k = record { quiet = refl; comes = refl; down = refl }
 down_fits (Look tx) k = record { quiet = refl; comes = refl; down = refl }
 down_fits (Drop tx) k = record { quiet = refl; comes = refl; down = refl }

@@ -1,5 +1,5 @@
 -- The state that a walker's entries lead to.
-use Rattle.std.proofs.Common.{◌≡◌, refl, ap, subst, ◌∙◌, ℕ, true, false, cond, Bool, ◌&&◌, ◌==◌, List, [], ◌∷◌, ◌++◌, Option, Some, None, eqb-true}
+use Rattle.std.proofs.Common.{◌≡◌, refl, ap, subst, ◌∙◌, ℕ, suc, nat_lt, true, false, cond, Bool, ◌&&◌, ◌==◌, List, [], ◌∷◌, ◌++◌, Option, Some, None, eqb-true}
 use Rattle.std.specs.Prelude.{is_some}
 use Rattle.std.specs.Map.{lookup}
 use Rattle.std.proofs.lemmas.Bool.{both_ways, and_parts}
@@ -7,14 +7,15 @@ use Rattle.clv_base.specs.declared.names.TxId.{TxId}
 use Rattle.clv_base.specs.declared.names.Birth.{Birth}
 use Rattle.clv_base.specs.declared.ops.Op.{Op as Operation}
 use Rattle.clv_base.specs.declared.events.Event.{Event}
-use Rattle.clv_base.specs.declared.events.Event.TheVariants.{Op, Request, Look, Drop, Send, Deliver, Remind, FlushOut, FlushIn, Stop, Restart}
+use Rattle.clv_base.specs.declared.events.Event.TheVariants.{Op, RollTo, Request, Look, Drop, Send, Deliver, Remind, FlushOut, FlushIn, Stop, Restart}
 use Rattle.clv_base.specs.declared.events.Outcome.{Outcome}
-use Rattle.clv_base.specs.declared.events.Outcome.TheVariants.{Answered, Dead, Asked, Acknowledged, Aborted}
+use Rattle.clv_base.specs.declared.events.Outcome.TheVariants.{Answered, Rolled, Dead, Asked, Acknowledged, Aborted}
 use Rattle.clv_base.specs.declared.events.Entry.{Entry}
 use Rattle.clv_base.specs.Orders.{tx_same}
 use Rattle.clv_base.specs.LogRules.{same_option}
+use Rattle.clv_base.specs.Backs.{stands_for_back}
 use Rattle.clv_base.specs.Journals.{History}
-use Rattle.clv_base.specs.Sessions.{SessionState, no_session, begun, begins, is_number, lies_in, goes_on, session_for, op_answered, op_in_session, is_touching, same_touched, is_lowest, requested, stands_at, looked, session_after, makes_from}
+use Rattle.clv_base.specs.Sessions.{SessionState, no_session, is_whole_now, numbered, goes_on_back, back_for, went_back, back_in_session, begun, begins, is_number, lies_in, goes_on, session_for, op_answered, op_in_session, is_touching, same_touched, is_lowest, requested, stands_at, looked, session_after, makes_from}
 use Rattle.journal_laws.specs.Offers.{hoped_for}
 use Rattle.cluster_turns.specs.States.{after_from, SessionsHaveStates, StatesGoOn, StatesTellMayMake, OthersLeaveStates, StatesBearWalkers}
 use Rattle.law_base.proofs.Shards.{none_session as none_some, some_session as some_same}
@@ -80,6 +81,25 @@ bears_op : (splits : List ℕ) (run walker n nth : ℕ) (seen : Option ℕ) (op 
 bears_op splits run walker n nth seen op o None h = tt
 bears_op splits run walker n nth seen op o (Some t) h = bears_if run walker (is_number t n nth op && lies_in splits n op && same_option seen (lookup (◌==◌ n) t.touched)) _ (bears_answered run walker n nth op t o h)
 
+bears_back : (run walker : ℕ) (t : SessionState) (n nth upto : ℕ) → Bears run walker t → BearsIn run walker (back_for t n nth upto)
+bears_back run walker t n nth upto h = at (nth == suc t.nth)
+  where
+    begun_one : SessionState
+    begun_one = record (numbered nth t) { is_whole = is_whole_now t && stands_for_back nth upto t.backs; backs = (nth, upto) ∷ t.backs }
+
+    at : (b : Bool) → BearsIn run walker (cond b (cond (nat_lt upto nth) (Some begun_one) None) (cond ((nth == t.nth) && goes_on_back t.back n upto) (Some t) None))
+    at true = bears_if run walker (nat_lt upto nth) (Some begun_one) h
+    at false = bears_if run walker ((nth == t.nth) && goes_on_back t.back n upto) (Some t) h
+
+bears_went : (run walker n upto : ℕ) (t : SessionState) (o : Outcome) → Bears run walker t → BearsIn run walker (went_back n upto t o)
+bears_went run walker n upto t Rolled h = h
+bears_went run walker n upto t (Dead cause) h = h
+bears_went run walker n upto t _ h = tt
+
+bears_rolled : (run walker n upto : ℕ) (o : Outcome) (v : Option SessionState) → BearsIn run walker v → BearsIn run walker (back_in_session n upto o v)
+bears_rolled run walker n upto o None h = tt
+bears_rolled run walker n upto o (Some t) h = bears_went run walker n upto t o h
+
 bears_requested : (run walker n : ℕ) (t : SessionState) (o : Outcome) → Bears run walker t → BearsIn run walker (requested n t o)
 bears_requested run walker n t Asked h = h
 bears_requested run walker n t (Dead cause) h = h
@@ -92,7 +112,9 @@ bears_looked run walker t _ h = tt
 
 bears_after : (splits : List ℕ) (run walker n : ℕ) (t : SessionState) (e : Event) (o : Outcome) → Bears run walker t → BearsIn run walker (session_after splits n t e o)
 bears_after splits run walker n t (Op tx birth nth seen op) o h = bears_op splits run walker n nth seen op o (session_for t tx birth) (bears_for run walker t tx birth h)
-bears_after splits run walker n t (Request tx touched) o h = bears_if run walker (tx_same tx t.tx && is_touching t.phase && same_touched touched t.touched && is_lowest n touched) _ (bears_requested run walker n t o h)
+bears_after splits run walker n t (RollTo tx nth seen upto) o h =
+    bears_if run walker (tx_same tx t.tx && is_touching t.phase && same_option (Some seen) (lookup (◌==◌ n) t.touched)) _ (bears_rolled run walker n upto o (back_for t n nth upto) (bears_back run walker t n nth upto h))
+bears_after splits run walker n t (Request tx touched) o h = bears_if run walker (tx_same tx t.tx && is_touching t.phase && is_whole_now t && same_touched touched t.touched && is_lowest n touched) _ (bears_requested run walker n t o h)
 bears_after splits run walker n t (Look tx) o h = bears_if run walker (tx_same tx t.tx && stands_at n t.phase) _ (bears_looked run walker t o h)
 bears_after splits run walker n t (Drop tx) o h = bears_if run walker _ (Some _) h
 bears_after splits run walker n t Send o h = h
@@ -115,6 +137,7 @@ states_bear_walkers splits run walker es t h = subst (BearsIn run walker) h (bea
 
 pub others_leave_states : OthersLeaveStates
 others_leave_states splits n t (Op tx birth nth seen op) o h = absurd (both_ways true h refl)
+others_leave_states splits n t (RollTo tx nth seen upto) o h = absurd (both_ways true h refl)
 others_leave_states splits n t (Request tx ts) o h = absurd (both_ways true h refl)
 others_leave_states splits n t (Look tx) o h = absurd (both_ways true h refl)
 others_leave_states splits n t (Drop tx) o h = absurd (both_ways true h refl)

@@ -1,5 +1,5 @@
 -- A birth of which no transaction has an active part on a shard.
-use Rattle.std.proofs.Common.{◌≡◌, ◌≢◌, ◌⊎◌, inl, inr, ◌∙◌, refl, sym, ap, subst, ℕ, ◌^◌, nat_lt, Bool, true, false, not, List, [], ◌∷◌, get_or, set, map, Option, Some, None, Result, Ok, Err, get_or-set_same, get_or-set_other}
+use Rattle.std.proofs.Common.{◌≡◌, ◌≢◌, ◌⊎◌, inl, inr, ◌∙◌, refl, sym, ap, subst, ℕ, ◌^◌, nat_lt, ◌==◌, Bool, true, false, not, List, [], ◌∷◌, get_or, set, map, Option, Some, None, Result, Ok, Err, get_or-set_same, get_or-set_other}
 use Rattle.std.specs.List.{AllByRecursion}
 use Rattle.std.specs.Prelude.{is_some, unwrap_or}
 use Rattle.std.proofs.lemmas.Bool.{both_ways, eq-eqb}
@@ -12,7 +12,7 @@ use Rattle.clv_base.specs.declared.ops.Op.TheVariants.{Get}
 use Rattle.clv_base.specs.declared.ops.Answer.{Answer}
 use Rattle.clv_base.specs.declared.causes.AbortCause.{AbortCause}
 use Rattle.clv_base.specs.declared.events.Event.{Event}
-use Rattle.clv_base.specs.declared.events.Event.TheVariants.{Op, Request, Drop, FlushOut}
+use Rattle.clv_base.specs.declared.events.Event.TheVariants.{Op, RollTo, Request, Drop, FlushOut}
 use Rattle.clv_base.specs.declared.events.Outcome.{Outcome}
 use Rattle.clv_base.specs.declared.events.Outcome.TheVariants.{Answered, Dead, Asked, Down}
 use Rattle.clv_base.specs.declared.events.Entry.{Entry}
@@ -22,8 +22,9 @@ use Rattle.clv_base.specs.declared.state.Stage.TheVariants.{Active, Closed, Gone
 use Rattle.clv_base.specs.Orders.{tx_get}
 use Rattle.clv_base.specs.State.{Shard}
 use Rattle.clv_base.specs.Undo.{stage_of}
+use Rattle.clv_base.specs.Backs.{standing_numbers, count_after}
 use Rattle.clv_base.specs.OneShard.{OpReply, OpWaits, OpCrowded, OpDies, OpAnswers, seen_fits, op_seen}
-use Rattle.clv_base.specs.Events.{QuietBeforeWorn, Does, CallAnswer, Quiet, stamped, step, happen, happen_up, op_event, epoch_in, request_by_stage, request_event, drop_event, next_stamp}
+use Rattle.clv_base.specs.Events.{QuietBeforeWorn, Does, CallAnswer, Quiet, stamped, step, happen, happen_up, op_event, roll_by_stage, roll_event, epoch_in, request_by_stage, request_event, drop_event, next_stamp}
 use Rattle.clv_base.specs.Journals.{has_equal_active_birth}
 use Rattle.turn_lock.specs.declared.pass.Pass.{Pass}
 use Rattle.turn_lock.specs.Passes.{seen, pass_origin}
@@ -45,7 +46,7 @@ use Rattle.cluster_turns.specs.CallTurns.{Turn, Took, no_turn, event_turn, flush
 use Rattle.cluster_turns.specs.Answers.{is_quiet, is_kept, HasItsEntry}
 use Rattle.cluster_turns.proofs.Answering.{answers_have_entries}
 use Rattle.cluster_turns.specs.Births.{IsFreeFor, SeesFree, AllSeeFree}
-use Rattle.cluster_turns.specs.Unborn.{SeesUnborn, UnbornAt, is_epoch_of, IsUnbornUnless, SeesUnless, UnbornUnless, HasShard, LeavesUnborn, AllLeaveUnborn, EndsPart, UnbornStays, UnlessStays, AnsweredIsInEpoch, DiesAtRequest, EndsUnbear, NewIsUnborn, UnbornIsFree, UnbornUnlessNone, UnbornUnlessAny}
+use Rattle.cluster_turns.specs.Unborn.{SeesUnborn, UnbornAt, is_epoch_of, IsUnbornUnless, SeesUnless, UnbornUnless, HasShard, LeavesUnborn, AllLeaveUnborn, EndsPart, UnbornStays, UnlessStays, AnsweredIsInEpoch, DiesAtRequest, DiesGoingBack, EndsUnbear, NewIsUnborn, UnbornIsFree, UnbornUnlessNone, UnbornUnlessAny}
 use Rattle.cluster_turns.proofs.Dropping.{dropped_inactive}
 use Rattle.cluster_turns.proofs.Epochs.{epoch_stays, others_unless, added_unless}
 use Rattle.cluster_turns.proofs.Freely.{event_frees, turn_frees, event_leaves, landing_leaves, free_stays, new_is_free}
@@ -56,11 +57,11 @@ use Rattle.law_base.proofs.Bools.{not_true}
 -- ---- the pass of one shard
 
 module _ {T : Type 0} where
-  abbrev PassAt : (Pass T Note Origin → Type 0) → ℕ → List (Option (Pass T Note Origin)) → Type 0
+  abbrev pub PassAt : (Pass T Note Origin → Type 0) → ℕ → List (Option (Pass T Note Origin)) → Type 0
   PassAt P n passes = (p : Pass T Note Origin) → ((d : Option (Pass T Note Origin)) → get_or passes n d ≡ Some p) → P p
 
   -- a turn on shard k, whose pass p becomes q
-  at_changes : (P : Pass T Note Origin → Type 0) (n k : ℕ) (ps qs : List (Option (Pass T Note Origin))) (p q : Pass T Note Origin) → ((d : Option (Pass T Note Origin)) → get_or ps k d ≡ Some p) → qs ≡ set ps k (Some q) → (k ≡ n → P p → P q)
+  pub at_changes : (P : Pass T Note Origin → Type 0) (n k : ℕ) (ps qs : List (Option (Pass T Note Origin))) (p q : Pass T Note Origin) → ((d : Option (Pass T Note Origin)) → get_or ps k d ≡ Some p) → qs ≡ set ps k (Some q) → (k ≡ n → P p → P q)
       → PassAt P n ps → PassAt P n qs
   at_changes P n k ps qs p q had is this each x at = dite (ℕ_discrete n k)
       (λ same. let is_q : q ≡ x = some_same q x (sym (get_or-set_same ps k (Some q) None (past ps k p had)) ∙ sym (ap (λ l. get_or l k None) is) ∙ ap (λ j. get_or qs j None) (sym same) ∙ at None) in
@@ -257,7 +258,7 @@ module _ {T : Type 0} where
 
 -- ---- an operation that was answered
 
-answered_epoch : (s : Shard) (r : OpReply) (answer : Answer) (epoch : ℕ) (t : Shard) → op_event s r ≡ Does (Answered answer epoch) t → s.local.epoch ≡ epoch
+pub answered_epoch : (s : Shard) (r : OpReply) (answer : Answer) (epoch : ℕ) (t : Shard) → op_event s r ≡ Does (Answered answer epoch) t → s.local.epoch ≡ epoch
 answered_epoch s (OpWaits younger) answer epoch t h = absurd cc
 answered_epoch s (OpCrowded count) answer epoch t h = absurd cc
 answered_epoch s (OpDies cause l) answer epoch t h = absurd cc
@@ -278,7 +279,7 @@ answered_up s tx b nth seen op answer epoch t true up h =
     let h2 : op_event s (op_seen s.shard s.local tx b seen op (seen_fits s.local.epoch seen)) ≡ Does (Answered answer epoch) t = sym (ap (λ x. elim x [ true ↦ happen_up s (Op tx b nth seen op) | false ↦ QuietBeforeWorn Down ]) up) ∙ h in
     fits_epoch seen s.local.epoch epoch (answered_fits s tx b seen op (seen_fits s.local.epoch seen) answer epoch t h2) (answered_epoch s (op_seen s.shard s.local tx b seen op (seen_fits s.local.epoch seen)) answer epoch t h2)
 
-no_made : {x : Option Entry} {X : Type 0} → is_some x ≡ true → x ≡ None → X
+pub no_made : {x : Option Entry} {X : Type 0} → is_some x ≡ true → x ≡ None → X
 no_made h k = absurd (both_ways false refl (sym (ap is_some k) ∙ h))
 
 in_epoch : (t : Turn) (tx : TxId) (b birth : Birth) (nth : ℕ) (sn : Option ℕ) (op : Operation) (answer : Answer) (epoch clock w c : ℕ) (s u : Shard) (added : List Note) (h : EventTold clock w t.event t.answer c s u added) → t.made ≡ h.made → is_some t.made ≡ true
@@ -311,29 +312,66 @@ dead_other s tx ts part cause t true is h = inr (by (stage_of s.local tx) h)
     by (Some Closed) k active = absurd cc
     by (Some (Gone d)) k active = absurd cc
 
-dead_frees : (s : Shard) (tx : TxId) (birth : Birth) (ts : List (ℕ × ℕ)) (cause : AbortCause) (t : Shard) (u : Bool) → s.is_up ≡ u → happen s (Request tx ts) ≡ Does (Dead cause) t → Known s → IsFreeFor tx birth s → IsUnbornUnless (epoch_in s.shard ts) birth s → (v : TxId)
-    → IsFreeFor v birth s
-dead_frees s tx birth ts cause t false down h known free unless v = nothing_happens s (Request tx ts) (Dead cause) t down h
-dead_frees s tx birth ts cause t true up h known free unless v =
-    let h2 : request_event s tx ts (seen_fits s.local.epoch (epoch_in s.shard ts)) ≡ Does (Dead cause) t = sym (ap (λ x. elim x [ true ↦ happen_up s (Request tx ts) | false ↦ QuietBeforeWorn Down ]) up) ∙ h in
-    at (dead_other s tx ts (epoch_in s.shard ts) cause t (seen_fits s.local.epoch (epoch_in s.shard ts)) refl h2)
-  where
-    at : (is_epoch_of (epoch_in s.shard ts) s.local.epoch ≡ false) ⊎ (stage_of s.local tx ≢ Some Active) → IsFreeFor v birth s
-    at (inl other) = unless other v
-    at (inr inactive) = inactive_frees tx birth s known (λ _. inactive) free v
+-- whatever else frees the birth where an event of the transaction died: all but the part of an epoch is unborn on its shard
+abbrev FreesDead : ℕ → TxId → Birth → Event → Option ℕ → AbortCause → Type 0
+FreesDead n tx birth e part cause =
+    (s t : Shard) → s.shard ≡ n → happen s e ≡ Does (Dead cause) t → Known s → IsFreeFor tx birth s → IsUnbornUnless part birth s → (v : TxId) → IsFreeFor v birth s
 
-request_unbears : (t : Turn) (tx : TxId) (birth : Birth) (ts : List (ℕ × ℕ)) (cause : AbortCause) (clock w c : ℕ) (s u : Shard) (added : List Note) (h : EventTold clock w t.event t.answer c s u added) → t.made ≡ h.made → is_some t.made ≡ true → t.event ≡ Request tx ts
-    → t.answer ≡ Ok (Dead cause) → Known s → IsFreeFor tx birth s → IsUnbornUnless (epoch_in s.shard ts) birth s → (v : TxId) → IsFreeFor v birth u
-request_unbears t tx birth ts cause clock w c s u added h made entered event is known free unless v = event_frees v birth clock w c t.event t.answer s u added h (subst (LeavesBirth v birth) (sym event) tt) (at h.made made h.tells)
+dead_by : (tx : TxId) (birth : Birth) (s : Shard) (part : Option ℕ) → Known s → IsFreeFor tx birth s → IsUnbornUnless part birth s → (is_epoch_of part s.local.epoch ≡ false) ⊎ (stage_of s.local tx ≢ Some Active) → (v : TxId) → IsFreeFor v birth s
+dead_by tx birth s part known free unless (inl other) v = unless other v
+dead_by tx birth s part known free unless (inr inactive) v = inactive_frees tx birth s known (λ _. inactive) free v
+
+request_dead : (s : Shard) (tx : TxId) (ts : List (ℕ × ℕ)) (cause : AbortCause) (t : Shard) (u : Bool) → s.is_up ≡ u → happen s (Request tx ts) ≡ Does (Dead cause) t
+    → (is_epoch_of (epoch_in s.shard ts) s.local.epoch ≡ false) ⊎ (stage_of s.local tx ≢ Some Active)
+request_dead s tx ts cause t false down h = nothing_happens s (Request tx ts) (Dead cause) t down h
+request_dead s tx ts cause t true up h =
+    dead_other s tx ts (epoch_in s.shard ts) cause t (seen_fits s.local.epoch (epoch_in s.shard ts)) refl
+    (sym (ap (λ x. elim x [ true ↦ happen_up s (Request tx ts) | false ↦ QuietBeforeWorn Down ]) up) ∙ h)
+
+request_frees : (n : ℕ) (tx : TxId) (birth : Birth) (ts : List (ℕ × ℕ)) (cause : AbortCause) → FreesDead n tx birth (Request tx ts) (epoch_in n ts) cause
+request_frees n tx birth ts cause s t at h known free unless v =
+    let mine : IsUnbornUnless (epoch_in s.shard ts) birth s = subst (λ k. IsUnbornUnless (epoch_in k ts) birth s) (sym at) unless in
+    dead_by tx birth s (epoch_in s.shard ts) known free mine (request_dead s tx ts cause t s.is_up refl h) v
+
+-- ---- a going back that died
+
+rolled_dead : (s : Shard) (tx : TxId) (epoch upto : ℕ) (cause : AbortCause) (t : Shard) (fits : Bool) → (epoch == s.local.epoch) ≡ fits → roll_event s tx epoch upto fits ≡ Does (Dead cause) t
+    → (is_epoch_of (Some epoch) s.local.epoch ≡ false) ⊎ (stage_of s.local tx ≢ Some Active)
+rolled_dead s tx epoch upto cause t false is h = inl is
+rolled_dead s tx epoch upto cause t true is h = inr (by (stage_of s.local tx) h)
+  where
+    by : (st : Option Stage) → roll_by_stage s tx (count_after upto (standing_numbers tx s.journal)) st ≡ Does (Dead cause) t → st ≢ Some Active
+    by None k active = absurd cc
+    by (Some Active) k active = absurd cc
+    by (Some Closed) k active = absurd cc
+    by (Some (Gone d)) k active = absurd cc
+
+back_dead : (s : Shard) (tx : TxId) (nth epoch upto : ℕ) (cause : AbortCause) (t : Shard) (u : Bool) → s.is_up ≡ u → happen s (RollTo tx nth epoch upto) ≡ Does (Dead cause) t
+    → (is_epoch_of (Some epoch) s.local.epoch ≡ false) ⊎ (stage_of s.local tx ≢ Some Active)
+back_dead s tx nth epoch upto cause t false down h = nothing_happens s (RollTo tx nth epoch upto) (Dead cause) t down h
+back_dead s tx nth epoch upto cause t true up h =
+    rolled_dead s tx epoch upto cause t (epoch == s.local.epoch) refl
+    (sym (ap (λ x. elim x [ true ↦ happen_up s (RollTo tx nth epoch upto) | false ↦ QuietBeforeWorn Down ]) up) ∙ h)
+
+back_frees : (n : ℕ) (tx : TxId) (birth : Birth) (nth epoch upto : ℕ) (cause : AbortCause) → FreesDead n tx birth (RollTo tx nth epoch upto) (Some epoch) cause
+back_frees n tx birth nth epoch upto cause s t at h known free unless v = dead_by tx birth s (Some epoch) known free unless (back_dead s tx nth epoch upto cause t s.is_up refl h) v
+
+-- ---- an event that died
+
+dead_unbears : (n : ℕ) (t : Turn) (tx : TxId) (birth : Birth) (e : Event) (part : Option ℕ) (cause : AbortCause) (clock w c : ℕ) (s u : Shard) (added : List Note) (h : EventTold clock w t.event t.answer c s u added)
+    → FreesDead n tx birth e part cause → ((v : TxId) → LeavesBirth v birth e) → s.shard ≡ n → t.made ≡ h.made → is_some t.made ≡ true → t.event ≡ e
+    → t.answer ≡ Ok (Dead cause) → Known s → IsFreeFor tx birth s → IsUnbornUnless part birth s → (v : TxId) → IsFreeFor v birth u
+dead_unbears n t tx birth e part cause clock w c s u added h frees leaves place made entered event is known free unless v =
+    event_frees v birth clock w c t.event t.answer s u added h (subst (LeavesBirth v birth) (sym event) (leaves v)) (at h.made made h.tells)
   where
     same_outcome : (o p : Outcome) → ◌≡◌ {A = Result Outcome StepError} (Ok o) (Ok p) → o ≡ p
     same_outcome o p k = cc
 
     at : (m : Option Entry) → t.made ≡ m → Tells (step s clock w t.event) s clock w t.event t.answer u m → IsFreeFor v birth s
-    at None e k = no_made entered e
-    at (Some x) e (o, ok, m) =
+    at None q k = no_made entered q
+    at (Some x) q (o, ok, m) =
         let d = from_does (next_stamp s clock t.event) w t.event (nat_lt (next_stamp s clock t.event) (2 ^ 48)) (happen s t.event) o u m.enters in
-        dead_frees s tx birth ts cause d.after s.is_up refl (ap (happen s) (sym event) ∙ d.does ∙ ap (λ z. Does z d.after) (same_outcome o (Dead cause) (sym ok ∙ is))) known free unless v
+        frees s d.after place (ap (happen s) (sym event) ∙ d.does ∙ ap (λ z. Does z d.after) (same_outcome o (Dead cause) (sym ok ∙ is))) known free unless v
 
 -- ---- the one turn of a call
 
@@ -349,11 +387,11 @@ no_more n birth (t ∷ ts) h = absurd cc
 
 module _ {T : Type 0} where
   -- what a pass has seen after a turn of its own
-  at_here : (P : Pass T Note Origin → Type 0) (n k : ℕ) (ps qs : List (Option (Pass T Note Origin))) (p q : Pass T Note Origin) → ((d : Option (Pass T Note Origin)) → get_or ps k d ≡ Some p) → qs ≡ set ps k (Some q) → k ≡ n → P q → PassAt P n qs
+  pub at_here : (P : Pass T Note Origin → Type 0) (n k : ℕ) (ps qs : List (Option (Pass T Note Origin))) (p q : Pass T Note Origin) → ((d : Option (Pass T Note Origin)) → get_or ps k d ≡ Some p) → qs ≡ set ps k (Some q) → k ≡ n → P q → PassAt P n qs
   at_here P n k ps qs p q had is same h x at =
       subst P (some_same q x (sym (get_or-set_same ps k (Some q) None (past ps k p had)) ∙ sym (ap (λ l. get_or l k None) is) ∙ ap (λ j. get_or qs j None) same ∙ at None)) h
 
-  after_sees : (Told : Shard → Shard → List Note → Type 0) (w : ℕ) (p q : Pass T Note Origin) (t : Turned Told w p q) (P : Shard → Type 0) → P t.t → (o : Origin) → pass_origin q ≡ Some o → P (state_of o (seen q))
+  pub after_sees : (Told : Shard → Shard → List Note → Type 0) (w : ℕ) (p q : Pass T Note Origin) (t : Turned Told w p q) (P : Shard → Type 0) → P t.t → (o : Origin) → pass_origin q ≡ Some o → P (state_of o (seen q))
   after_sees Told w p q t P h o has =
       subst (λ x. P (state_of x (seen q))) (some_same t.origin o (sym (t.origin_is ∙ t.has_origin) ∙ has)) (subst (λ ns. P (state_of t.origin ns)) (sym t.seen_is) (subst P t.t_is.is h))
 
@@ -378,10 +416,10 @@ module _ {T : Type 0} where
   pub answered_is_in_epoch : AnsweredIsInEpoch T
   answered_is_in_epoch n w c d ps qs t tx b birth nth sn op answer epoch took own here event ans = answered_at n w c d ps qs (t ∷ []) t tx b birth nth sn op answer epoch took refl own here event ans
 
-  request_at : (n w c d : ℕ) (ps qs : List (Option (Pass T Note Origin))) (ts : List Turn) (t : Turn) (tx : TxId) (birth : Birth) (touched : List (ℕ × ℕ)) (cause : AbortCause) → Took w c ps ts d qs → ts ≡ t ∷ [] → birth.session ≡ w → t.shard ≡ n
-      → t.event ≡ Request tx touched → t.answer ≡ Ok (Dead cause) → HasShard n ps → AllSeeFree tx birth ps → UnbornUnless n (epoch_in n touched) birth ps → UnbornAt n birth qs
-  request_at n w _ _ _ _ _ t tx birth touched cause (no_turn clock ps) is own here event ans shard free unless = absurd cc
-  request_at n w _ _ _ _ _ t tx birth touched cause (event_turn clock c clock' ps qs rs u ts walked made stays h) is own here event ans shard free unless =
+  dead_at : (n w c d : ℕ) (ps qs : List (Option (Pass T Note Origin))) (ts : List Turn) (t : Turn) (tx : TxId) (birth : Birth) (e : Event) (part : Option ℕ) (cause : AbortCause) → FreesDead n tx birth e part cause → ((v : TxId) → LeavesBirth v birth e)
+      → Took w c ps ts d qs → ts ≡ t ∷ [] → birth.session ≡ w → t.shard ≡ n → t.event ≡ e → t.answer ≡ Ok (Dead cause) → HasShard n ps → AllSeeFree tx birth ps → UnbornUnless n part birth ps → UnbornAt n birth qs
+  dead_at n w _ _ _ _ _ t tx birth e part cause frees leaves (no_turn clock ps) is own here event ans shard free unless = absurd cc
+  dead_at n w _ _ _ _ _ t tx birth e part cause frees leaves (event_turn clock c clock' ps qs rs u ts walked made stays h) is own here event ans shard free unless =
       let same = head_same u t ts [] is in
       let ans2 = ap (λ z. z.answer) same ∙ ans in
       let place : u.shard ≡ n = ap (λ z. z.shard) same ∙ here in
@@ -390,20 +428,24 @@ module _ {T : Type 0} where
       let found : IsFreeFor tx birth x.s = still_free x.origin x.s w (Op tx birth 0 None (Get 0)) (seen walked.p) x.before x.s_is x.found (eq-eqb birth.session w own) (free u.shard walked.p walked.had x.origin x.has_origin) in
       let had : (d : Option (Pass T Note Origin)) → get_or ps n d ≡ Some walked.p = λ d. ap (λ j. get_or ps j d) (sym place) ∙ walked.had d in
       let shard_is : x.s.shard ≡ n = legal_shard x.origin x.before x.s x.s_is ∙ shard walked.p had x.origin x.has_origin in
-      let lost : IsUnbornUnless (epoch_in x.s.shard touched) birth x.s =
-      subst (λ k. IsUnbornUnless (epoch_in k touched) birth x.s) (sym shard_is) (others_unless (epoch_in n touched) birth x.origin x.s w (seen walked.p) x.before x.s_is x.found own (unless walked.p had x.origin x.has_origin)) in
+      let lost : IsUnbornUnless part birth x.s = others_unless part birth x.origin x.s w (seen walked.p) x.before x.s_is x.found own (unless walked.p had x.origin x.has_origin) in
       unborn_stays n w c clock' qs rs ts birth h own (no_more n birth ts (tail_same u t ts [] is))
       (at_here (SeesUnborn birth) n u.shard ps qs walked.p walked.q walked.had walked.after_is place
       (λ v. after_sees _ w walked.p walked.q x (IsFreeFor v birth)
-      (request_unbears u tx birth touched cause clock w c x.s x.t x.added x.told made (has.0 ∙ ap is_kept ans2) (ap (λ z. z.event) same ∙ event) ans2 (known_in x.origin x.before x.s x.s_is) found lost v)))
-  request_at n w _ _ _ _ _ t tx birth touched cause (flush_turns clock c d clock' upto pushed ps ms qs rs u v ts out back e answer2 made same lands landed entered known h) is own here event ans shard free unless =
+      (dead_unbears n u tx birth e part cause clock w c x.s x.t x.added x.told frees leaves shard_is made (has.0 ∙ ap is_kept ans2) (ap (λ z. z.event) same ∙ event) ans2 (known_in x.origin x.before x.s x.s_is) found lost v)))
+  dead_at n w _ _ _ _ _ t tx birth e part cause frees leaves (flush_turns clock c d clock' upto pushed ps ms qs rs u v ts out back out_is answer2 made same lands landed entered known h) is own here event ans shard free unless =
       let wrong : v ∷ ts ≡ [] = tail_same u t (v ∷ ts) [] is in absurd cc
-  request_at n w _ _ _ _ _ t tx birth touched cause (horizon_look clock clock' m horizon ps qs rs ts looked h) is own here event ans shard free unless =
+  dead_at n w _ _ _ _ _ t tx birth e part cause frees leaves (horizon_look clock clock' m horizon ps qs rs ts looked h) is own here event ans shard free unless =
       let look = horizon_look clock clock m horizon ps qs qs [] looked (no_turn clock qs) in
-      request_at n w clock clock' qs rs ts t tx birth touched cause h is own here event ans
+      dead_at n w clock clock' qs rs ts t tx birth e part cause frees leaves h is own here event ans
       (at_changes (λ p. (o : Origin) → pass_origin p ≡ Some o → o.shard ≡ n) n m ps qs looked.p looked.q looked.had looked.after_is (λ at g o has. g o (sym looked.same.0 ∙ has)) shard)
       (free_stays w clock clock ps qs [] tx birth look own tt free)
-      (unless_stays n w clock clock ps qs [] (epoch_in n touched) birth look own tt unless)
+      (unless_stays n w clock clock ps qs [] part birth look own tt unless)
 
   pub dies_at_request : DiesAtRequest T
-  dies_at_request n w c d ps qs t tx birth touched cause took own here event ans shard free unless = request_at n w c d ps qs (t ∷ []) t tx birth touched cause took refl own here event ans shard free unless
+  dies_at_request n w c d ps qs t tx birth touched cause took own here event ans shard free unless =
+      dead_at n w c d ps qs (t ∷ []) t tx birth (Request tx touched) (epoch_in n touched) cause (request_frees n tx birth touched cause) (λ v. tt) took refl own here event ans shard free unless
+
+  pub dies_going_back : DiesGoingBack T
+  dies_going_back n w c d ps qs t tx birth nth epoch upto cause took own here event ans shard free unless =
+      dead_at n w c d ps qs (t ∷ []) t tx birth (RollTo tx nth epoch upto) (Some epoch) cause (back_frees n tx birth nth epoch upto cause) (λ v. tt) took refl own here event ans shard free unless

@@ -15,7 +15,7 @@ use Rattle.clv_base.specs.Restarts.{run_after}
 use Rattle.clv_base.specs.Sessions.{is_session, is_of_session, is_session_number}
 use Rattle.std.proofs.lemmas.Bool.{both_ways}
 use Rattle.journal_laws.specs.Offers.{may_make}
-use Rattle.clv_base.specs.declared.events.Event.TheVariants.{Op, Request, Look, Drop, Send, Deliver, Remind, FlushOut, FlushIn, Stop, Restart}
+use Rattle.clv_base.specs.declared.events.Event.TheVariants.{Op, RollTo, Request, Look, Drop, Send, Deliver, Remind, FlushOut, FlushIn, Stop, Restart}
 use Rattle.clv_base.specs.History.{WasSent}
 use Rattle.clv_base.specs.Journals.{History}
 use Rattle.law_base.proofs.Lists.{all_mono, all_push}
@@ -157,6 +157,7 @@ event_rises clock w e r clock' s t added h = by_made h.made h.tells h.clock_is
 
 pub single_session : (e : Event) → is_of_session e ≡ true → is_single e ≡ true
 single_session (Op tx birth nth seen op) h = refl
+single_session (RollTo tx nth seen upto) h = refl
 single_session (Request tx ts) h = refl
 single_session (Look tx) h = refl
 single_session (Drop tx) h = refl
@@ -170,6 +171,7 @@ single_session Restart h = absurd (both_ways false refl h)
 
 no_message : (es : History) (e : Event) → is_of_session e ≡ true → WasSent es e
 no_message es (Op tx birth nth seen op) h = tt
+no_message es (RollTo tx nth seen upto) h = tt
 no_message es (Request tx ts) h = tt
 no_message es (Look tx) h = tt
 no_message es (Drop tx) h = tt

@@ -1,5 +1,5 @@
 -- What a session touched are shards that there are.
-use Rattle.std.proofs.Common.{◌≡◌, refl, sym, ap, subst, ◌∙◌, ℕ, ◌<◌, true, false, cond, Bool, ◌&&◌, ◌==◌, length, nat_lt, List, [], ◌∷◌, Option, Some, None, eqb-true, arith}
+use Rattle.std.proofs.Common.{◌≡◌, refl, sym, ap, subst, ◌∙◌, ℕ, suc, ◌<◌, true, false, cond, Bool, ◌&&◌, ◌==◌, length, nat_lt, List, [], ◌∷◌, Option, Some, None, eqb-true, arith}
 use Rattle.std.specs.Prelude.{is_some}
 use Rattle.std.specs.Map.{lookup}
 use Rattle.std.specs.BTreeMap.{insert_entry}
@@ -12,14 +12,15 @@ use Rattle.clv_base.specs.declared.names.Birth.{Birth}
 use Rattle.clv_base.specs.declared.ops.Op.{Op as Operation}
 use Rattle.clv_base.specs.declared.ops.Op.TheVariants.{Get, Put, Del, Scan, Add}
 use Rattle.clv_base.specs.declared.events.Event.{Event}
-use Rattle.clv_base.specs.declared.events.Event.TheVariants.{Op, Request, Look, Drop, Send, Deliver, Remind, FlushOut, FlushIn, Stop, Restart}
+use Rattle.clv_base.specs.declared.events.Event.TheVariants.{Op, RollTo, Request, Look, Drop, Send, Deliver, Remind, FlushOut, FlushIn, Stop, Restart}
 use Rattle.clv_base.specs.declared.events.Outcome.{Outcome}
-use Rattle.clv_base.specs.declared.events.Outcome.TheVariants.{Answered, Dead, Asked, Acknowledged, Aborted}
+use Rattle.clv_base.specs.declared.events.Outcome.TheVariants.{Answered, Rolled, Dead, Asked, Acknowledged, Aborted}
 use Rattle.clv_base.specs.Orders.{tx_same}
 use Rattle.clv_base.specs.LogRules.{same_option}
+use Rattle.clv_base.specs.Backs.{stands_for_back}
 use Rattle.clv_base.specs.Journals.{History}
 use Rattle.clv_base.specs.Shards.{shard_count, lies_within, in_span}
-use Rattle.clv_base.specs.Sessions.{SessionState, Phase, Touching, Ended, Standing, Told, Refused, no_session, begun, begins, is_number, lies_in, goes_on, session_for, op_answered, op_in_session, is_touching, same_touched, is_lowest, requested, stands_at, looked, touch, after_drop, session_after}
+use Rattle.clv_base.specs.Sessions.{SessionState, Phase, Touching, Ended, Standing, Told, Refused, no_session, is_whole_now, numbered, goes_on_back, back_for, went_back, back_in_session, begun, begins, is_number, lies_in, goes_on, session_for, op_answered, op_in_session, is_touching, same_touched, is_lowest, requested, stands_at, looked, touch, after_drop, session_after}
 use Rattle.clv_base.proofs.Spans.{past_all}
 use Rattle.cluster_turns.specs.States.{after_from, TouchedAreShards, HomesAreShards}
 use Rattle.law_base.proofs.Lists.{AreShards as AllWithin}
@@ -94,6 +95,25 @@ within_in splits n nth seen op o (Some t) h =
     within_if splits (is_number t n nth op && lies_in splits n op && same_option seen (lookup (◌==◌ n) t.touched)) (op_answered n nth op t o)
     (λ is. within_answered splits n nth op t o (within_op splits n op (and_parts _ _ (and_parts _ _ is).0).1) h)
 
+within_back : (splits : List ℕ) (t : SessionState) (n nth upto : ℕ) → Within splits t → WithinIn splits (back_for t n nth upto)
+within_back splits t n nth upto h = at (nth == suc t.nth)
+  where
+    begun_one : SessionState
+    begun_one = record (numbered nth t) { is_whole = is_whole_now t && stands_for_back nth upto t.backs; backs = (nth, upto) ∷ t.backs }
+
+    at : (b : Bool) → WithinIn splits (cond b (cond (nat_lt upto nth) (Some begun_one) None) (cond ((nth == t.nth) && goes_on_back t.back n upto) (Some t) None))
+    at true = within_if splits (nat_lt upto nth) (Some begun_one) (λ is. h)
+    at false = within_if splits ((nth == t.nth) && goes_on_back t.back n upto) (Some t) (λ is. h)
+
+within_went : (splits : List ℕ) (n upto : ℕ) (t : SessionState) (o : Outcome) → Within splits t → WithinIn splits (went_back n upto t o)
+within_went splits n upto t Rolled h = h
+within_went splits n upto t (Dead cause) h = (h.0, tt)
+within_went splits n upto t _ h = tt
+
+within_rolled : (splits : List ℕ) (n upto : ℕ) (o : Outcome) (v : Option SessionState) → WithinIn splits v → WithinIn splits (back_in_session n upto o v)
+within_rolled splits n upto o None h = tt
+within_rolled splits n upto o (Some t) h = within_went splits n upto t o h
+
 -- the home is the first of the touched shards
 first_within : (splits : List ℕ) (n : ℕ) (xs ys : List (ℕ × ℕ)) → same_touched xs ys ≡ true → is_lowest n xs ≡ true → AllWithin splits ys → n < shard_count splits
 first_within splits n [] ys same low h = absurd (both_ways false refl low)
@@ -122,8 +142,11 @@ home_dropped splits Refused h = tt
 
 within_after : (splits : List ℕ) (n : ℕ) (t : SessionState) (e : Event) (o : Outcome) → Within splits t → WithinIn splits (session_after splits n t e o)
 within_after splits n t (Op tx birth nth seen op) o h = within_in splits n nth seen op o (session_for t tx birth) (within_for splits t tx birth h)
+within_after splits n t (RollTo tx nth seen upto) o h =
+    within_if splits (tx_same tx t.tx && is_touching t.phase && same_option (Some seen) (lookup (◌==◌ n) t.touched)) (back_in_session n upto o (back_for t n nth upto))
+    (λ is. within_rolled splits n upto o (back_for t n nth upto) (within_back splits t n nth upto h))
 within_after splits n t (Request tx touched) o h =
-    within_if splits (tx_same tx t.tx && is_touching t.phase && same_touched touched t.touched && is_lowest n touched) (requested n t o)
+    within_if splits (tx_same tx t.tx && is_touching t.phase && is_whole_now t && same_touched touched t.touched && is_lowest n touched) (requested n t o)
     (λ is. within_requested splits n t o (first_within splits n touched t.touched (and_parts _ _ (and_parts _ _ is).0).1 (and_parts _ _ is).1 h.0) h)
 within_after splits n t (Look tx) o h = within_if splits (tx_same tx t.tx && stands_at n t.phase) (looked t o) (λ is. within_looked splits t o h)
 within_after splits n t (Drop tx) o h = within_if splits _ (Some (record t { phase = after_drop t.phase })) (λ is. (h.0, home_dropped splits t.phase h.1))

@@ -6,9 +6,9 @@ use Rattle.clv_base.specs.declared.ops.Op.TheVariants.{Get, Put, Del, Scan, Add}
 use Rattle.clv_base.specs.declared.ops.Answer.{Answer}
 use Rattle.clv_base.specs.declared.ops.Answer.TheVariants.{Value, Pairs, Added}
 use Rattle.clv_base.specs.declared.events.Event.{Event}
-use Rattle.clv_base.specs.declared.events.Event.TheVariants.{Op as OpEvent, Request, Look, Drop, Send, Deliver, Remind, FlushOut, FlushIn, Stop, Restart}
+use Rattle.clv_base.specs.declared.events.Event.TheVariants.{Op as OpEvent, RollTo, Request, Look, Drop, Send, Deliver, Remind, FlushOut, FlushIn, Stop, Restart}
 use Rattle.clv_base.specs.declared.events.Outcome.{Outcome}
-use Rattle.clv_base.specs.declared.events.Outcome.TheVariants.{Answered, Dead, Asked, Acknowledged, Aborted, Dropped, Sent, Taken, Reminded, Out, Durable, Failed, Wait, Crowded, NotYet, Nothing, Away, Absent, Stale, Down}
+use Rattle.clv_base.specs.declared.events.Outcome.TheVariants.{Answered, Rolled, Dead, Asked, Acknowledged, Aborted, Dropped, Sent, Taken, Reminded, Out, Durable, Failed, Wait, Crowded, NotYet, Nothing, Away, Absent, Stale, Down}
 use Rattle.clv_base.specs.Journals.{History}
 use Rattle.clv_base.specs.Sessions.{is_of_session}
 use Rattle.turn_lock.specs.declared.pass.Pass.{Pass}
@@ -75,6 +75,12 @@ ends_op op (Crowded count) = true
 ends_op op Down = true
 ends_op op _ = false
 
+abbrev pub ends_back : Outcome → Bool
+ends_back Rolled = true
+ends_back (Dead cause) = true
+ends_back Down = true
+ends_back _ = false
+
 abbrev pub ends_request : Outcome → Bool
 ends_request Asked = true
 ends_request (Dead cause) = true
@@ -127,6 +133,7 @@ ends_flush _ = false
 -- a turn stops no shard and restarts none
 abbrev pub may_come_to : Event → Outcome → Bool
 may_come_to (OpEvent tx birth nth seen op) o = ends_op op o
+may_come_to (RollTo tx nth seen upto) o = ends_back o
 may_come_to (Request tx touched) o = ends_request o
 may_come_to (Look tx) o = ends_look o
 may_come_to (Drop tx) o = ends_drop o

@@ -7,10 +7,12 @@ pub mod Carried
 pub mod Reminded
 pub mod Births
 pub mod Unborn
+pub mod Epochs
 pub mod CallTurns
 pub mod Answers
 pub mod WalkerLaws
 pub mod Stages
+pub mod Notes
 pub mod States
 pub mod Laws
 pub mod Dates

@@ -1,6 +1,7 @@
 -- The state of a session by the entries of its walker, and how its next transaction goes on from there.
-use Rattle.std.specs.Prelude.{◌≡◌, ◌≢◌, ◌⊎◌, ℕ, ◌<◌, true, false, List, [], ◌∷◌, ◌++◌, Option, Some, None, is_some}
+use Rattle.std.specs.Prelude.{◌≡◌, ◌≢◌, ◌⊎◌, ℕ, ◌<◌, ◌==◌, true, false, List, [], ◌∷◌, ◌++◌, Option, Some, None, is_some}
 use Rattle.std.specs.List.{AllByRecursion}
+use Rattle.std.specs.Map.{lookup}
 use Rattle.clv_base.specs.declared.names.Birth.{Birth}
 use Rattle.clv_base.specs.declared.ops.Op.{Op}
 use Rattle.clv_base.specs.declared.events.Event.{Event}
@@ -30,6 +31,10 @@ IsNext t p = (birth : Birth) × (p ≡ begun t p.tx birth) × (tx_same p.tx t.tx
 -- the session goes on by p: its last transaction as it stands, or its next one
 abbrev pub GoesOnBy : SessionState → SessionState → Type 0
 GoesOnBy t p = (p ≡ t) ⊎ IsNext t p
+
+-- these notes are of shards that are touched
+abbrev pub AreTouched : List (ℕ × ℕ) → List (ℕ × ℕ) → Type 0
+AreTouched touched written = AllByRecursion (λ w. is_some (lookup (◌==◌ w.0) touched) ≡ true) written
 
 -- ---- laws
 
@@ -73,7 +78,11 @@ abbrev pub TouchedAreShards : Type 0
 TouchedAreShards =
     (splits : List ℕ) (run walker : ℕ) (es : History) (t : SessionState) → session_of splits run walker es ≡ Some t → AllByRecursion (λ x. x.0 < shard_count splits) t.touched
 
--- and so is the home of a request that stands
+-- each write that stands is on a touched one
+abbrev pub WrittenAreTouched : Type 0
+WrittenAreTouched = (splits : List ℕ) (run walker : ℕ) (es : History) (t : SessionState) → session_of splits run walker es ≡ Some t → AreTouched t.touched t.written
+
+-- the home of a request that stands is a shard that there is
 abbrev pub HomesAreShards : Type 0
 HomesAreShards =
     (splits : List ℕ) (run walker : ℕ) (es : History) (t : SessionState) (home : ℕ) → session_of splits run walker es ≡ Some t → t.phase ≡ Standing home → home < shard_count splits

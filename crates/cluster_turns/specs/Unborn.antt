@@ -7,7 +7,7 @@ use Rattle.clv_base.specs.declared.causes.AbortCause.{AbortCause}
 use Rattle.clv_base.specs.declared.ops.Op.{Op as Operation}
 use Rattle.clv_base.specs.declared.ops.Answer.{Answer}
 use Rattle.clv_base.specs.declared.events.Event.{Event}
-use Rattle.clv_base.specs.declared.events.Event.TheVariants.{Op, Request, Drop}
+use Rattle.clv_base.specs.declared.events.Event.TheVariants.{Op, RollTo, Request, Drop}
 use Rattle.clv_base.specs.declared.events.Outcome.{Outcome}
 use Rattle.clv_base.specs.declared.events.Outcome.TheVariants.{Answered, Dead, Asked}
 use Rattle.clv_base.specs.State.{Shard}
@@ -113,6 +113,12 @@ abbrev pub DiesAtRequest : Type 0 → Type 0
 DiesAtRequest T =
     (n w c d : ℕ) (ps qs : List (Option (Pass T Note Origin))) (t : Turn) (tx : TxId) (birth : Birth) (touched : List (ℕ × ℕ)) (cause : AbortCause) → Took w c ps (t ∷ []) d qs → birth.session ≡ w → t.shard ≡ n
     → t.event ≡ Request tx touched → t.answer ≡ Ok (Dead cause) → HasShard n ps → AllSeeFree tx birth ps → UnbornUnless n (epoch_in n touched) birth ps → UnbornAt n birth qs
+
+-- where a going back died, it has none but in the epoch that the going back named
+abbrev pub DiesGoingBack : Type 0 → Type 0
+DiesGoingBack T =
+    (n w c d : ℕ) (ps qs : List (Option (Pass T Note Origin))) (t : Turn) (tx : TxId) (birth : Birth) (nth epoch upto : ℕ) (cause : AbortCause) → Took w c ps (t ∷ []) d qs → birth.session ≡ w → t.shard ≡ n
+    → t.event ≡ RollTo tx nth epoch upto → t.answer ≡ Ok (Dead cause) → HasShard n ps → AllSeeFree tx birth ps → UnbornUnless n (Some epoch) birth ps → UnbornAt n birth qs
 
 -- that is unborn with no epoch, and what is unborn is so with any
 abbrev pub UnbornUnlessNone : Type 0 → Type 0

@@ -1,5 +1,5 @@
 // What a walker's entries tell of its session.
-ghost use Rattle.cluster_turns.specs.States.{SessionsHaveStates, StatesGoOn, StatesTellMayMake, OthersLeaveStates, StatesBearWalkers, OpsGoOn, TouchedAreLast, TouchedAreShards, HomesAreShards};
+ghost use Rattle.cluster_turns.specs.States.{SessionsHaveStates, StatesGoOn, StatesTellMayMake, OthersLeaveStates, StatesBearWalkers, OpsGoOn, TouchedAreLast, TouchedAreShards, WrittenAreTouched, HomesAreShards};
 
 /// A walker's entries are a session's exactly where they lead to a state.
 pub fn sessions_have_states()
@@ -41,7 +41,12 @@ pub fn touched_are_shards()
     ensures { TouchedAreShards }
 {}
 
-/// So is the home of a request that stands.
+/// Each write that stands is on a touched shard.
+pub fn written_are_touched()
+    ensures { WrittenAreTouched }
+{}
+
+/// The home of a request that stands is a shard that there is.
 pub fn homes_are_shards()
     ensures { HomesAreShards }
 {}

@@ -1,6 +1,7 @@
 // Births through a walker's turns.
 ghost use Rattle.cluster_turns.specs.Laws.{FreeStays, InformedStay, InformedLater, NewAreInformed, NewIsFree};
-ghost use Rattle.cluster_turns.specs.Unborn.{UnbornStays, UnlessStays, AnsweredIsInEpoch, DiesAtRequest, EndsUnbear, NewIsUnborn, UnbornIsFree, UnbornUnlessNone, UnbornUnlessAny};
+ghost use Rattle.cluster_turns.specs.Epochs.{ReachedStays, PastStays, AnsweredIsReached, DownIsPast, PastRollsNowhere};
+ghost use Rattle.cluster_turns.specs.Unborn.{UnbornStays, UnlessStays, AnsweredIsInEpoch, DiesAtRequest, DiesGoingBack, EndsUnbear, NewIsUnborn, UnbornIsFree, UnbornUnlessNone, UnbornUnlessAny};
 
 /// A birth stays free while the walker's own turns leave it to its transaction.
 pub fn free_stays<T>()
@@ -62,6 +63,11 @@ pub fn dies_at_request<T>()
     ensures { DiesAtRequest T }
 {}
 
+/// Nor does a going back that died leave one on its shard.
+pub fn dies_going_back<T>()
+    ensures { DiesGoingBack T }
+{}
+
 /// No epoch, no part.
 pub fn unborn_unless_none<T>()
     ensures { UnbornUnlessNone T }
@@ -70,4 +76,29 @@ pub fn unborn_unless_none<T>()
 /// What has no active part at all has none in any epoch.
 pub fn unborn_unless_any<T>()
     ensures { UnbornUnlessAny T }
+{}
+
+/// A shard's epoch never falls.
+pub fn reached_stays<T>()
+    ensures { ReachedStays T }
+{}
+
+/// What it is past it stays past.
+pub fn past_stays<T>()
+    ensures { PastStays T }
+{}
+
+/// Where an operation was answered its shard has reached that epoch.
+pub fn answered_is_reached<T>()
+    ensures { AnsweredIsReached T }
+{}
+
+/// A shard that is down is past each epoch that it reached.
+pub fn down_is_past<T>()
+    ensures { DownIsPast T }
+{}
+
+/// Nothing goes back in an epoch that is past.
+pub fn past_rolls_nowhere<T>()
+    ensures { PastRollsNowhere T }
 {}

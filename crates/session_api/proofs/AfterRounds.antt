@@ -17,8 +17,10 @@ use Rattle.session_ops.specs.declared.parts.RoundError.{RoundError}
 use Rattle.session_ops.specs.declared.parts.RoundError.TheVariants.{Down}
 use Rattle.session_ops.specs.Rounds.{Rounded}
 use Rattle.session_api.specs.declared.progress.Progress.{Progress}
-use Rattle.session_api.specs.declared.progress.Progress.TheVariants.{Idle, Active, Worn, Asked, Ended}
+use Rattle.session_api.specs.declared.progress.Progress.TheVariants.{Idle, Active, Worn, Undone, Asked, Ended}
 use Rattle.session_api.specs.Sessions.{StandsIn, IsSession, found_in}
+use Rattle.session_api.proofs.GoingBack.{undone_stays}
+use Rattle.session_api.proofs.Taking.{down_stays}
 use Rattle.session_api.proofs.Keeping.{landed_after}
 use Rattle.session_api.proofs.Following.{made_in, made_of_other}
 
@@ -33,6 +35,11 @@ module _ {M S G : Type 0} (sh : Shards M S G) (w v : Walker M S G) where
   round_stands (Active p) ts took others is_walker same h = still_active sh w v p ts took others is_walker same h
   round_stands (Worn p) ts took others is_walker same (unasked, worn) =
       (still_unasked sh w v p ts took others is_walker same unasked, (let l = clock_rises w.number w.clock v.clock w.passes.items v.passes.items ts took in omega arith))
+  round_stands (Undone p n upto) ts took others is_walker same (active, undone, down) = (
+    still_active sh w v p ts took others is_walker same active,
+    undone_stays sh w v p n upto ts took undone,
+    down_stays n w.number w.clock v.clock w.passes.items v.passes.items ts took down,
+  )
   round_stands (Asked p home stamp) ts took others is_walker same (standing, asked) =
       (still_standing sh w v p home ts took others is_walker same standing, request_stays w.number w.clock v.clock w.passes.items v.passes.items ts p (record { stamp = stamp; shard = home }) took asked)
   round_stands (Ended p) ts took others is_walker same h = still_retriable sh w v p ts took others is_walker same h

@@ -14,7 +14,7 @@ use Rattle.clv_base.specs.declared.events.Outcome.TheVariants as out
 use Rattle.clv_base.specs.declared.events.Entry.{Entry}
 use Rattle.clv_base.specs.Orders.{tx_same}
 use Rattle.clv_base.specs.Journals.{History}
-use Rattle.clv_base.specs.Sessions.{SessionState, Phase, Touching, Ended, Standing as IsStanding, Told, Refused, is_touching, same_touched, is_lowest, requested, session_after, is_of_session}
+use Rattle.clv_base.specs.Sessions.{SessionState, Phase, Touching, Ended, Standing as IsStanding, Told, Refused, is_touching, is_whole_now, same_touched, is_lowest, requested, session_after, is_of_session}
 use Rattle.machine_calls.specs.declared.machine.StepError.{StepError}
 use Rattle.machine_calls.specs.declared.machine.StepError.TheVariants.{Memory as NoMemory, Worn as IsWorn}
 use Rattle.cluster_turns.specs.declared.shards.Shards.{Shards}
@@ -24,8 +24,8 @@ use Rattle.cluster_turns.specs.States.{after_from, session_of}
 use Rattle.cluster_turns.proofs.Laws.{touched_are_last, ok_same}
 use Rattle.cluster_turns.specs.CallTurns.{Turn, Took, no_turn, entry_on}
 use Rattle.cluster_turns.specs.Answers.{is_quiet, is_kept, turns_of_session}
-use Rattle.session_ops.specs.Standing.{IsActive}
-use Rattle.session_ops.specs.Requested.{IsTurnOf, HasStamp}
+use Rattle.session_ops.specs.Standing.{IsTurnOf, IsActive}
+use Rattle.session_ops.specs.Requested.{HasStamp}
 use Rattle.session_ops.specs.declared.settled_looking.SettleError.{SettleError}
 use Rattle.session_ops.specs.declared.settled_looking.SettleError.TheVariants as settle
 use Rattle.session_ops.specs.Settled.{IsLook as LooksSo, Acknowledges}
@@ -77,7 +77,7 @@ asked_so w n stamp e o ts of loud plain has (inr (t, is, shard, event, answer)) 
     subst (λ l. AskedSo n stamp e o (made_in l)) (sym is)
     (one_turn w n stamp e o t of loud (subst (AllByRecursion (IsPlain w)) is plain).0 (subst (AllByRecursion (HasStamp stamp)) is has).0 shard event answer)
 
-quiet_turn : (w : ℕ) (e : Event) (r : Result Outcome StepError) (t : Turn) → is_of_session e ≡ true → is_kept r ≡ false → IsPlain w t → t.event ≡ e → t.answer ≡ r → made_in (t ∷ []) ≡ []
+pub quiet_turn : (w : ℕ) (e : Event) (r : Result Outcome StepError) (t : Turn) → is_of_session e ≡ true → is_kept r ≡ false → IsPlain w t → t.event ≡ e → t.answer ≡ r → made_in (t ∷ []) ≡ []
 quiet_turn w e r t of quiet plain event answer = made_of t [] (ap is_of_session event ∙ of) ∙ at t.made (plain.has ∙ ap is_kept answer ∙ quiet)
   where
     at : (m : Option Entry) → is_some m ≡ false → entry_on t.shard m ++ [] ≡ []
@@ -89,7 +89,7 @@ unasked w n e r ts of quiet plain (inl (not_so, none)) = ap made_in none
 unasked w n e r ts of quiet plain (inr (t, is, shard, event, answer)) = ap made_in is ∙ quiet_turn w e r t of quiet (subst (AllByRecursion (IsPlain w)) is plain).0 event answer
 
 request_to : (splits : List ℕ) (n : ℕ) (t m : SessionState) (tx : TxId) (touched : List (ℕ × ℕ)) (o : Outcome) → session_after splits n t (Request tx touched) o ≡ Some m → requested n t o ≡ Some m
-request_to splits n t m tx touched o h = (if_some (tx_same tx t.tx && is_touching t.phase && same_touched touched t.touched && is_lowest n touched) (requested n t o) m h).1
+request_to splits n t m tx touched o h = (if_some (tx_same tx t.tx && is_touching t.phase && is_whole_now t && same_touched touched t.touched && is_lowest n touched) (requested n t o) m h).1
 
 -- the state after the request's entry
 after_request : (splits : List ℕ) (n stamp : ℕ) (t m : SessionState) (tx : TxId) (touched : List (ℕ × ℕ)) (o : Outcome) (es : History) (a : AskedSo n stamp (Request tx touched) o es) → after_from splits (Some t) es ≡ Some m → requested n t o ≡ Some m

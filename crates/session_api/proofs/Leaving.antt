@@ -84,7 +84,7 @@ found_below count n (t ∷ ts) all h = at (λ k. found_below count n ts all.1 k)
     at rest false is k = rest k
 
 module _ {M S G : Type 0} (sh : Shards M S G) (w : Walker M S G) (p : SessionState) where
-  all_below : IsUnasked sh w p → (n : ℕ) → touched_in p.touched n ≡ true → n < length sh.locks.items
+  pub all_below : IsUnasked sh w p → (n : ℕ) → touched_in p.touched n ≡ true → n < length sh.locks.items
   all_below (inr ending) n h =
       let ready = (ending.over).ready in
       let c = (ready.walker).count in

@@ -106,7 +106,7 @@ new_walkers_rest M S G sh number first w new = record {
 
 -- ---- sessions
 
-ready_walker : (M S G : Type 0) (sh : Shards M S G) (w : Walker M S G) (s : Progress) → StandsIn sh w s → IsWalker sh w
+pub ready_walker : (M S G : Type 0) (sh : Shards M S G) (w : Walker M S G) (s : Progress) → StandsIn sh w s → IsWalker sh w
 ready_walker M S G sh w progress.Idle h = (h.1).walker
 ready_walker M S G sh w (progress.Active p) h = (h.ready).walker
 ready_walker M S G sh w (progress.Worn p) h = unasked_walker h.0
@@ -114,6 +114,7 @@ ready_walker M S G sh w (progress.Worn p) h = unasked_walker h.0
     unasked_walker : IsUnasked sh w p → IsWalker sh w
     unasked_walker (inl active) = (active.ready).walker
     unasked_walker (inr ending) = ((ending.over).ready).walker
+ready_walker M S G sh w (progress.Undone p n upto) h = (h.0.ready).walker
 ready_walker M S G sh w (progress.Asked p home stamp) h = (h.0.ready).walker
 ready_walker M S G sh w (progress.Ended p) h = (h.ready).walker
 

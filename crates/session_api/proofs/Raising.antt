@@ -48,7 +48,7 @@ module _ {M S G : Type 0} (sh : Shards M S G) (clock : ℕ) where
   }
 
   born_up : (w : Walker M S G) (p : SessionState) → HasBirth w p → HasBirth (up w) p
-  born_up w p b = record { birth = b.birth; is = b.is; bears = b.bears; old = (let o = b.old in omega arith); free = b.free; parts = b.parts }
+  born_up w p b = record { birth = b.birth; is = b.is; bears = b.bears; old = (let o = b.old in omega arith); free = b.free; parts = b.parts; reached = b.reached }
 
   unborn_up : (w : Walker M S G) (p : SessionState) → UnbornOrWorn w p → UnbornOrWorn (up w) p
   unborn_up w p (inl worn) = inl (omega arith)
@@ -61,6 +61,7 @@ module _ {M S G : Type 0} (sh : Shards M S G) (clock : ℕ) where
   stands_up w progress.Idle again h idle = (h.0, ready_up w h.0 h.1)
   stands_up w (progress.Active p) again h idle = let b = h.born in never_idle p p.birth b.birth again b.is idle
   stands_up w (progress.Worn p) again h idle = let b = unasked_born sh w p h.0 in never_idle p p.birth b.birth again b.is idle
+  stands_up w (progress.Undone p n upto) again h idle = let b = (h.0).born in never_idle p p.birth b.birth again b.is idle
   stands_up w (progress.Asked p home stamp) again h idle = asked_idle again idle
   stands_up w (progress.Ended p) again h idle = retriable_up w p h
 

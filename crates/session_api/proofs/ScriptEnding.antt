@@ -17,7 +17,7 @@ use Rattle.machine_calls.specs.declared.machine.StepError.{StepError}
 use Rattle.machine_calls.specs.declared.machine.StepError.TheVariants as step
 use Rattle.cluster_turns.specs.CallTurns.{Turn, Took, FindsDown, FindsWorn, FoundDown, FoundWorn}
 use Rattle.cluster_turns.proofs.Laws.{worn_is_last}
-use Rattle.session_ops.specs.Requested.{IsTurnOf}
+use Rattle.session_ops.specs.Standing.{IsTurnOf}
 use Rattle.session_ops.specs.Dropped.{Dropping, IsLeft}
 use Rattle.session_ops.specs.Standings.{IsUnasked}
 use Rattle.session_ops.specs.declared.settled_looking.SettleError.{SettleError}
@@ -44,6 +44,10 @@ use Rattle.session_api.specs.Sessions.{IsSession, CommitMade, CommitCalled, Abor
 use Rattle.session_api.specs.Seeing.{seen_as, touched_in, is_active, by_phase, after_commit as commit_leaves, asked_after, after_abort as abort_leaves, commit_end, abort_end}
 use Rattle.session_api.proofs.Committing.{commits_tell}
 use Rattle.session_api.proofs.Leaving.{aborts_tell}
+use Rattle.script_lang.specs.Savepoints.{Savepoints}
+use Rattle.script_runs.specs.Seen.{Going}
+use Rattle.law_base.proofs.Changed.{none_some}
+use Rattle.session_api.specs.Savepoints.{going_of}
 use Rattle.session_api.specs.Standing.{Holds, active_as, standing_of, seen_in}
 use Rattle.session_api.specs.Grounds.{Grounds, HasMissed}
 use Rattle.session_api.proofs.Standings.{read_active, of_this, idle_active, asked_active, stays_grown, worn_still}
@@ -203,10 +207,14 @@ module _ {M S G : Type 0} (sh : Shards M S G) (asked : Point) where
   worn_grown w v p t r refused is same =
       subst (λ x. Grows [] (seen_in sh w asked (progress.Worn p)) (seen_in sh v (asked_after asked x) t)) (sym refused) (stays_grown sh w v asked (progress.Worn p) t is same)
 
-  pub commit_done : (w v : Walker M S G) (s t : Progress) (r : Result Settled CommitError) → Holds sh w s → IsUnderWay sh asked s → CommitCalled sh w s r v t → IsSession sh v t → CommitDone w s r v t
-  commit_done w v progress.Idle t r h way c session = idle_active None way.0 way.1 way.2 way.3 way.4
-  commit_done w v (progress.Active p) t r h way c session = commit_made w v p t r h session c
-  commit_done w v (progress.Worn p) t r h way c session = (
+  -- no going back was left undone
+  abbrev pub IsWhole : Progress → Savepoints → Type 0
+  IsWhole s saves = (g : Going) × (going_of s saves ≡ Some g)
+
+  pub commit_done : (w v : Walker M S G) (s t : Progress) (saves : Savepoints) (r : Result Settled CommitError) → Holds sh w s → IsUnderWay sh asked s → IsWhole s saves → CommitCalled sh w s r v t → IsSession sh v t → CommitDone w s r v t
+  commit_done w v progress.Idle t saves r h way whole c session = idle_active None way.0 way.1 way.2 way.3 way.4
+  commit_done w v (progress.Active p) t saves r h way whole c session = commit_made w v p t r h session c
+  commit_done w v (progress.Worn p) t saves r h way whole c session = (
     Err (unmade.Worn (2 ^ 48)),
     c.0,
     record {
@@ -215,8 +223,9 @@ module _ {M S G : Type 0} (sh : Shards M S G) (asked : Point) where
       grounds = (refl, worn_still w v c.1 ((h.session).stands).1);
     },
   )
-  commit_done w v (progress.Asked p home stamp) t r h way c session = asked_active way.0 way.1 way.2 way.3 way.4
-  commit_done w v (progress.Ended p) t r h way c session = idle_active p.birth way.0 way.1 way.2 way.3 way.4
+  commit_done w v (progress.Undone p n upto) t saves r h way whole c session = absurd (none_some whole.0 whole.1)
+  commit_done w v (progress.Asked p home stamp) t saves r h way whole c session = asked_active way.0 way.1 way.2 way.3 way.4
+  commit_done w v (progress.Ended p) t saves r h way whole c session = idle_active p.birth way.0 way.1 way.2 way.3 way.4
 
   -- ---- aborts
 
@@ -266,19 +275,20 @@ module _ {M S G : Type 0} (sh : Shards M S G) (asked : Point) where
   abort_done w v progress.Idle t r h way c session = idle_active None way.0 way.1 way.2 way.3 way.4
   abort_done w v (progress.Active p) t r h way c session = abort_made w v (progress.Active p) p t r refl (inl (h.session).stands) h session c
   abort_done w v (progress.Worn p) t r h way c session = abort_made w v (progress.Worn p) p t r refl ((h.session).stands).0 h session c
+  abort_done w v (progress.Undone p n upto) t r h way c session = abort_made w v (progress.Undone p n upto) p t r refl (inl ((h.session).stands).0) h session c
   abort_done w v (progress.Asked p home stamp) t r h way c session = asked_active way.0 way.1 way.2 way.3 way.4
   abort_done w v (progress.Ended p) t r h way c session = idle_active p.birth way.0 way.1 way.2 way.3 way.4
 
   -- ---- the calls, as the session makes them
 
-  pub commit_answers : (after : Shards M S G) (w v : Walker M S G) (s t : Progress) (r : Result Settled CommitError) → after ≡ sh → Holds sh w s → IsUnderWay sh asked s → CommitCalled sh w s r v t → IsSession after v t
+  pub commit_answers : (after : Shards M S G) (w v : Walker M S G) (s t : Progress) (saves : Savepoints) (r : Result Settled CommitError) → after ≡ sh → Holds sh w s → IsUnderWay sh asked s → IsWhole s saves → CommitCalled sh w s r v t → IsSession after v t
       → (e : Result Settled CommitFailure) × (r ≡ commit_told e)
-  commit_answers after w v s t r same h way c session = let k = commit_done w v s t r h way c (subst (λ x. IsSession x v t) same session) in (k.0, k.1)
+  commit_answers after w v s t saves r same h way whole c session = let k = commit_done w v s t saves r h way whole c (subst (λ x. IsSession x v t) same session) in (k.0, k.1)
 
-  pub commit_call : (after : Shards M S G) (w v : Walker M S G) (s t : Progress) (r : Result Settled CommitError) (result : TryEnd) → after ≡ sh → Holds sh w s → IsUnderWay sh asked s → CommitCalled sh w s r v t → IsSession after v t
+  pub commit_call : (after : Shards M S G) (w v : Walker M S G) (s t : Progress) (saves : Savepoints) (r : Result Settled CommitError) (result : TryEnd) → after ≡ sh → Holds sh w s → IsUnderWay sh asked s → IsWhole s saves → CommitCalled sh w s r v t → IsSession after v t
       → ((e : Result Settled CommitFailure) → r ≡ commit_told e → result ≡ commit_end e) → EndsSo w s result after v (asked_after asked r) t
-  commit_call after w v s t r result same h way c session told =
-      let k = commit_done w v s t r h way c (subst (λ x. IsSession x v t) same session) in
+  commit_call after w v s t saves r result same h way whole c session told =
+      let k = commit_done w v s t saves r h way whole c (subst (λ x. IsSession x v t) same session) in
       subst (λ x. EndsSo w s x after v (asked_after asked r) t) (sym (told k.0 k.1)) (subst (λ x. EndsSo w s (commit_end k.0) x v (asked_after asked r) t) (sym same) k.2)
 
   pub abort_answers : (after : Shards M S G) (w v : Walker M S G) (s t : Progress) (r : Result Unit AbortError) → after ≡ sh → Holds sh w s → IsUnderWay sh asked s → AbortCalled sh w s r v t → IsSession after v t

@@ -38,7 +38,7 @@ begins_later birth u m v g b = record {
 retry_told_later : (birth : Birth) (e : Result Unit StopCause) (u m v : Seen) → Grows [] u m → RetryTold birth e m v → RetryTold birth e u v
 retry_told_later birth (Ok a) u m v g told = begins_later birth u m v g told
 retry_told_later birth (Err (Worn at)) u m v g told = grows_on [] [] u m v g told
-retry_told_later birth (Err (Down n)) u m v g told = grows_on [] [] u m v g told
+retry_told_later birth (Err (Down n)) u m v g told = (grows_on [] [] u m v g told.0, told.1)
 retry_told_later birth (Err (Unsettled n)) u m v g told = absurd told
 retry_told_later birth (Err Memory) u m v g told = absurd told
 
@@ -72,4 +72,5 @@ module _ {M S G : Type 0} (sh : Shards M S G) (asked : Point) where
         record { holds = (k.0).holds; misses = λ tx n es h. (k.0).misses tx n es ((done.holds_on).misses tx n es h) },
         λ birth idle. retry_told_later birth e (seen_in sh w asked s) (seen_in mid m asked x) (seen_in after v asked t) done.grows (k.1 birth (ap standing_of is ∙ idle)),
         k.2,
+        k.3,
       )

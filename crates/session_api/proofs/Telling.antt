@@ -10,7 +10,7 @@ use Rattle.session_ops.specs.declared.operating.OpError.{OpError as Failure}
 use Rattle.session_ops.specs.Parts.{StandsUnless, has_died, value_in, added_in, whole_in}
 use Rattle.session_ops.proofs.Laws.{told_by, value_died, added_died}
 use Rattle.session_api.specs.declared.progress.Progress.{Progress}
-use Rattle.session_api.specs.declared.progress.Progress.TheVariants.{Idle, Active, Worn, Asked, Ended}
+use Rattle.session_api.specs.declared.progress.Progress.TheVariants.{Idle, Active, Worn, Undone, Asked, Ended}
 use Rattle.session_api.specs.declared.operating.OpError.{OpError}
 use Rattle.session_api.specs.Progresses.{answer_told, value_given, added_given, refusal_of, after_op}
 use Rattle.session_api.specs.Sessions.{OpRefused, PointMade, PointCalled}
@@ -59,6 +59,7 @@ module _ {M S G A : Type 0} (tells : Result Answer Failure → Result A Failure)
   called (Active p) c = made_by p c
   called Idle c = refused_by Idle c
   called (Worn p) c = refused_by (Worn p) c
+  called (Undone p n upto) c = refused_by (Undone p n upto) c
   called (Asked p home stamp) c = refused_by (Asked p home stamp) c
   called (Ended p) c = refused_by (Ended p) c
 

@@ -16,8 +16,9 @@ use Rattle.clv_base.specs.declared.events.Outcome.TheVariants.{Answered, Dead}
 use Rattle.clv_base.specs.declared.events.Entry.{Entry}
 use Rattle.clv_base.specs.Orders.{tx_same}
 use Rattle.clv_base.specs.LogRules.{same_option}
+use Rattle.clv_base.specs.Backs.{has_written}
 use Rattle.clv_base.specs.Journals.{History}
-use Rattle.clv_base.specs.Sessions.{SessionState, Ended, scan_shard, goes_on_scan, is_number, lies_in, is_touching, touch, goes_on, begins, begun, session_for, op_answered, op_in_session, session_after}
+use Rattle.clv_base.specs.Sessions.{SessionState, Ended, scan_shard, goes_on_scan, is_number, lies_in, is_touching, touch, numbered, with_written, goes_on, begins, begun, session_for, op_answered, op_in_session, session_after}
 use Rattle.clv_base.proofs.SameNames.{tx_self}
 use Rattle.cluster_turns.specs.States.{after_from, GoesOnBy}
 use Rattle.cluster_turns.proofs.Laws.{ops_go_on}
@@ -31,14 +32,18 @@ use Rattle.law_base.proofs.Shards.{some_session as some_same, none_session as no
 
 -- ---- one entry
 
--- the state after an operation: it was answered, or the transaction died of it
+-- the state after an operation that was answered
+abbrev pub answered_place : ℕ → ℕ → Operation → SessionState → Answer → ℕ → SessionState
+answered_place n nth op p answer epoch = record (numbered nth p) { scanned = scan_shard n op; touched = touch n epoch p.touched; written = with_written n nth (has_written op answer) p.written }
+
+-- it was answered, or the transaction died of it
 abbrev pub AnsweredTo : ℕ → ℕ → Operation → SessionState → Outcome → SessionState → Type 0
 AnsweredTo n nth op p o u =
-    ((answer : Answer) × (epoch : ℕ) × (o ≡ Answered answer epoch) × (u ≡ record p { nth = nth; scanned = scan_shard n op; touched = touch n epoch p.touched }))
+    ((answer : Answer) × (epoch : ℕ) × (o ≡ Answered answer epoch) × (u ≡ answered_place n nth op p answer epoch))
     ⊎ ((cause : AbortCause) × (o ≡ Dead cause) × (u ≡ record p { nth = nth; scanned = scan_shard n op; phase = Ended }))
 
 answered_to : (n nth : ℕ) (op : Operation) (p : SessionState) (o : Outcome) (u : SessionState) → op_answered n nth op p o ≡ Some u → AnsweredTo n nth op p o u
-answered_to n nth op p (Answered answer epoch) u h = inl (answer, epoch, refl, sym (some_same (record p { nth = nth; scanned = scan_shard n op; touched = touch n epoch p.touched }) u h))
+answered_to n nth op p (Answered answer epoch) u h = inl (answer, epoch, refl, sym (some_same (answered_place n nth op p answer epoch) u h))
 answered_to n nth op p (Dead cause) u h = inr (cause, refl, sym (some_same (record p { nth = nth; scanned = scan_shard n op; phase = Ended }) u h))
 answered_to n nth op p o u h = none_some u h
 

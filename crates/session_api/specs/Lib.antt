@@ -1,5 +1,7 @@
 pub mod Progresses
+pub mod GoingBack
 pub mod Sessions
+pub mod Savepoints
 pub mod Standing
 pub mod Grounds
 pub mod Ends

@@ -9,6 +9,8 @@ use Rattle.clv_base.specs.Sessions.{SessionState, Phase, Touching, Ended as HasE
 use Rattle.cluster_turns.specs.declared.shards.WornClock.{WornClock}
 use Rattle.session_ops.specs.declared.operating.OpError.{OpError as Failure}
 use Rattle.session_ops.specs.declared.operating.OpError.TheVariants as failed
+use Rattle.session_ops.specs.declared.rolling.BackError.{BackError}
+use Rattle.session_ops.specs.declared.rolling.BackError.TheVariants as left
 use Rattle.session_ops.specs.declared.settled_looking.SettleError.{SettleError}
 use Rattle.session_ops.specs.declared.settled_looking.SettleError.TheVariants as settle
 use Rattle.session_ops.specs.declared.committing.Settled.{Settled}
@@ -16,11 +18,13 @@ use Rattle.session_ops.specs.declared.committing.Settled.TheVariants.{Committed,
 use Rattle.session_ops.specs.declared.committing.CommitError.{CommitError as CommitFailure}
 use Rattle.session_ops.specs.declared.committing.CommitError.TheVariants as unmade
 use Rattle.session_api.specs.declared.progress.Progress.{Progress}
-use Rattle.session_api.specs.declared.progress.Progress.TheVariants.{Idle, Active, Worn, Asked, Ended}
+use Rattle.session_api.specs.declared.progress.Progress.TheVariants.{Idle, Active, Worn, Undone, Asked, Ended}
 use Rattle.session_api.specs.declared.retrying.RetryError.{RetryError}
 use Rattle.session_api.specs.declared.retrying.RetryError.TheVariants as retry
 use Rattle.session_api.specs.declared.operating.OpError.{OpError}
 use Rattle.session_api.specs.declared.operating.OpError.TheVariants as op
+use Rattle.session_api.specs.declared.savepoints.RollError.{RollError}
+use Rattle.session_api.specs.declared.savepoints.RollError.TheVariants as roll
 use Rattle.session_api.specs.declared.ending.CommitError.{CommitError}
 use Rattle.session_api.specs.declared.ending.CommitError.TheVariants as commit
 use Rattle.session_api.specs.declared.ending.AbortError.{AbortError}
@@ -31,8 +35,18 @@ abbrev pub active_tx : Progress → Option TxId
 active_tx Idle = None
 active_tx (Active p) = Some p.tx
 active_tx (Worn p) = Some p.tx
+active_tx (Undone p n upto) = Some p.tx
 active_tx (Asked p home stamp) = None
 active_tx (Ended p) = None
+
+-- how many acts it had
+abbrev pub acts_in : Progress → Option ℕ
+acts_in Idle = None
+acts_in (Active p) = Some p.nth
+acts_in (Worn p) = Some p.nth
+acts_in (Undone p n upto) = Some p.nth
+acts_in (Asked p home stamp) = None
+acts_in (Ended p) = None
 
 -- ---- other tries
 
@@ -41,6 +55,7 @@ abbrev pub retry_refusal : Progress → RetryError
 retry_refusal Idle = retry.NoRetry
 retry_refusal (Active p) = retry.Active p.tx
 retry_refusal (Worn p) = retry.Active p.tx
+retry_refusal (Undone p n upto) = retry.Active p.tx
 retry_refusal (Asked p home stamp) = retry.NoRetry
 retry_refusal (Ended p) = retry.NoRetry
 
@@ -74,6 +89,7 @@ abbrev pub refusal_of : Progress → OpError
 refusal_of Idle = op.NoTx
 refusal_of (Active p) = op.NoTx
 refusal_of (Worn p) = op.Worn (2 ^ 48)
+refusal_of (Undone p n upto) = op.Down n
 refusal_of (Asked p home stamp) = op.NoTx
 refusal_of (Ended p) = op.NoTx
 
@@ -82,7 +98,28 @@ abbrev pub after_op : SessionState → Bool → Progress
 after_op p true = Ended p
 after_op p false = Active p
 
+-- ---- goings back
+
+abbrev pub back_told : Result (Unit {0}) BackError → Result (Unit {0}) RollError
+back_told (Ok a) = Ok a
+back_told (Err (left.Aborted cause)) = Err (roll.Aborted cause)
+back_told (Err (left.Down n)) = Err (roll.Down n)
+back_told (Err (left.Worn n at)) = Err (roll.Worn at)
+
+-- after one to upto: done, over, left undone on a shard that was down, or for want of stamps
+abbrev pub progress_back : {A : Type 0} → SessionState → ℕ → Result A BackError → Progress
+progress_back p upto (Ok a) = Active p
+progress_back p upto (Err (left.Aborted cause)) = Ended p
+progress_back p upto (Err (left.Down n)) = Undone p n upto
+progress_back p upto (Err (left.Worn n at)) = Worn p
+
 -- ---- commits
+
+-- behind a going back that was left undone
+abbrev pub commit_undone : BackError → CommitError
+commit_undone (left.Aborted cause) = commit.Aborted cause
+commit_undone (left.Down n) = commit.Down n
+commit_undone (left.Worn n at) = commit.Worn at
 
 abbrev pub commit_told : Result Settled CommitFailure → Result Settled CommitError
 commit_told (Ok s) = Ok s
@@ -105,6 +142,7 @@ abbrev pub commit_refusal : Progress → CommitError
 commit_refusal Idle = commit.NoTx
 commit_refusal (Active p) = commit.NoTx
 commit_refusal (Worn p) = commit.Worn (2 ^ 48)
+commit_refusal (Undone p n upto) = commit.NoTx
 commit_refusal (Asked p home stamp) = commit.NoTx
 commit_refusal (Ended p) = commit.NoTx
 

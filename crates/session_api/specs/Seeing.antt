@@ -1,5 +1,5 @@
 -- A session, as whoever runs a script sees it.
-use Rattle.std.specs.Prelude.{ℕ, ◌==◌, Bool, true, false, is_some, List, Option, Some, None, Result, Ok, Err}
+use Rattle.std.specs.Prelude.{ℕ, ◌==◌, Bool, true, false, cond, is_some, List, Option, Some, None, Result, Ok, Err}
 use Rattle.std.specs.Map.{lookup}
 use Rattle.clv_base.specs.declared.values.Value.{Value as ValueType}
 use Rattle.clv_base.specs.declared.names.Birth.{Birth}
@@ -14,6 +14,8 @@ use Rattle.cluster_turns.specs.Dates.{last_seen}
 use Rattle.cluster_turns.specs.Walkers.{kept}
 use Rattle.session_ops.specs.declared.operating.OpError.{OpError}
 use Rattle.session_ops.specs.declared.operating.OpError.TheVariants as op
+use Rattle.session_ops.specs.declared.rolling.BackError.{BackError}
+use Rattle.session_ops.specs.declared.rolling.BackError.TheVariants as left
 use Rattle.session_ops.specs.declared.committing.Settled.{Settled}
 use Rattle.session_ops.specs.declared.committing.Settled.TheVariants.{Committed, Empty as NothingToCommit}
 use Rattle.session_ops.specs.declared.committing.CommitError.{CommitError}
@@ -92,6 +94,13 @@ added_end (Err e) = Err (op_end e)
 abbrev pub pairs_end : Result (List (ℕ × ValueType)) OpError → Result Answer TryEnd
 pairs_end (Ok pairs) = Ok (Pairs pairs)
 pairs_end (Err e) = Err (op_end e)
+
+-- of a going back to upto, which took a number or none
+abbrev pub back_end : {A : Type 0} → Bool → ℕ → Result A BackError → Result (Option ℕ) TryEnd
+back_end took upto (Ok a) = Ok (cond took (Some upto) None)
+back_end took upto (Err (left.Aborted cause)) = Err (Aborted cause)
+back_end took upto (Err (left.Down n)) = Err (Stopped (Down n))
+back_end took upto (Err (left.Worn n at)) = Err (Stopped (Worn at))
 
 abbrev pub commit_end : Result Settled CommitError → TryEnd
 commit_end (Ok (Committed point)) = Acknowledged

@@ -19,9 +19,11 @@ use Rattle.session_ops.specs.Requested.{IsStanding, HasRequest}
 use Rattle.session_ops.specs.Dropped.{Dropping, IsLeft}
 use Rattle.session_ops.specs.declared.parts.RoundError.{RoundError}
 use Rattle.session_ops.specs.declared.parts.RoundError.TheVariants as round
+use Rattle.session_ops.specs.declared.rolling.BackError.{BackError}
 use Rattle.session_ops.specs.declared.settled_looking.SettleError.{SettleError}
 use Rattle.session_ops.specs.Retried.{IsRetriable, Retried}
 use Rattle.session_ops.specs.Parts.{PointTold, StandsUnless, has_died}
+use Rattle.session_ops.specs.Undone.{IsUndone}
 use Rattle.session_ops.specs.Scanned.{Scanning, IsSameTx}
 use Rattle.session_ops.specs.Stepped.{PartsTold}
 use Rattle.session_ops.specs.declared.committing.Settled.{Settled}
@@ -30,7 +32,7 @@ use Rattle.session_ops.specs.Standings.{StandsAs, IsUnasked}
 use Rattle.session_ops.specs.Decided.{Deciding}
 use Rattle.session_ops.specs.Committed.{CommitTold, PointsAtRequest}
 use Rattle.session_api.specs.declared.progress.Progress.{Progress}
-use Rattle.session_api.specs.declared.progress.Progress.TheVariants.{Idle, Active, Worn, Asked, Ended}
+use Rattle.session_api.specs.declared.progress.Progress.TheVariants.{Idle, Active, Worn, Undone, Asked, Ended}
 use Rattle.session_api.specs.declared.beginning.BeginError.{BeginError}
 use Rattle.session_api.specs.declared.beginning.BeginError.TheVariants as begin
 use Rattle.session_api.specs.declared.retrying.RetryError.{RetryError}
@@ -40,7 +42,9 @@ use Rattle.session_api.specs.declared.operating.OpError.TheVariants.{BadRange}
 use Rattle.session_api.specs.declared.ending.CommitError.{CommitError}
 use Rattle.session_api.specs.declared.ending.AbortError.{AbortError}
 use Rattle.session_api.specs.declared.ending.AbortError.TheVariants.{NoTx}
-use Rattle.session_api.specs.Progresses.{active_tx, retry_refusal, answer_told, refusal_of, after_op, commit_told, settle_told, commit_refusal, is_nothing, after_commit, progress_committed, abort_told, progress_aborted}
+use Rattle.session_api.specs.Grounds.{WasDown}
+use Rattle.session_api.specs.GoingBack.{AgainMade}
+use Rattle.session_api.specs.Progresses.{active_tx, retry_refusal, answer_told, refusal_of, after_op, commit_told, commit_undone, settle_told, commit_refusal, is_nothing, after_commit, progress_committed, abort_told, progress_aborted}
 
 -- what a round answers that found this shard down, if any
 abbrev pub found_in : Option ℕ → Result Unit RoundError
@@ -53,6 +57,7 @@ module _ {M S G : Type 0} where
   StandsIn sh w Idle = IsIdle sh w
   StandsIn sh w (Active p) = IsActive sh w p
   StandsIn sh w (Worn p) = IsUnasked sh w p × (2 ^ 48 - 1 ≤ w.clock)
+  StandsIn sh w (Undone p n upto) = IsActive sh w p × IsUndone sh w p n upto × WasDown n w.passes.items
   StandsIn sh w (Asked p home stamp) = IsStanding sh w p home × HasRequest w.passes.items p (record { stamp = stamp; shard = home })
   StandsIn sh w (Ended p) = IsRetriable sh w p
 
@@ -93,6 +98,7 @@ module _ {M S G : Type 0} where
   RetryCalled sh w Idle r v t = RetryRefused w Idle r v t
   RetryCalled sh w (Active p) r v t = RetryRefused w (Active p) r v t
   RetryCalled sh w (Worn p) r v t = RetryRefused w (Worn p) r v t
+  RetryCalled sh w (Undone p n upto) r v t = RetryRefused w (Undone p n upto) r v t
   RetryCalled sh w (Asked p home stamp) r v t = RetryRefused w (Asked p home stamp) r v t
 
   -- ---- operations
@@ -115,6 +121,7 @@ module _ {M S G : Type 0} where
   PointCalled tells sh w (Active p) op key r v t = PointMade tells sh w p op key r v t
   PointCalled tells sh w Idle op key r v t = OpRefused w Idle r v t
   PointCalled tells sh w (Worn p) op key r v t = OpRefused w (Worn p) r v t
+  PointCalled tells sh w (Undone p n upto) op key r v t = OpRefused w (Undone p n upto) r v t
   PointCalled tells sh w (Asked p home stamp) op key r v t = OpRefused w (Asked p home stamp) r v t
   PointCalled tells sh w (Ended p) op key r v t = OpRefused w (Ended p) r v t
 
@@ -136,6 +143,7 @@ module _ {M S G : Type 0} where
   RangeCalled sh w (Active p) lo hi r v t = ScanMade sh w p lo hi r v t
   RangeCalled sh w Idle lo hi r v t = OpRefused w Idle r v t
   RangeCalled sh w (Worn p) lo hi r v t = OpRefused w (Worn p) r v t
+  RangeCalled sh w (Undone p n upto) lo hi r v t = OpRefused w (Undone p n upto) r v t
   RangeCalled sh w (Asked p home stamp) lo hi r v t = OpRefused w (Asked p home stamp) r v t
   RangeCalled sh w (Ended p) lo hi r v t = OpRefused w (Ended p) r v t
 
@@ -173,6 +181,12 @@ module _ {M S G : Type 0} where
     pub then : t ≡ after_commit place stamp place.phase
     pub point : PointsAtRequest v.passes.items p r
 
+  -- of p, whose going back to upto, left undone on shard n, is made once more there
+  pub record CommitUndone (sh : Shards M S G) (w : Walker M S G) (p : SessionState) (n upto : ℕ) (r : Result Settled CommitError) (v : Walker M S G) (t : Progress) : Type 0 where
+    pub error : BackError
+    pub made : AgainMade sh w p n upto error v t
+    pub is : r ≡ Err (commit_undone error)
+
   abbrev pub CommitRefused : Walker M S G → Progress → Result Settled CommitError → Walker M S G → Progress → Type 0
   CommitRefused w s r v t = (r ≡ Err (commit_refusal s)) × (v ≡ w) × (t ≡ s)
 
@@ -181,6 +195,7 @@ module _ {M S G : Type 0} where
   CommitCalled sh w (Asked p home stamp) r v t = LooksMade sh w p home stamp r v t
   CommitCalled sh w Idle r v t = CommitRefused w Idle r v t
   CommitCalled sh w (Worn p) r v t = CommitRefused w (Worn p) r v t
+  CommitCalled sh w (Undone p n upto) r v t = CommitUndone sh w p n upto r v t
   CommitCalled sh w (Ended p) r v t = CommitRefused w (Ended p) r v t
 
   -- ---- aborts
@@ -201,6 +216,7 @@ module _ {M S G : Type 0} where
   abbrev pub AbortCalled : {A : Type 0} → Shards M S G → Walker M S G → Progress → Result A AbortError → Walker M S G → Progress → Type 0
   AbortCalled sh w (Active p) r v t = AbortMade sh w p r v t
   AbortCalled sh w (Worn p) r v t = AbortMade sh w p r v t
+  AbortCalled sh w (Undone p n upto) r v t = AbortMade sh w p r v t
   AbortCalled sh w Idle r v t = AbortRefused w Idle r v t
   AbortCalled sh w (Asked p home stamp) r v t = AbortRefused w (Asked p home stamp) r v t
   AbortCalled sh w (Ended p) r v t = AbortRefused w (Ended p) r v t

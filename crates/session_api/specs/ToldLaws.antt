@@ -20,12 +20,16 @@ use Rattle.session_ops.specs.Parts.{PointTold, StandsUnless, has_died, value_in,
 use Rattle.session_ops.specs.Dropped.{Dropping}
 use Rattle.session_ops.specs.declared.committing.Settled.{Settled}
 use Rattle.session_ops.specs.declared.committing.CommitError.{CommitError}
+use Rattle.cluster_turns.specs.Notes.{is_above}
+use Rattle.session_ops.specs.declared.rolling.BackError.{BackError}
+use Rattle.session_ops.specs.WentBack.{GoingBack, has_died as has_died_back}
+use Rattle.session_ops.specs.Undone.{LeftBy}
 use Rattle.session_ops.specs.Standings.{StandsAs, IsUnasked}
 use Rattle.session_ops.specs.Committed.{CommitTold as Commits}
 use Rattle.script_runs.specs.Seen.{Standing, Idle}
-use Rattle.script_runs.specs.Told.{Begins, OperateTold, CommitTold, AbortTold}
+use Rattle.script_runs.specs.Told.{Begins, OperateTold, BackTold, CommitTold, AbortTold}
 use Rattle.session_api.specs.Grounds.{HasMissed}
-use Rattle.session_api.specs.Seeing.{seen_as, touched_in, is_active, unless_dead, after_commit, asked_after, after_abort, value_end, added_end, pairs_end, commit_end, abort_end}
+use Rattle.session_api.specs.Seeing.{seen_as, touched_in, is_active, unless_dead, after_commit, asked_after, after_abort, value_end, added_end, pairs_end, back_end, commit_end, abort_end}
 
 -- an operation at this key
 pub data IsAt (key : ℕ) : Op → Type 0 where
@@ -53,6 +57,14 @@ ScansTell M S G =
     (sh : Shards M S G) (w v : Walker M S G) (asked : Point) (p q : SessionState) (birth : Birth) (lo hi : ℕ) (r : Result (List (ℕ × ValueType)) OpError) → IsTrue (are_splits sh.splits) → lo ≤ hi → hi < 2 ^ 64 → IsActive sh w p → p.birth ≡ Some birth
     → PartsTold sh birth (p.nth + 1) lo hi w p r v q → StandsUnless (has_died r) sh v q
     → OperateTold p.tx birth p.nth (touched_in p.touched) (Scan lo hi) (pairs_end r) (seen_as sh w asked (is_active p birth)) (seen_as sh v asked (unless_dead q birth (has_died r)))
+
+-- a going back's entries are those of its parts, shards rising: on each where a write of a later operation stood; where it died of one, there are drops behind it. Where
+-- none stood it makes none
+abbrev pub BacksTell : (M S G : Type 0) → Type 0
+BacksTell M S G =
+    (sh : Shards M S G) (w v : Walker M S G) (asked : Point) (p q : SessionState) (birth : Birth) (upto : ℕ) (r : Result Unit BackError) → IsActive sh w p → p.birth ≡ Some birth → IsSameWalker w v
+    → GoingBack (length sh.locks.items) w.number w.clock w.passes.items p upto r v.clock v.passes.items q → LeftBy sh p upto r v q → StandsUnless (has_died_back r) sh v q
+    → BackTold p.tx birth p.nth (touched_in p.touched) upto p.written (back_end (is_above upto p.written) upto r) (seen_as sh w asked (is_active p birth)) (seen_as sh v asked (unless_dead q birth (has_died_back r)))
 
 -- an abort's entries are drops of the transaction; each shard that it touched has one, or the drop came to nothing there
 abbrev pub AbortsTell : (M S G A : Type 0) → Type 0

@@ -1,10 +1,11 @@
 // What the session's calls promise to whoever runs a script.
 ghost use Rattle.std.specs.Prelude.{◌≡◌, ◌<◌, ◌^◌};
-ghost use Rattle.session_api.specs.Standing.{Holds, seen_in};
+ghost use Rattle.session_api.specs.Savepoints.{going_of};
+ghost use Rattle.session_api.specs.Standing.{HoldsSaves, seen_in};
 ghost use Rattle.session_api.specs.Grounds.{Grounds, HasMissed};
 
 use crate::ends::{
-    aborted, added_told, begun, committed, last_asked, pairs_told, retried, value_told,
+    aborted, added_told, begun, committed, gone_back, last_asked, pairs_told, retried, value_told,
 };
 use crate::script_session::ScriptSession;
 use crate::stages::{name_of, stage_of};
@@ -13,7 +14,7 @@ use clv_base::names::{Point, TxId};
 use clv_base::ops::{Answer, Op};
 use io_model::Pace;
 use machine_calls::Flier;
-use script_runs::{SessionCalls, Stage, StopCause, TryEnd};
+use script_runs::{Memory, SessionCalls, Stage, StopCause, TryEnd};
 use std::alloc::Global;
 use std::sync::Wait;
 
@@ -32,7 +33,9 @@ impl<'a, M: Flier, P: Pace, R: Wait> SessionCalls for ScriptSession<'a, M, P, R>
 
     ghost seen = { λ s. seen_in s.session.shards.now s.session.walker s.asked s.session.progress };
 
-    ghost holds = { λ s. Holds s.session.shards.now s.session.walker s.session.progress };
+    ghost going = { λ s. going_of s.session.progress s.saves };
+
+    ghost holds = { λ s. HoldsSaves s.session.shards.now s.session.walker s.session.progress s.session.saves.items s.saves };
 
     ghost grounds = { λ s cause. Grounds s.session.walker cause };
 
@@ -65,14 +68,20 @@ impl<'a, M: Flier, P: Pace, R: Wait> SessionCalls for ScriptSession<'a, M, P, R>
 
     fn begin(&mut self) -> Result<(), StopCause> {
         self.session.shards.go_out(self.session.walker.number);
-        begun(self.session.begin())
+        let answer = self.session.begin(self.alloc);
+        self.saves.clear();
+        begun(answer)
     }
 
     fn retry(&mut self, alloc: Global) -> Result<(), StopCause> {
         self.session.shards.go_out(self.session.walker.number);
         match self.session.shard_down(alloc) {
             Some(shard) => Err(StopCause::Down { shard }),
-            None => retried(self.session.retry()),
+            None => {
+                let answer = self.session.retry(alloc);
+                self.saves.clear();
+                retried(answer)
+            }
         }
     }
 
@@ -91,6 +100,35 @@ impl<'a, M: Flier, P: Pace, R: Wait> SessionCalls for ScriptSession<'a, M, P, R>
                 let answer = self.session.scan(alloc, *lo, bound(*hi));
                 pairs_told(shards, walker, answer)
             }
+        }
+    }
+
+    fn has_savepoint(&self, number: u64) -> bool {
+        self.saves.upto(number).is_some()
+    }
+
+    fn save(&mut self) -> Result<u64, Memory> {
+        match self.session.progress.acts() {
+            Some(upto) => {
+                self.saves.keep(upto)?;
+                Ok(self.saves.last())
+            }
+            None => unreachable!(),
+        }
+    }
+
+    fn go_back(&mut self, alloc: Global, number: u64) -> Result<Option<u64>, TryEnd> {
+        let shards = self.session.shards;
+        let walker = self.session.walker.number;
+        match self.saves.upto(number) {
+            Some(upto) => {
+                let before = self.session.progress.acts().unwrap_or(0);
+                let answer = self.session.go_back_to(alloc, upto);
+                let took = before < self.session.progress.acts().unwrap_or(0);
+                self.saves.go_back(number);
+                gone_back(shards, walker, upto, took, answer)
+            }
+            None => unreachable!(),
         }
     }
 

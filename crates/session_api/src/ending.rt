@@ -3,7 +3,8 @@ ghost use Rattle.std.specs.Prelude.{◌≡◌};
 ghost use Rattle.cluster_closing.specs.Landed.{HasLanded};
 ghost use Rattle.session_ops.specs.Standings.{IsUnasked};
 ghost use Rattle.session_api.specs.declared.progress.Progress.TheVariants.{Active, Asked};
-ghost use Rattle.session_api.specs.Progresses.{commit_refusal, commit_told, settle_told, abort_told, progress_committed, progress_aborted, is_nothing};
+ghost use Rattle.session_api.specs.Progresses.{commit_refusal, commit_undone, commit_told, settle_told, abort_told, progress_committed, progress_aborted, is_nothing};
+ghost use Rattle.session_api.specs.Savepoints.{Saved, AllStand};
 ghost use Rattle.session_api.specs.Sessions.{IsSession, CommitCalled, CommitMade, LooksMade, AbortCalled, AbortMade};
 
 use crate::progress::{Progress, after_request};
@@ -13,7 +14,7 @@ use clv_base::causes::AbortCause;
 use clv_base::names::Point;
 use io_model::Pace;
 use machine_calls::Flier;
-use session_ops::{CommitError as Failure, SettleError, Settled, abort, commit, finish};
+use session_ops::{BackError, CommitError as Failure, SettleError, Settled, abort, commit, finish};
 use std::alloc::Global;
 use std::mem;
 use std::sync::Wait;
@@ -25,7 +26,7 @@ pub enum CommitError {
     NoTx,
     /// The transaction died of its request, or was told that it is aborted.
     Aborted(AbortCause),
-    /// The home was found down before the request was made. The transaction stays active.
+    /// The home was found down before the request was made, or the shard on which a going back was left undone. The transaction stays active.
     Down { shard: u32 },
     /// A turn after the request found the shard down: the home or a touched one, or after a long wait any, where nothing else moved. The
     /// request stands, and a commit called again looks again.
@@ -69,6 +70,17 @@ fn settled(asked: Point, answer: Result<Point, SettleError>) -> Result<Settled, 
         Err(SettleError::Unsettled { shard }) => Err(CommitError::Unsettled { shard }),
         Err(SettleError::Worn { at }) => Err(CommitError::Worn { at }),
         Err(SettleError::Memory) => Err(CommitError::Memory),
+    }
+}
+
+// Behind a going back that was left undone.
+fn undone(error: BackError) -> CommitError
+    ensures { result ≡ commit_undone error }
+{
+    match error {
+        BackError::Aborted(cause) => CommitError::Aborted(cause),
+        BackError::Down { shard } => CommitError::Down { shard },
+        BackError::Worn { at, .. } => CommitError::Worn { at },
     }
 }
 
@@ -123,7 +135,9 @@ fn aborted(answer: Result<(), WornClock>) -> Result<(), AbortError>
 impl<'a, M: Flier, P: Pace, R: Wait> Session<'a, M, P, R> {
     fn commit_active(&mut self, alloc: Global, place: Place) -> Result<Settled, CommitError>
         requires session { IsSession self.old.shards.now self.old.walker (Active place) }
+        requires saved { Saved (Active place) self.old.saves.items }
         ensures session { IsSession self.new.shards.now self.new.walker self.new.progress }
+        ensures saved { Saved self.new.progress self.new.saves.items }
         ensures shards { self.new.shards ≡ self.old.shards }
         ensures told { CommitMade self.old.shards.now self.old.walker place result self.new.walker self.new.progress }
     {
@@ -150,7 +164,9 @@ impl<'a, M: Flier, P: Pace, R: Wait> Session<'a, M, P, R> {
         stamp: u64,
     ) -> Result<Settled, CommitError>
         requires session { IsSession self.old.shards.now self.old.walker (Asked place home stamp) }
+        requires saved { Saved (Asked place home stamp) self.old.saves.items }
         ensures session { IsSession self.new.shards.now self.new.walker self.new.progress }
+        ensures saved { Saved self.new.progress self.new.saves.items }
         ensures shards { self.new.shards ≡ self.old.shards }
         ensures told { LooksMade self.old.shards.now self.old.walker place home stamp result self.new.walker self.new.progress }
     {
@@ -172,17 +188,24 @@ impl<'a, M: Flier, P: Pace, R: Wait> Session<'a, M, P, R> {
     /// where it touched nothing; every other answer is told by the turns of the call. `Unsettled` comes only where one found that shard
     /// down: the home, or, in a round after a wait, one that the transaction touched, or any where that round found each shard down, or
     /// with nothing buffered and no message. After `Down` the transaction is active, after `Unsettled` its request stands; after `Worn`
-    /// and `Memory` it stands where it was made, else the transaction is active. The point of an acknowledged one is that of its request,
-    /// which is among the walker's entries: so the points of two sessions' answers order as their transactions do in the serial history.
+    /// and `Memory` it stands where it was made, else the transaction is active. Behind a going back that was left undone it makes this once
+    /// more on its shard, and no request: the transaction dies of it, or that shard is down still, or stamps are wanting. The point of an
+    /// acknowledged one is that of its request, which is among the walker's entries: so the points of two sessions' answers order as their
+    /// transactions do in the serial history.
     pub fn commit(&mut self, alloc: Global) -> Result<Settled, CommitError>
         requires session { IsSession self.old.shards.now self.old.walker self.old.progress }
+        requires saved { Saved self.old.progress self.old.saves.items }
         ensures session { IsSession self.new.shards.now self.new.walker self.new.progress }
+        ensures saved { Saved self.new.progress self.new.saves.items }
         ensures shards { self.new.shards ≡ self.old.shards }
         ensures told { CommitCalled self.old.shards.now self.old.walker self.old.progress result self.new.walker self.new.progress }
     {
         match mem::replace(&mut self.progress, Progress::Idle) {
             Progress::Active(place) => self.commit_active(alloc, place),
             Progress::Asked { place, home, stamp } => self.look_again(alloc, place, home, stamp),
+            Progress::Undone { place, shard, upto } => {
+                Err(undone(self.go_back_again(alloc, place, shard, upto)))
+            }
             other => {
                 let refusal = refusal(&other);
                 self.progress = other;
@@ -194,7 +217,9 @@ impl<'a, M: Flier, P: Pace, R: Wait> Session<'a, M, P, R> {
     fn abort_active(&mut self, alloc: Global, place: Place) -> Result<(), AbortError>
         requires unasked { IsUnasked self.old.shards.now self.old.walker place }
         requires landed { HasLanded self.old.walker.number self.old.walker.passes.items }
+        requires saved { AllStand place self.old.saves.items }
         ensures session { IsSession self.new.shards.now self.new.walker self.new.progress }
+        ensures saved { Saved self.new.progress self.new.saves.items }
         ensures shards { self.new.shards ≡ self.old.shards }
         ensures told { AbortMade self.old.shards.now self.old.walker place result self.new.walker self.new.progress }
     {
@@ -208,13 +233,16 @@ impl<'a, M: Flier, P: Pace, R: Wait> Session<'a, M, P, R> {
     /// active; after `Worn` it may only be aborted again.
     pub fn abort(&mut self, alloc: Global) -> Result<(), AbortError>
         requires session { IsSession self.old.shards.now self.old.walker self.old.progress }
+        requires saved { Saved self.old.progress self.old.saves.items }
         ensures session { IsSession self.new.shards.now self.new.walker self.new.progress }
+        ensures saved { Saved self.new.progress self.new.saves.items }
         ensures shards { self.new.shards ≡ self.old.shards }
         ensures told { AbortCalled self.old.shards.now self.old.walker self.old.progress result self.new.walker self.new.progress }
     {
         match mem::replace(&mut self.progress, Progress::Idle) {
             Progress::Active(place) => self.abort_active(alloc, place),
             Progress::Worn(place) => self.abort_active(alloc, place),
+            Progress::Undone { place, .. } => self.abort_active(alloc, place),
             other => {
                 self.progress = other;
                 Err(AbortError::NoTx)

@@ -4,13 +4,14 @@ ghost use Rattle.clv_base.specs.declared.names.TxId.{TxId as TxIdIs};
 ghost use Rattle.clv_base.specs.declared.values.Value.{Value as ValueType};
 ghost use Rattle.cluster_turns.specs.declared.shards.WornClock.{WornClock};
 ghost use Rattle.session_ops.specs.declared.operating.OpError.{OpError as Failure};
+ghost use Rattle.session_ops.specs.declared.rolling.BackError.{BackError as BackFailure};
 ghost use Rattle.session_ops.specs.declared.committing.Settled.{Settled as SettledIs};
 ghost use Rattle.session_ops.specs.declared.committing.CommitError.{CommitError as CommitFailure};
-ghost use Rattle.session_api.specs.Progresses.{failure_told, answer_told, commit_told, abort_told};
-ghost use Rattle.session_api.specs.Seeing.{asked_after, op_end, value_end, added_end, pairs_end, commit_end, abort_end};
+ghost use Rattle.session_api.specs.Progresses.{failure_told, answer_told, back_told, commit_told, abort_told};
+ghost use Rattle.session_api.specs.Seeing.{asked_after, op_end, value_end, added_end, pairs_end, back_end, commit_end, abort_end};
 ghost use Rattle.session_api.specs.Ends.{BeginEnds, RetryEnds};
 
-use crate::{AbortError, BeginError, CommitError, OpError, RetryError, Settled};
+use crate::{AbortError, BeginError, CommitError, OpError, RetryError, RollError, Settled};
 use cluster_turns::Shards;
 use clv_base::lists::Pairs;
 use clv_base::names::{Point, TxId};
@@ -106,6 +107,32 @@ pub(crate) fn pairs_told<M: Machine>(
     match answer {
         Ok(pairs) => Ok(Answer::Pairs(pairs)),
         Err(error) => Err(failed(shards, walker, error)),
+    }
+}
+
+// A going back to after so many acts was made, which took a number or none.
+pub(crate) fn gone_back<M: Machine>(
+    shards: &Shards<M>,
+    walker: u32,
+    upto: u64,
+    took: bool,
+    answer: Result<(), RollError>,
+) -> Result<Option<u64>, TryEnd>
+    requires made { (e : Result Unit BackFailure) × (answer ≡ back_told e) }
+    ensures told { (e : Result Unit BackFailure) → answer ≡ back_told e → result ≡ back_end took upto e }
+{
+    match answer {
+        Ok(()) => Ok(if took { Some(upto) } else { None }),
+        Err(error) => {
+            shards.go_out(walker);
+            Err(match error {
+                RollError::Aborted(cause) => TryEnd::Aborted(cause),
+                RollError::Down { shard } => TryEnd::Stopped(StopCause::Down { shard }),
+                RollError::Worn { at } => TryEnd::Stopped(StopCause::Worn { at }),
+                RollError::NoTx => unreachable!(),
+                RollError::NotSaved { .. } => unreachable!(),
+            })
+        }
     }
 }
 

@@ -1,4 +1,5 @@
 //! A session on a cluster: transactions, one after another, each with its operations, and a commit or an abort; and the session as one of a script.
+//! A transaction may keep savepoints, and go back to where it stood at one.
 //!
 //! Each call may be made at any time, and is refused exactly where the session's last transaction doesn't stand so. What it answers is
 //! read from the turns that it took; after each answer the session is one again. So its calls promise what whoever runs a script is promised
@@ -18,6 +19,7 @@ mod progress;
 pub mod promises;
 mod retrying;
 mod rounds;
+mod savepoints;
 mod script_session;
 mod session;
 mod stages;
@@ -28,6 +30,7 @@ pub use ending::{AbortError, CommitError};
 pub use operating::OpError;
 pub use progress::Progress;
 pub use retrying::RetryError;
+pub use savepoints::{RollError, SaveError};
 pub use script_session::ScriptSession;
 pub use session::Session;
 pub use session_ops::{RoundError, Settled};

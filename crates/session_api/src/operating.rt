@@ -6,6 +6,7 @@ ghost use Rattle.clv_base.specs.Shards.{in_span, shard_of};
 ghost use Rattle.session_ops.specs.Parts.{has_died, value_in, added_in, whole_in};
 ghost use Rattle.session_api.specs.declared.progress.Progress.TheVariants.{Active};
 ghost use Rattle.session_api.specs.Progresses.{refusal_of, failure_told, answer_told, value_given, added_given, after_op};
+ghost use Rattle.session_api.specs.Savepoints.{Saved};
 ghost use Rattle.session_api.specs.Sessions.{IsSession, PointCalled, PointMade, ScanCalled, RangeCalled, ScanMade};
 
 use crate::progress::{Progress, after_operation};
@@ -31,7 +32,8 @@ pub enum OpError {
     BadRange { lo: u64, hi: u64 },
     /// The transaction died of it.
     Aborted(AbortCause),
-    /// A shard was found down: one of the operation's, or after a wait any. The transaction stays active.
+    /// A shard was found down: one of the operation's, or after a wait any; or a going back found it so and was left undone there. The transaction
+    /// stays active.
     Down { shard: u32 },
     Worn { at: u64 },
     Memory,
@@ -57,6 +59,7 @@ fn refusal(progress: &Progress) -> OpError
 {
     match progress {
         Progress::Worn(_) => OpError::Worn { at: WORN },
+        Progress::Undone { shard, .. } => OpError::Down { shard: *shard },
         _ => OpError::NoTx,
     }
 }
@@ -121,9 +124,12 @@ impl<'a, M: Flier, P: Pace, R: Wait> Session<'a, M, P, R> {
         op: Op,
     ) -> Result<Answer, OpError>
         requires session { IsSession self.old.shards.now self.old.walker (Active place) }
+        requires saved { Saved (Active place) self.old.saves.items }
         requires lies { lies_in self.old.shards.now.splits (shard_of self.old.shards.now.splits key) op ≡ in_span self.old.shards.now.splits (shard_of self.old.shards.now.splits key) key }
         ensures session { IsSession self.new.shards.now self.new.walker self.new.progress }
+        ensures saved { Saved self.new.progress self.new.saves.items }
         ensures shards { self.new.shards ≡ self.old.shards }
+        ensures saves { self.new.saves ≡ self.old.saves }
         ensures told { PointMade whole_in self.old.shards.now self.old.walker place op key result self.new.walker self.new.progress }
     {
         let mut place = place;
@@ -145,9 +151,12 @@ impl<'a, M: Flier, P: Pace, R: Wait> Session<'a, M, P, R> {
     // One operation at a key.
     fn call_at_key(&mut self, alloc: Global, key: u64, op: Op) -> Result<Answer, OpError>
         requires session { IsSession self.old.shards.now self.old.walker self.old.progress }
+        requires saved { Saved self.old.progress self.old.saves.items }
         requires lies { lies_in self.old.shards.now.splits (shard_of self.old.shards.now.splits key) op ≡ in_span self.old.shards.now.splits (shard_of self.old.shards.now.splits key) key }
         ensures session { IsSession self.new.shards.now self.new.walker self.new.progress }
+        ensures saved { Saved self.new.progress self.new.saves.items }
         ensures shards { self.new.shards ≡ self.old.shards }
+        ensures saves { self.new.saves ≡ self.old.saves }
         ensures told { PointCalled whole_in self.old.shards.now self.old.walker self.old.progress op key result self.new.walker self.new.progress }
     {
         match mem::replace(&mut self.progress, Progress::Idle) {
@@ -164,8 +173,11 @@ impl<'a, M: Flier, P: Pace, R: Wait> Session<'a, M, P, R> {
     /// After `Aborted` the transaction has ended, after every other answer it is active as before.
     pub fn get(&mut self, alloc: Global, key: u64) -> Result<Option<Value>, OpError>
         requires session { IsSession self.old.shards.now self.old.walker self.old.progress }
+        requires saved { Saved self.old.progress self.old.saves.items }
         ensures session { IsSession self.new.shards.now self.new.walker self.new.progress }
+        ensures saved { Saved self.new.progress self.new.saves.items }
         ensures shards { self.new.shards ≡ self.old.shards }
+        ensures saves { self.new.saves ≡ self.old.saves }
         ensures told { PointCalled value_in self.old.shards.now self.old.walker self.old.progress (Get key) key result self.new.walker self.new.progress }
     {
         value_of(self.call_at_key(alloc, key, Op::Get(key)))
@@ -175,8 +187,11 @@ impl<'a, M: Flier, P: Pace, R: Wait> Session<'a, M, P, R> {
     /// the turns of the call. After `Aborted` the transaction has ended, after every other answer it is active as before.
     pub fn put(&mut self, alloc: Global, key: u64, value: Value) -> Result<Option<Value>, OpError>
         requires session { IsSession self.old.shards.now self.old.walker self.old.progress }
+        requires saved { Saved self.old.progress self.old.saves.items }
         ensures session { IsSession self.new.shards.now self.new.walker self.new.progress }
+        ensures saved { Saved self.new.progress self.new.saves.items }
         ensures shards { self.new.shards ≡ self.old.shards }
+        ensures saves { self.new.saves ≡ self.old.saves }
         ensures told { PointCalled value_in self.old.shards.now self.old.walker self.old.progress (Put key value) key result self.new.walker self.new.progress }
     {
         value_of(self.call_at_key(alloc, key, Op::Put(key, value)))
@@ -186,8 +201,11 @@ impl<'a, M: Flier, P: Pace, R: Wait> Session<'a, M, P, R> {
     /// turns of the call. After `Aborted` the transaction has ended, after every other answer it is active as before.
     pub fn del(&mut self, alloc: Global, key: u64) -> Result<Option<Value>, OpError>
         requires session { IsSession self.old.shards.now self.old.walker self.old.progress }
+        requires saved { Saved self.old.progress self.old.saves.items }
         ensures session { IsSession self.new.shards.now self.new.walker self.new.progress }
+        ensures saved { Saved self.new.progress self.new.saves.items }
         ensures shards { self.new.shards ≡ self.old.shards }
+        ensures saves { self.new.saves ≡ self.old.saves }
         ensures told { PointCalled value_in self.old.shards.now self.old.walker self.old.progress (Del key) key result self.new.walker self.new.progress }
     {
         value_of(self.call_at_key(alloc, key, Op::Del(key)))
@@ -198,8 +216,11 @@ impl<'a, M: Flier, P: Pace, R: Wait> Session<'a, M, P, R> {
     /// every other answer it is active as before.
     pub fn add(&mut self, alloc: Global, key: u64, by: u64) -> Result<bool, OpError>
         requires session { IsSession self.old.shards.now self.old.walker self.old.progress }
+        requires saved { Saved self.old.progress self.old.saves.items }
         ensures session { IsSession self.new.shards.now self.new.walker self.new.progress }
+        ensures saved { Saved self.new.progress self.new.saves.items }
         ensures shards { self.new.shards ≡ self.old.shards }
+        ensures saves { self.new.saves ≡ self.old.saves }
         ensures told { PointCalled added_in self.old.shards.now self.old.walker self.old.progress (Add key by) key result self.new.walker self.new.progress }
     {
         added_of(self.call_at_key(alloc, key, Op::Add(key, by)))
@@ -214,8 +235,11 @@ impl<'a, M: Flier, P: Pace, R: Wait> Session<'a, M, P, R> {
         hi: u64,
     ) -> Result<Pairs, OpError>
         requires session { IsSession self.old.shards.now self.old.walker (Active place) }
+        requires saved { Saved (Active place) self.old.saves.items }
         ensures session { IsSession self.new.shards.now self.new.walker self.new.progress }
+        ensures saved { Saved self.new.progress self.new.saves.items }
         ensures shards { self.new.shards ≡ self.old.shards }
+        ensures saves { self.new.saves ≡ self.old.saves }
         ensures told { ScanMade self.old.shards.now self.old.walker place lo hi result self.new.walker self.new.progress }
     {
         let mut place = place;
@@ -237,8 +261,11 @@ impl<'a, M: Flier, P: Pace, R: Wait> Session<'a, M, P, R> {
     // The range isn't empty.
     fn scan_range(&mut self, alloc: Global, lo: u64, hi: u64) -> Result<Pairs, OpError>
         requires session { IsSession self.old.shards.now self.old.walker self.old.progress }
+        requires saved { Saved self.old.progress self.old.saves.items }
         ensures session { IsSession self.new.shards.now self.new.walker self.new.progress }
+        ensures saved { Saved self.new.progress self.new.saves.items }
         ensures shards { self.new.shards ≡ self.old.shards }
+        ensures saves { self.new.saves ≡ self.old.saves }
         ensures told { RangeCalled self.old.shards.now self.old.walker self.old.progress lo hi result self.new.walker self.new.progress }
     {
         match mem::replace(&mut self.progress, Progress::Idle) {
@@ -256,8 +283,11 @@ impl<'a, M: Flier, P: Pace, R: Wait> Session<'a, M, P, R> {
     /// other answer it is active, with the parts that were scanned so far.
     pub fn scan(&mut self, alloc: Global, lo: u64, hi: u64) -> Result<Pairs, OpError>
         requires session { IsSession self.old.shards.now self.old.walker self.old.progress }
+        requires saved { Saved self.old.progress self.old.saves.items }
         ensures session { IsSession self.new.shards.now self.new.walker self.new.progress }
+        ensures saved { Saved self.new.progress self.new.saves.items }
         ensures shards { self.new.shards ≡ self.old.shards }
+        ensures saves { self.new.saves ≡ self.old.saves }
         ensures told { ScanCalled self.old.shards.now self.old.walker self.old.progress lo hi result self.new.walker self.new.progress }
     {
         if hi < lo && self.progress.active().is_some() {

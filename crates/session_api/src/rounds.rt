@@ -3,6 +3,7 @@ ghost use Rattle.std.specs.Prelude.{◌≡◌, ℕ, length, Some, Err};
 ghost use Rattle.cluster_turns.specs.Walkers.{IsSameWalker};
 ghost use Rattle.session_ops.specs.declared.parts.RoundError.TheVariants.{Down};
 ghost use Rattle.session_ops.specs.Rounds.{Rounded, RoundTold, Every, NoShard};
+ghost use Rattle.session_api.specs.Savepoints.{Saved};
 ghost use Rattle.session_api.specs.Sessions.{IsSession, found_in};
 
 use crate::progress::Progress;
@@ -69,8 +70,11 @@ impl<'a, M: Flier, P: Pace, R: Wait> Session<'a, M, P, R> {
     /// message. `Worn` comes only where a turn would have had a stamp past the last, and `Memory` at want of memory; the round ends there.
     pub fn round(&mut self, alloc: Global) -> Result<Option<Batch>, RoundError>
         requires session { IsSession self.old.shards.now self.old.walker self.old.progress }
+        requires saved { Saved self.old.progress self.old.saves.items }
         ensures session { IsSession self.new.shards.now self.new.walker self.new.progress }
+        ensures saved { Saved self.new.progress self.new.saves.items }
         ensures shards { self.new.shards ≡ self.old.shards }
+        ensures saves { self.new.saves ≡ self.old.saves }
         ensures progress { self.new.progress ≡ self.old.progress }
         ensures walker { IsSameWalker self.old.walker self.new.walker }
         ensures round { Rounded self.old.walker.number self.old.walker.clock self.old.walker.passes.items result self.new.walker.clock self.new.walker.passes.items }
@@ -89,8 +93,11 @@ impl<'a, M: Flier, P: Pace, R: Wait> Session<'a, M, P, R> {
     // After some tries of the last transaction, a round; the shard that it found down, where that is to stop the session.
     fn round_after(&mut self, alloc: Global, tries: u64) -> Option<u32>
         requires session { IsSession self.old.shards.now self.old.walker self.old.progress }
+        requires saved { Saved self.old.progress self.old.saves.items }
         ensures session { IsSession self.new.shards.now self.new.walker self.new.progress }
+        ensures saved { Saved self.new.progress self.new.saves.items }
         ensures shards { self.new.shards ≡ self.old.shards }
+        ensures saves { self.new.saves ≡ self.old.saves }
         ensures progress { self.new.progress ≡ self.old.progress }
         ensures walker { IsSameWalker self.old.walker self.new.walker }
         ensures round { Rounded self.old.walker.number self.old.walker.clock self.old.walker.passes.items (found_in result) self.new.walker.clock self.new.walker.passes.items }
@@ -104,8 +111,11 @@ impl<'a, M: Flier, P: Pace, R: Wait> Session<'a, M, P, R> {
     // shard that the round found down is told once the transaction has been tried often.
     pub(crate) fn shard_down(&mut self, alloc: Global) -> Option<u32>
         requires session { IsSession self.old.shards.now self.old.walker self.old.progress }
+        requires saved { Saved self.old.progress self.old.saves.items }
         ensures session { IsSession self.new.shards.now self.new.walker self.new.progress }
+        ensures saved { Saved self.new.progress self.new.saves.items }
         ensures shards { self.new.shards ≡ self.old.shards }
+        ensures saves { self.new.saves ≡ self.old.saves }
         ensures progress { self.new.progress ≡ self.old.progress }
         ensures walker { IsSameWalker self.old.walker self.new.walker }
         ensures round { Rounded self.old.walker.number self.old.walker.clock self.old.walker.passes.items (found_in result) self.new.walker.clock self.new.walker.passes.items }

@@ -27,6 +27,7 @@ pub(crate) fn stage_of(progress: &Progress) -> Stage
         Progress::Idle => Stage::Idle,
         Progress::Active(place) => active_stage(place),
         Progress::Worn(place) => active_stage(place),
+        Progress::Undone { place, .. } => active_stage(place),
         Progress::Asked { .. } => Stage::Asked,
         Progress::Ended(_) => Stage::Idle,
     }

@@ -1,5 +1,5 @@
 // What the answers of a session's calls tell of its entries.
-ghost use Rattle.session_api.specs.ToldLaws.{PointsTell, AddsTell, ScansTell, CommitsTell, AbortsTell, BeginningsTell, RetriesTell};
+ghost use Rattle.session_api.specs.ToldLaws.{PointsTell, AddsTell, ScansTell, BacksTell, CommitsTell, AbortsTell, BeginningsTell, RetriesTell};
 
 /// A beginning makes no entry.
 pub fn beginnings_tell<M, S, G>()
@@ -25,6 +25,12 @@ pub fn adds_tell<M, S, G>()
 /// A scan made its parts, shards rising, up to one that wasn't answered.
 pub fn scans_tell<M, S, G>()
     ensures { ScansTell M S G }
+{}
+
+/// A going back made one entry on each shard where a later operation's write stood, shards rising, up to one that wasn't answered; where none
+/// stood it made none.
+pub fn backs_tell<M, S, G>()
+    ensures { BacksTell M S G }
 {}
 
 /// A commit made its request and a look that was told its decision, and drops where that is an abort; where it isn't decided, at most the

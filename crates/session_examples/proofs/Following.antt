@@ -14,17 +14,21 @@ use Rattle.cluster_turns.proofs.Laws.{kept_grows}
 use Rattle.session_ops.specs.declared.operating.OpError.{OpError as OpFailure}
 use Rattle.session_ops.specs.declared.committing.Settled.{Settled}
 use Rattle.session_ops.specs.declared.committing.CommitError.{CommitError as CommitFailure}
+use Rattle.session_ops.specs.declared.rolling.BackError.{BackError}
 use Rattle.session_ops.specs.Committed.{CommitTold}
 use Rattle.clv_base.specs.Sessions.{SessionState}
 use Rattle.session_api.specs.declared.progress.Progress.{Progress}
-use Rattle.session_api.specs.declared.progress.Progress.TheVariants.{Idle, Active, Worn, Asked, Ended}
+use Rattle.session_api.specs.declared.progress.Progress.TheVariants.{Idle, Active, Worn, Undone, Asked, Ended}
 use Rattle.session_api.specs.declared.beginning.BeginError.{BeginError}
 use Rattle.session_api.specs.declared.beginning.BeginError.TheVariants as begin
 use Rattle.session_api.specs.declared.retrying.RetryError.{RetryError}
 use Rattle.session_api.specs.declared.retrying.RetryError.TheVariants as retry
 use Rattle.session_api.specs.declared.operating.OpError.{OpError}
+use Rattle.session_api.specs.declared.savepoints.RollError.{RollError}
 use Rattle.session_api.specs.declared.ending.CommitError.{CommitError}
 use Rattle.session_api.specs.declared.ending.AbortError.{AbortError}
+use Rattle.session_api.specs.Progresses.{active_tx}
+use Rattle.session_api.specs.GoingBack.{has_number, AgainMade, BackCalled, RollBeside, RollCalled}
 use Rattle.session_api.specs.Sessions.{IsSession, BegunNext, BeginCalled, RetriedNext, RetryCalled, PointCalled, RangeCalled, RangeBeside, ScanCalled, CommitCalled, AbortCalled}
 use Rattle.session_examples.specs.Later.{IsLater}
 
@@ -73,6 +77,7 @@ module _ {M S G : Type 0} (sh : Shards M S G) where
   begin_later w v Idle t r c = begun_later w v Idle t r c
   begin_later w v (Active p) t r c = same_later w v c.1
   begin_later w v (Worn p) t r c = same_later w v c.1
+  begin_later w v (Undone p n upto) t r c = same_later w v c.1
   begin_later w v (Asked p home stamp) t r c = begun_later w v (Asked p home stamp) t r c
   begin_later w v (Ended p) t r c = begun_later w v (Ended p) t r c
 
@@ -86,6 +91,7 @@ module _ {M S G : Type 0} (sh : Shards M S G) where
   retry_later w v Idle t r c = same_later w v c.1
   retry_later w v (Active p) t r c = same_later w v c.1
   retry_later w v (Worn p) t r c = same_later w v c.1
+  retry_later w v (Undone p n upto) t r c = same_later w v c.1
   retry_later w v (Asked p home stamp) t r c = same_later w v c.1
   retry_later w v (Ended p) t r c = retried_later w v p t r c
 
@@ -95,6 +101,7 @@ module _ {M S G : Type 0} (sh : Shards M S G) where
   point_later tells w v Idle t op key r h c = same_later w v c.1
   point_later tells w v (Active p) t op key r h c = let b = h.stands.born in let k = c.told.turns b.birth b.is in turns_later w v w.clock v.clock (k.asking ++ k.leaving) c.walker.0 k.took
   point_later tells w v (Worn p) t op key r h c = same_later w v c.1
+  point_later tells w v (Undone p n upto) t op key r h c = same_later w v c.1
   point_later tells w v (Asked p home stamp) t op key r h c = same_later w v c.1
   point_later tells w v (Ended p) t op key r h c = same_later w v c.1
 
@@ -102,6 +109,7 @@ module _ {M S G : Type 0} (sh : Shards M S G) where
   range_later w v Idle t lo hi r h c = same_later w v c.1
   range_later w v (Active p) t lo hi r h c = let b = h.stands.born in let k = c.turns b.birth b.is in turns_later w v w.clock v.clock k.turns c.walker.0 k.took
   range_later w v (Worn p) t lo hi r h c = same_later w v c.1
+  range_later w v (Undone p n upto) t lo hi r h c = same_later w v c.1
   range_later w v (Asked p home stamp) t lo hi r h c = same_later w v c.1
   range_later w v (Ended p) t lo hi r h c = same_later w v c.1
 
@@ -113,6 +121,27 @@ module _ {M S G : Type 0} (sh : Shards M S G) where
   pub scan_later : (w v : Walker M S G) (s t : Progress) (lo hi : ℕ) (r : Result (List (ℕ × ValueType)) OpError) → IsSession sh w s → ScanCalled sh w s lo hi r v t → IsLater w v
   scan_later w v s t lo hi r h c = beside_later _ (nat_lt hi lo) w v s t lo hi r h c
 
+  -- ---- goings back
+
+  again_later : (w v : Walker M S G) (p : SessionState) (n upto : ℕ) (e : BackError) (t : Progress) → AgainMade sh w p n upto e v t → IsLater w v
+  again_later w v p n upto e t made = let d = made.turns in turns_later w v w.clock v.clock d.turns made.walker.0 d.took
+
+  back_later : (w v : Walker M S G) (s t : Progress) (upto : ℕ) (r : Result Unit RollError) → BackCalled sh w s upto r v t → IsLater w v
+  back_later w v Idle t upto r c = absurd c
+  back_later w v (Active p) t upto r c = let d = c.turns in turns_later w v w.clock v.clock d.turns c.walker.0 d.took
+  back_later w v (Worn p) t upto r c = same_later w v c.1
+  back_later w v (Undone p n left) t upto r c = again_later w v p n left c.error t c.made
+  back_later w v (Asked p home stamp) t upto r c = absurd c
+  back_later w v (Ended p) t upto r c = absurd c
+
+  roll_beside_later : (o : Option TxId) (saved : Bool) (w v : Walker M S G) (s t : Progress) (upto : ℕ) (r : Result Unit RollError) → RollBeside o saved sh w s upto r v t → IsLater w v
+  roll_beside_later None saved w v s t upto r c = same_later w v c.1
+  roll_beside_later (Some tx) false w v s t upto r c = same_later w v c.1
+  roll_beside_later (Some tx) true w v s t upto r c = back_later w v s t upto r c
+
+  pub roll_later : (w v : Walker M S G) (s t : Progress) (saves : List ℕ) (upto : ℕ) (r : Result Unit RollError) → RollCalled sh w s saves upto r v t → IsLater w v
+  roll_later w v s t saves upto r c = roll_beside_later (active_tx s) (has_number upto saves) w v s t upto r c
+
   -- ---- ends
 
   committed_later : (w v : Walker M S G) (p q : SessionState) (count stamp : ℕ) (r : Result Settled CommitFailure) → v.number ≡ w.number → CommitTold count w p stamp r v q → IsLater w v
@@ -123,6 +152,7 @@ module _ {M S G : Type 0} (sh : Shards M S G) where
   commit_later w v Idle t r c = same_later w v c.1
   commit_later w v (Active p) t r c = committed_later w v p c.place _ c.stamp c.answer c.walker.0 c.told
   commit_later w v (Worn p) t r c = same_later w v c.1
+  commit_later w v (Undone p n upto) t r c = again_later w v p n upto c.error t c.made
   commit_later w v (Asked p home stamp) t r c = let d = c.turns in turns_later w v w.clock v.clock d.turns c.walker.0 d.took
   commit_later w v (Ended p) t r c = same_later w v c.1
 
@@ -130,5 +160,6 @@ module _ {M S G : Type 0} (sh : Shards M S G) where
   abort_later w v Idle t r c = same_later w v c.1
   abort_later w v (Active p) t r c = let d = c.drops in turns_later w v w.clock v.clock d.turns c.walker.0 d.took
   abort_later w v (Worn p) t r c = let d = c.drops in turns_later w v w.clock v.clock d.turns c.walker.0 d.took
+  abort_later w v (Undone p n upto) t r c = let d = c.drops in turns_later w v w.clock v.clock d.turns c.walker.0 d.took
   abort_later w v (Asked p home stamp) t r c = same_later w v c.1
   abort_later w v (Ended p) t r c = same_later w v c.1

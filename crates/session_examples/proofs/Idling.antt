@@ -1,7 +1,7 @@
 -- A session between two transfers.
 use Rattle.std.proofs.Common.{◌≡◌, refl, ap, true, None, Ok}
 use Rattle.session_api.specs.declared.progress.Progress.{Progress}
-use Rattle.session_api.specs.declared.progress.Progress.TheVariants.{Idle, Active, Worn, Asked, Ended}
+use Rattle.session_api.specs.declared.progress.Progress.TheVariants.{Idle, Active, Worn, Undone, Asked, Ended}
 use Rattle.session_api.specs.Progresses.{active_tx}
 use Rattle.session_examples.specs.declared.transfers.Transferred.{Transferred}
 use Rattle.session_examples.specs.declared.transfers.Transferred.TheVariants.{Moved, Refused, GivenUp}
@@ -12,6 +12,7 @@ pub ended_idle : (t : Progress) → has_ended t ≡ true → active_tx t ≡ Non
 ended_idle Idle e = refl
 ended_idle (Active p) e = absurd cc
 ended_idle (Worn p) e = absurd cc
+ended_idle (Undone p n upto) e = absurd cc
 ended_idle (Asked p home stamp) e = refl
 ended_idle (Ended p) e = refl
 

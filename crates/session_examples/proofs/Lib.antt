@@ -8,5 +8,6 @@ mod Turning
 mod Walking
 pub mod Following
 pub mod Trying
+pub mod Thinking
 pub mod Moving
 pub mod Two

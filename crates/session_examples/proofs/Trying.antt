@@ -29,9 +29,9 @@ use Rattle.session_ops.specs.declared.committing.CommitError.{CommitError as Com
 use Rattle.session_ops.specs.declared.committing.CommitError.TheVariants as unmade
 use Rattle.session_ops.specs.Decided.{DecidedBy, committed_as}
 use Rattle.session_ops.specs.Committed.{CommittedBy, CommitTold}
-use Rattle.script_runs.specs.Operations.{no_operation}
+use Rattle.script_runs.specs.Acts.{no_act}
 use Rattle.session_api.specs.declared.progress.Progress.{Progress}
-use Rattle.session_api.specs.declared.progress.Progress.TheVariants.{Idle, Active, Worn, Asked, Ended}
+use Rattle.session_api.specs.declared.progress.Progress.TheVariants.{Idle, Active, Worn, Undone, Asked, Ended}
 use Rattle.session_api.specs.declared.beginning.BeginError.{BeginError}
 use Rattle.session_api.specs.declared.beginning.BeginError.TheVariants as begin
 use Rattle.session_api.specs.declared.retrying.RetryError.{RetryError}
@@ -152,6 +152,7 @@ module _ {M S G : Type 0} (sh : Shards M S G) where
   point_is w v Idle t o key r h c = absurd (both_ways false refl h)
   point_is w v (Active p) t o key r h c = (p, refl, c)
   point_is w v (Worn p) t o key r h c = absurd (both_ways false refl h)
+  point_is w v (Undone p n upto) t o key r h c = absurd (both_ways false refl h)
   point_is w v (Asked p home stamp) t o key r h c = absurd (both_ways false refl h)
   point_is w v (Ended p) t o key r h c = absurd (both_ways false refl h)
 
@@ -176,6 +177,7 @@ module _ {M S G : Type 0} (sh : Shards M S G) where
   commit_is w v Idle t r h c = absurd (both_ways false refl h)
   commit_is w v (Active p) t r h c = (p, refl, c)
   commit_is w v (Worn p) t r h c = absurd (both_ways false refl h)
+  commit_is w v (Undone p n upto) t r h c = absurd (both_ways false refl h)
   commit_is w v (Asked p home stamp) t r h c = absurd (both_ways false refl h)
   commit_is w v (Ended p) t r h c = absurd (both_ways false refl h)
 
@@ -193,6 +195,7 @@ module _ {M S G : Type 0} (sh : Shards M S G) where
   abort_closed w v Idle t r c = ap is_open c.2
   abort_closed w v (Active p) t r c = ap is_open c.then ∙ aborted_closed c.place c.answer
   abort_closed w v (Worn p) t r c = ap is_open c.then ∙ aborted_closed c.place c.answer
+  abort_closed w v (Undone p n upto) t r c = ap is_open c.then ∙ aborted_closed c.place c.answer
   abort_closed w v (Asked p home stamp) t r c = ap is_open c.2
   abort_closed w v (Ended p) t r c = ap is_open c.2
 
@@ -205,6 +208,7 @@ module _ {M S G : Type 0} (sh : Shards M S G) where
   abort_ended w v Idle t r h c = absurd (both_ways false refl h)
   abort_ended w v (Active p) t r h c = subst (λ x. AbortedAs x t) (sym c.is) (subst (AbortedAs (abort_told c.answer)) (sym c.then) (aborted_as c.place c.answer))
   abort_ended w v (Worn p) t r h c = absurd (both_ways false refl h)
+  abort_ended w v (Undone p n upto) t r h c = absurd (both_ways false refl h)
   abort_ended w v (Asked p home stamp) t r h c = absurd (both_ways false refl h)
   abort_ended w v (Ended p) t r h c = absurd (both_ways false refl h)
 
@@ -220,9 +224,10 @@ module _ {M S G : Type 0} (sh : Shards M S G) where
     is = then;
     birth_is = ap (λ z. z.birth) is;
     nth_is = ap (λ z. z.nth) is;
+    written_is = ap (λ z. z.written) is;
     made = [];
     made_is = sym (append-nil (made_by v));
-    operations = no_operation 1;
+    acts_are = no_act 1 [];
   }
 
   begun_as : (w v : Walker M S G) (s t : Progress) (r : Result TxId BeginError) → is_open s ≡ false → BegunNext sh w s r v t → BegunAs sh v t r
@@ -234,6 +239,7 @@ module _ {M S G : Type 0} (sh : Shards M S G) where
   begin_as w v Idle t r h c = begun_as w v Idle t r refl c
   begin_as w v (Active p) t r h c = absurd cc
   begin_as w v (Worn p) t r h c = absurd cc
+  begin_as w v (Undone p n upto) t r h c = absurd cc
   begin_as w v (Asked p home stamp) t r h c = begun_as w v (Asked p home stamp) t r refl c
   begin_as w v (Ended p) t r h c = begun_as w v (Ended p) t r refl c
 
@@ -247,5 +253,6 @@ module _ {M S G : Type 0} (sh : Shards M S G) where
   retry_as w v Idle t r h c = absurd (both_ways false refl h)
   retry_as w v (Active p) t r h c = absurd (both_ways false refl h)
   retry_as w v (Worn p) t r h c = absurd (both_ways false refl h)
+  retry_as w v (Undone p n upto) t r h c = absurd (both_ways false refl h)
   retry_as w v (Asked p home stamp) t r h c = absurd (both_ways false refl h)
   retry_as w v (Ended p) t r h c = retried_as w v p t r c

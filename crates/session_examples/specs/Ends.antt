@@ -5,11 +5,13 @@ use Rattle.clv_base.specs.declared.values.Value.{Value as ValueType}
 use Rattle.clv_base.specs.declared.names.TxId.{TxId}
 use Rattle.session_ops.specs.declared.operating.OpError.{OpError}
 use Rattle.session_ops.specs.declared.operating.OpError.TheVariants as op
+use Rattle.session_ops.specs.declared.rolling.BackError.{BackError}
+use Rattle.session_ops.specs.declared.rolling.BackError.TheVariants as left
 use Rattle.session_ops.specs.declared.committing.Settled.{Settled}
 use Rattle.session_ops.specs.declared.committing.CommitError.{CommitError}
 use Rattle.session_ops.specs.declared.committing.CommitError.TheVariants as commit
 use Rattle.session_api.specs.declared.progress.Progress.{Progress}
-use Rattle.session_api.specs.declared.progress.Progress.TheVariants.{Idle, Active, Worn, Asked, Ended}
+use Rattle.session_api.specs.declared.progress.Progress.TheVariants.{Idle, Active, Worn, Undone, Asked, Ended}
 use Rattle.session_api.specs.declared.beginning.BeginError.{BeginError}
 use Rattle.session_api.specs.declared.beginning.BeginError.TheVariants as begin
 use Rattle.session_api.specs.declared.retrying.RetryError.{RetryError}
@@ -31,6 +33,7 @@ abbrev pub is_open : Progress → Bool
 is_open (Active p) = true
 is_open Idle = false
 is_open (Worn p) = false
+is_open (Undone p n upto) = false
 is_open (Asked p home stamp) = false
 is_open (Ended p) = false
 
@@ -40,6 +43,7 @@ has_ended (Ended p) = true
 has_ended Idle = false
 has_ended (Active p) = false
 has_ended (Worn p) = false
+has_ended (Undone p n upto) = false
 has_ended (Asked p home stamp) = false
 
 -- what was moved is acknowledged, and what was refused or given up is aborted
@@ -68,6 +72,12 @@ abbrev pub written_end : Result (Option ValueType) OpError → Result Unit Failu
 written_end (Ok before) = Ok tt
 written_end (Err e) = Err (failure_end e)
 
+abbrev pub back_end : Result (Unit {0}) BackError → Result Unit Failure
+back_end (Ok a) = Ok tt
+back_end (Err (left.Aborted cause)) = Err (failed.Aborted cause)
+back_end (Err (left.Down n)) = Err (failed.Stopped (stop.Down n))
+back_end (Err (left.Worn n at)) = Err (failed.Stopped (stop.Worn at))
+
 abbrev pub commit_end : Result Settled CommitError → Result Unit Failure
 commit_end (Ok settled) = Ok tt
 commit_end (Err (commit.Aborted cause)) = Err (failed.Aborted cause)
@@ -93,7 +103,7 @@ AbortEnds (Ok a) r = r ≡ Ok tt
 AbortEnds (Err abort.NoTx) r = r ≡ Ok tt
 AbortEnds (Err (abort.Worn at)) r = r ≡ Err (stop.Worn at)
 
--- after an operation: open still, or aborted
+-- after an operation or a going back: open still, or aborted
 abbrev pub GoesOnAs : {A : Type 0} → Result A Failure → Progress → Type 0
 GoesOnAs (Ok a) t = is_open t ≡ true
 GoesOnAs (Err (failed.Aborted cause)) t = has_ended t ≡ true

@@ -4,5 +4,6 @@ pub mod Later
 pub mod Calls
 pub mod Ends
 pub mod Moves
+pub mod SecondThoughts
 pub mod Numbered
 pub mod Records

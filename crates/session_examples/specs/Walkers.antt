@@ -8,6 +8,7 @@ use Rattle.cluster_closing.specs.Held.{HoldsNone}
 use Rattle.cluster_opening.specs.Made.{IsNewWalker}
 use Rattle.session_api.specs.declared.progress.Progress.{Progress}
 use Rattle.session_api.specs.Progresses.{active_tx}
+use Rattle.session_api.specs.Savepoints.{Saved}
 use Rattle.session_api.specs.Standing.{Holds, IsAtRest}
 
 module _ {M S G : Type 0} where
@@ -31,8 +32,9 @@ module _ {M S G : Type 0} where
   AreAtRest sh walkers = (k : ℕ) (d : Walker M S G) → k < length walkers → IsAtRest sh k (slice_index_or walkers k d)
 
   -- a session on these shards of the walker of this number, none of whose transactions is active
-  pub record IsSeated (sh : Shards M S G) (number : ℕ) (shards : Shards M S G) (w : Walker M S G) (s : Progress) : Type 0 where
+  pub record IsSeated (sh : Shards M S G) (number : ℕ) (shards : Shards M S G) (w : Walker M S G) (s : Progress) (saves : List ℕ) : Type 0 where
     pub on : shards ≡ sh
     pub number_is : w.number ≡ number
     pub holds : Holds shards w s
+    pub saved : Saved s saves
     pub idle : active_tx s ≡ None

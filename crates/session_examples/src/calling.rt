@@ -2,6 +2,7 @@
 ghost use Rattle.std.specs.Prelude.{◌≡◌, ◌<◌, ◌≤◌, ◌+◌, ℕ, true, false, length, vec_len, vec_capacity, IfOk, IfErr};
 ghost use Rattle.clv_base.specs.Shards.{are_splits};
 ghost use Rattle.cluster_opening.specs.Opening.{Refuses, CountsOpen};
+ghost use Rattle.session_api.specs.Savepoints.{Saved};
 ghost use Rattle.session_api.specs.Standing.{Holds, IsAtRest};
 ghost use Rattle.session_examples.specs.Walkers.{AreNew, AreAtRest};
 ghost use Rattle.session_examples.specs.Programs.{HasRun, AnyMade};
@@ -43,8 +44,10 @@ pub(crate) fn call_all<M: Flier, P: Pace, R: Wait>(
     mut answers: Vec<Said>,
 ) -> Vec<Said>
     requires session { Holds session.old.shards.now session.old.walker session.old.progress }
+    requires saved { Saved session.old.progress session.old.saves.items }
     requires room { vec_len answers + length calls.now ≤ vec_capacity answers }
     ensures session { Holds session.new.shards.now session.new.walker session.new.progress }
+    ensures saved { Saved session.new.progress session.new.saves.items }
     ensures shards { session.new.shards ≡ session.old.shards }
     ensures number { session.new.walker.number ≡ session.old.walker.number }
     ensures len { vec_len result ≡ vec_len answers + length calls.now }
@@ -96,7 +99,7 @@ fn call_and_look<M: Flier, P: Pace, R: Wait>(
     ensures rest { AreAtRest shards.now walkers.new.items }
     ensures len { vec_len result.0 ≡ vec_len answers + length calls.now }
 {
-    let mut session = sit(rt, shards, pace, walkers);
+    let mut session = sit(rt, alloc, shards, pace, walkers);
     let answers = call_all(alloc, &mut session, calls, answers);
     leave(walkers, session);
     let quiet = look_around(rt, alloc, shards, &mut walkers[1], pace);

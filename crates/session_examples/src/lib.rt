@@ -3,7 +3,7 @@
 //!
 //! `open_transfer_close` is the one to read first: a cluster is opened, one session moves an amount between two keys in as many tries as
 //! it may have, and all is closed. The others make any calls of a session, let sessions on threads transfer beside each other, and bring
-//! a shard back whose disk has failed. After each of them every disk is in the house again.
+//! a shard back whose disk has failed. After each of them every disk is in the house again. `put_and_go_back` takes a write back to a savepoint.
 #![tactic(auto)]
 
 mod calling;
@@ -12,6 +12,7 @@ mod closing;
 mod horizon;
 mod numbers;
 mod reviving;
+mod second_thoughts;
 mod shard;
 mod sitting;
 mod threads;
@@ -27,6 +28,7 @@ pub use closing::Left;
 pub use horizon::look_beside_turns;
 pub use numbers::{Entry, Numbers};
 pub use reviving::{Revival, Revived, open_revive_close};
+pub use second_thoughts::{put_and_go_back, taken_back_is_as_before};
 pub use shard::{Record, Shard};
 pub use threads::write_both;
 pub use together::open_transfer_together_close;

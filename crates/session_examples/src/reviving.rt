@@ -74,7 +74,7 @@ fn revive_between<M: Reopener + Flier, P: Pace, R: Wait>(
     ensures home { AreAtHome shards.now walkers.new.items }
     ensures len { (vec_len result.before ≡ vec_len first.entry.1 + length first.entry.0.now) × (vec_len result.after ≡ vec_len then.entry.1 + length then.entry.0.now) }
 {
-    let mut session = sit(rt, shards, pace, walkers);
+    let mut session = sit(rt, alloc, shards, pace, walkers);
     let before = call_all(alloc, &mut session, first.0, first.1);
     let revival = revive(rt, alloc, shards, &mut walkers[0]);
     let after = call_all(alloc, &mut session, then.0, then.1);

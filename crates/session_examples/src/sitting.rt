@@ -1,17 +1,20 @@
 // Sessions and their walkers.
 ghost use Rattle.std.specs.Prelude.{◌≡◌, ◌<◌, ◌-◌, ◌++◌, ◌∷◌, [], take, slice_index_or, vec_len, vec_capacity};
 ghost use Rattle.session_api.specs.declared.progress.Progress.TheVariants.{Idle};
+ghost use Rattle.session_api.specs.Savepoints.{Saved};
 ghost use Rattle.session_api.specs.Standing.{Holds};
 
 use cluster_turns::{Shards, Walker};
 use io_model::Pace;
 use machine_calls::Flier;
 use session_api::Session;
+use std::alloc::Global;
 use std::sync::Wait;
 
 // A session of the last walker, which leaves the list.
 pub(crate) fn sit<'a, M: Flier, P: Pace, R: Wait>(
     rt: &'a R,
+    alloc: Global,
     shards: &'a Shards<M>,
     pace: &'a P,
     walkers: &mut Vec<Walker<M>>,
@@ -19,6 +22,7 @@ pub(crate) fn sit<'a, M: Flier, P: Pace, R: Wait>(
     requires some { 0 < vec_len walkers.old }
     requires session { (d : _) → Holds shards.now (slice_index_or walkers.old.items (vec_len walkers.old - 1) d) Idle }
     ensures session { Holds result.shards.now result.walker result.progress }
+    ensures saved { Saved result.progress result.saves.items }
     ensures shards { result.shards.now ≡ shards.now }
     ensures idle { result.progress ≡ Idle }
     ensures walker { (d : _) → result.walker ≡ slice_index_or walkers.old.items (vec_len walkers.old - 1) d }
@@ -26,7 +30,7 @@ pub(crate) fn sit<'a, M: Flier, P: Pace, R: Wait>(
     ensures capacity { vec_capacity walkers.new ≡ vec_capacity walkers.old }
 {
     let walker = walkers.pop().unwrap();
-    Session::new(rt, shards, pace, walker)
+    Session::new(rt, alloc, shards, pace, walker)
 }
 
 // The session's walker goes to the end of the list.

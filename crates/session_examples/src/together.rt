@@ -4,6 +4,7 @@ ghost use Rattle.clv_base.specs.Shards.{are_splits};
 ghost use Rattle.cluster_opening.specs.Opening.{Refuses, CountsOpen};
 ghost use Rattle.session_api.specs.Standing.{Holds, IsAtRest};
 ghost use Rattle.session_api.specs.Progresses.{active_tx};
+ghost use Rattle.session_api.specs.Savepoints.{Saved};
 ghost use Rattle.session_examples.specs.Walkers.{AreNew, AreAtRest, IsSeated};
 ghost use Rattle.session_examples.specs.Programs.{HasRun, AnyMade};
 
@@ -36,6 +37,7 @@ struct Seat<'a, M: Flier, P: Pace, R: Wait> {
 // A seat for each walker but walker 0, which leaves the list.
 fn take_seats<'a, M: Flier, P: Pace, R: Wait>(
     rt: &'a R,
+    alloc: Global,
     shards: &'a Shards<M>,
     pace: &'a P,
     walkers: &mut Vec<Walker<M>>,
@@ -47,11 +49,11 @@ fn take_seats<'a, M: Flier, P: Pace, R: Wait>(
     requires room { (vec_len seats ≡ 0) × (vec_len walkers.old ≤ vec_capacity seats + 1) }
     ensures len { (vec_len walkers.new ≡ 1) × (vec_capacity walkers.new ≡ vec_capacity walkers.old) × (vec_len result + 1 ≡ vec_len walkers.old) }
     ensures first { (d : _) → slice_index_or walkers.new.items 0 d ≡ slice_index_or walkers.old.items 0 d }
-    ensures seated { (k : ℕ) (d : _) → k < vec_len result → IsSeated shards.now (suc k) (slice_index_or result.items k d).session.shards.now (slice_index_or result.items k d).session.walker (slice_index_or result.items k d).session.progress }
+    ensures seated { (k : ℕ) (d : _) → k < vec_len result → IsSeated shards.now (suc k) (slice_index_or result.items k d).session.shards.now (slice_index_or result.items k d).session.walker (slice_index_or result.items k d).session.progress (slice_index_or result.items k d).session.saves.items }
 {
     let count = walkers.len();
     for _taken in 1..count {
-        let session = sit(rt, shards, pace, walkers);
+        let session = sit(rt, alloc, shards, pace, walkers);
         seats.push_reserved(Seat { session, moved: 0 });
     }
     seats.reverse();
@@ -111,8 +113,10 @@ fn transfer_often<M: Flier, P: Pace, R: Wait>(
     tries: u32,
 ) -> u32
     requires session { Holds session.old.shards.now session.old.walker session.old.progress }
+    requires saved { Saved session.old.progress session.old.saves.items }
     requires idle { active_tx session.old.progress ≡ None }
     ensures session { Holds session.new.shards.now session.new.walker session.new.progress }
+    ensures saved { Saved session.new.progress session.new.saves.items }
     ensures shards { session.new.shards ≡ session.old.shards }
     ensures number { session.new.walker.number ≡ session.old.walker.number }
 {
@@ -135,8 +139,10 @@ fn make_transfers<M: Flier, P: Pace, R: Wait>(
     tries: u32,
 )
     requires session { Holds seat.old.session.shards.now seat.old.session.walker seat.old.session.progress }
+    requires saved { Saved seat.old.session.progress seat.old.session.saves.items }
     requires idle { active_tx seat.old.session.progress ≡ None }
     ensures session { Holds seat.new.session.shards.now seat.new.session.walker seat.new.session.progress }
+    ensures saved { Saved seat.new.session.progress seat.new.session.saves.items }
     ensures shards { seat.new.session.shards.now ≡ seat.old.session.shards.now }
     ensures number { seat.new.session.walker.number ≡ seat.old.session.walker.number }
 {
@@ -155,8 +161,10 @@ where
     M::Store: Send,
     M::Gate: Send,
     requires session { (k : ℕ) (d : _) → k < length seats.old → Holds (slice_index_or seats.old k d).session.shards.now (slice_index_or seats.old k d).session.walker (slice_index_or seats.old k d).session.progress }
+    requires saved { (k : ℕ) (d : _) → k < length seats.old → Saved (slice_index_or seats.old k d).session.progress (slice_index_or seats.old k d).session.saves.items }
     requires idle { (k : ℕ) (d : _) → k < length seats.old → active_tx (slice_index_or seats.old k d).session.progress ≡ None }
     ensures session { (k : ℕ) (d : _) → k < length seats.old → Holds (slice_index_or seats.new k d).session.shards.now (slice_index_or seats.new k d).session.walker (slice_index_or seats.new k d).session.progress }
+    ensures saved { (k : ℕ) (d : _) → k < length seats.old → Saved (slice_index_or seats.new k d).session.progress (slice_index_or seats.new k d).session.saves.items }
     ensures shards { (k : ℕ) (d : _) → k < length seats.old → (slice_index_or seats.new k d).session.shards.now ≡ (slice_index_or seats.old k d).session.shards.now }
     ensures number { (k : ℕ) (d : _) → k < length seats.old → (slice_index_or seats.new k d).session.walker.number ≡ (slice_index_or seats.old k d).session.walker.number }
 {
@@ -166,8 +174,10 @@ where
     let count = seats.len();
     let body = |_: usize, seat: &mut Seat<'_, M, P, R>|
         requires session { Holds seat.now.session.shards.now seat.now.session.walker seat.now.session.progress }
+        requires saved { Saved seat.now.session.progress seat.now.session.saves.items }
         requires idle { active_tx seat.now.session.progress ≡ None }
         ensures session { Holds seat.exit.now.session.shards.now seat.exit.now.session.walker seat.exit.now.session.progress }
+        ensures saved { Saved seat.exit.now.session.progress seat.exit.now.session.saves.items }
         ensures shards { seat.exit.now.session.shards.now ≡ seat.entry.now.session.shards.now }
         ensures number { seat.exit.now.session.walker.number ≡ seat.entry.now.session.walker.number }
     { make_transfers(alloc, seat, often, tries) };
@@ -230,7 +240,7 @@ where
     ensures len { vec_len walkers.new ≡ vec_len walkers.old }
     ensures rest { AreAtRest shards.now walkers.new.items }
 {
-    let mut seats = take_seats(rt, shards, pace, walkers, room);
+    let mut seats = take_seats(rt, alloc, shards, pace, walkers, room);
     let all = seats.as_mut_slice();
     run_together(rt, alloc, all, often, tries);
     drain_together(rt, alloc, all);

@@ -42,7 +42,7 @@ fn transfer_once<M: Flier, P: Pace, R: Wait>(
     ensures rest { AreAtRest shards.now walkers.new.items }
     ensures made { HasMade from to amount result shards.now.splits (walked_by walkers.new.items) }
 {
-    let mut session = sit(rt, shards, pace, walkers);
+    let mut session = sit(rt, alloc, shards, pace, walkers);
     let transferred = transfer(alloc, &mut session, from, to, amount, tries);
     leave(walkers, session);
     transferred

@@ -1,17 +1,17 @@
 // A transfer between two keys.
 ghost use Rattle.std.specs.Prelude.{◌≡◌, ◌≢◌, ◌≤◌, ◌-◌, ◌+◌, ◌++◌, ◌∷◌, [], ℕ, List, length, Option, Result, Some, None, Ok, Err, true, false, IfOk, IfErr};
 ghost use Rattle.clv_base.specs.declared.names.TxId.{TxId as TxIdIs};
-ghost use Rattle.clv_base.specs.declared.ops.Op.{Op as OpIs};
 ghost use Rattle.clv_base.specs.declared.values.Value.{Value as ValueType};
 ghost use Rattle.clv_base.specs.declared.values.Value.TheVariants.{Num};
 ghost use Rattle.clv_base.specs.declared.ops.Op.TheVariants.{Get, Put};
-ghost use Rattle.clv_base.specs.declared.ops.Answer.{Answer as AnswerIs};
 ghost use Rattle.clv_base.specs.declared.ops.Answer.TheVariants.{Value as Told};
 ghost use Rattle.session_ops.specs.declared.operating.OpError.{OpError as OpFailure};
 ghost use Rattle.session_ops.specs.declared.committing.Settled.{Settled as SettledIs};
 ghost use Rattle.session_ops.specs.declared.committing.CommitError.{CommitError as CommitFailure};
 ghost use Rattle.session_api.specs.Progresses.{active_tx, failure_told, answer_told, commit_told};
+ghost use Rattle.session_api.specs.Savepoints.{Saved};
 ghost use Rattle.session_api.specs.Sessions.{IsSession};
+ghost use Rattle.session_books.specs.Done.{Done, Did};
 ghost use Rattle.session_examples.specs.Later.{IsLater};
 ghost use Rattle.session_examples.specs.Ends.{is_open, has_ended, failure_end, value_end, written_end, commit_end, BeginEnds, RetryEnds, AbortEnds, GoesOnAs, TriedAs, EndsAs};
 ghost use Rattle.session_examples.specs.Moves.{IsFresh, Doing, HasAcknowledged, IsPlanned, HasMoved, MovesAs};
@@ -61,7 +61,7 @@ pub enum Stop {
 
 // Why a try isn't acknowledged.
 #[derive(Clone, Copy)]
-enum Failure {
+pub(crate) enum Failure {
     // The transaction is over.
     Aborted(AbortCause),
     // It is active still.
@@ -186,30 +186,35 @@ fn look<M: Flier, P: Pace, R: Wait>(
     key: u64,
 ) -> Result<u64, Failure>
     requires session { IsSession session.old.shards.now session.old.walker session.old.progress }
+    requires saved { Saved session.old.progress session.old.saves.items }
     requires open { is_open session.old.progress ≡ true }
     ensures session { IsSession session.new.shards.now session.new.walker session.new.progress }
+    ensures saved { Saved session.new.progress session.new.saves.items }
     ensures shards { session.new.shards ≡ session.old.shards }
     ensures later { IsLater session.old.walker session.new.walker }
     ensures goes { GoesOnAs result session.new.progress }
-    ensures done { (w : _) (ops : List OpIs) (answers : List AnswerIs) → Doing session.old.shards.now w session.old.walker session.old.progress ops answers → IfOk result (λ value. Doing session.old.shards.now w session.new.walker session.new.progress (ops ++ Get key ∷ []) (answers ++ Told (Some (Num value)) ∷ [])) }
+    ensures done { (w : _) (acts : List Done) → Doing session.old.shards.now w session.old.walker session.old.progress acts → IfOk result (λ value. Doing session.old.shards.now w session.new.walker session.new.progress (acts ++ Did (Get key) (Told (Some (Num value))) ∷ [])) }
 {
     let answer = session.get(alloc, key);
     value_at(key, answer)
 }
 
-fn write<M: Flier, P: Pace, R: Wait>(
+pub(crate) fn write<M: Flier, P: Pace, R: Wait>(
     alloc: Global,
     session: &mut Session<'_, M, P, R>,
     key: u64,
     value: u64,
 ) -> Result<(), Failure>
     requires session { IsSession session.old.shards.now session.old.walker session.old.progress }
+    requires saved { Saved session.old.progress session.old.saves.items }
     requires open { is_open session.old.progress ≡ true }
     ensures session { IsSession session.new.shards.now session.new.walker session.new.progress }
+    ensures saved { Saved session.new.progress session.new.saves.items }
     ensures shards { session.new.shards ≡ session.old.shards }
     ensures later { IsLater session.old.walker session.new.walker }
     ensures goes { GoesOnAs result session.new.progress }
-    ensures done { (w : _) (ops : List OpIs) (answers : List AnswerIs) → Doing session.old.shards.now w session.old.walker session.old.progress ops answers → IfOk result (λ u. (before : Option ValueType) × Doing session.old.shards.now w session.new.walker session.new.progress (ops ++ Put key (Num value) ∷ []) (answers ++ Told before ∷ [])) }
+    ensures saves { session.new.saves ≡ session.old.saves }
+    ensures done { (w : _) (acts : List Done) → Doing session.old.shards.now w session.old.walker session.old.progress acts → IfOk result (λ u. (before : Option ValueType) × Doing session.old.shards.now w session.new.walker session.new.progress (acts ++ Did (Put key (Num value)) (Told before) ∷ [])) }
 {
     let answer = session.put(alloc, key, Value::Num(value));
     written(answer)
@@ -224,8 +229,10 @@ fn plan<M: Flier, P: Pace, R: Wait>(
     amount: u64,
 ) -> Result<(u64, u64), Failure>
     requires session { IsSession session.old.shards.now session.old.walker session.old.progress }
+    requires saved { Saved session.old.progress session.old.saves.items }
     requires fresh { IsFresh session.old.shards.now session.old.walker session.old.progress }
     ensures session { IsSession session.new.shards.now session.new.walker session.new.progress }
+    ensures saved { Saved session.new.progress session.new.saves.items }
     ensures shards { session.new.shards ≡ session.old.shards }
     ensures later { IsLater session.old.walker session.new.walker }
     ensures goes { GoesOnAs result session.new.progress }
@@ -238,17 +245,19 @@ fn plan<M: Flier, P: Pace, R: Wait>(
     Ok((left, sum))
 }
 
-fn commit<M: Flier, P: Pace, R: Wait>(
+pub(crate) fn commit<M: Flier, P: Pace, R: Wait>(
     alloc: Global,
     session: &mut Session<'_, M, P, R>,
 ) -> Result<(), Failure>
     requires session { IsSession session.old.shards.now session.old.walker session.old.progress }
+    requires saved { Saved session.old.progress session.old.saves.items }
     requires open { is_open session.old.progress ≡ true }
     ensures session { IsSession session.new.shards.now session.new.walker session.new.progress }
+    ensures saved { Saved session.new.progress session.new.saves.items }
     ensures shards { session.new.shards ≡ session.old.shards }
     ensures later { IsLater session.old.walker session.new.walker }
     ensures tried { TriedAs result session.new.progress }
-    ensures done { (w : _) (ops : List OpIs) (answers : List AnswerIs) → 1 ≤ length answers → Doing session.old.shards.now w session.old.walker session.old.progress ops answers → IfOk result (λ u. HasAcknowledged session.old.shards.now ops answers w session.new.walker) }
+    ensures done { (w : _) (acts : List Done) → 1 ≤ length acts → Doing session.old.shards.now w session.old.walker session.old.progress acts → IfOk result (λ u. HasAcknowledged session.old.shards.now acts w session.new.walker) }
 {
     let answer = session.commit(alloc);
     settled(answer)
@@ -263,8 +272,10 @@ fn attempt<M: Flier, P: Pace, R: Wait>(
     amount: u64,
 ) -> Result<(), Failure>
     requires session { IsSession session.old.shards.now session.old.walker session.old.progress }
+    requires saved { Saved session.old.progress session.old.saves.items }
     requires fresh { IsFresh session.old.shards.now session.old.walker session.old.progress }
     ensures session { IsSession session.new.shards.now session.new.walker session.new.progress }
+    ensures saved { Saved session.new.progress session.new.saves.items }
     ensures shards { session.new.shards ≡ session.old.shards }
     ensures later { IsLater session.old.walker session.new.walker }
     ensures tried { TriedAs result session.new.progress }
@@ -282,7 +293,9 @@ fn abort<M: Flier, P: Pace, R: Wait>(
     session: &mut Session<'_, M, P, R>,
 ) -> Result<(), Stop>
     requires session { IsSession session.old.shards.now session.old.walker session.old.progress }
+    requires saved { Saved session.old.progress session.old.saves.items }
     ensures session { IsSession session.new.shards.now session.new.walker session.new.progress }
+    ensures saved { Saved session.new.progress session.new.saves.items }
     ensures shards { session.new.shards ≡ session.old.shards }
     ensures later { IsLater session.old.walker session.new.walker }
     ensures closed { is_open session.new.progress ≡ false }
@@ -293,14 +306,16 @@ fn abort<M: Flier, P: Pace, R: Wait>(
 }
 
 // Ends what a try has left open.
-fn finish<M: Flier, P: Pace, R: Wait>(
+pub(crate) fn finish<M: Flier, P: Pace, R: Wait>(
     alloc: Global,
     session: &mut Session<'_, M, P, R>,
     tried: Result<(), Failure>,
 ) -> Result<Transferred, Stop>
     requires session { IsSession session.old.shards.now session.old.walker session.old.progress }
+    requires saved { Saved session.old.progress session.old.saves.items }
     requires tried { TriedAs tried session.old.progress }
     ensures session { IsSession session.new.shards.now session.new.walker session.new.progress }
+    ensures saved { Saved session.new.progress session.new.saves.items }
     ensures shards { session.new.shards ≡ session.old.shards }
     ensures later { IsLater session.old.walker session.new.walker }
     ensures closed { is_open session.new.progress ≡ false }
@@ -321,29 +336,39 @@ fn finish<M: Flier, P: Pace, R: Wait>(
     }
 }
 
-fn begin<M: Flier, P: Pace, R: Wait>(session: &mut Session<'_, M, P, R>) -> Result<(), Stop>
+pub(crate) fn begin<M: Flier, P: Pace, R: Wait>(
+    alloc: Global,
+    session: &mut Session<'_, M, P, R>,
+) -> Result<(), Stop>
     requires session { IsSession session.old.shards.now session.old.walker session.old.progress }
+    requires saved { Saved session.old.progress session.old.saves.items }
     requires idle { active_tx session.old.progress ≡ None }
     ensures session { IsSession session.new.shards.now session.new.walker session.new.progress }
+    ensures saved { Saved session.new.progress session.new.saves.items }
     ensures shards { session.new.shards ≡ session.old.shards }
     ensures later { IsLater session.old.walker session.new.walker }
     ensures fresh { IfOk result (λ u. IsFresh session.old.shards.now session.new.walker session.new.progress) }
     ensures closed { IfErr result (λ stop. is_open session.new.progress ≡ false) }
 {
-    let answer = session.begin();
+    let answer = session.begin(alloc);
     begun(answer)
 }
 
-fn retry<M: Flier, P: Pace, R: Wait>(session: &mut Session<'_, M, P, R>) -> Result<(), Stop>
+fn retry<M: Flier, P: Pace, R: Wait>(
+    alloc: Global,
+    session: &mut Session<'_, M, P, R>,
+) -> Result<(), Stop>
     requires session { IsSession session.old.shards.now session.old.walker session.old.progress }
+    requires saved { Saved session.old.progress session.old.saves.items }
     requires ended { has_ended session.old.progress ≡ true }
     ensures session { IsSession session.new.shards.now session.new.walker session.new.progress }
+    ensures saved { Saved session.new.progress session.new.saves.items }
     ensures shards { session.new.shards ≡ session.old.shards }
     ensures later { IsLater session.old.walker session.new.walker }
     ensures fresh { IfOk result (λ u. IsFresh session.old.shards.now session.new.walker session.new.progress) }
     ensures closed { IfErr result (λ stop. is_open session.new.progress ≡ false) }
 {
-    let answer = session.retry();
+    let answer = session.retry(alloc);
     retried(answer)
 }
 
@@ -357,8 +382,10 @@ fn run_tries<M: Flier, P: Pace, R: Wait>(
     tries: u32,
 ) -> Result<Transferred, Stop>
     requires session { IsSession session.old.shards.now session.old.walker session.old.progress }
+    requires saved { Saved session.old.progress session.old.saves.items }
     requires fresh { IsFresh session.old.shards.now session.old.walker session.old.progress }
     ensures session { IsSession session.new.shards.now session.new.walker session.new.progress }
+    ensures saved { Saved session.new.progress session.new.saves.items }
     ensures shards { session.new.shards ≡ session.old.shards }
     ensures later { IsLater session.old.walker session.new.walker }
     ensures closed { is_open session.new.progress ≡ false }
@@ -367,7 +394,7 @@ fn run_tries<M: Flier, P: Pace, R: Wait>(
 {
     for _again in 1..tries {
         match attempt(alloc, session, from, to, amount) {
-            Err(Failure::Aborted(_)) => match retry(session) {
+            Err(Failure::Aborted(_)) => match retry(alloc, session) {
                 Ok(()) => {}
                 Err(stop) => return Err(stop),
             },
@@ -394,16 +421,18 @@ pub fn transfer<M: Flier, P: Pace, R: Wait>(
     tries: u32,
 ) -> Result<Transferred, Stop>
     requires session { IsSession session.old.shards.now session.old.walker session.old.progress }
+    requires saved { Saved session.old.progress session.old.saves.items }
     requires idle { active_tx session.old.progress ≡ None }
     requires apart { from ≢ to }
     ensures session { IsSession session.new.shards.now session.new.walker session.new.progress }
+    ensures saved { Saved session.new.progress session.new.saves.items }
     ensures shards { session.new.shards ≡ session.old.shards }
     ensures later { IsLater session.old.walker session.new.walker }
     ensures closed { is_open session.new.progress ≡ false }
     ensures ends { EndsAs result session.new.progress }
     ensures moved { MovesAs session.old.shards.now from to amount result session.old.walker session.new.walker }
 {
-    match begin(session) {
+    match begin(alloc, session) {
         Ok(()) => run_tries(alloc, session, from, to, amount, tries),
         Err(stop) => Err(stop),
     }

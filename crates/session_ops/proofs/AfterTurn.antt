@@ -21,7 +21,7 @@ use Rattle.cluster_turns.specs.Walkers.{IsWalker, IsSameWalker, Walked, kept}
 use Rattle.cluster_turns.specs.States.{session_of}
 use Rattle.cluster_turns.specs.CallTurns.{Turn, Took, no_turn, event_turn, entry_on, takes_no_flight}
 use Rattle.cluster_turns.specs.Births.{AreInformed, IsBornBy}
-use Rattle.cluster_turns.proofs.Laws.{event_rises, states_go_on, enters_so, ok_same, quiet_so, kept_grows, informed_stay, free_stays, unless_stays}
+use Rattle.cluster_turns.proofs.Laws.{event_rises, states_go_on, enters_so, ok_same, quiet_so, kept_grows, informed_stay, free_stays, unless_stays, reached_stays}
 use Rattle.session_ops.specs.Standing.{IsOld, IsReady, HasBirth}
 use Rattle.law_base.proofs.Shards.{is_done, outcome_in}
 
@@ -89,6 +89,7 @@ module _ {M S G : Type 0} (w v : Walker M S G) (n : ℕ) (e : Event) (r : Result
       old = (let l = rises walked in let o = b.old in omega arith);
       free = free_stays w.number w.clock v.clock w.passes.items v.passes.items (turn_of walked ∷ []) p.tx b.birth took_turn b.bears (leaves p.tx, tt) b.free;
       parts = λ m. unless_stays m w.number w.clock v.clock w.passes.items v.passes.items (turn_of walked ∷ []) (lookup (◌==◌ m) p.touched) b.birth took_turn b.bears ((λ here. inr leaves), tt) (b.parts m);
+      reached = λ m epoch h. reached_stays m w.number w.clock v.clock epoch w.passes.items v.passes.items (turn_of walked ∷ []) took_turn (b.reached m epoch h);
     }
 
     -- no entry was made

@@ -15,6 +15,7 @@ use Rattle.cluster_turns.proofs.Laws.{states_bear_walkers}
 use Rattle.cluster_turns.specs.Births.{AllSeeFree, AreInformed}
 use Rattle.cluster_turns.specs.Unborn.{AllUnborn, UnbornUnless}
 use Rattle.cluster_turns.proofs.Laws.{informed_later, unborn_is_free, unborn_unless_any}
+use Rattle.law_base.proofs.Changed.{none_some}
 use Rattle.session_ops.specs.Standing.{IsOld, IsActive}
 use Rattle.session_ops.proofs.First.{runs_count, other_name, spelled_so}
 use Rattle.session_ops.specs.Retried.{IsRetriable, Retried}
@@ -64,6 +65,7 @@ module _ {M S G : Type 0} (sh : Shards M S G) (w v : Walker M S G) (p : SessionS
           old = omega arith;
           free = subst (λ x. AllSeeFree tx a.born.birth x.passes.items) (sym v_is) (unborn_is_free w.passes.items tx a.born.birth unborn);
           parts = λ n. subst (λ x. UnbornUnless n None a.born.birth x.passes.items) (sym v_is) (unborn_unless_any n None a.born.birth w.passes.items (unborn n));
+          reached = λ n epoch h. absurd (none_some epoch h);
         };
         serial = omega arith;
         spelled = spelled_so tx (omega arith) low32 (ap is_session_number session_is ∙ a.ready.number) (omega arith) low64;

@@ -18,6 +18,7 @@ use Rattle.cluster_turns.specs.States.{session_of}
 use Rattle.cluster_turns.proofs.Laws.{states_bear_walkers}
 use Rattle.cluster_turns.specs.Unborn.{UnbornUnless}
 use Rattle.cluster_turns.proofs.Laws.{informed_later, new_is_free, new_is_unborn, unborn_unless_any}
+use Rattle.law_base.proofs.Changed.{none_some}
 use Rattle.session_ops.specs.Standing.{IsOld, IsReady, IsActive}
 use Rattle.session_ops.specs.Beginnings.{Begun}
 
@@ -73,6 +74,7 @@ module _ {M S G : Type 0} (sh : Shards M S G) (w v : Walker M S G) (t : SessionS
           old = omega arith;
           free = subst (λ x. Rattle.cluster_turns.specs.Births.AllSeeFree tx birth x.passes.items) (sym v_is) (new_is_free w.number w.clock w.passes.items tx birth ready.informed born_is (omega arith));
           parts = λ n. subst (λ x. UnbornUnless n None birth x.passes.items) (sym v_is) (unborn_unless_any n None birth w.passes.items (new_is_unborn w.number w.clock w.passes.items birth ready.informed born_is (omega arith) n));
+          reached = λ n epoch h. absurd (none_some epoch h);
         };
         serial = omega arith;
         spelled = spelled_so tx (omega arith) low32 (ap is_session_number session_is ∙ ready.number) (omega arith) low64;

@@ -103,7 +103,7 @@ module _ {M S G : Type 0} (sh : Shards M S G) (w v : Walker M S G) (p : SessionS
       record {
         over = record {
           ready = ready_then w v n (Drop p.tx) r walked refl sh p (record p { phase = after_drop p.phase }) o tt is_walker same x (leaves sh w p n a o) a.over.ready.serial a.over.ready.old a.over.ready;
-          born = record { birth = b.birth; is = b.is; bears = b.bears; old = b.old; free = b.free; parts = b.parts };
+          born = record { birth = b.birth; is = b.is; bears = b.bears; old = b.old; free = b.free; parts = b.parts; reached = b.reached };
           spelled = a.over.spelled;
         };
         may = drops_again p.phase a.may;

@@ -2,7 +2,7 @@
 use Rattle.std.proofs.Common.{◌≡◌, ◌∙◌, refl, sym, ap, subst, ℕ, true, false, List, Option, None, Result}
 use Rattle.std.proofs.lemmas.Bool.{both_ways}
 use Rattle.clv_base.specs.declared.events.Event.{Event}
-use Rattle.clv_base.specs.declared.events.Event.TheVariants.{Op, Request, Look, Drop, Send, Deliver, Remind, FlushOut, FlushIn, Stop, Restart}
+use Rattle.clv_base.specs.declared.events.Event.TheVariants.{Op, RollTo, Request, Look, Drop, Send, Deliver, Remind, FlushOut, FlushIn, Stop, Restart}
 use Rattle.clv_base.specs.declared.events.Outcome.{Outcome}
 use Rattle.turn_lock.specs.declared.pass.Pass.{Pass}
 use Rattle.turn_lock.specs.Journals.{entries_by}
@@ -25,6 +25,7 @@ module _ {T : Type 0} where
   stays_landed :
       (n w clock c : ℕ) (e : Event) (r : Result Outcome StepError) (ps qs : List (Option (Pass T Note Origin))) → Walked (EventTold clock w e r c) n w ps qs → takes_no_flight e r ≡ true → HasLanded w ps → HasLanded w qs
   stays_landed n w clock c (Op tx birth nth s op) r ps qs h k l = events_land clock w n (Op tx birth nth s op) r c ps qs h refl l
+  stays_landed n w clock c (RollTo tx nth s upto) r ps qs h k l = events_land clock w n (RollTo tx nth s upto) r c ps qs h refl l
   stays_landed n w clock c (Request tx ts) r ps qs h k l = events_land clock w n (Request tx ts) r c ps qs h refl l
   stays_landed n w clock c (Look tx) r ps qs h k l = events_land clock w n (Look tx) r c ps qs h refl l
   stays_landed n w clock c (Drop tx) r ps qs h k l = events_land clock w n (Drop tx) r c ps qs h refl l

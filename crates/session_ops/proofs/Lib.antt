@@ -1,5 +1,4 @@
 pub mod Telling
-pub mod Touched
 pub mod Offered
 pub mod Trying
 pub mod Passing
@@ -10,6 +9,10 @@ pub mod First
 pub mod New
 pub mod AfterTurn
 pub mod Making
+pub mod RollAsking
+pub mod RollEnding
+pub mod BackNotes
+pub mod BackBelow
 pub mod Seeing
 pub mod Going
 pub mod Parting

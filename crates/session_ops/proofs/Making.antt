@@ -17,7 +17,7 @@ use Rattle.clv_base.specs.declared.state.Stage.TheVariants.{Active, Closed, Gone
 use Rattle.clv_base.specs.Undo.{stage_of}
 use Rattle.clv_base.specs.OneShard.{seen_fits}
 use Rattle.clv_base.specs.Events.{Reply, QuietBeforeWorn, happen, happen_up, step, request_event, request_by_stage, epoch_in}
-use Rattle.clv_base.specs.Sessions.{SessionState, is_touching, same_touched, is_lowest, requested, session_after}
+use Rattle.clv_base.specs.Sessions.{SessionState, is_touching, is_whole_now, same_touched, is_lowest, requested, session_after}
 use Rattle.clv_base.proofs.SameNames.{tx_self}
 use Rattle.journal_laws.specs.Offers.{may_make}
 use Rattle.machine_calls.specs.declared.machine.StepError.{StepError}
@@ -67,7 +67,7 @@ happens_fits s tx ts = at s.is_up
 -- ---- passes
 
 -- each is of its shard
-has_shard : {M S G : Type 0} (sh : Shards M S G) (w : Walker M S G) → IsWalker sh w → (n : ℕ) → HasShard n w.passes.items
+pub has_shard : {M S G : Type 0} (sh : Shards M S G) (w : Walker M S G) → IsWalker sh w → (n : ℕ) → HasShard n w.passes.items
 has_shard sh w is n p had o has =
     let each = is.walks.are_passes.each n None (let l = past w.passes.items n p had in let c = is.walks.are_passes.count in omega arith) in
     let same : each.0 ≡ p = some_same each.0 p (sym each.1 ∙ had None) in
@@ -91,15 +91,16 @@ module _ {M S G : Type 0} (sh : Shards M S G) (w : Walker M S G) (p : SessionSta
   is_last : is_lowest n p.touched ≡ true → p ≡ a.state
   is_last l = touched_are_last a.state p a.goes (inl (some_touched n p.touched l))
 
-  pub asks_home : (o : Outcome) → is_lowest n p.touched ≡ true → session_after sh.splits n a.state (Request p.tx p.touched) o ≡ requested n p o
-  asks_home o l =
+  pub asks_home : (o : Outcome) → is_whole_now p ≡ true → is_lowest n p.touched ≡ true → session_after sh.splits n a.state (Request p.tx p.touched) o ≡ requested n p o
+  asks_home o whole l =
       ap (λ t. session_after sh.splits n t (Request p.tx p.touched) o) (sym (is_last l))
       ∙ ap (λ b. cond b (requested n p o) None)
-      (and_from (tx_same p.tx p.tx && is_touching p.phase && same_touched p.touched p.touched) (is_lowest n p.touched)
-      (and_from (tx_same p.tx p.tx && is_touching p.phase) (same_touched p.touched p.touched) (and_from (tx_same p.tx p.tx) (is_touching p.phase) (tx_self p.tx) a.touching) (touched_self p.touched)) l)
+      (and_from (tx_same p.tx p.tx && is_touching p.phase && is_whole_now p && same_touched p.touched p.touched) (is_lowest n p.touched)
+      (and_from (tx_same p.tx p.tx && is_touching p.phase && is_whole_now p) (same_touched p.touched p.touched)
+      (and_from (tx_same p.tx p.tx && is_touching p.phase) (is_whole_now p) (and_from (tx_same p.tx p.tx) (is_touching p.phase) (tx_self p.tx) a.touching) whole) (touched_self p.touched)) l)
 
-  pub may_request : is_lowest n p.touched ≡ true → may_make sh.splits sh.run w.number (kept w.passes.items) n (Request p.tx p.touched) ≡ true
-  may_request l = states_tell_may_make sh.splits sh.run w.number (kept w.passes.items) a.state n (Request p.tx p.touched) a.ready.state ∙ ap is_some (asks_home Asked l)
+  pub may_request : is_whole_now p ≡ true → is_lowest n p.touched ≡ true → may_make sh.splits sh.run w.number (kept w.passes.items) n (Request p.tx p.touched) ≡ true
+  may_request whole l = states_tell_may_make sh.splits sh.run w.number (kept w.passes.items) a.state n (Request p.tx p.touched) a.ready.state ∙ ap is_some (asks_home Asked whole l)
 
 -- ---- after one turn
 
@@ -144,17 +145,17 @@ module _ {M S G : Type 0} (sh : Shards M S G) (w v : Walker M S G) (p : SessionS
       }
 
   -- one was
-  made_ready : (walked : IsAsked w v n (Request p.tx p.touched) r) (o : Outcome) (q : SessionState) → IsWalker sh v → IsSameWalker w v → is_lowest n p.touched ≡ true → IsEntered (Request p.tx p.touched) o walked.turned.told.made → requested n p o ≡ Some q
+  made_ready : (walked : IsAsked w v n (Request p.tx p.touched) r) (o : Outcome) (q : SessionState) → IsWalker sh v → IsSameWalker w v → is_whole_now p ≡ true → is_lowest n p.touched ≡ true → IsEntered (Request p.tx p.touched) o walked.turned.told.made → requested n p o ≡ Some q
       → (q.tx ≡ p.tx) → (q.birth ≡ p.birth) → IsReady sh v q
-  made_ready walked o q is_walker same lowest x goes name birth =
-      ready_then w v n (Request p.tx p.touched) r walked refl sh a.state q o tt is_walker same x (asks_home sh w p a n o lowest ∙ goes) (let h = a.serial in let k = ap (λ (t : TxId). t.serial) name in omega arith)
+  made_ready walked o q is_walker same whole lowest x goes name birth =
+      ready_then w v n (Request p.tx p.touched) r walked refl sh a.state q o tt is_walker same x (asks_home sh w p a n o whole lowest ∙ goes) (let h = a.serial in let k = ap (λ (t : TxId). t.serial) name in omega arith)
       (subst (IsOld w.clock) (sym (birth ∙ a.born.is)) a.born.old) a.ready
 
-  pub request_stands : (walked : IsAsked w v n (Request p.tx p.touched) r) → IsWalker sh v → IsSameWalker w v → is_lowest n p.touched ≡ true → (x : Result Outcome StepError) → r ≡ x → RequestStands sh v (place_requested n p x) n x
-  request_stands walked is_walker same lowest (Err e) is =
+  pub request_stands : (walked : IsAsked w v n (Request p.tx p.touched) r) → IsWalker sh v → IsSameWalker w v → is_whole_now p ≡ true → is_lowest n p.touched ≡ true → (x : Result Outcome StepError) → r ≡ x → RequestStands sh v (place_requested n p x) n x
+  request_stands walked is_walker same whole lowest (Err e) is =
       active_still walked is_walker same (error_none (Request p.tx p.touched) walked.turned.s walked.turned.t w.clock w.number e walked.turned.told.made
       (subst (λ y. Tells (step walked.turned.s w.clock w.number (Request p.tx p.touched)) walked.turned.s w.clock w.number (Request p.tx p.touched) y walked.turned.t walked.turned.told.made) is walked.turned.told.tells))
-  request_stands walked is_walker same lowest (Ok o) is = at o refl
+  request_stands walked is_walker same whole lowest (Ok o) is = at o refl
     where
       tells : Tells (step walked.turned.s w.clock w.number (Request p.tx p.touched)) walked.turned.s w.clock w.number (Request p.tx p.touched) (Ok o) walked.turned.t walked.turned.told.made
       tells = subst (λ y. Tells (step walked.turned.s w.clock w.number (Request p.tx p.touched)) walked.turned.s w.clock w.number (Request p.tx p.touched) y walked.turned.t walked.turned.told.made) is walked.turned.told.tells
@@ -169,17 +170,17 @@ module _ {M S G : Type 0} (sh : Shards M S G) (w v : Walker M S G) (p : SessionS
       at Asked q =
           let b = born_after w v n (Request p.tx p.touched) r walked refl p a.born (λ tx. tt) same.0 in
           record {
-            ready = made_ready walked o (place_requested n p (Ok Asked)) is_walker same lowest (entered (ap is_told q)) (ap (requested n p) q) refl refl;
+            ready = made_ready walked o (place_requested n p (Ok Asked)) is_walker same whole lowest (entered (ap is_told q)) (ap (requested n p) q) refl refl;
             stands = refl;
-            born = record { birth = b.birth; is = b.is; bears = b.bears; old = b.old; free = b.free; parts = b.parts };
+            born = record { birth = b.birth; is = b.is; bears = b.bears; old = b.old; free = b.free; parts = b.parts; reached = b.reached };
             spelled = a.spelled;
             gone = gone_asked walked (is ∙ ap (λ y. Ok y) q);
           }
       at (Dead cause) q =
           let b = born_after w v n (Request p.tx p.touched) r walked refl p a.born (λ tx. tt) same.0 in (
             record {
-              ready = made_ready walked o (place_requested n p (Ok (Dead cause))) is_walker same lowest (entered (ap is_told q)) (ap (requested n p) q) refl refl;
-              born = record { birth = b.birth; is = b.is; bears = b.bears; old = b.old; free = b.free; parts = b.parts };
+              ready = made_ready walked o (place_requested n p (Ok (Dead cause))) is_walker same whole lowest (entered (ap is_told q)) (ap (requested n p) q) refl refl;
+              born = record { birth = b.birth; is = b.is; bears = b.bears; old = b.old; free = b.free; parts = b.parts; reached = b.reached };
               spelled = a.spelled;
             },
             gone_dead walked cause (is ∙ ap (λ y. Ok y) q),

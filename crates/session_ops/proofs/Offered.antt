@@ -1,6 +1,6 @@
 -- What an operation's answer makes of a session.
-use Rattle.std.proofs.Common.{◌≡◌, ◌∙◌, refl, sym, ap, subst, ℕ, suc, ◌≤◌, ◌<◌, ◌^◌, ◌==◌, nat_lt, Bool, true, false, not, cond, ◌&&◌, ◌||◌, List, [], ◌∷◌, ◌++◌, append-nil, Option, Some, None, Result, Ok, Err, arith, inl, eqb-true, ltb-true}
-use Rattle.std.specs.Prelude.{is_some, IfOk}
+use Rattle.std.proofs.Common.{◌≡◌, ◌∙◌, refl, sym, ap, subst, ℕ, suc, ◌≤◌, ◌<◌, ◌^◌, ◌==◌, nat_lt, Bool, true, false, not, cond, ◌&&◌, ◌||◌, List, [], ◌∷◌, ◌++◌, append-nil, Option, Some, None, Result, Ok, Err, arith, inl, inr, eqb-true, ltb-true}
+use Rattle.std.specs.Prelude.{is_some, unwrap_or, IfOk}
 use Rattle.std.specs.Map.{lookup}
 use Rattle.std.specs.Ordering.{is_eq}
 use Rattle.std.proofs.lemmas.Bool.{both_ways, and_from}
@@ -9,6 +9,7 @@ use native.Mathlib.Decide.{ℕ_discrete}
 use Rattle.clv_base.specs.declared.names.TxId.{TxId}
 use Rattle.clv_base.specs.declared.names.Birth.{Birth}
 use Rattle.clv_base.specs.declared.ops.Op.{Op as Operation}
+use Rattle.clv_base.specs.declared.ops.Op.TheVariants.{Get, Put, Del, Scan, Add}
 use Rattle.clv_base.specs.declared.ops.Answer.{Answer}
 use Rattle.clv_base.specs.declared.ops.Answer.TheVariants.{Value}
 use Rattle.clv_base.specs.declared.causes.AbortCause.{AbortCause}
@@ -36,15 +37,17 @@ use Rattle.cluster_turns.proofs.Laws.{event_rises}
 use Rattle.cluster_turns.specs.States.{session_of}
 use Rattle.cluster_turns.proofs.Laws.{states_go_on, states_tell_may_make, ops_go_on, enters_so, ok_same, quiet_so}
 use Rattle.cluster_turns.specs.CallTurns.{Turn, Took, no_turn, event_turn, entry_on}
+use Rattle.cluster_turns.specs.Notes.{may_write}
 use Rattle.cluster_turns.proofs.Laws.{kept_grows}
 use Rattle.cluster_turns.specs.Births.{AllSeeFree, AreInformed}
 use Rattle.cluster_turns.specs.Unborn.{UnbornAt, UnbornUnless, LeavesUnborn, EndsPart}
-use Rattle.cluster_turns.proofs.Laws.{informed_stay, free_stays, unless_stays, answered_is_in_epoch, ends_unbear, unborn_unless_any}
-use Rattle.session_ops.proofs.Touched.{touch_here, touch_else}
-use Rattle.session_ops.specs.Standing.{IsOld, is_op_outcome, place_after, AskTold, IsReady, HasBirth, IsActive, StandsAfter}
+use Rattle.cluster_turns.proofs.Laws.{informed_stay, free_stays, unless_stays, answered_is_in_epoch, ends_unbear, unborn_unless_any, reached_stays, answered_is_reached}
+use Rattle.cluster_turns.specs.Epochs.{ReachedAt}
+use Rattle.cluster_turns.proofs.Laws.{touch_here, touch_else}
+use Rattle.session_ops.specs.Standing.{IsOld, is_op_outcome, place_after, TryTold, IsReady, HasBirth, IsActive, StandsAfter}
 use Rattle.law_base.proofs.Names.{birth_same}
 use Rattle.law_base.proofs.Shards.{is_done, fits_op as is_told, outcome_in}
-use Rattle.law_base.proofs.Options.{option_self}
+use Rattle.law_base.proofs.Options.{option_self, some_inj}
 
 -- ---- an entry is made exactly where the operation was answered or died
 
@@ -144,6 +147,26 @@ number_low p n nth op h = at (nth == suc p.nth) (nth == p.nth) (goes_on_scan p.s
     at false true c e f h = let k = eqb-true nth p.nth f in omega arith
     at false false c e f h = absurd (both_ways false refl h)
 
+no_scan : (o : Option ℕ) → goes_on_scan o None ≡ false
+no_scan None = refl
+no_scan (Some a) = refl
+
+next_alone : (p : SessionState) (nth : ℕ) → (nth == suc p.nth) || ((nth == p.nth) && goes_on_scan p.scanned None) ≡ true → nth ≡ suc p.nth
+next_alone p nth h = eqb-true nth (suc p.nth) (at (nth == suc p.nth) (nth == p.nth) (goes_on_scan p.scanned None) (no_scan p.scanned) h)
+  where
+    at : (a b c : Bool) → c ≡ false → (a || (b && c)) ≡ true → a ≡ true
+    at true b c none h = refl
+    at false true c none h = absurd (both_ways c none h)
+    at false false c none h = absurd (both_ways false refl h)
+
+-- an operation that may write has the next number
+pub number_next : (p : SessionState) (n nth : ℕ) (op : Operation) → may_write op ≡ true → is_number p n nth op ≡ true → nth ≡ suc p.nth
+number_next p n nth (Get k) w h = absurd (both_ways false refl w)
+number_next p n nth (Scan lo hi) w h = absurd (both_ways false refl w)
+number_next p n nth (Put k v) w h = next_alone p nth h
+number_next p n nth (Del k) w h = next_alone p nth h
+number_next p n nth (Add k by) w h = next_alone p nth h
+
 module _ {M S G : Type 0} where
   pub goes_to : (sh : Shards M S G) (w : Walker M S G) (p : SessionState) (a : IsActive sh w p) (n nth : ℕ) (op : Operation) (o : Outcome) → is_number p n nth op ≡ true → lies_in sh.splits n op ≡ true
       → session_after sh.splits n a.state (Op p.tx a.born.birth nth (lookup (◌==◌ n) p.touched) op) o ≡ op_answered n nth op p o
@@ -170,8 +193,8 @@ module _ {M S G : Type 0} (sh : Shards M S G) (w v : Walker M S G) (p : SessionS
   took_turn : (walked : IsAsked) → Took w.number w.clock w.passes.items (turn_of walked ∷ []) v.clock v.passes.items
   took_turn walked = event_turn w.clock v.clock v.clock w.passes.items v.passes.items v.passes.items (turn_of walked) [] walked refl refl (no_turn v.clock v.passes.items)
 
-  pub ask_told : IsAsked → AskTold w.number w.clock w.passes.items n asked_event r v.clock v.passes.items
-  ask_told walked = record { turn = turn_of walked; took = took_turn walked; shard_is = refl; event_is = refl; answer_is = refl }
+  pub ask_told : IsAsked → TryTold w.number w.clock w.passes.items n asked_event r v.clock v.passes.items
+  ask_told walked = record { turns = turn_of walked ∷ []; took = took_turn walked; is = inr (turn_of walked, refl, refl, refl, refl) }
 
   pub ask_fits : IsAsked → IfOk r (λ o. is_op_outcome o ≡ true)
   ask_fits walked = told_fits p.tx a.born.birth nth (lookup (◌==◌ n) p.touched) op walked.turned.s walked.turned.t w.clock w.number r walked.turned.told.made walked.turned.told.tells
@@ -197,15 +220,33 @@ module _ {M S G : Type 0} (sh : Shards M S G) (w v : Walker M S G) (p : SessionS
   old_after l (Some b) h = omega arith
 
   -- the birth, with what is known of its parts at another place
-  born_after : (walked : IsAsked) → v.number ≡ w.number → (q : SessionState) → (q.tx ≡ p.tx) → (q.birth ≡ p.birth) → ((m : ℕ) → UnbornUnless m (lookup (◌==◌ m) q.touched) a.born.birth v.passes.items) → HasBirth v q
-  born_after walked same q name birth parts = record {
+  born_after : (walked : IsAsked) → v.number ≡ w.number → (q : SessionState) → (q.tx ≡ p.tx) → (q.birth ≡ p.birth) → ((m : ℕ) → UnbornUnless m (lookup (◌==◌ m) q.touched) a.born.birth v.passes.items)
+      → ((m epoch : ℕ) → lookup (◌==◌ m) q.touched ≡ Some epoch → ReachedAt m epoch v.passes.items) → HasBirth v q
+  born_after walked same q name birth parts reached = record {
     birth = a.born.birth;
     is = birth ∙ a.born.is;
     bears = a.born.bears ∙ sym same;
     old = (let l = rises walked in let o = a.born.old in omega arith);
     free = subst (λ x. AllSeeFree x a.born.birth v.passes.items) (sym name) (free_after walked);
     parts = parts;
+    reached = reached;
   }
+
+  -- the epochs of its touches
+  still_reached : IsAsked → (m epoch : ℕ) → lookup (◌==◌ m) p.touched ≡ Some epoch → ReachedAt m epoch v.passes.items
+  still_reached walked m epoch h = reached_stays m w.number w.clock v.clock epoch w.passes.items v.passes.items (turn_of walked ∷ []) (took_turn walked) (a.born.reached m epoch h)
+
+  answered_reached : (walked : IsAsked) (answer : Answer) (epoch : ℕ) → r ≡ Ok (Answered answer epoch) → (m k : ℕ) → lookup (◌==◌ m) (touch n epoch p.touched) ≡ Some k → ReachedAt m k v.passes.items
+  answered_reached walked answer epoch is m k h = dite (ℕ_discrete m n)
+      (λ same. subst (λ j. ReachedAt j k v.passes.items) (sym same)
+      (here (lookup (◌==◌ n) p.touched) refl (sym (touch_here n epoch p.touched) ∙ ap (λ j. lookup (◌==◌ j) (touch n epoch p.touched)) (sym same) ∙ h)))
+      (λ other. still_reached walked m k (sym (touch_else m n epoch p.touched other) ∙ h))
+    where
+      here : (o : Option ℕ) → lookup (◌==◌ n) p.touched ≡ o → Some (unwrap_or (lookup (◌==◌ n) p.touched) epoch) ≡ Some k → ReachedAt n k v.passes.items
+      here (Some old) was e = still_reached walked n k (was ∙ sym (ap (λ x. Some (unwrap_or x epoch)) was) ∙ e)
+      here None was e =
+          subst (λ j. ReachedAt n j v.passes.items) (some_inj epoch k (sym (ap (λ x. Some (unwrap_or x epoch)) was) ∙ e))
+          (answered_is_reached n w.number w.clock v.clock w.passes.items v.passes.items (turn_of walked) p.tx a.born.birth nth (lookup (◌==◌ n) p.touched) op answer epoch (took_turn walked) refl refl is)
 
   -- parts on other shards, and where no entry was made
   parts_stay : (walked : IsAsked) (m : ℕ) → ((n ≡ m) → LeavesUnborn a.born.birth (turn_of walked)) → (part : Option ℕ) → UnbornUnless m part a.born.birth w.passes.items → UnbornUnless m part a.born.birth v.passes.items
@@ -249,7 +290,7 @@ module _ {M S G : Type 0} (sh : Shards M S G) (w v : Walker M S G) (p : SessionS
         };
         goes = a.goes;
         touching = a.touching;
-        born = born_after walked same.0 p refl refl (parts_quiet walked none);
+        born = born_after walked same.0 p refl refl (parts_quiet walked none) (still_reached walked);
         serial = (let s = same.1 in let h = a.serial in omega arith);
         spelled = a.spelled;
         counted = (let h = a.counted in omega arith);
@@ -303,7 +344,7 @@ module _ {M S G : Type 0} (sh : Shards M S G) (w v : Walker M S G) (p : SessionS
             ready = ready_then walked o (place_after n nth op p (Ok (Answered answer epoch))) is_walker same number lies x (ap (op_answered n nth op p) q) refl refl;
             goes = inl refl;
             touching = a.touching;
-            born = born_after walked same.0 (place_after n nth op p (Ok (Answered answer epoch))) refl refl (parts_answered walked answer epoch (is ∙ ap (λ y. Ok y) q));
+            born = born_after walked same.0 (place_after n nth op p (Ok (Answered answer epoch))) refl refl (parts_answered walked answer epoch (is ∙ ap (λ y. Ok y) q)) (answered_reached walked answer epoch (is ∙ ap (λ y. Ok y) q));
             serial = (let s = same.1 in let h = a.serial in omega arith);
             spelled = a.spelled;
             counted = (let l = number_low p n nth op number in let h = a.counted in let after = x.after in let c = x.clock_is in omega arith);
@@ -314,7 +355,7 @@ module _ {M S G : Type 0} (sh : Shards M S G) (w v : Walker M S G) (p : SessionS
           let dead : r ≡ Ok (Dead cause) = is ∙ ap (λ y. Ok y) q in (
             record {
               ready = ready_then walked o (place_after n nth op p (Ok (Dead cause))) is_walker same number lies x (ap (op_answered n nth op p) q) refl refl;
-              born = born_after walked same.0 (place_after n nth op p (Ok (Dead cause))) refl refl (parts_died walked cause dead);
+              born = born_after walked same.0 (place_after n nth op p (Ok (Dead cause))) refl refl (parts_died walked cause dead) (still_reached walked);
               spelled = a.spelled;
             },
             λ birth had. subst (λ b. UnbornAt n b v.passes.items) (birth_same a.born.birth birth (sym a.born.is ∙ had)) (gone_after walked cause dead),

@@ -6,7 +6,7 @@ use Rattle.std.proofs.lemmas.Bool.{both_ways}
 use Rattle.clv_base.specs.declared.names.TxId.{TxId}
 use Rattle.clv_base.specs.declared.names.Birth.{Birth}
 use Rattle.clv_base.specs.declared.events.Event.{Event}
-use Rattle.clv_base.specs.declared.events.Event.TheVariants.{Op, Request, Look, Drop, Send, Deliver, Remind, FlushOut, FlushIn, Stop, Restart}
+use Rattle.clv_base.specs.declared.events.Event.TheVariants.{Op, RollTo, Request, Look, Drop, Send, Deliver, Remind, FlushOut, FlushIn, Stop, Restart}
 use Rattle.clv_base.specs.declared.events.Entry.{Entry}
 use Rattle.clv_base.specs.Journals.{History}
 use Rattle.clv_base.specs.Sessions.{SessionState, is_of_session, is_session_number}
@@ -20,11 +20,12 @@ use Rattle.cluster_turns.specs.CallTurns.{Turn, Took, IsMadeBy, entry_on, entrie
 use Rattle.cluster_turns.proofs.Laws.{kept_grows, entries_are_made, clock_rises}
 use Rattle.cluster_turns.specs.Births.{IsBornBy}
 use Rattle.cluster_turns.specs.Unborn.{AllLeaveUnborn}
-use Rattle.cluster_turns.proofs.Laws.{informed_stay, free_stays, unless_stays}
+use Rattle.cluster_turns.proofs.Laws.{informed_stay, free_stays, unless_stays, reached_stays}
 use Rattle.session_ops.specs.Standing.{IsOld, IsReady, HasBirth, IsActive}
 
 pub other_leaves : (tx : TxId) (birth : Birth) (e : Event) → is_of_session e ≡ false → LeavesBirth tx birth e
 other_leaves tx birth (Op u b nth seen op) h = absurd (both_ways true h refl)
+other_leaves tx birth (RollTo u nth seen upto) h = absurd (both_ways true h refl)
 other_leaves tx birth (Request u ts) h = tt
 other_leaves tx birth (Look u) h = tt
 other_leaves tx birth (Drop u) h = tt
@@ -38,6 +39,7 @@ other_leaves tx birth Restart h = tt
 
 pub other_born : (clock : ℕ) (e : Event) → is_of_session e ≡ false → IsBornBy clock e
 other_born clock (Op u b nth seen op) h = absurd (both_ways true h refl)
+other_born clock (RollTo u nth seen upto) h = absurd (both_ways true h refl)
 other_born clock (Request u ts) h = tt
 other_born clock (Look u) h = tt
 other_born clock (Drop u) h = tt
@@ -102,6 +104,7 @@ module _ {M S G : Type 0} (sh : Shards M S G) (w v : Walker M S G) where
         old = (let o = b.old in omega arith);
         free = free_stays w.number w.clock v.clock w.passes.items v.passes.items ts p.tx b.birth took b.bears (all_leave p.tx b.birth ts others) b.free;
         parts = λ m. unless_stays m w.number w.clock v.clock w.passes.items v.passes.items ts (lookup (◌==◌ m) p.touched) b.birth took b.bears (all_unborn m b.birth ts others) (b.parts m);
+        reached = λ m epoch h. reached_stays m w.number w.clock v.clock epoch w.passes.items v.passes.items ts took (b.reached m epoch h);
       }
 
   pub still_active : (p : SessionState) (ts : List Turn) → Took w.number w.clock w.passes.items ts v.clock v.passes.items → AreOthers ts → IsWalker sh v → IsSameWalker w v → IsActive sh w p → IsActive sh v p

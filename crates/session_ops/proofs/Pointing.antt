@@ -25,7 +25,8 @@ use Rattle.cluster_turns.specs.Walkers.{kept}
 use Rattle.law_base.proofs.Shards.{is_done, outcome_in, fits_request}
 use Rattle.cluster_turns.specs.declared.shards.Walker.{Walker}
 use Rattle.cluster_turns.proofs.Laws.{head_same, quiet_so, tail_same, kept_grows, entries_are_made}
-use Rattle.session_ops.specs.Requested.{IsTurnOf, RequestTold, HasRequest}
+use Rattle.session_ops.specs.Standing.{IsTurnOf}
+use Rattle.session_ops.specs.Requested.{RequestTold, HasRequest}
 use Rattle.session_ops.specs.declared.settled_looking.SettleError.{SettleError}
 use Rattle.session_ops.specs.declared.settled_looking.SettleError.TheVariants as settle
 use Rattle.session_ops.specs.declared.committing.Settled.{Settled}

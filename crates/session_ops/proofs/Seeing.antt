@@ -137,7 +137,7 @@ module _ {M S G : Type 0} (sh : Shards M S G) (w v : Walker M S G) (p : SessionS
           let b = born_after w v n (Look p.tx) r walked refl p a.born (λ tx. tt) same.0 in (
             record {
               ready = seen_ready walked o (place_looked p (Ok (Aborted cause))) is_walker same (entered (ap is_told q)) (ap (looked p) q) refl refl;
-              born = record { birth = b.birth; is = b.is; bears = b.bears; old = b.old; free = b.free; parts = b.parts };
+              born = record { birth = b.birth; is = b.is; bears = b.bears; old = b.old; free = b.free; parts = b.parts; reached = b.reached };
               spelled = a.spelled;
             },
             gone_after walked,

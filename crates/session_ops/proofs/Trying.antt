@@ -1,5 +1,5 @@
 -- One try of an operation, and a round after it.
-use Rattle.std.proofs.Common.{◌≡◌, refl, subst, ℕ, ◌==◌, true, false, List, [], ◌∷◌, ◌++◌, Option, Some, None, Result, Ok, Err, inl, inr}
+use Rattle.std.proofs.Common.{◌≡◌, refl, sym, subst, ℕ, ◌==◌, true, false, List, [], ◌∷◌, ◌++◌, Option, Some, None, Result, Ok, Err, inl, inr}
 use Rattle.std.specs.Map.{lookup}
 use Rattle.std.proofs.lemmas.Bool.{both_ways}
 use Rattle.clv_base.specs.declared.names.Birth.{Birth}
@@ -22,7 +22,7 @@ use Rattle.session_ops.specs.declared.parts.RoundError.TheVariants.{Down as Roun
 use Rattle.session_ops.specs.Rounds.{EndedBy, Rounded}
 use Rattle.session_ops.specs.declared.operating.OpError.{OpError}
 use Rattle.session_ops.specs.declared.operating.OpError.TheVariants.{Aborted, Down, Worn, Memory}
-use Rattle.session_ops.specs.Standing.{AskTold, is_op_outcome, place_after, StandsAfter}
+use Rattle.session_ops.specs.Standing.{IsTurnOf, TryTold, is_op_outcome, place_after, StandsAfter}
 use Rattle.session_ops.specs.Operated.{tried, refusal_of, Waits, ToldBy, PlacedBy, OnlyOf, Operated, StandsBy}
 use Rattle.session_ops.proofs.Parting.{all_append, any_after, any_before}
 
@@ -35,6 +35,11 @@ tried_told n e (Ok DownOut) t fits s k h = (inl (s, inl h), inl refl)
 tried_told n e (Ok o) t fits s k h = absurd (both_ways false refl (fits o refl))
 tried_told n e (Err NoMemory) t fits s k h = tt
 tried_told n e (Err (IsWorn at)) t fits s k h = inl h
+
+-- in one turn, or in none
+tried_by : (n : ℕ) (e : Event) (r : Result Outcome StepError) (ts : List Turn) → ((o : Outcome) → r ≡ Ok o → is_op_outcome o ≡ true) → IsTurnOf n e r ts → OnlyOf e ts × ToldBy n e (tried n r) ts
+tried_by n e r ts fits (inl (is, none)) = (subst (OnlyOf e) (sym none) tt, subst (λ x. ToldBy n e (tried n x) ts) (sym is) tt)
+tried_by n e r ts fits (inr (t, one, s, k, h)) = (subst (OnlyOf e) (sym one) (inr k, tt), subst (ToldBy n e (tried n r)) (sym one) (tried_told n e r t fits s k h))
 
 pub tried_placed : (n nth : ℕ) (op : Operation) (p : SessionState) (r : Result Outcome StepError) → PlacedBy n nth op p (tried n r) (place_after n nth op p r)
 tried_placed n nth op p (Ok (Answered answer epoch)) = (epoch, refl)
@@ -56,8 +61,8 @@ module _ {M S G : Type 0} where
   tried_stands sh w n q (Err (IsWorn at)) h = h
 
 module _ {T : Type 0} where
-  pub tried_once : (w c d : ℕ) (ps qs : List (Option (Pass T Note Origin))) (n : ℕ) (e : Event) (r : Result Outcome StepError) → ((o : Outcome) → r ≡ Ok o → is_op_outcome o ≡ true) → AskTold w c ps n e r d qs → Operated w c ps n e (tried n r) d qs
-  tried_once w c d ps qs n e r fits a = record { turns = a.turn ∷ []; took = a.took; only = (inr a.event_is, tt); told = tried_told n e r a.turn fits a.shard_is a.event_is a.answer_is }
+  pub tried_once : (w c d : ℕ) (ps qs : List (Option (Pass T Note Origin))) (n : ℕ) (e : Event) (r : Result Outcome StepError) → ((o : Outcome) → r ≡ Ok o → is_op_outcome o ≡ true) → TryTold w c ps n e r d qs → Operated w c ps n e (tried n r) d qs
+  tried_once w c d ps qs n e r fits a = record { turns = a.turns; took = a.took; only = (tried_by n e r a.turns fits a.is).0; told = (tried_by n e r a.turns fits a.is).1 }
 
 -- ---- turns after turns
 

@@ -14,8 +14,8 @@ use Rattle.machine_laws.specs.declared.notes.Origin.{Origin}
 use Rattle.cluster_turns.specs.declared.shards.Shards.{Shards}
 use Rattle.cluster_turns.specs.declared.shards.Walker.{Walker}
 use Rattle.cluster_turns.specs.CallTurns.{Turn, Took}
-use Rattle.session_ops.specs.Standing.{IsActive, IsGoneAt}
-use Rattle.session_ops.specs.Requested.{IsStanding, IsTurnOf, HasStamp, HasRequest}
+use Rattle.session_ops.specs.Standing.{IsTurnOf, IsActive, IsGoneAt}
+use Rattle.session_ops.specs.Requested.{IsStanding, HasStamp, HasRequest}
 use Rattle.session_ops.specs.Dropped.{IsEnding}
 use Rattle.session_ops.specs.declared.settled_looking.SettleError.{SettleError}
 use Rattle.session_ops.specs.declared.committing.Settled.{Settled}

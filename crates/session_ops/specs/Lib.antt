@@ -12,6 +12,8 @@ pub mod Decided
 pub mod Committed
 pub mod Settled
 pub mod Parts
+pub mod WentBack
+pub mod Undone
 pub mod Scanned
 pub mod Stepped
 pub mod EndLaws

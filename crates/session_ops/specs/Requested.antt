@@ -1,5 +1,5 @@
 -- What the event of a request tells, and what holds after it.
-use Rattle.std.specs.Prelude.{◌≡◌, ◌⊎◌, ℕ, Bool, true, false, List, [], ◌∷◌, Option, Some, Result, Ok, Err}
+use Rattle.std.specs.Prelude.{◌≡◌, ℕ, Bool, true, false, List, Option, Some, Result, Ok}
 use Rattle.std.specs.List.{AllByRecursion}
 use Rattle.clv_base.specs.declared.names.Point.{Point}
 use Rattle.clv_base.specs.declared.events.Entry.{Entry}
@@ -12,14 +12,13 @@ use Rattle.clv_base.specs.History.{IsAmong}
 use Rattle.clv_base.specs.Sessions.{SessionState, Standing, Ended}
 use Rattle.turn_lock.specs.declared.pass.Pass.{Pass}
 use Rattle.machine_calls.specs.declared.machine.StepError.{StepError}
-use Rattle.machine_calls.specs.declared.machine.StepError.TheVariants.{Memory}
 use Rattle.machine_laws.specs.declared.notes.Note.{Note}
 use Rattle.machine_laws.specs.declared.notes.Origin.{Origin}
 use Rattle.cluster_turns.specs.declared.shards.Shards.{Shards}
 use Rattle.cluster_turns.specs.declared.shards.Walker.{Walker}
 use Rattle.cluster_turns.specs.Walkers.{kept}
 use Rattle.cluster_turns.specs.CallTurns.{Turn, Took}
-use Rattle.session_ops.specs.Standing.{IsReady, HasBirth, IsActive, IsOver, IsGoneAt}
+use Rattle.session_ops.specs.Standing.{IsTurnOf, IsReady, HasBirth, IsActive, IsOver, IsGoneAt}
 
 -- what a request may come to
 abbrev pub is_request_outcome : Outcome → Bool
@@ -33,10 +32,6 @@ abbrev pub place_requested : ℕ → SessionState → Result Outcome StepError �
 place_requested home p (Ok Asked) = record p { phase = Standing home }
 place_requested home p (Ok (Dead cause)) = record p { phase = Ended }
 place_requested home p _ = p
-
--- one turn with this event and answer, or none for want of memory
-abbrev pub IsTurnOf : ℕ → Event → Result Outcome StepError → List Turn → Type 0
-IsTurnOf n e r ts = ((r ≡ Err Memory) × (ts ≡ [])) ⊎ ((t : Turn) × (ts ≡ t ∷ []) × (t.shard ≡ n) × (t.event ≡ e) × (t.answer ≡ r))
 
 -- the turn's entry, if it made one, has this stamp
 abbrev pub HasStamp : ℕ → Turn → Type 0

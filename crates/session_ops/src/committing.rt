@@ -1,6 +1,6 @@
 // A commit.
 ghost use Rattle.std.specs.Prelude.{◌≡◌, ◌<◌, true, length};
-ghost use Rattle.clv_base.specs.Sessions.{is_lowest};
+ghost use Rattle.clv_base.specs.Sessions.{is_lowest, is_whole_now};
 ghost use Rattle.cluster_turns.specs.Walkers.{IsSameWalker};
 ghost use Rattle.session_ops.specs.Standing.{IsActive};
 ghost use Rattle.session_ops.specs.Standings.{StandsAs};
@@ -122,6 +122,7 @@ fn commit_at<M: Flier, P: Pace, R: Wait>(
     pace: &P,
 ) -> CommitEnd
     requires active { IsActive shards.now walker.old place.old }
+    requires whole { is_whole_now place.old ≡ true }
     requires lowest { is_lowest home place.old.touched ≡ true }
     ensures walker { IsSameWalker walker.old walker.new }
     ensures turns { Committing (length shards.now.locks.items) walker.old.number walker.old.clock walker.old.passes.items home place.old result.stamp result.answer walker.new.clock walker.new.passes.items place.new }
@@ -137,7 +138,7 @@ fn commit_at<M: Flier, P: Pace, R: Wait>(
     CommitEnd { answer, stamp }
 }
 
-/// Commits the active transaction: one request at the lowest shard that it touched, then looks there until it is decided, with a wait and a round
+/// Commits the active transaction, whose goings back were whole: one request at the lowest shard that it touched, then looks there until it is decided, with a wait and a round
 /// after each that finds nothing decided; where it died or is aborted, its other parts are dropped. `Empty` comes exactly where it touched nothing.
 /// Each answer is told by the turns of the call: `Down` only where the request found the home down. `Unsettled` comes only after the request, where a
 /// turn found that shard down: the home, or, in a round after a wait, one that the transaction touched, or any where that round found each shard
@@ -153,6 +154,7 @@ pub fn commit<M: Flier, P: Pace, R: Wait>(
     pace: &P,
 ) -> CommitEnd
     requires active { IsActive shards.now walker.old place.old }
+    requires whole { is_whole_now place.old ≡ true }
     ensures walker { IsSameWalker walker.old walker.new }
     ensures turns { CommitTold (length shards.now.locks.items) walker.old place.old result.stamp result.answer walker.new place.new }
     ensures point { PointsAtRequest walker.new.passes.items place.old result.answer }

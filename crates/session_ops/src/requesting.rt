@@ -3,7 +3,7 @@ ghost use Rattle.std.specs.Prelude.{◌≡◌, ◌<◌, true, nat_lt, length, ma
 ghost use Rattle.std.specs.List.{list_all};
 ghost use Rattle.clv_base.specs.FileRules.{numbers_rise};
 ghost use Rattle.clv_base.specs.declared.events.Event.TheVariants.{Request};
-ghost use Rattle.clv_base.specs.Sessions.{is_lowest};
+ghost use Rattle.clv_base.specs.Sessions.{is_lowest, is_whole_now};
 ghost use Rattle.cluster_turns.specs.Walkers.{IsSameWalker};
 ghost use Rattle.session_ops.specs.Standing.{IsActive};
 ghost use Rattle.session_ops.specs.Requested.{RequestTold, RequestStands, place_requested, is_request_outcome};
@@ -37,6 +37,7 @@ fn ask_home<M: Machine, R: Wait>(
     parts: Touched,
 ) -> Result<Outcome, StepError>
     requires active { IsActive shards.now walker.old place.old }
+    requires whole { is_whole_now place.old ≡ true }
     requires shard { home < length shards.now.locks.items }
     requires lowest { is_lowest home place.old.touched ≡ true }
     requires parts { parts ≡ place.old.touched }
@@ -57,7 +58,7 @@ fn ask_home<M: Machine, R: Wait>(
     answer
 }
 
-/// Makes the request of the active transaction at the lowest shard that it touched, in one turn; for want of memory in none. After `Asked` it stands
+/// Makes the request of the active transaction, whose goings back were whole, at the lowest shard that it touched, in one turn; for want of memory in none. After `Asked` it stands
 /// there, after `Dead` the transaction is over, after every other answer it is active.
 pub fn request<M: Machine, R: Wait>(
     rt: &R,
@@ -68,6 +69,7 @@ pub fn request<M: Machine, R: Wait>(
     home: u32,
 ) -> Result<Outcome, StepError>
     requires active { IsActive shards.now walker.old place.old }
+    requires whole { is_whole_now place.old ≡ true }
     requires shard { home < length shards.now.locks.items }
     requires lowest { is_lowest home place.old.touched ≡ true }
     ensures walker { IsSameWalker walker.old walker.new }

@@ -6,18 +6,19 @@ ghost use Rattle.session_ops.specs.Retried.{IsRetriable, RetriedBy};
 use cluster_turns::{Place, Shards, Walker, WornClock};
 use clv_base::names::{Birth, TxId};
 use machine_calls::Machine;
+use std::alloc::Global;
 use std::sync::Wait;
 use std::sync::atomic::AtomicU64;
 use std::thread::yield_now;
 use std::time::Duration;
 
 // The place of a transaction of this run, whose number is one of 32 bits.
-fn place_of(run: u32, tx: TxId, birth: Birth) -> Place
+fn place_of(alloc: Global, run: u32, tx: TxId, birth: Birth) -> Place
     ensures place { (before : SessionState) → result ≡ begun before tx birth }
     ensures run { run < 2 ^ 32 }
 {
     let _run = run;
-    Place::begun(tx, birth)
+    Place::begun(alloc, tx, birth)
 }
 
 // After so many tries the time between two tries is longest.
@@ -46,6 +47,7 @@ fn give_way<R: Wait>(rt: &R, tries: u64) {
 /// after each try and from the fifth on asleep, for 20 milliseconds at most, so that an older one that holds its locks gets on. `WornClock` comes exactly where the walker's clock is at its end.
 pub fn retry<M: Machine, R: Wait>(
     rt: &R,
+    alloc: Global,
     shards: &Shards<M>,
     walker: &mut Walker<M>,
     last: &Place,
@@ -57,7 +59,7 @@ pub fn retry<M: Machine, R: Wait>(
     match shards.next_tx(walker) {
         Ok((tx, _)) => {
             give_way(rt, tx.serial.saturating_sub(birth.serial));
-            Ok(place_of(tx.run, tx, birth))
+            Ok(place_of(alloc, tx.run, tx, birth))
         }
         Err(worn) => Err(worn),
     }

@@ -1,5 +1,6 @@
 use Rattle.std.proofs.Common.{◌∙◌, sym, ap, subst, arith}
 use Rattle.session_api.specs.declared.progress.Progress.TheVariants.{Idle}
+use Rattle.session_api.specs.Savepoints.{Saved}
 use Rattle.session_api.specs.Standing.{Holds}
 use Rattle.session_examples.proofs.sitting.sit.Goals as goal
 use Rattle.law_base.proofs.Options.{value_or as the}
@@ -18,6 +19,9 @@ returns-clause-session g c =
     subst (λ s. Holds r.shards.now r.walker s) (sym c.new.ensures.begins.1)
     (subst (λ x. Holds r.shards.now x Idle) (sym c.new.ensures.begins.0)
     (subst (λ sh. Holds sh w Idle) (sym c.new.ensures.shards) (subst (λ x. Holds c.args.shards.now x Idle) (sym is) (c.requires.session w))))
+
+pub returns-clause-saved : goal.returns-clause-saved
+returns-clause-saved g c = subst (λ s. Saved s c.new.result.saves.items) (sym c.new.ensures.begins.1) tt
 
 pub returns-clause-walker : goal.returns-clause-walker
 returns-clause-walker g c =

@@ -26,12 +26,13 @@ loop-taken-preserved g c =
       same = λ j d l. ap (λ z. get_or z j d) s.rest ∙ (get_or-take (vec_len ws - 1) ws.items j d (omega arith) ∙ inv.same j d (omega arith));
       seats = omega arith;
       wide = omega arith;
-      seated = λ j d l. subst (λ z. (n : ℕ) → suc j + n ≡ vec_len w → IsSeated sh n (get_or z j d).session.shards.now (get_or z j d).session.walker (get_or z j d).session.progress) (sym c.push_reserved.ensures.items)
-          (pushed_each (λ a z. (n : ℕ) → suc a + n ≡ vec_len w → IsSeated sh n z.session.shards.now z.session.walker z.session.progress) c.loop-taken.seats.items _ (vec_len c.loop-taken.seats) (omega arith) inv.seated
+      seated = λ j d l. subst (λ z. (n : ℕ) → suc j + n ≡ vec_len w → IsSeated sh n (get_or z j d).session.shards.now (get_or z j d).session.walker (get_or z j d).session.progress (get_or z j d).session.saves.items) (sym c.push_reserved.ensures.items)
+          (pushed_each (λ a z. (n : ℕ) → suc a + n ≡ vec_len w → IsSeated sh n z.session.shards.now z.session.walker z.session.progress z.session.saves.items) c.loop-taken.seats.items _ (vec_len c.loop-taken.seats) (omega arith) inv.seated
           (λ n at. record {
             on = s.shards;
             number_is = ap (λ x. x.number) (s.walker o.walker ∙ inv.same (vec_len ws - 1) o.walker (omega arith)) ∙ ((c.requires.new (vec_len ws - 1) o.walker (omega arith)).number_is ∙ (omega arith));
             holds = s.session;
+            saved = s.saved;
             idle = ap active_tx s.idle;
           }) j d (omega arith));
     }
@@ -39,5 +40,5 @@ loop-taken-preserved g c =
 pub returns-clause-seated : goal.returns-clause-seated
 returns-clause-seated g c =
     let sh = c.args.shards.now in let inv = c.loop-taken.invariant in let out = c.loop-taken-test.false in let hs = inv.seats in let some = c.requires.some in
-    λ k d l. subst (λ z. IsSeated sh (suc k) z.session.shards.now z.session.walker z.session.progress) (sym (c.reverse.ensures.by_index k d (omega arith)))
+    λ k d l. subst (λ z. IsSeated sh (suc k) z.session.shards.now z.session.walker z.session.progress z.session.saves.items) (sym (c.reverse.ensures.by_index k d (omega arith)))
     (inv.seated (vec_len c.loop-taken.seats - 1 - k) d (omega arith) (suc k) (omega arith))

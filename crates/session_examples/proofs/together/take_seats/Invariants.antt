@@ -9,5 +9,5 @@ invariant-loop-taken g l = record {
   same : (j : ℕ) (d : _) → j < vec_len l.walkers → get_or l.walkers.items j d ≡ get_or l.fn.walkers.items j d;
   seats : vec_len l.seats + 1 ≡ l._taken;
   wide : l.count ≤ vec_capacity l.seats + 1;
-  seated : (j : ℕ) (d : _) → j < vec_len l.seats → (n : ℕ) → suc j + n ≡ vec_len l.fn.walkers → IsSeated l.shards n (get_or l.seats.items j d).session.shards.now (get_or l.seats.items j d).session.walker (get_or l.seats.items j d).session.progress;
+  seated : (j : ℕ) (d : _) → j < vec_len l.seats → (n : ℕ) → suc j + n ≡ vec_len l.fn.walkers → IsSeated l.shards n (get_or l.seats.items j d).session.shards.now (get_or l.seats.items j d).session.walker (get_or l.seats.items j d).session.progress (get_or l.seats.items j d).session.saves.items;
 }

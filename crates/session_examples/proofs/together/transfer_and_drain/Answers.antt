@@ -21,7 +21,7 @@ returns-clause-rest g c =
     (λ d. subst (λ w. IsAtRest sh 0 w) (sym (left.first d ∙ first d)) (rest_new sh 0 0 _ (c.requires.new 0 d (omega arith))))
     (λ k d l. (let low : k < length S = omega arith in let e = some_one S k low in
     let o = (get_or taken.items k e).session in let y = (get_or c.run_together.new.seats k e).session in
-    let was = subst (λ z. IsSeated sh (suc k) (get_or z k e).session.shards.now (get_or z k e).session.walker (get_or z k e).session.progress) (sym value) (c.take_seats-seats.ensures.seated k e l) in
+    let was = subst (λ z. IsSeated sh (suc k) (get_or z k e).session.shards.now (get_or z k e).session.walker (get_or z k e).session.progress (get_or z k e).session.saves.items) (sym value) (c.take_seats-seats.ensures.seated k e l) in
     let s = (get_or c.as_mut_slice-all.result.now k e).session in
     subst (λ w. IsAtRest sh (suc k) w) (sym (left.walkers k d e (omega arith) ∙ ap (λ z. z.session.walker) (written S _ taken.len k e (omega arith) low)))
-    (seat_rests sh s.shards.now y.shards.now (suc k) s.walker y.walker (get_or S k e).session.walker s.progress was (run.shards k e (omega arith)) (run.number k e (omega arith)) (c.drain_together.ensures.rest k e (omega arith)))))
+    (seat_rests sh s.shards.now y.shards.now (suc k) s.walker y.walker (get_or S k e).session.walker s.progress s.saves.items was (run.shards k e (omega arith)) (run.number k e (omega arith)) (c.drain_together.ensures.rest k e (omega arith)))))

@@ -14,6 +14,7 @@ loop-step-preserved g c =
     let u = c.loop-step.session in let z = c.transfer.new.session in let e = c.transfer.ensures in let inv = c.loop-step.invariant in let few = inv.few in let one = c.moves-moved.ensures.one in
     record {
       session = holds_later z.shards.now u.walker z.walker u.progress z.progress (subst (λ x. Holds x.now u.walker u.progress) (sym e.shards) inv.session) e.session e.later;
+      saved = e.saved;
       idle = none_active c.in-Ok.transferred z.progress c.in-Ok.ensures.ends;
       shards = e.shards ∙ inv.shards;
       number = e.later.number_is ∙ inv.number;

@@ -17,4 +17,4 @@ returns-clause-tried g c = let s = c.args.session.now in let z = c.commit-answer
 
 pub returns-clause-done : goal.returns-clause-done
 returns-clause-done g c = let s = c.args.session.now in let z = c.commit-answer.new.self in
-    λ w ops answers. settled_done s.shards.now w s.walker z.walker s.progress z.progress c.commit-answer.result c.settled.result ops answers c.requires.session c.commit-answer.ensures.told c.settled.ensures.told
+    λ w acts. settled_done s.shards.now w s.walker z.walker s.progress z.progress c.commit-answer.result c.settled.result acts c.requires.session c.commit-answer.ensures.told c.settled.ensures.told

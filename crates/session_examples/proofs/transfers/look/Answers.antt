@@ -19,4 +19,4 @@ returns-clause-goes g c = let s = c.args.session.now in let z = c.get-answer.new
 
 pub returns-clause-done : goal.returns-clause-done
 returns-clause-done g c = let s = c.args.session.now in let z = c.get-answer.new.self in
-    λ w ops answers. value_done s.shards.now w s.walker z.walker s.progress z.progress c.args.key c.get-answer.result c.value_at.result ops answers c.requires.session c.get-answer.ensures.told c.value_at.ensures.told
+    λ w acts. value_done s.shards.now w s.walker z.walker s.progress z.progress c.args.key c.get-answer.result c.value_at.result acts c.requires.session c.get-answer.ensures.told c.value_at.ensures.told

@@ -10,6 +10,7 @@ loop-again-preserved g c =
     let w = c.args.session.now.walker in let u = c.loop-again.session.walker in let m = c.attempt.new.session.walker in let z = c.retry.new.session in let inv = c.loop-again.invariant in
     record {
       session = c.retry.ensures.session;
+      saved = c.retry.ensures.saved;
       shards = c.retry.ensures.shards ∙ (c.attempt.ensures.shards ∙ inv.shards);
       later = later_on w m z.walker (later_on w u m inv.later c.attempt.ensures.later) c.retry.ensures.later;
       fresh = subst (λ x. IsFresh x.now z.walker z.progress) (sym c.retry.ensures.shards) c.in-Ok.ensures.fresh;

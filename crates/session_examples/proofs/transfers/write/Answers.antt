@@ -20,4 +20,4 @@ returns-clause-goes g c = let s = c.args.session.now in let z = c.put-answer.new
 
 pub returns-clause-done : goal.returns-clause-done
 returns-clause-done g c = let s = c.args.session.now in let z = c.put-answer.new.self in
-    λ w ops answers. written_done s.shards.now w s.walker z.walker s.progress z.progress c.args.key (Num c.args.value) c.put-answer.result c.written.result ops answers c.requires.session c.put-answer.ensures.told c.written.ensures.told
+    λ w acts. written_done s.shards.now w s.walker z.walker s.progress z.progress c.args.key (Num c.args.value) c.put-answer.result c.written.result acts c.requires.session c.put-answer.ensures.told c.written.ensures.told

@@ -11,8 +11,8 @@ loop-shard-init g c = let w = c.args.walker.now in let p = c.args.place.now in l
   c.requires.active,
   (refl, refl),
   (refl, refl),
-  inl (ap (λ n. n + 1) c.nth-nth.ensures),
-  ap (λ n. n + 1) c.nth-nth.ensures,
+  inl (ap (λ n. n + 1) c.nth-nth.ensures.number),
+  ap (λ n. n + 1) c.nth-nth.ensures.number,
   λ birth is. subst (λ l. Scanning sh.splits 0 w.number w.clock w.passes.items (record { tx = p.tx; birth = birth; nth = p.nth + 1; lo = c.args.lo; hi = c.args.hi }) p.touched (Ok l) w.clock w.passes.items) (sym c.new-pairs.ensures.items)
       (nothing_scanned sh.splits w.number w.clock w.passes.items (record { tx = p.tx; birth = birth; nth = p.nth + 1; lo = c.args.lo; hi = c.args.hi }) p.touched),
   λ birth is. none_so_far sh birth (p.nth + 1) c.args.lo c.args.hi w p c.new-pairs.result.items c.new-pairs.ensures.items,

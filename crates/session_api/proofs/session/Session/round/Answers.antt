@@ -2,7 +2,11 @@ use Rattle.std.proofs.Common.{length, false, replicate, refl}
 use Rattle.session_ops.specs.Rounds.{IsOwn, Every, NoShard}
 use Rattle.session_ops.proofs.Laws.{told_more}
 use Rattle.session_api.proofs.AfterRounds.{round_session, none_true}
+use Rattle.session_api.proofs.New.{ready_walker}
 use Rattle.session_api.proofs.session.Session.round.Goals as goal
+
+pub round-requires : goal.round-requires
+round-requires g c = let s = c.args.self.now in record { walker = ready_walker _ _ _ s.shards.now s.walker s.progress c.requires.session.stands }
 
 pub returns-clause-session : goal.returns-clause-session
 returns-clause-session g c = let s = c.args.self.now in let v = c.round.new.walker in let e = c.round.ensures in

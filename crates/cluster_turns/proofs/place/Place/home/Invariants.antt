@@ -1,6 +1,0 @@
-use Rattle.std.proofs.Common.{◌≡◌, drop, length}
-use Rattle.clv_base.specs.Arrays.{present_from}
-use Rattle.cluster_turns.proofs.place.Place.home.Given as goal
-
-abbrev pub invariant-loop-shard : goal.invariant-loop-shard
-invariant-loop-shard l = (present_from l.shard (drop l.shard l.self-inside.epochs) ≡ l.self.touched) × (length l.self-inside.epochs ≡ 16)
