@@ -3,12 +3,13 @@ use Rattle.std.proofs.Common.{◌≡◌, ℕ, ◌≤◌, List, ◌∷◌, ◌++�
 use Rattle.script_lang.specs.declared.lines.Line.{Line}
 use Rattle.script_lang.specs.declared.lines.Line.TheVariants as script
 use Rattle.script_lang.specs.declared.actions.Action.TheVariants.{Do, Move}
+use Rattle.script_lang.specs.declared.actions.Action.TheVariants as action
 use Rattle.script_lang.specs.declared.actions.Ending.TheVariants as ending
 use Rattle.script_lang.specs.Grammar.{IsLine, IsNumber}
 use Rattle.script_lang.specs.Reading.{Lacks}
 use Rattle.script_lang.proofs.Laws.{one_meaning, number_has_no_space, parted_alike, number_once}
 use Rattle.live_lines.specs.declared.calls.Call.{Call}
-use Rattle.live_lines.specs.declared.calls.Call.TheVariants.{Begin, Retry, Operate, Commit, Abort}
+use Rattle.live_lines.specs.declared.calls.Call.TheVariants.{Begin, Retry, Operate, Save, Back, Commit, Abort}
 use Rattle.live_lines.specs.Requests.{IsCall, IsHead, call_in}
 
 -- a call other than `retry` is a line that spells it
@@ -16,6 +17,8 @@ pub line_for : (words : List ℕ) (call : Call) → IsCall words call → (words
 line_for words Begin is = inr (script.Begin, is, refl)
 line_for words Retry is = inl is
 line_for words (Operate op) is = inr (script.Act (Do op), is, refl)
+line_for words Save is = inr (script.Act action.Save, is, refl)
+line_for words (Back i) is = inr (script.Act (action.Back i), is, refl)
 line_for words Commit is = inr (script.End ending.Commit, is, refl)
 line_for words Abort is = inr (script.End ending.Abort, is, refl)
 
@@ -26,6 +29,8 @@ words_of words script.Session call is e = absurd (cc)
 words_of words script.Begin call is e = let same : Begin ≡ call = cc in subst (IsCall words) same is
 words_of words (script.Act (Do op)) call is e = let same : Operate op ≡ call = cc in subst (IsCall words) same is
 words_of words (script.Act (Move from to amount)) call is e = absurd (cc)
+words_of words (script.Act action.Save) call is e = let same : Save ≡ call = cc in subst (IsCall words) same is
+words_of words (script.Act (action.Back i)) call is e = let same : Back i ≡ call = cc in subst (IsCall words) same is
 words_of words (script.End ending.Commit) call is e = let same : Commit ≡ call = cc in subst (IsCall words) same is
 words_of words (script.End ending.Abort) call is e = let same : Abort ≡ call = cc in subst (IsCall words) same is
 

@@ -10,7 +10,7 @@ use Rattle.clv_base.specs.declared.ops.Answer.TheVariants.{Value, Pairs, Added}
 use Rattle.clv_base.specs.declared.causes.AbortCause.TheVariants as cause
 use Rattle.clv_base.specs.declared.causes.NoWhy.TheVariants.{Doomed, Restarted}
 use Rattle.live_lines.specs.declared.calls.Reply.{Reply}
-use Rattle.live_lines.specs.declared.calls.Reply.TheVariants.{Begun, Answered, Committed, Empty, Aborted, Down, Unsettled, Worn, Memory, Refused}
+use Rattle.live_lines.specs.declared.calls.Reply.TheVariants.{Begun, Answered, Saved, WentBack, Committed, Empty, Aborted, Down, Unsettled, Worn, Memory, Refused}
 use Rattle.live_lines.specs.Replies.{value_data, pair, answer, list, told}
 
 in_value : (v : ValueType) → has_float (value_data v) ≡ false
@@ -34,6 +34,8 @@ in_reply session (Answered (Put k v) a) = ap₂ (λ b c. b || (c || false)) (in_
 in_reply session (Answered (Del k) a) = ap (λ b. b || false) (in_answer a)
 in_reply session (Answered (Scan lo hi) a) = ap (λ b. b || false) (in_answer a)
 in_reply session (Answered (Add k by) a) = ap (λ b. b || false) (in_answer a)
+in_reply session (Saved n) = refl
+in_reply session (WentBack n) = refl
 in_reply session (Committed n) = refl
 in_reply session (Empty n) = refl
 in_reply session (Aborted cause.Asked) = refl

@@ -18,7 +18,7 @@ use Rattle.clv_base.specs.declared.causes.NoWhy.TheVariants.{Doomed, Restarted}
 use Rattle.live_lines.specs.declared.calls.Refusal.{Refusal}
 use Rattle.live_lines.specs.declared.calls.Refusal.TheVariants as refusal
 use Rattle.live_lines.specs.declared.calls.Reply.{Reply}
-use Rattle.live_lines.specs.declared.calls.Reply.TheVariants.{Begun, Answered, Committed, Empty, Aborted, Down, Unsettled, Worn, Memory, Refused}
+use Rattle.live_lines.specs.declared.calls.Reply.TheVariants.{Begun, Answered, Saved, WentBack, Committed, Empty, Aborted, Down, Unsettled, Worn, Memory, Refused}
 
 -- a value as compact JSON, with a line feed
 abbrev pub line : Data → List ℕ
@@ -84,6 +84,7 @@ refusal_text refusal.NoSession = codes "no session"
 refusal_text refusal.Active = codes "a transaction is active"
 refusal_text refusal.NoTx = codes "no transaction is active"
 refusal_text refusal.NoRetry = codes "nothing to try again"
+refusal_text refusal.NoSavepoint = codes "no such savepoint"
 refusal_text refusal.Ended = codes "the session has ended"
 refusal_text refusal.TooLong = codes "the line is too long"
 refusal_text refusal.NoMemory = codes "no memory for the text"
@@ -92,6 +93,8 @@ refusal_text refusal.NoMemory = codes "no memory for the text"
 abbrev pub told : ℕ → Reply → List Data
 told session (Begun serial) = row session (codes "begin") (serial ∷ [])
 told session (Answered op a) = operation session op ++ answer a ∷ []
+told session (Saved n) = row session (codes "save") (n ∷ [])
+told session (WentBack n) = row session (codes "back") (n ∷ [])
 told session (Committed serial) = row session (codes "committed") (serial ∷ [])
 told session (Empty serial) = row session (codes "empty") (serial ∷ [])
 told session (Aborted why_) = row session (codes "aborted") [] ++ cause_of why_

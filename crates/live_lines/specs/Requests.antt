@@ -3,10 +3,11 @@ use Rattle.std.specs.Prelude.{◌≡◌, ◌⊎◌, ◌≤◌, ℕ, List, [], �
 use Rattle.script_lang.specs.declared.lines.Line.{Line}
 use Rattle.script_lang.specs.declared.lines.Line.TheVariants as script
 use Rattle.script_lang.specs.declared.actions.Action.TheVariants.{Do, Move}
+use Rattle.script_lang.specs.declared.actions.Action.TheVariants as action
 use Rattle.script_lang.specs.declared.actions.Ending.TheVariants as ending
 use Rattle.script_lang.specs.Grammar.{IsNumber, IsAction, IsEnding, IsComment, PutsText}
 use Rattle.live_lines.specs.declared.calls.Call.{Call}
-use Rattle.live_lines.specs.declared.calls.Call.TheVariants.{Begin, Retry, Operate, Commit, Abort}
+use Rattle.live_lines.specs.declared.calls.Call.TheVariants.{Begin, Retry, Operate, Save, Back, Commit, Abort}
 use Rattle.live_lines.specs.declared.calls.Asked.{Asked}
 use Rattle.live_lines.specs.declared.calls.Asked.TheVariants as asks
 use Rattle.live_lines.specs.declared.requests.Request.{Request}
@@ -17,6 +18,8 @@ abbrev pub IsCall : List ℕ → Call → Type 0
 IsCall words Begin = words ≡ codes "begin"
 IsCall words Retry = words ≡ codes "retry"
 IsCall words (Operate op) = IsAction words (Do op)
+IsCall words Save = IsAction words action.Save
+IsCall words (Back i) = IsAction words (action.Back i)
 IsCall words Commit = IsEnding words ending.Commit
 IsCall words Abort = IsEnding words ending.Abort
 
@@ -45,6 +48,8 @@ abbrev pub call_in : Line → Option Call
 call_in script.Begin = Some Begin
 call_in (script.Act (Do op)) = Some (Operate op)
 call_in (script.Act (Move from to amount)) = None
+call_in (script.Act action.Save) = Some Save
+call_in (script.Act (action.Back i)) = Some (Back i)
 call_in (script.End ending.Commit) = Some Commit
 call_in (script.End ending.Abort) = Some Abort
 call_in script.Blank = None

@@ -10,6 +10,10 @@ pub enum Call {
     /// Begins another try of the last transaction, with its birth.
     Retry,
     Operate(Op),
+    /// Keeps a savepoint of the transaction.
+    Save,
+    /// Goes back to the savepoint of this number.
+    Back(u64),
     Commit,
     Abort,
 }
@@ -36,6 +40,8 @@ pub enum Refusal {
     NoTx,
     /// The last transaction didn't end by an abort.
     NoRetry,
+    /// The savepoint doesn't stand.
+    NoSavepoint,
     /// The session has ended.
     Ended,
     /// The line is too long.
@@ -51,6 +57,10 @@ pub enum Reply {
     Begun { serial: u64 },
     /// An operation was answered.
     Answered { op: Op, answer: Answer },
+    /// A savepoint was kept, under this number.
+    Saved { number: u64 },
+    /// The transaction went back to the savepoint of this number.
+    WentBack { number: u64 },
     /// The transaction is acknowledged.
     Committed { serial: u64 },
     /// It had no operation.

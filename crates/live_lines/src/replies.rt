@@ -207,6 +207,7 @@ fn refusal_text(refusal: Refusal) -> &'static str
         Refusal::Active => "a transaction is active",
         Refusal::NoTx => "no transaction is active",
         Refusal::NoRetry => "nothing to try again",
+        Refusal::NoSavepoint => "no such savepoint",
         Refusal::Ended => "the session has ended",
         Refusal::TooLong => "the line is too long",
         Refusal::NoMemory => "no memory for the text",
@@ -227,6 +228,8 @@ fn told(alloc: Global, session: u64, reply: &Reply) -> Result<Vec<Value>, Memory
     match reply {
         Reply::Begun { serial } => row(alloc, session, "begin", &[*serial]),
         Reply::Answered { op, answer } => answered(alloc, session, op, answer),
+        Reply::Saved { number } => row(alloc, session, "save", &[*number]),
+        Reply::WentBack { number } => row(alloc, session, "back", &[*number]),
         Reply::Committed { serial } => row(alloc, session, "committed", &[*serial]),
         Reply::Empty { serial } => row(alloc, session, "empty", &[*serial]),
         Reply::Aborted(cause) => aborted(alloc, session, *cause),

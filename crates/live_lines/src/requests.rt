@@ -44,6 +44,8 @@ fn call_by(line: Line) -> Option<Call>
     match line {
         Line::Begin => Some(Call::Begin),
         Line::Act(Action::Do(op)) => Some(Call::Operate(op.op())),
+        Line::Act(Action::Save) => Some(Call::Save),
+        Line::Act(Action::Back(number)) => Some(Call::Back(number)),
         Line::End(Ending::Commit) => Some(Call::Commit),
         Line::End(Ending::Abort) => Some(Call::Abort),
         _ => None,

@@ -1,9 +1,10 @@
 -- What a call tells is what its line came to.
-use Rattle.std.proofs.Common.{◌≡◌, ◌⊎◌, inl, inr, refl, sym, subst, ap, ◌∙◌, ℕ, Bool, List, [], ◌∷◌, ◌++◌, Option, Some, None, Result, Ok, Err}
+use Rattle.std.proofs.Common.{◌≡◌, refl, sym, subst, ap, ◌∙◌, ℕ, Bool, true, false, List, [], ◌∷◌, ◌++◌, Option, Some, None, is_some, Result, Ok, Err}
 use Rattle.clv_base.specs.declared.names.TxId.{TxId}
 use Rattle.clv_base.specs.declared.names.Birth.{Birth}
 use Rattle.clv_base.specs.declared.ops.Op.{Op}
-use Rattle.live_lines.specs.declared.calls.Call.TheVariants.{Operate, Commit, Abort}
+use Rattle.live_lines.specs.declared.calls.Call.TheVariants.{Retry, Operate, Back, Commit, Abort}
+use Rattle.live_lines.specs.declared.calls.Call.{Call}
 use Rattle.live_lines.specs.declared.calls.Asked.TheVariants as asks
 use Rattle.live_lines.specs.declared.calls.Reply.{Reply}
 use Rattle.live_lines.specs.declared.calls.Reply.TheVariants as tells
@@ -13,9 +14,12 @@ use Rattle.script_runs.specs.declared.ends.TryEnd.{TryEnd}
 use Rattle.script_runs.specs.declared.ends.TryEnd.TheVariants as end
 use Rattle.script_runs.specs.declared.calls.Stage.{Stage}
 use Rattle.script_runs.specs.declared.calls.Stage.TheVariants as stage
-use Rattle.script_runs.specs.Seen.{Standing, Idle, Active, Asked, Seen, Misses, IsStage}
-use Rattle.script_runs.specs.Told.{OperateTold, CommitTold, AbortTold}
-use Rattle.live_sessions.specs.Served.{InTx, IsActive, Leaves, Drops, ClosesBy, Did, EndTold, IsOtherEnd, reply_by}
+use Rattle.script_runs.specs.Seen.{Standing, Idle, Active, Asked, Seen, Going, Misses, IsStage}
+use Rattle.script_runs.specs.Ran.{IsIdle}
+use Rattle.script_lang.specs.Savepoints.{upto_of}
+use Rattle.script_runs.specs.Told.{RetryTold, OperateTold, BackTold, CommitTold, AbortTold}
+use Rattle.live_sessions.specs.Served.{IsActive, IsLast, IsWhole, GoesBy, Goes, Leaves, Drops, ClosesBy, Did, Over, EndTold, IsOtherEnd, reply_by}
+use Rattle.live_sessions.specs.declared.answering.Course.{Course}
 
 -- ---- drops
 
@@ -31,12 +35,22 @@ drops missed r u v (tx, birth, nth, touched, is) told = (tx, birth, nth, touched
 
 -- an abort that was stopped
 pub abort_stopped :
-    (missed : Misses) (why : StopCause) (u v : Seen) → IsActive u → ((tx : TxId) (birth : Birth) (nth : ℕ) (touched : ℕ → Bool) → u.standing ≡ Active tx birth nth touched → AbortTold {A = Unit {0}} missed tx birth touched (Err why) u v)
-    → Did (asks.Call Abort) (reply_by why) u v
-abort_stopped missed (Worn at) u v (tx, birth, nth, touched, is) told = (tx, birth, nth, touched, is, told tx birth nth touched is)
-abort_stopped missed Memory u v (tx, birth, nth, touched, is) told = absurd (told tx birth nth touched is)
-abort_stopped missed (Down n) u v (tx, birth, nth, touched, is) told = absurd (told tx birth nth touched is)
-abort_stopped missed (Unsettled n) u v (tx, birth, nth, touched, is) told = absurd (told tx birth nth touched is)
+    (over : Option Going) (missed : Misses) (why : StopCause) (u v : Seen) → IsActive u → ((tx : TxId) (birth : Birth) (nth : ℕ) (touched : ℕ → Bool) → u.standing ≡ Active tx birth nth touched → AbortTold {A = Unit {0}} missed tx birth touched (Err why) u v)
+    → Did over (asks.Call Abort) (reply_by why) u v
+abort_stopped over missed (Worn at) u v (tx, birth, nth, touched, is) told = (tx, birth, nth, touched, is, told tx birth nth touched is)
+abort_stopped over missed Memory u v (tx, birth, nth, touched, is) told = absurd (told tx birth nth touched is)
+abort_stopped over missed (Down n) u v (tx, birth, nth, touched, is) told = absurd (told tx birth nth touched is)
+abort_stopped over missed (Unsettled n) u v (tx, birth, nth, touched, is) told = absurd (told tx birth nth touched is)
+
+-- ---- further tries
+
+-- one that didn't begin
+pub retry_stopped :
+    (over : Option Going) (why : StopCause) (u v : Seen) → IsLast u → ((birth : Birth) → u.standing ≡ Idle (Some birth) → RetryTold {A = Unit {0}} birth (Err why) u v) → Did over (asks.Call Retry) (reply_by why) u v
+retry_stopped over (Down n) u v (birth, is) told = (birth, is, told birth is)
+retry_stopped over (Worn at) u v (birth, is) told = (birth, is, told birth is)
+retry_stopped over Memory u v (birth, is) told = absurd (told birth is)
+retry_stopped over (Unsettled n) u v (birth, is) told = absurd (told birth is)
 
 -- ---- operations
 
@@ -51,21 +65,49 @@ operate_other tx birth nth touched op end.Empty u v told = told
 operate_other tx birth nth touched op end.Asked u v told = told
 
 -- nothing more was done
-same_told : (op : Op) (r s : Reply) (u m v : Seen) → r ≡ s → v ≡ m → Did (asks.Call (Operate op)) s u m → Did (asks.Call (Operate op)) r u v
-same_told op r s u m v e f did = subst (λ (x : Seen). Did (asks.Call (Operate op)) r u x) (sym f) (subst (λ (x : Reply). Did (asks.Call (Operate op)) x u m) (sym e) did)
+same_did : (over : Option Going) (call : Call) (r s : Reply) (u m v : Seen) → r ≡ s → v ≡ m → Did over (asks.Call call) s u m → Did over (asks.Call call) r u v
+same_did over call r s u m v e f did = subst (λ (x : Seen). Did over (asks.Call call) r u x) (sym f) (subst (λ (x : Reply). Did over (asks.Call call) x u m) (sym e) did)
 
 pub operate_did :
-    (tx : TxId) (birth : Birth) (nth : ℕ) (touched : ℕ → Bool) (op : Op) (e : TryEnd) (r : Reply) (u m v : Seen) → u.standing ≡ Active tx birth nth touched → OperateTold tx birth nth touched op (Err e) u m → EndTold e r m v
-    → Did (asks.Call (Operate op)) r u v
-operate_did tx birth nth touched op (end.Aborted why) r u m v is told (reply, same) = same_told op r (tells.Aborted why) u m v reply same (tx, birth, nth, touched, is, told)
-operate_did tx birth nth touched op (end.Stopped (Down n)) r u m v is told (reply, gone) =
-    subst (λ (x : Reply). Did (asks.Call (Operate op)) x u v) (sym reply) (m, (tx, birth, nth, touched, is, told), gone)
-operate_did tx birth nth touched op (end.Stopped (Worn at)) r u m v is told (reply, same) = same_told op r (tells.Worn at) u m v reply same (tx, birth, nth, touched, is, told)
-operate_did tx birth nth touched op (end.Stopped Memory) r u m v is told (reply, same) = same_told op r tells.Memory u m v reply same (tx, birth, nth, touched, is, told)
-operate_did tx birth nth touched op (end.Stopped (Unsettled n)) r u m v is told ended = absurd told
-operate_did tx birth nth touched op end.Acknowledged r u m v is told ended = absurd told
-operate_did tx birth nth touched op end.Empty r u m v is told ended = absurd told
-operate_did tx birth nth touched op end.Asked r u m v is told ended = absurd told
+    (over : Option Going) (tx : TxId) (birth : Birth) (nth : ℕ) (touched : ℕ → Bool) (op : Op) (e : TryEnd) (r : Reply) (u m v : Seen) → u.standing ≡ Active tx birth nth touched → OperateTold tx birth nth touched op (Err e) u m → EndTold e r m v
+    → Did over (asks.Call (Operate op)) r u v
+operate_did over tx birth nth touched op (end.Aborted why) r u m v is told (reply, same) = same_did over (Operate op) r (tells.Aborted why) u m v reply same (tx, birth, nth, touched, is, told)
+operate_did over tx birth nth touched op (end.Stopped (Down n)) r u m v is told (reply, gone) =
+    subst (λ (x : Reply). Did over (asks.Call (Operate op)) x u v) (sym reply) (m, (tx, birth, nth, touched, is, told), gone)
+operate_did over tx birth nth touched op (end.Stopped (Worn at)) r u m v is told (reply, same) = same_did over (Operate op) r (tells.Worn at) u m v reply same (tx, birth, nth, touched, is, told)
+operate_did over tx birth nth touched op (end.Stopped Memory) r u m v is told (reply, same) = same_did over (Operate op) r tells.Memory u m v reply same (tx, birth, nth, touched, is, told)
+operate_did over tx birth nth touched op (end.Stopped (Unsettled n)) r u m v is told ended = absurd told
+operate_did over tx birth nth touched op end.Acknowledged r u m v is told ended = absurd told
+operate_did over tx birth nth touched op end.Empty r u m v is told ended = absurd told
+operate_did over tx birth nth touched op end.Asked r u m v is told ended = absurd told
+
+-- ---- goings back
+
+pub back_other : (tx : TxId) (birth : Birth) (nth : ℕ) (touched : ℕ → Bool) (upto : ℕ) (ws : List (ℕ × ℕ)) (e : TryEnd) (u v : Seen) → BackTold tx birth nth touched upto ws (Err e) u v → IsOtherEnd e v
+back_other tx birth nth touched upto ws (end.Aborted why) u v (here, gone, n, death, on, are, grows, standing) = (birth, standing)
+back_other tx birth nth touched upto ws (end.Stopped (Down n)) u v (here, begun, on, grows, (m, standing)) = (tx, birth, m, touched, standing)
+back_other tx birth nth touched upto ws (end.Stopped (Worn at)) u v told = tt
+back_other tx birth nth touched upto ws (end.Stopped Memory) u v told = tt
+back_other tx birth nth touched upto ws (end.Stopped (Unsettled n)) u v told = tt
+back_other tx birth nth touched upto ws end.Acknowledged u v told = told
+back_other tx birth nth touched upto ws end.Empty u v told = told
+back_other tx birth nth touched upto ws end.Asked u v told = told
+
+module _ (over : Option Going) (number upto : ℕ) (g : Going) (is_over : over ≡ Some g) (stands : upto_of number g.saves.standing ≡ Some upto) where
+  pub back_did :
+      (tx : TxId) (birth : Birth) (nth : ℕ) (touched : ℕ → Bool) (e : TryEnd) (r : Reply) (u m v : Seen) → u.standing ≡ Active tx birth nth touched → BackTold tx birth nth touched upto g.written (Err e) u m → EndTold e r m v
+      → Did over (asks.Call (Back number)) r u v
+  back_did tx birth nth touched (end.Aborted why) r u m v is told (reply, same) =
+      same_did over (Back number) r (tells.Aborted why) u m v reply same (g, upto, is_over, stands, (tx, birth, nth, touched, is, told))
+  back_did tx birth nth touched (end.Stopped (Down n)) r u m v is told (reply, gone) =
+      subst (λ (x : Reply). Did over (asks.Call (Back number)) x u v) (sym reply) (m, (g, upto, is_over, stands, (tx, birth, nth, touched, is, told)), gone)
+  back_did tx birth nth touched (end.Stopped (Worn at)) r u m v is told (reply, same) =
+      same_did over (Back number) r (tells.Worn at) u m v reply same (g, upto, is_over, stands, (tx, birth, nth, touched, is, told))
+  back_did tx birth nth touched (end.Stopped Memory) r u m v is told ended = absurd told
+  back_did tx birth nth touched (end.Stopped (Unsettled n)) r u m v is told ended = absurd told
+  back_did tx birth nth touched end.Acknowledged r u m v is told ended = absurd told
+  back_did tx birth nth touched end.Empty r u m v is told ended = absurd told
+  back_did tx birth nth touched end.Asked r u m v is told ended = absurd told
 
 -- ---- commits
 
@@ -79,21 +121,61 @@ commit_other tx birth nth touched end.Acknowledged u v other also told = absurd 
 commit_other tx birth nth touched end.Empty u v other also told = absurd (also refl)
 commit_other tx birth nth touched end.Asked u v other also told = told
 
-same_end : (r s : Reply) (u m v : Seen) → r ≡ s → v ≡ m → Did (asks.Call Commit) s u m → Did (asks.Call Commit) r u v
-same_end r s u m v e f did = subst (λ (x : Seen). Did (asks.Call Commit) r u x) (sym f) (subst (λ (x : Reply). Did (asks.Call Commit) x u m) (sym e) did)
-
 pub commit_did :
-    (tx : TxId) (birth : Birth) (nth : ℕ) (touched : ℕ → Bool) (e : TryEnd) (r : Reply) (u m v : Seen) → u.standing ≡ Active tx birth nth touched → CommitTold tx birth nth touched e u m → EndTold e r m v
-    → Did (asks.Call Commit) r u v
-commit_did tx birth nth touched (end.Aborted why) r u m v is told (reply, same) = same_end r (tells.Aborted why) u m v reply same (tx, birth, nth, touched, is, told)
-commit_did tx birth nth touched (end.Stopped (Down n)) r u m v is told (reply, gone) =
-    subst (λ (x : Reply). Did (asks.Call Commit) x u v) (sym reply) (m, (tx, birth, nth, touched, is, told), gone)
-commit_did tx birth nth touched (end.Stopped (Worn at)) r u m v is told (reply, same) = same_end r (tells.Worn at) u m v reply same (tx, birth, nth, touched, is, told)
-commit_did tx birth nth touched (end.Stopped Memory) r u m v is told (reply, same) = same_end r tells.Memory u m v reply same (tx, birth, nth, touched, is, told)
-commit_did tx birth nth touched (end.Stopped (Unsettled n)) r u m v is told (reply, same) = same_end r (tells.Unsettled n) u m v reply same (tx, birth, nth, touched, is, told)
-commit_did tx birth nth touched end.Acknowledged r u m v is told ended = absurd ended
-commit_did tx birth nth touched end.Empty r u m v is told ended = absurd ended
-commit_did tx birth nth touched end.Asked r u m v is told ended = absurd ended
+    (over : Option Going) (tx : TxId) (birth : Birth) (nth : ℕ) (touched : ℕ → Bool) (e : TryEnd) (r : Reply) (u m v : Seen) → u.standing ≡ Active tx birth nth touched → CommitTold tx birth nth touched e u m → EndTold e r m v
+    → Did over (asks.Call Commit) r u v
+commit_did over tx birth nth touched (end.Aborted why) r u m v is told (reply, same) = same_did over Commit r (tells.Aborted why) u m v reply same (tx, birth, nth, touched, is, told)
+commit_did over tx birth nth touched (end.Stopped (Down n)) r u m v is told (reply, gone) =
+    subst (λ (x : Reply). Did over (asks.Call Commit) x u v) (sym reply) (m, (tx, birth, nth, touched, is, told), gone)
+commit_did over tx birth nth touched (end.Stopped (Worn at)) r u m v is told (reply, same) = same_did over Commit r (tells.Worn at) u m v reply same (tx, birth, nth, touched, is, told)
+commit_did over tx birth nth touched (end.Stopped Memory) r u m v is told (reply, same) = same_did over Commit r tells.Memory u m v reply same (tx, birth, nth, touched, is, told)
+commit_did over tx birth nth touched (end.Stopped (Unsettled n)) r u m v is told (reply, same) = same_did over Commit r (tells.Unsettled n) u m v reply same (tx, birth, nth, touched, is, told)
+commit_did over tx birth nth touched end.Acknowledged r u m v is told ended = absurd ended
+commit_did over tx birth nth touched end.Empty r u m v is told ended = absurd ended
+commit_did over tx birth nth touched end.Asked r u m v is told ended = absurd ended
+
+-- ---- what can be gone back over
+
+pub idle_active : {X : Type 0} (u : Seen) → IsIdle u → IsActive u → X
+idle_active u (again, idle) (tx, birth, nth, touched, active) = absurd (let x : Idle again ≡ Active tx birth nth touched = sym idle ∙ active in cc)
+
+pub last_active : {X : Type 0} (u : Seen) → IsLast u → IsActive u → X
+last_active u (birth, is) active = idle_active u (Some birth, is) active
+
+whole_by : (grounds : StopCause → Type 0) (may_retry : Bool) (ended : Option StopCause) (u : Seen) (over : Option Going) → GoesBy grounds may_retry ended u over → ended ≡ None → IsWhole u over
+whole_by grounds true None u over goes live = λ active. last_active u goes active
+whole_by grounds false None u over goes live = goes
+whole_by grounds may_retry (Some why) u over goes live = absurd cc
+
+pub whole : (grounds : StopCause → Type 0) (course : Course) (u : Seen) (over : Option Going) → Goes grounds course u over → course.ended ≡ None → IsWhole u over
+whole grounds course u over goes live = whole_by grounds course.may_retry course.ended u over goes live
+
+pub goes_whole : (grounds : StopCause → Type 0) (course : Course) (u : Seen) (over : Option Going) → course.may_retry ≡ false → course.ended ≡ None → IsWhole u over → Goes grounds course u over
+goes_whole grounds course u over retry live w = subst (λ b. GoesBy grounds b course.ended u over) (sym retry) (subst (λ e. GoesBy grounds false e u over) (sym live) w)
+
+pub found_one : {X : Type 0} (o : Option X) → is_some o ≡ true → (x : X) × (o ≡ Some x)
+found_one None h = absurd cc
+found_one (Some x) h = (x, refl)
+
+-- behind what ended a try, and behind what stopped the session, nothing is told of it
+over_stopped : (why : StopCause) (u : Seen) (over now : Option Going) → Over (reply_by why) u over now
+over_stopped (Down n) u over now = tt
+over_stopped (Unsettled n) u over now = tt
+over_stopped (Worn at) u over now = tt
+over_stopped Memory u over now = tt
+
+pub over_behind : (why : StopCause) (r : Reply) (u : Seen) (over now : Option Going) → r ≡ reply_by why → Over r u over now
+over_behind why r u over now is = subst (λ x. Over x u over now) (sym is) (over_stopped why u over now)
+
+pub over_ended : (e : TryEnd) (r : Reply) (u m v : Seen) (over now : Option Going) → EndTold e r m v → Over r u over now
+over_ended (end.Aborted why) r u m v over now (reply, same) = subst (λ x. Over x u over now) (sym reply) tt
+over_ended (end.Stopped (Down n)) r u m v over now (reply, gone) = over_behind (Down n) r u over now reply
+over_ended (end.Stopped (Unsettled n)) r u m v over now (reply, same) = over_behind (Unsettled n) r u over now reply
+over_ended (end.Stopped (Worn at)) r u m v over now (reply, same) = over_behind (Worn at) r u over now reply
+over_ended (end.Stopped Memory) r u m v over now (reply, same) = over_behind Memory r u over now reply
+over_ended end.Acknowledged r u m v over now ended = absurd ended
+over_ended end.Empty r u m v over now ended = absurd ended
+over_ended end.Asked r u m v over now ended = absurd ended
 
 -- ---- stages
 

@@ -1,13 +1,11 @@
 -- What replies tell one by one is so.
-use Rattle.std.proofs.Common.{◌≡◌, ◌⊎◌, inl, inr, refl, sym, subst, ap, ◌∙◌, ℕ, Bool, true, false, ◌||◌, List, [], ◌∷◌, ◌++◌, append_assoc, append-nil, ◌<◌, arith}
+use Rattle.std.proofs.Common.{◌≡◌, ◌⊎◌, inl, inr, refl, sym, subst, ap, ◌∙◌, ℕ, true, false, ◌||◌, List, [], ◌∷◌, ◌++◌, append_assoc, append-nil, arith}
 use Rattle.std.specs.List.{Contains}
 use Rattle.std.proofs.lemmas.Bool.{both_ways, or_cases}
 use Rattle.std.proofs.lemmas.List.Folds.{list_any-append}
 use Rattle.std.proofs.lemmas.List.Elements.{Contains-append_left, Contains-push, Contains-push_cases}
 use Rattle.clv_base.specs.declared.names.TxId.{TxId}
-use Rattle.clv_base.specs.declared.ops.Op.{Op}
-use Rattle.clv_base.specs.declared.ops.Answer.{Answer}
-use Rattle.clv_base.specs.declared.events.Event.TheVariants.{Look, Request}
+use Rattle.clv_base.specs.declared.events.Event.TheVariants.{Look}
 use Rattle.clv_base.specs.declared.events.Outcome.TheVariants.{Acknowledged}
 use Rattle.clv_base.specs.declared.events.Entry.{Entry}
 use Rattle.clv_base.specs.Orders.{tx_same}
@@ -15,12 +13,11 @@ use Rattle.clv_base.specs.Journals.{History}
 use Rattle.clv_base.specs.History.{acknowledged_in, is_acknowledgement}
 use Rattle.clv_base.proofs.SameNames.{tx_true, tx_self, or_left, or_right}
 use Rattle.live_lines.specs.declared.calls.Reply.{Reply}
-use Rattle.live_lines.specs.declared.calls.Reply.TheVariants.{Begun, Answered, Committed, Empty, Aborted, Down, Unsettled, Worn, Memory, Refused}
-use Rattle.script_runs.specs.Operations.{IsOperation, parts_of}
+use Rattle.live_lines.specs.declared.calls.Reply.TheVariants.{Begun, Answered, Saved, WentBack, Committed, Empty, Aborted, Down, Unsettled, Worn, Memory, Refused}
+use Rattle.script_runs.specs.Operations.{parts_of}
 use Rattle.script_runs.specs.Tries.{IsLook}
-use Rattle.script_runs.specs.Seen.{Seen}
-use Rattle.live_sessions.specs.Replies.{AcknowledgeNone, Operated, Acknowledges, Made, InTurn, no_reply, reply, TellCommits, TellAllCommits, HasOperated, TellAnswers, Tells, RepliesAreTrue}
-use Rattle.live_sessions.proofs.RepliesTellEntries.{parts_none}
+use Rattle.live_sessions.specs.Replies.{AcknowledgeNone, Acknowledges, Made, InTurn, no_reply, reply, TellCommits, TellAllCommits, TellAnswers, RepliesAreTrue}
+use Rattle.live_sessions.proofs.RepliesTellEntries.{parts_none, rolls_none}
 
 -- ---- acknowledgements
 
@@ -64,6 +61,8 @@ none_empty es t is h = none_there es t (λ tx. ap (λ l. acknowledged_in l tx) i
 tells_it : (splits : List ℕ) (r : Reply) (es : History) (t : TxId) → Made splits r es → acknowledged_in es t ≡ true → r ≡ Committed t.serial
 tells_it splits (Answered op answer) es t (tx, birth, nth, o) h = none_there es t (parts_none tx birth nth (parts_of splits op) o.answers es o.parts) h
 tells_it splits (Committed serial) es t made h = ap (λ n. Committed n) (sym (acknowledges_only serial es made t h))
+tells_it splits (Saved number) es t made h = none_empty es t made h
+tells_it splits (WentBack number) es t (tx, nth, upto, rolled) h = none_there es t (rolls_none tx nth upto es rolled.0) h
 tells_it splits (Begun serial) es t made h = none_empty es t made h
 tells_it splits (Empty serial) es t made h = none_empty es t made h
 tells_it splits (Refused why) es t made h = none_empty es t made h

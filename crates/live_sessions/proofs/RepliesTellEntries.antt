@@ -1,5 +1,5 @@
 -- A session's entries are those that its lines made, each as its reply tells.
-use Rattle.std.proofs.Common.{◌≡◌, ◌⊎◌, inl, inr, refl, sym, subst, ap, ◌∙◌, ℕ, suc, Bool, true, false, ◌||◌, List, [], ◌∷◌, ◌++◌, Option, Some, None, Result, Ok, Err, ◌+◌, ◌≤◌, length, append_assoc, arith, length-append}
+use Rattle.std.proofs.Common.{◌≡◌, ◌⊎◌, inl, inr, refl, sym, subst, ap, ◌∙◌, ℕ, suc, Bool, false, ◌||◌, List, [], ◌∷◌, ◌++◌, Option, Some, None, Result, Ok, Err, ◌+◌, ◌≤◌, length, arith, length-append}
 use Rattle.std.specs.List.{AllByRecursion}
 use Rattle.std.proofs.lemmas.List.Folds.{list_any-append}
 use Rattle.clv_base.specs.declared.names.TxId.{TxId}
@@ -9,28 +9,29 @@ use Rattle.clv_base.specs.declared.causes.AbortCause.TheVariants as cause
 use Rattle.clv_base.specs.declared.ops.Op.{Op}
 use Rattle.clv_base.specs.declared.ops.Answer.{Answer}
 use Rattle.clv_base.specs.declared.events.Event.{Event}
-use Rattle.clv_base.specs.declared.events.Event.TheVariants.{Op as OpEvent, Request, Look, Drop}
+use Rattle.clv_base.specs.declared.events.Event.TheVariants.{Op as OpEvent, RollTo, Request, Look, Drop}
 use Rattle.clv_base.specs.declared.events.Outcome.{Outcome}
-use Rattle.clv_base.specs.declared.events.Outcome.TheVariants.{Aborted as AbortedOut, Asked as AskedOut}
+use Rattle.clv_base.specs.declared.events.Outcome.TheVariants.{Rolled, Aborted as AbortedOut, Asked as AskedOut}
 use Rattle.clv_base.specs.declared.events.Entry.{Entry}
 use Rattle.clv_base.specs.Journals.{History}
 use Rattle.clv_base.specs.History.{acknowledged_in, is_acknowledgement}
-use Rattle.live_lines.specs.declared.calls.Call.TheVariants.{Begin, Retry, Operate, Commit, Abort}
+use Rattle.live_lines.specs.declared.calls.Call.TheVariants.{Begin, Retry, Operate, Save, Back, Commit, Abort}
 use Rattle.live_lines.specs.declared.calls.Asked.{Asked}
 use Rattle.live_lines.specs.declared.calls.Asked.TheVariants as asks
 use Rattle.live_lines.specs.declared.calls.Reply.{Reply}
-use Rattle.live_lines.specs.declared.calls.Reply.TheVariants.{Begun, Answered, Committed, Empty, Aborted, Refused}
+use Rattle.live_lines.specs.declared.calls.Reply.TheVariants.{Begun, Answered, Saved, WentBack, Committed, Empty, Aborted, Refused}
 use Rattle.live_lines.specs.declared.calls.Reply.TheVariants as tells
 use Rattle.script_runs.specs.declared.ends.StopCause.{StopCause}
 use Rattle.script_runs.specs.declared.ends.StopCause.TheVariants.{Down, Unsettled, Worn, Memory}
 use Rattle.script_runs.specs.Operations.{IsPart, ArePartsAnswered, no_part, part, IsOperation, IsBegun, IsDeath, parts_of}
+use Rattle.script_runs.specs.Acts.{IsRoll, IsBackDeath}
 use Rattle.script_runs.specs.Tries.{IsRequest, IsLook}
-use Rattle.script_runs.specs.Seen.{Standing, Idle, Active, Asked as StandsAsked, Seen, Grows, GrowsIn}
+use Rattle.script_runs.specs.Seen.{Standing, Idle, Active, Asked as StandsAsked, Seen, Going, Grows, GrowsIn}
 use Rattle.script_runs.proofs.Laws.{grows_none, grows_over}
-use Rattle.script_runs.specs.Told.{AreDropsOf, IsUnanswered, RequestStands, StaysAsked, StaysUnasked, DiesAtRequest, AbortsAtLook}
+use Rattle.script_runs.specs.Told.{AreDropsOf, BackTold, IsUnanswered, RequestStands, StaysAsked, StaysUnasked, DiesAtRequest, AbortsAtLook}
 use Rattle.live_sessions.specs.declared.answering.Course.{Course}
-use Rattle.live_sessions.specs.Served.{InTx, Leaves, Drops, Did, Served, none_taken, line_taken, ClosesBy}
-use Rattle.live_sessions.specs.Replies.{AcknowledgeNone, Made, InTurn, no_reply, reply, Tells, RepliesTellEntries}
+use Rattle.live_sessions.specs.Served.{Leaves, Drops, Did, Served, none_taken, line_taken, ClosesBy}
+use Rattle.live_sessions.specs.Replies.{AcknowledgeNone, Made, InTurn, no_reply, reply, RepliesTellEntries}
 
 -- ---- entries that acknowledge nothing
 
@@ -71,6 +72,18 @@ death_none : (splits : List ℕ) (tx : TxId) (birth : Birth) (nth : ℕ) (op : O
 death_none splits tx birth nth op why n es d =
     subst AcknowledgeNone (sym d.entries)
     (none_two d.before (d.last ∷ []) (parts_none tx birth nth d.done d.answers d.before d.answered) (none_first d.last [] (part_none tx birth nth d.next _ d.last d.died) (λ t. refl)))
+
+roll_none : (tx : TxId) (nth upto : ℕ) (o : Outcome) (e : ℕ × Entry) → IsRoll tx nth upto o e → (t : TxId) → is_acknowledgement t (e.1).event (e.1).outcome ≡ false
+roll_none tx nth upto o e r = of_event e (RollTo tx nth r.seen upto) r.event (λ t q. refl)
+
+pub rolls_none : (tx : TxId) (nth upto : ℕ) (es : History) → AllByRecursion (IsRoll tx nth upto Rolled) es → AcknowledgeNone es
+rolls_none tx nth upto [] r = λ t. refl
+rolls_none tx nth upto (e ∷ es) r = none_first e es (roll_none tx nth upto Rolled e r.0) (rolls_none tx nth upto es r.1)
+
+back_death_none : (tx : TxId) (nth upto : ℕ) (ws : List (ℕ × ℕ)) (why : AbortCause) (n : ℕ) (es : History) → IsBackDeath tx nth upto ws why n es → AcknowledgeNone es
+back_death_none tx nth upto ws why n es d =
+    subst AcknowledgeNone (sym d.entries)
+    (none_two d.before (d.last ∷ []) (rolls_none tx nth upto d.before ((d.begun).rolled).0) (none_first d.last [] (roll_none tx nth upto _ d.last d.died) (λ t. refl)))
 
 -- ---- what a line made
 
@@ -115,44 +128,58 @@ dies_adds tx touched why u v (inr (home, asked, told, drops, is, looks, are, gro
     by_call 1 AcknowledgeNone (asked ∷ told ∷ drops) u v grows
     (none_first asked (told ∷ drops) (request_none tx home _ asked is) (none_first told drops (look_none tx home why told looks) (drops_none tx touched (Some home) drops are)))
 
-made : (a : Asked) (r : Reply) (u v : Seen) → Did a r u v → Adds 1 (Made u.splits r) u v
-made asked (Refused why) u v did = by_same 1 (λ es. es ≡ []) u v did refl
-made (asks.Call Begin) (Begun n) u v ((birth, born, later, earlier, begins), is) = by_begin (λ es. es ≡ []) u v begins.grows refl
-made (asks.Call Begin) (tells.Worn at) u v grows = by_call 1 AcknowledgeNone [] u v grows (λ t. refl)
-made (asks.Call Retry) (Begun n) u v (birth, last, begins, is) = by_begin (λ es. es ≡ []) u v begins.grows refl
-made (asks.Call Retry) (tells.Down n) u v (birth, last, grows) = by_call 1 AcknowledgeNone [] u v grows (λ t. refl)
-made (asks.Call Retry) (tells.Worn at) u v (birth, last, grows) = by_call 1 AcknowledgeNone [] u v grows (λ t. refl)
-made (asks.Call (Operate op)) (Answered of a) u v (same, (tx, birth, nth, touched, is, (here, after, operation, touches, grows, standing))) =
+-- a going back took a number, or there was nothing to take back
+went_adds : (number : ℕ) (tx : TxId) (birth : Birth) (nth : ℕ) (touched : ℕ → Bool) (upto : ℕ) (ws : List (ℕ × ℕ)) (to : Option ℕ) (u v : Seen) → BackTold tx birth nth touched upto ws (Ok to) u v → Adds 1 (Made u.splits (WentBack number)) u v
+went_adds number tx birth nth touched upto ws None u v (none, grows, standing) = by_call 1 (Made u.splits (WentBack number)) [] u v grows (tx, suc nth, upto, (tt, refl))
+went_adds number tx birth nth touched upto ws (Some to) u v (is, some, here, back, on, grows, standing) = by_call 1 (Made u.splits (WentBack number)) here u v grows (tx, suc nth, upto, back.rolled)
+
+made : (over : Option Going) (a : Asked) (r : Reply) (u v : Seen) → Did over a r u v → Adds 1 (Made u.splits r) u v
+made over asked (Refused why) u v did = by_same 1 (λ es. es ≡ []) u v did refl
+made over (asks.Call Begin) (Begun n) u v ((birth, born, later, earlier, begins), is) = by_begin (λ es. es ≡ []) u v begins.grows refl
+made over (asks.Call Begin) (tells.Worn at) u v grows = by_call 1 AcknowledgeNone [] u v grows (λ t. refl)
+made over (asks.Call Retry) (Begun n) u v (birth, last, begins, is) = by_begin (λ es. es ≡ []) u v begins.grows refl
+made over (asks.Call Retry) (tells.Down n) u v (birth, last, (grows, standing)) = by_call 1 AcknowledgeNone [] u v grows (λ t. refl)
+made over (asks.Call Retry) (tells.Worn at) u v (birth, last, grows) = by_call 1 AcknowledgeNone [] u v grows (λ t. refl)
+made over (asks.Call (Operate op)) (Answered of a) u v (same, (tx, birth, nth, touched, is, (here, after, operation, touches, grows, standing))) =
     by_call 1 (Made u.splits (Answered of a)) here u v grows (tx, birth, suc nth, subst (λ o. IsOperation u.splits tx birth (suc nth) o a here) (sym same) operation)
-made (asks.Call (Operate op)) (Aborted why) u v (tx, birth, nth, touched, is, (here, drops, n, after, death, touches, are, grows, standing)) =
+made over (asks.Call (Operate op)) (Aborted why) u v (tx, birth, nth, touched, is, (here, drops, n, after, death, touches, are, grows, standing)) =
     by_call 1 AcknowledgeNone (here ++ drops) u v grows
     (none_two here drops (death_none u.splits tx birth (suc nth) op why n here death) (drops_none tx after (Some n) drops are))
-made (asks.Call (Operate op)) (tells.Down n) u v (m, (tx, birth, nth, touched, is, (here, after, begun, touches, grows, stays)), dropped) =
+made over (asks.Call (Operate op)) (tells.Down n) u v (m, (tx, birth, nth, touched, is, (here, after, begun, touches, grows, stays)), dropped) =
     then_more 0 1 u m v (by_call 0 AcknowledgeNone here u m grows (begun_none u.splits tx birth (suc nth) op here begun)) (drops_adds 1 m v dropped)
-made (asks.Call (Operate op)) (tells.Worn at) u v (tx, birth, nth, touched, is, (here, after, begun, touches, grows, stays)) =
+made over (asks.Call (Operate op)) (tells.Worn at) u v (tx, birth, nth, touched, is, (here, after, begun, touches, grows, stays)) =
     by_call 1 AcknowledgeNone here u v grows (begun_none u.splits tx birth (suc nth) op here begun)
-made (asks.Call (Operate op)) tells.Memory u v (tx, birth, nth, touched, is, (here, after, begun, touches, grows, stays)) =
+made over (asks.Call (Operate op)) tells.Memory u v (tx, birth, nth, touched, is, (here, after, begun, touches, grows, stays)) =
     by_call 1 AcknowledgeNone here u v grows (unanswered_none u.splits tx birth (suc nth) op here begun)
-made (asks.Call Commit) (Committed n) u v (tx, birth, nth, touched, is, ((home, asked, told, requests, looks, grows, standing, place), serial)) =
+made over (asks.Call Save) (Saved n) u v (active, g, is, number, same) = by_same 1 (λ es. es ≡ []) u v same refl
+made over (asks.Call Save) tells.Memory u v (active, same) = by_same 1 AcknowledgeNone u v same (λ t. refl)
+made over (asks.Call (Back number)) (WentBack n) u v (same, (g, upto, is_over, stands, (tx, birth, nth, touched, is, (to, told)))) = went_adds n tx birth nth touched upto g.written to u v told
+made over (asks.Call (Back number)) (Aborted why) u v (g, upto, is_over, stands, (tx, birth, nth, touched, is, (here, drops, n, death, on, are, grows, standing))) =
+    by_call 1 AcknowledgeNone (here ++ drops) u v grows (none_two here drops (back_death_none tx (suc nth) upto g.written why n here death) (drops_none tx touched (Some n) drops are))
+made over (asks.Call (Back number)) (tells.Down n) u v (m, (g, upto, is_over, stands, (tx, birth, nth, touched, is, (here, begun, on, grows, stays))), dropped) =
+    then_more 0 1 u m v (by_call 0 AcknowledgeNone here u m grows (rolls_none tx (suc nth) upto here (begun.rolled).0)) (drops_adds 1 m v dropped)
+made over (asks.Call (Back number)) (tells.Worn at) u v (g, upto, is_over, stands, (tx, birth, nth, touched, is, (here, n, begun, on, grows, stays))) =
+    by_call 1 AcknowledgeNone here u v grows (rolls_none tx (suc nth) upto here (begun.rolled).0)
+made over (asks.Call Commit) (Committed n) u v (tx, birth, nth, touched, is, ((home, asked, told, requests, looks, grows, standing, place), serial)) =
     by_call 1 (Made u.splits (Committed n)) (asked ∷ told ∷ []) u v grows (tx, home, asked, told, sym serial, requests, looks, refl)
-made (asks.Call Commit) (Empty n) u v (tx, birth, nth, touched, is, ((none, grows, standing), serial)) = by_call 1 (λ es. es ≡ []) [] u v grows refl
-made (asks.Call Commit) (Aborted why) u v (tx, birth, nth, touched, is, (how, standing)) = dies_adds tx touched why u v how
-made (asks.Call Commit) (tells.Down n) u v (m, (tx, birth, nth, touched, is, (grows, stays)), dropped) =
+made over (asks.Call Commit) (Empty n) u v (tx, birth, nth, touched, is, ((none, grows, standing), serial)) = by_call 1 (λ es. es ≡ []) [] u v grows refl
+made over (asks.Call Commit) (Aborted why) u v (tx, birth, nth, touched, is, (how, standing)) = dies_adds tx touched why u v how
+made over (asks.Call Commit) (tells.Down n) u v (m, (tx, birth, nth, touched, is, (grows, stays)), dropped) =
     then_more 0 1 u m v (by_call 0 AcknowledgeNone [] u m grows (λ t. refl)) (drops_adds 1 m v dropped)
-made (asks.Call Commit) (tells.Unsettled n) u v (tx, birth, nth, touched, is, (stands, standing)) = stands_adds tx u v stands
-made (asks.Call Commit) (tells.Worn at) u v (tx, birth, nth, touched, is, wants) = wants_adds tx birth touched u v wants
-made (asks.Call Commit) tells.Memory u v (tx, birth, nth, touched, is, wants) = wants_adds tx birth touched u v wants
-made (asks.Call Abort) (Aborted cause.Asked) u v (tx, birth, nth, touched, is, leaves) = leaves_adds 1 tx birth touched (Ok (tt {0})) u v leaves
-made (asks.Call Abort) (tells.Worn at) u v (tx, birth, nth, touched, is, leaves) = leaves_adds 1 tx birth touched (Err (Worn at)) u v leaves
-made asked r u v did = absurd did
+made over (asks.Call Commit) (tells.Unsettled n) u v (tx, birth, nth, touched, is, (stands, standing)) = stands_adds tx u v stands
+made over (asks.Call Commit) (tells.Worn at) u v (tx, birth, nth, touched, is, wants) = wants_adds tx birth touched u v wants
+made over (asks.Call Commit) tells.Memory u v (tx, birth, nth, touched, is, wants) = wants_adds tx birth touched u v wants
+made over (asks.Call Abort) (Aborted cause.Asked) u v (tx, birth, nth, touched, is, leaves) = leaves_adds 1 tx birth touched (Ok (tt {0})) u v leaves
+made over (asks.Call Abort) (tells.Worn at) u v (tx, birth, nth, touched, is, leaves) = leaves_adds 1 tx birth touched (Err (Worn at)) u v leaves
+made over asked r u v did = absurd did
 
 -- ---- all lines, and the end
 
-all_made : (asked : List Asked) (replies : List Reply) (u v : Seen) (course : Course) → Served asked replies u course v → Adds (length asked) (InTurn u.splits replies) u v
-all_made _ _ _ _ _ (none_taken u first new) = by_same 0 (InTurn u.splits []) u u refl no_reply
-all_made _ _ _ _ _ (line_taken asked replies a r u m v course next before did turns) =
-    let f = all_made asked replies u m course before in
-    let g = made a r m v did in
+all_made : (asked : List Asked) (replies : List Reply) (u v : Seen) (course : Course) (over : Option Going) → Served asked replies u course v over → Adds (length asked) (InTurn u.splits replies) u v
+all_made _ _ _ _ _ _ (none_taken u first over new) = by_same 0 (InTurn u.splits []) u u refl no_reply
+all_made _ _ _ _ _ _ (line_taken asked replies a r u m v course next over now before did to turns) =
+    let f = all_made asked replies u m course over before in
+    let g = made over a r m v did in
     let one = length-append asked (a ∷ []) in (
       f.0 ++ g.0,
       f.1 + g.1,
@@ -170,8 +197,8 @@ end_adds (Some cause) (Idle again) v w same = by_same 0 AcknowledgeNone v w same
 end_adds (Some cause) StandsAsked v w same = by_same 0 AcknowledgeNone v w same (λ t. refl)
 
 pub replies_tell_entries : RepliesTellEntries
-replies_tell_entries asked replies u v w course served closes =
-    let f = all_made asked replies u v course served in
+replies_tell_entries asked replies u v w course over served closes =
+    let f = all_made asked replies u v course over served in
     let g = end_adds course.ended v.standing v w closes in
     record {
       es = f.0;

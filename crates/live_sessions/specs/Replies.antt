@@ -1,5 +1,5 @@
 -- What a session's replies tell of its entries.
-use Rattle.std.specs.Prelude.{◌≡◌, ◌≤◌, ℕ, true, false, List, [], ◌∷◌, ◌++◌, length}
+use Rattle.std.specs.Prelude.{◌≡◌, ◌≤◌, ℕ, true, false, List, [], ◌∷◌, ◌++◌, length, Option}
 use Rattle.std.specs.List.{Contains}
 use Rattle.clv_base.specs.declared.names.TxId.{TxId}
 use Rattle.clv_base.specs.declared.names.Birth.{Birth}
@@ -11,10 +11,11 @@ use Rattle.clv_base.specs.Journals.{History}
 use Rattle.clv_base.specs.History.{acknowledged_in}
 use Rattle.live_lines.specs.declared.calls.Asked.{Asked}
 use Rattle.live_lines.specs.declared.calls.Reply.{Reply}
-use Rattle.live_lines.specs.declared.calls.Reply.TheVariants.{Begun, Answered, Committed, Empty, Aborted, Down, Unsettled, Worn, Memory, Refused}
+use Rattle.live_lines.specs.declared.calls.Reply.TheVariants.{Begun, Answered, Saved, WentBack, Committed, Empty, Aborted, Down, Unsettled, Worn, Memory, Refused}
 use Rattle.script_runs.specs.Operations.{IsOperation}
+use Rattle.script_runs.specs.Acts.{AreRolled}
 use Rattle.script_runs.specs.Tries.{IsRequest, IsLook}
-use Rattle.script_runs.specs.Seen.{Seen, GrowsIn}
+use Rattle.script_runs.specs.Seen.{Seen, Going, GrowsIn}
 use Rattle.live_sessions.specs.declared.answering.Course.{Course}
 use Rattle.live_sessions.specs.Served.{Served, Closes}
 
@@ -26,6 +27,10 @@ AcknowledgeNone es = (tx : TxId) → acknowledged_in es tx ≡ false
 abbrev pub Operated : List ℕ → Op → Answer → History → Type 0
 Operated splits op answer es = (tx : TxId) × (birth : Birth) × (nth : ℕ) × IsOperation splits tx birth nth op answer es
 
+-- they are one going back of some transaction; or there is none, as there was nothing to take back
+abbrev pub GoneBack : History → Type 0
+GoneBack es = (tx : TxId) × (nth : ℕ) × (upto : ℕ) × AreRolled tx nth upto es
+
 -- they are the request of a transaction with this serial, and the look that acknowledged it
 abbrev pub Acknowledges : ℕ → History → Type 0
 Acknowledges serial es =
@@ -36,7 +41,9 @@ Acknowledges serial es =
 abbrev pub Made : List ℕ → Reply → History → Type 0
 Made splits (Answered op answer) es = Operated splits op answer es
 Made splits (Committed serial) es = Acknowledges serial es
+Made splits (WentBack number) es = GoneBack es
 Made splits (Begun serial) es = es ≡ []
+Made splits (Saved number) es = es ≡ []
 Made splits (Empty serial) es = es ≡ []
 Made splits (Refused why) es = es ≡ []
 Made splits (Aborted cause) es = AcknowledgeNone es
@@ -86,7 +93,7 @@ pub record Tells (asked : List Asked) (replies : List Reply) (u w : Seen) : Type
   pub ended : AcknowledgeNone end
 
 abbrev pub RepliesTellEntries : Type 0
-RepliesTellEntries = (asked : List Asked) (replies : List Reply) (u v w : Seen) (course : Course) → Served asked replies u course v → Closes course v w → Tells asked replies u w
+RepliesTellEntries = (asked : List Asked) (replies : List Reply) (u v w : Seen) (course : Course) (over : Option Going) → Served asked replies u course v over → Closes course v w → Tells asked replies u w
 
 -- so it is of each reply of a session that had no entries before
 abbrev pub RepliesAreTrue : Type 0

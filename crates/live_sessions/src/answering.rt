@@ -1,12 +1,13 @@
 // One line of a session.
-ghost use Rattle.std.specs.Prelude.{◌≡◌, true, Some, None};
+ghost use Rattle.std.specs.Prelude.{◌≡◌, ℕ, true, Some, None};
 ghost use Rattle.live_lines.specs.declared.calls.Call.TheVariants as calls;
 ghost use Rattle.live_lines.specs.declared.calls.Asked.TheVariants as asks;
-ghost use Rattle.script_runs.specs.Seen.{Keeps};
+ghost use Rattle.script_lang.specs.Savepoints.{upto_of};
+ghost use Rattle.script_runs.specs.Seen.{Going, Keeps};
 ghost use Rattle.script_runs.specs.Told.{has_range as ranges};
 ghost use Rattle.script_runs.specs.Tried.{OnStop};
 ghost use Rattle.script_runs.specs.Ran.{IsIdle};
-ghost use Rattle.live_sessions.specs.Served.{IsActive, IsLast, Goes, GoesOn, Leads, LeadsBy, Turns, Did, Drops, EndTold, IsOtherEnd, reply_by};
+ghost use Rattle.live_sessions.specs.Served.{IsActive, IsLast, Goes, GoesOn, Leads, LeadsBy, Turns, Did, Drops, EndTold, IsOtherEnd, Over, reply_by};
 
 use clv_base::causes::AbortCause;
 use clv_base::ops::Op;
@@ -78,9 +79,10 @@ fn begin<C: SessionCalls>(session: &mut C) -> Step
     ensures session { C.holds session.new }
     ensures base { C.base session.new ≡ C.base session.old }
     ensures misses { Keeps (C.missed session.old) (C.missed session.new) }
-    ensures did { Did (asks.Call calls.Begin) result.reply (C.seen session.old) (C.seen session.new) }
+    ensures did { Did (C.going session.old) (asks.Call calls.Begin) result.reply (C.seen session.old) (C.seen session.new) }
+    ensures over { Over result.reply (C.seen session.old) (C.going session.old) (C.going session.new) }
     ensures leads { Leads calls.Begin result.reply result.course (C.seen session.new) }
-    ensures course { Goes (C.grounds session.new) result.course (C.seen session.new) }
+    ensures course { Goes (C.grounds session.new) result.course (C.seen session.new) (C.going session.new) }
 {
     match session.begin() {
         Ok(()) => {
@@ -98,9 +100,10 @@ fn retry<C: SessionCalls>(alloc: Global, session: &mut C) -> Step
     ensures session { C.holds session.new }
     ensures base { C.base session.new ≡ C.base session.old }
     ensures misses { Keeps (C.missed session.old) (C.missed session.new) }
-    ensures did { Did (asks.Call calls.Retry) result.reply (C.seen session.old) (C.seen session.new) }
+    ensures did { Did (C.going session.old) (asks.Call calls.Retry) result.reply (C.seen session.old) (C.seen session.new) }
+    ensures over { Over result.reply (C.seen session.old) (C.going session.old) (C.going session.new) }
     ensures leads { Leads calls.Retry result.reply result.course (C.seen session.new) }
-    ensures course { Goes (C.grounds session.new) result.course (C.seen session.new) }
+    ensures course { Goes (C.grounds session.new) result.course (C.seen session.new) (C.going session.new) }
 {
     match session.retry(alloc) {
         Ok(()) => {
@@ -122,7 +125,7 @@ fn drop_down<C: SessionCalls>(alloc: Global, session: &mut C, shard: u32) -> Ste
     ensures reply { result.reply ≡ Reply.Down shard }
     ensures dropped { Drops (C.seen session.old) (C.seen session.new) }
     ensures leads { LeadsBy result.reply result.course (C.seen session.new) }
-    ensures course { Goes (C.grounds session.new) result.course (C.seen session.new) }
+    ensures course { Goes (C.grounds session.new) result.course (C.seen session.new) (C.going session.new) }
 {
     match session.abort(alloc) {
         Ok(()) => goes_on(Reply::Down { shard }, true),
@@ -140,7 +143,7 @@ fn end_by<C: SessionCalls>(alloc: Global, session: &mut C, end: TryEnd) -> Step
     ensures misses { Keeps (C.missed session.old) (C.missed session.new) }
     ensures ended { EndTold end result.reply (C.seen session.old) (C.seen session.new) }
     ensures leads { LeadsBy result.reply result.course (C.seen session.new) }
-    ensures course { Goes (C.grounds session.new) result.course (C.seen session.new) }
+    ensures course { Goes (C.grounds session.new) result.course (C.seen session.new) (C.going session.new) }
 {
     match end {
         TryEnd::Aborted(cause) => goes_on(Reply::Aborted(cause), true),
@@ -153,13 +156,15 @@ fn end_by<C: SessionCalls>(alloc: Global, session: &mut C, end: TryEnd) -> Step
 fn operate<C: SessionCalls>(alloc: Global, session: &mut C, op: Op) -> Step
     requires session { C.holds session.old }
     requires active { IsActive (C.seen session.old) }
+    requires whole { (g : Going) × (C.going session.old ≡ Some g) }
     requires range { ranges op ≡ true }
     ensures session { C.holds session.new }
     ensures base { C.base session.new ≡ C.base session.old }
     ensures misses { Keeps (C.missed session.old) (C.missed session.new) }
-    ensures did { Did (asks.Call (calls.Operate op)) result.reply (C.seen session.old) (C.seen session.new) }
+    ensures did { Did (C.going session.old) (asks.Call (calls.Operate op)) result.reply (C.seen session.old) (C.seen session.new) }
+    ensures over { Over result.reply (C.seen session.old) (C.going session.old) (C.going session.new) }
     ensures leads { Leads (calls.Operate op) result.reply result.course (C.seen session.new) }
-    ensures course { Goes (C.grounds session.new) result.course (C.seen session.new) }
+    ensures course { Goes (C.grounds session.new) result.course (C.seen session.new) (C.going session.new) }
 {
     match session.operate(alloc, &op) {
         Ok(answer) => goes_on(Reply::Answered { op, answer }, false),
@@ -167,15 +172,57 @@ fn operate<C: SessionCalls>(alloc: Global, session: &mut C, op: Op) -> Step
     }
 }
 
-fn commit<C: SessionCalls>(alloc: Global, session: &mut C) -> Step
+fn save<C: SessionCalls>(session: &mut C) -> Step
     requires session { C.holds session.old }
     requires active { IsActive (C.seen session.old) }
+    requires whole { (g : Going) × (C.going session.old ≡ Some g) }
     ensures session { C.holds session.new }
     ensures base { C.base session.new ≡ C.base session.old }
     ensures misses { Keeps (C.missed session.old) (C.missed session.new) }
-    ensures did { Did (asks.Call calls.Commit) result.reply (C.seen session.old) (C.seen session.new) }
+    ensures did { Did (C.going session.old) (asks.Call calls.Save) result.reply (C.seen session.old) (C.seen session.new) }
+    ensures over { Over result.reply (C.seen session.old) (C.going session.old) (C.going session.new) }
+    ensures leads { Leads calls.Save result.reply result.course (C.seen session.new) }
+    ensures course { Goes (C.grounds session.new) result.course (C.seen session.new) (C.going session.new) }
+{
+    match session.save() {
+        Ok(number) => goes_on(Reply::Saved { number }, false),
+        Err(_) => {
+            session.tell_lack();
+            stops(StopCause::Memory)
+        }
+    }
+}
+
+// The savepoint of this number stands.
+fn go_back<C: SessionCalls>(alloc: Global, session: &mut C, number: u64) -> Step
+    requires session { C.holds session.old }
+    requires active { IsActive (C.seen session.old) }
+    requires stands { (g : Going) × (upto : ℕ) × (C.going session.old ≡ Some g) × (upto_of number g.saves.standing ≡ Some upto) }
+    ensures session { C.holds session.new }
+    ensures base { C.base session.new ≡ C.base session.old }
+    ensures misses { Keeps (C.missed session.old) (C.missed session.new) }
+    ensures did { Did (C.going session.old) (asks.Call (calls.Back number)) result.reply (C.seen session.old) (C.seen session.new) }
+    ensures over { Over result.reply (C.seen session.old) (C.going session.old) (C.going session.new) }
+    ensures leads { Leads (calls.Back number) result.reply result.course (C.seen session.new) }
+    ensures course { Goes (C.grounds session.new) result.course (C.seen session.new) (C.going session.new) }
+{
+    match session.go_back(alloc, number) {
+        Ok(_) => goes_on(Reply::WentBack { number }, false),
+        Err(end) => end_by(alloc, session, end),
+    }
+}
+
+fn commit<C: SessionCalls>(alloc: Global, session: &mut C) -> Step
+    requires session { C.holds session.old }
+    requires active { IsActive (C.seen session.old) }
+    requires whole { (g : Going) × (C.going session.old ≡ Some g) }
+    ensures session { C.holds session.new }
+    ensures base { C.base session.new ≡ C.base session.old }
+    ensures misses { Keeps (C.missed session.old) (C.missed session.new) }
+    ensures did { Did (C.going session.old) (asks.Call calls.Commit) result.reply (C.seen session.old) (C.seen session.new) }
+    ensures over { Over result.reply (C.seen session.old) (C.going session.old) (C.going session.new) }
     ensures leads { Leads calls.Commit result.reply result.course (C.seen session.new) }
-    ensures course { Goes (C.grounds session.new) result.course (C.seen session.new) }
+    ensures course { Goes (C.grounds session.new) result.course (C.seen session.new) (C.going session.new) }
 {
     let serial = session.name().serial;
     match session.commit(alloc) {
@@ -191,9 +238,10 @@ fn abort<C: SessionCalls>(alloc: Global, session: &mut C) -> Step
     ensures session { C.holds session.new }
     ensures base { C.base session.new ≡ C.base session.old }
     ensures misses { Keeps (C.missed session.old) (C.missed session.new) }
-    ensures did { Did (asks.Call calls.Abort) result.reply (C.seen session.old) (C.seen session.new) }
+    ensures did { Did (C.going session.old) (asks.Call calls.Abort) result.reply (C.seen session.old) (C.seen session.new) }
+    ensures over { Over result.reply (C.seen session.old) (C.going session.old) (C.going session.new) }
     ensures leads { Leads calls.Abort result.reply result.course (C.seen session.new) }
-    ensures course { Goes (C.grounds session.new) result.course (C.seen session.new) }
+    ensures course { Goes (C.grounds session.new) result.course (C.seen session.new) (C.going session.new) }
 {
     match session.abort(alloc) {
         Ok(()) => goes_on(Reply::Aborted(AbortCause::Asked), true),
@@ -216,13 +264,14 @@ fn call_at_rest<C: SessionCalls>(alloc: Global, session: &mut C, course: Course,
     requires session { C.holds session.old }
     requires idle { IsIdle (C.seen session.old) }
     requires live { course.ended ≡ None }
-    requires course { Goes (C.grounds session.old) course (C.seen session.old) }
+    requires course { Goes (C.grounds session.old) course (C.seen session.old) (C.going session.old) }
     ensures session { C.holds session.new }
     ensures base { C.base session.new ≡ C.base session.old }
     ensures misses { Keeps (C.missed session.old) (C.missed session.new) }
-    ensures did { Did (asks.Call call) result.reply (C.seen session.old) (C.seen session.new) }
-    ensures turns { Turns course (asks.Call call) result.reply result.course (C.seen session.old) (C.seen session.new) }
-    ensures course { Goes (C.grounds session.new) result.course (C.seen session.new) }
+    ensures did { Did (C.going session.old) (asks.Call call) result.reply (C.seen session.old) (C.seen session.new) }
+    ensures over { Over result.reply (C.seen session.old) (C.going session.old) (C.going session.new) }
+    ensures turns { Turns (C.going session.old) course (asks.Call call) result.reply result.course (C.seen session.old) (C.seen session.new) }
+    ensures course { Goes (C.grounds session.new) result.course (C.seen session.new) (C.going session.new) }
 {
     match call {
         Call::Begin => begin(session),
@@ -252,13 +301,14 @@ fn call_in_tx<C: SessionCalls>(alloc: Global, session: &mut C, course: Course, c
     requires session { C.holds session.old }
     requires active { IsActive (C.seen session.old) }
     requires live { course.ended ≡ None }
-    requires course { Goes (C.grounds session.old) course (C.seen session.old) }
+    requires course { Goes (C.grounds session.old) course (C.seen session.old) (C.going session.old) }
     ensures session { C.holds session.new }
     ensures base { C.base session.new ≡ C.base session.old }
     ensures misses { Keeps (C.missed session.old) (C.missed session.new) }
-    ensures did { Did (asks.Call call) result.reply (C.seen session.old) (C.seen session.new) }
-    ensures turns { Turns course (asks.Call call) result.reply result.course (C.seen session.old) (C.seen session.new) }
-    ensures course { Goes (C.grounds session.new) result.course (C.seen session.new) }
+    ensures did { Did (C.going session.old) (asks.Call call) result.reply (C.seen session.old) (C.seen session.new) }
+    ensures over { Over result.reply (C.seen session.old) (C.going session.old) (C.going session.new) }
+    ensures turns { Turns (C.going session.old) course (asks.Call call) result.reply result.course (C.seen session.old) (C.seen session.new) }
+    ensures course { Goes (C.grounds session.new) result.course (C.seen session.new) (C.going session.new) }
 {
     match call {
         Call::Operate(op) => {
@@ -266,6 +316,14 @@ fn call_in_tx<C: SessionCalls>(alloc: Global, session: &mut C, course: Course, c
                 operate(alloc, session, op)
             } else {
                 refuse(Refusal::Unknown, course)
+            }
+        }
+        Call::Save => save(session),
+        Call::Back(number) => {
+            if session.has_savepoint(number) {
+                go_back(alloc, session, number)
+            } else {
+                refuse(Refusal::NoSavepoint, course)
             }
         }
         Call::Commit => commit(alloc, session),
@@ -278,13 +336,14 @@ fn call_in_tx<C: SessionCalls>(alloc: Global, session: &mut C, course: Course, c
 fn call_of<C: SessionCalls>(alloc: Global, session: &mut C, course: Course, call: Call) -> Step
     requires session { C.holds session.old }
     requires live { course.ended ≡ None }
-    requires course { Goes (C.grounds session.old) course (C.seen session.old) }
+    requires course { Goes (C.grounds session.old) course (C.seen session.old) (C.going session.old) }
     ensures session { C.holds session.new }
     ensures base { C.base session.new ≡ C.base session.old }
     ensures misses { Keeps (C.missed session.old) (C.missed session.new) }
-    ensures did { Did (asks.Call call) result.reply (C.seen session.old) (C.seen session.new) }
-    ensures turns { Turns course (asks.Call call) result.reply result.course (C.seen session.old) (C.seen session.new) }
-    ensures course { Goes (C.grounds session.new) result.course (C.seen session.new) }
+    ensures did { Did (C.going session.old) (asks.Call call) result.reply (C.seen session.old) (C.seen session.new) }
+    ensures over { Over result.reply (C.seen session.old) (C.going session.old) (C.going session.new) }
+    ensures turns { Turns (C.going session.old) course (asks.Call call) result.reply result.course (C.seen session.old) (C.seen session.new) }
+    ensures course { Goes (C.grounds session.new) result.course (C.seen session.new) (C.going session.new) }
 {
     match session.stage() {
         Stage::Idle => call_at_rest(alloc, session, course, call),
@@ -301,13 +360,14 @@ pub(crate) fn answer<C: SessionCalls>(
     asked: Asked,
 ) -> Step
     requires session { C.holds session.old }
-    requires course { Goes (C.grounds session.old) course (C.seen session.old) }
+    requires course { Goes (C.grounds session.old) course (C.seen session.old) (C.going session.old) }
     ensures session { C.holds session.new }
     ensures base { C.base session.new ≡ C.base session.old }
     ensures misses { Keeps (C.missed session.old) (C.missed session.new) }
-    ensures did { Did asked result.reply (C.seen session.old) (C.seen session.new) }
-    ensures turns { Turns course asked result.reply result.course (C.seen session.old) (C.seen session.new) }
-    ensures course { Goes (C.grounds session.new) result.course (C.seen session.new) }
+    ensures did { Did (C.going session.old) asked result.reply (C.seen session.old) (C.seen session.new) }
+    ensures over { Over result.reply (C.seen session.old) (C.going session.old) (C.going session.new) }
+    ensures turns { Turns (C.going session.old) course asked result.reply result.course (C.seen session.old) (C.seen session.new) }
+    ensures course { Goes (C.grounds session.new) result.course (C.seen session.new) (C.going session.new) }
 {
     if course.ended.is_some() {
         return refuse(Refusal::Ended, course);

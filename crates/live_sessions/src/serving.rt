@@ -13,7 +13,7 @@ use std::sync::Wait;
 // The session's end: an open transaction is aborted, unless something stopped the session before.
 fn close<C: SessionCalls>(alloc: Global, session: &mut C, course: Course) -> Result<(), StopCause>
     requires session { C.holds session.old }
-    requires course { Goes (C.grounds session.old) course (C.seen session.old) }
+    requires course { Goes (C.grounds session.old) course (C.seen session.old) (C.going session.old) }
     ensures session { C.holds session.new }
     ensures base { C.base session.new ≡ C.base session.old }
     ensures misses { Keeps (C.missed session.old) (C.missed session.new) }

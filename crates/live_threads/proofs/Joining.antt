@@ -50,7 +50,7 @@ told_all false said replies (front, last, are, is) = (last ∷ [], are ∙ ap (�
 pub lives_by : (u v : Seen) (got : List Asked) (said : List Reply) (whole : Bool) → HasServed whole [] got [] said u v → (life : Life) × Lives u v got said whole life
 lives_by u v got said whole s =
     let t = told_all whole said s.replies s.tells in
-    (record { asked = s.asked; replies = s.replies }, record { lived = record { last = s.last; course = s.course; served = s.served; closes = s.closes }; asked = sym s.took; more = t.0; replies = t.1; none = t.2 })
+    (record { asked = s.asked; replies = s.replies }, record { lived = record { last = s.last; course = s.course; over = s.over; served = s.served; closes = s.closes }; asked = sym s.took; more = t.0; replies = t.1; none = t.2 })
 
 -- so did all of them, in a numbering from 1
 pub all_live :

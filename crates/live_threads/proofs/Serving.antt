@@ -98,7 +98,7 @@ pub nothing_done :
     → (lives : ℕ → Life) × HaveLived seen places places lives × Streamed n lives left left taken taken read written
 nothing_done seen places n idle left taken read written none fine = (
   idle_life,
-  (λ k d low. record { last = seen (get_or places k d).session; course = record { may_retry = false; ended = None }; served = none_taken (seen (get_or places k d).session) _ (refl, refl); closes = idle_closes (seen (get_or places k d).session) (idle k d low) }),
+  (λ k d low. record { last = seen (get_or places k d).session; course = record { may_retry = false; ended = None }; over = None; served = none_taken (seen (get_or places k d).session) _ None (refl, refl); closes = idle_closes (seen (get_or places k d).session) (idle k d low) }),
   record {
     refused = [];
     took = ([], consumes_none left, record { handed = []; input = ([], lines_of [], refl, no_line); fronts = λ k low. ([], refl) });

@@ -7,7 +7,7 @@ use Rattle.live_lines.specs.declared.calls.Asked.{Asked}
 use Rattle.live_lines.specs.declared.calls.Reply.{Reply}
 use Rattle.live_lines.specs.declared.calls.Reply.TheVariants.{Refused}
 use Rattle.live_lines.specs.declared.calls.Refusal.{Refusal}
-use Rattle.script_runs.specs.Seen.{Seen}
+use Rattle.script_runs.specs.Seen.{Seen, Going}
 use Rattle.live_sessions.specs.declared.answering.Course.{Course}
 use Rattle.live_sessions.specs.Served.{Served, Closes}
 use Rattle.live_streams.specs.Inputs.{TookInput, TookAllInput, of_session}
@@ -23,7 +23,8 @@ pub record Life : Type 0 where
 pub record HasLived (life : Life) (first closed : Seen) : Type 0 where
   pub last : Seen
   pub course : Course
-  pub served : Served life.asked life.replies first course last
+  pub over : Option Going
+  pub served : Served life.asked life.replies first course last over
   pub closes : Closes course last closed
 
 -- each session took a front of its lines of what was read, or all of them

@@ -9,8 +9,8 @@ use Rattle.clv_base.specs.declared.ops.Op.{Op}
 use Rattle.clv_base.specs.declared.ops.Op.TheVariants.{Get, Put, Del, Scan, Add}
 use Rattle.clv_base.specs.declared.ops.Answer.{Answer}
 use Rattle.clv_base.specs.declared.ops.Answer.TheVariants.{Value, Pairs, Added}
-use Rattle.session_books.specs.Parts.{pairs_of}
-use Rattle.report_text.specs.Lines.{value_data, pair, answer, operation, operations, transaction}
+use Rattle.session_books.specs.Done.{Done, Did, WentBack}
+use Rattle.report_text.specs.Lines.{value_data, pair, answer, operation, act, acts, transaction}
 
 in_value : (v : ValueType) → has_float (value_data v) ≡ false
 in_value (Num n) = refl
@@ -26,16 +26,20 @@ in_answer (Value (Some v)) = in_value v
 in_answer (Pairs ps) = in_pairs ps
 in_answer (Added found) = refl
 
-in_operation : (op : Op) (a : Answer) → has_float (operation op a) ≡ false
+in_operation : (op : Op) (a : Answer) → has_float (operation op (answer a)) ≡ false
 in_operation (Get k) a = ap (λ b. b || false) (in_answer a)
 in_operation (Put k v) a = ap₂ (λ b c. b || (c || false)) (in_value v) (in_answer a)
 in_operation (Del k) a = ap (λ b. b || false) (in_answer a)
-in_operation (Scan lo hi) a = ap (λ b. b || false) (in_pairs (pairs_of a))
+in_operation (Scan lo hi) a = ap (λ b. b || false) (in_answer a)
 in_operation (Add k by) a = ap (λ b. b || false) (in_answer a)
 
-in_operations : (ops : List (Op × Answer)) → items_have_float (items_of (operations ops)) ≡ false
-in_operations [] = refl
-in_operations (p ∷ ps) = ap₂ (λ b c. b || c) (in_operation p.0 p.1) (in_operations ps)
+in_act : (d : Done) → has_float (act d) ≡ false
+in_act (Did op a) = in_operation op a
+in_act (WentBack upto) = refl
 
-pub in_transaction : (tx : TxId) (ops : List (Op × Answer)) → has_float (transaction tx ops) ≡ false
-in_transaction tx ops = ap (λ b. b || false) (in_operations ops)
+in_acts : (ds : List Done) → items_have_float (items_of (acts ds)) ≡ false
+in_acts [] = refl
+in_acts (d ∷ ds) = ap₂ (λ b c. b || c) (in_act d) (in_acts ds)
+
+pub in_transaction : (tx : TxId) (ds : List Done) → has_float (transaction tx ds) ≡ false
+in_transaction tx ds = ap (λ b. b || false) (in_acts ds)

@@ -11,7 +11,7 @@ use Rattle.clv_base.specs.declared.ops.Op.{Op}
 use Rattle.clv_base.specs.declared.ops.Op.TheVariants.{Get, Put, Del, Scan, Add}
 use Rattle.clv_base.specs.declared.ops.Answer.{Answer}
 use Rattle.clv_base.specs.declared.ops.Answer.TheVariants.{Value, Pairs, Added}
-use Rattle.session_books.specs.Parts.{pairs_of}
+use Rattle.session_books.specs.Done.{Done, Did, WentBack}
 
 -- a value as compact JSON, with a line feed
 abbrev pub line : Data → List ℕ
@@ -46,18 +46,23 @@ answer (Value v) = optional v
 answer (Pairs ps) = list (map pair ps)
 answer (Added found) = boolean found
 
--- an operation with its answer
-abbrev pub operation : Op → Answer → Data
-operation (Get k) a = list (string (codes "get") ∷ num k ∷ answer a ∷ [])
-operation (Put k v) a = list (string (codes "put") ∷ num k ∷ value_data v ∷ answer a ∷ [])
-operation (Del k) a = list (string (codes "del") ∷ num k ∷ answer a ∷ [])
-operation (Scan lo hi) a = list (string (codes "scan") ∷ num lo ∷ num hi ∷ list (map pair (pairs_of a)) ∷ [])
-operation (Add k by) a = list (string (codes "add") ∷ num k ∷ num by ∷ answer a ∷ [])
+-- an operation, with what was answered
+abbrev pub operation : Op → Data → Data
+operation (Get k) d = row (codes "get") (k ∷ []) d
+operation (Put k v) d = list (string (codes "put") ∷ num k ∷ value_data v ∷ d ∷ [])
+operation (Del k) d = row (codes "del") (k ∷ []) d
+operation (Scan lo hi) d = row (codes "scan") (lo ∷ hi ∷ []) d
+operation (Add k by) d = row (codes "add") (k ∷ by ∷ []) d
 
-abbrev pub operations : List (Op × Answer) → List Data
-operations ops = map (λ p. operation p.0 p.1) ops
+-- an operation with its answer; or a going back, with the number of acts up to which it went
+abbrev pub act : Done → Data
+act (Did op a) = operation op (answer a)
+act (WentBack upto) = list (string (codes "back") ∷ num upto ∷ [])
+
+abbrev pub acts : List Done → List Data
+acts ds = map act ds
 
 -- {"ops":[..],"serial":..,"session":..}
-abbrev pub transaction : TxId → List (Op × Answer) → Data
-transaction tx ops =
-    object (member (codes "ops") (list (operations ops)) (member (codes "serial") (num tx.serial) (member (codes "session") (num tx.session) no_members)))
+abbrev pub transaction : TxId → List Done → Data
+transaction tx ds =
+    object (member (codes "ops") (list (acts ds)) (member (codes "serial") (num tx.serial) (member (codes "session") (num tx.session) no_members)))

@@ -3,18 +3,18 @@
 ghost use Rattle.std.specs.Prelude.{◌≡◌, ◌++◌, ◌∷◌, IfOk, OnOk, map, false};
 ghost use Rattle.serde_json.specs.Data.{string};
 ghost use Rattle.serde_json.specs.Written.{has_float};
-ghost use Rattle.clv_base.specs.declared.ops.Op.TheVariants.{Put, Scan};
+ghost use Rattle.clv_base.specs.declared.ops.Op.TheVariants.{Put};
 ghost use Rattle.serde_json.specs.View.{view};
-ghost use Rattle.session_books.specs.Parts.{pairs_of as pairs_in};
-ghost use Rattle.report_text.specs.Lines.{line as line_of, num, list as list_of, row as row_of, optional as optional_value, value_data, pair as pair_value, answer as answer_data, operation as operation_value, operations as operations_values, transaction as transaction_value};
+ghost use Rattle.session_books.specs.Done.{WentBack};
+ghost use Rattle.report_text.specs.Lines.{line as line_of, num, list as list_of, row as row_of, optional as optional_value, value_data, pair as pair_value, operation as operation_value, act as act_value, acts as acts_values, transaction as transaction_value};
 
 use crate::Memory;
-use clv_base::kept::KeptOp;
-use clv_base::ops::{Answer, Op};
+use clv_base::ops::Op;
 use clv_base::values::Value as Stored;
 use hex::encode;
 use serde_json::{Value, json};
 use session_books::books::Row;
+use session_books::done::{Done, Held};
 use std::alloc::Global;
 
 // A value as compact JSON, with a line feed, is added to a text.
@@ -77,27 +77,13 @@ fn add_pairs(alloc: Global, values: &mut Vec<Value>, pairs: &[(u64, Stored)]) ->
     Ok(())
 }
 
-fn pairs_of(answer: &Answer) -> &[(u64, Stored)]
-    ensures { result.now ≡ pairs_in answer.now }
+// The pairs that a scan was answered.
+fn pairs_value(alloc: Global, pairs: &[(u64, Stored)]) -> Result<Value, Memory>
+    ensures { IfOk result (λ v. view v ≡ list_of (map pair_value pairs.now)) }
 {
-    match answer {
-        Answer::Value(_) | Answer::Added(_) => &[],
-        Answer::Pairs(pairs) => pairs.as_slice(),
-    }
-}
-
-fn answer_value(alloc: Global, answer: &Answer) -> Result<Value, Memory>
-    ensures { IfOk result (λ v. view v ≡ answer_data answer.now) }
-{
-    match answer {
-        Answer::Value(value) => optional(alloc, value),
-        Answer::Pairs(pairs) => {
-            let mut values = Vec::new(alloc);
-            add_pairs(alloc, &mut values, pairs.as_slice())?;
-            Ok(Value::Array(values))
-        }
-        Answer::Added(found) => Ok(Value::Bool(*found)),
-    }
+    let mut values = Vec::new(alloc);
+    add_pairs(alloc, &mut values, pairs)?;
+    Ok(Value::Array(values))
 }
 
 // What a row begins with.
@@ -119,66 +105,57 @@ fn row(alloc: Global, word: &str, numbers: &[u64], answered: Value) -> Result<Va
     Ok(Value::Array(values))
 }
 
-fn answered_row(
-    alloc: Global,
-    word: &str,
-    numbers: &[u64],
-    answer: &Answer,
-) -> Result<Value, Memory>
-    ensures { IfOk result (λ v. view v ≡ row_of word.now numbers.now (answer_data answer.now)) }
-{
-    let answered = answer_value(alloc, answer)?;
-    row(alloc, word, numbers, answered)
-}
-
-// The pairs that a scan was answered.
-fn scanned_pairs(alloc: Global, answer: &Answer) -> Result<Value, Memory>
-    ensures { IfOk result (λ v. view v ≡ list_of (map pair_value (pairs_in answer.now))) }
-{
-    let mut values = Vec::new(alloc);
-    add_pairs(alloc, &mut values, pairs_of(answer))?;
-    Ok(Value::Array(values))
-}
-
-fn scan_row(alloc: Global, low: u64, high: u64, answer: &Answer) -> Result<Value, Memory>
-    ensures { IfOk result (λ v. view v ≡ operation_value (Scan low high) answer.now) }
-{
-    let pairs = scanned_pairs(alloc, answer)?;
-    row(alloc, "scan", &[low, high], pairs)
-}
-
 // What a Put put, and what was answered.
-fn put_row(alloc: Global, key: u64, value: &Stored, answer: &Answer) -> Result<Value, Memory>
-    ensures { IfOk result (λ v. view v ≡ operation_value (Put key value.now) answer.now) }
+fn put_row(alloc: Global, key: u64, value: &Stored, answered: Value) -> Result<Value, Memory>
+    ensures { IfOk result (λ v. view v ≡ operation_value (Put key value.now) (view answered)) }
 {
     let put = stored(alloc, value)?;
-    let answered = answer_value(alloc, answer)?;
     let mut values = head(alloc, "put", &[key])?;
     values.push(put)?;
     values.push(answered)?;
     Ok(Value::Array(values))
 }
 
-// An operation with its answer.
-fn operation(alloc: Global, op: &Op, answer: &Answer) -> Result<Value, Memory>
-    ensures { IfOk result (λ v. view v ≡ operation_value op.now answer.now) }
+// An operation, with what was answered.
+fn operation(alloc: Global, op: &Op, answered: Value) -> Result<Value, Memory>
+    ensures { IfOk result (λ v. view v ≡ operation_value op.now (view answered)) }
 {
     match op {
-        Op::Get(key) => answered_row(alloc, "get", &[*key], answer),
-        Op::Put(key, value) => put_row(alloc, *key, value, answer),
-        Op::Del(key) => answered_row(alloc, "del", &[*key], answer),
-        Op::Scan(low, high) => scan_row(alloc, *low, *high, answer),
-        Op::Add(key, by) => answered_row(alloc, "add", &[*key, *by], answer),
+        Op::Get(key) => row(alloc, "get", &[*key], answered),
+        Op::Put(key, value) => put_row(alloc, *key, value, answered),
+        Op::Del(key) => row(alloc, "del", &[*key], answered),
+        Op::Scan(low, high) => row(alloc, "scan", &[*low, *high], answered),
+        Op::Add(key, by) => row(alloc, "add", &[*key, *by], answered),
     }
 }
 
-// The operations of a row.
-fn row_operations(alloc: Global, ops: &[(KeptOp, Answer)]) -> Result<Vec<Value>, Memory>
-    ensures { IfOk result (λ values. map view values.items ≡ operations_values ops.now) }
+fn back(alloc: Global, upto: u64) -> Result<Value, Memory>
+    ensures { IfOk result (λ v. view v ≡ act_value (WentBack upto)) }
+{
+    Ok(Value::Array(head(alloc, "back", &[upto])?))
+}
+
+// An operation with its answer, or a going back.
+fn act(alloc: Global, done: &Done) -> Result<Value, Memory>
+    ensures { IfOk result (λ v. view v ≡ act_value done.now) }
+{
+    match done.held() {
+        Held::Valued(op, value) => operation(alloc, &op.op(), optional(alloc, value)?),
+        Held::Listed(op, pairs) => {
+            operation(alloc, &op.op(), pairs_value(alloc, pairs.as_slice())?)
+        }
+        Held::Added(op, found) => operation(alloc, &op.op(), Value::Bool(*found)),
+        Held::Back(upto) => back(alloc, *upto),
+    }
+}
+
+// What a row's transaction did.
+fn row_acts(alloc: Global, acts: &[Done]) -> Result<Vec<Value>, Memory>
+    ensures { IfOk result (λ values. map view values.items ≡ acts_values acts.now) }
 {
     let mut values = Vec::new(alloc);
-    for one in ops {
-        values.push(operation(alloc, &one.0.op(), &one.1)?)?;
+    for one in acts {
+        values.push(act(alloc, one)?)?;
     }
     Ok(values)
 }
@@ -187,6 +164,6 @@ fn row_operations(alloc: Global, ops: &[(KeptOp, Answer)]) -> Result<Vec<Value>,
 pub fn row_object(alloc: Global, row: &Row) -> Result<Value, Memory>
     ensures { IfOk result (λ v. view v ≡ transaction_value row.now.tx row.now.ops) }
 {
-    let ops = row_operations(alloc, row.ops.as_slice())?;
+    let ops = row_acts(alloc, row.ops.as_slice())?;
     json!(in alloc; {"ops": ops, "serial": row.tx.serial, "session": row.tx.session})
 }

@@ -1,3 +1,4 @@
+pub mod Keeping
 pub mod Words
 pub mod Verbs
 pub mod Texts
@@ -6,6 +7,7 @@ pub mod Steps
 pub mod Unique
 pub mod Sizes
 pub mod Progress
+pub mod Plain
 pub mod Lists
 pub mod Bounds
 mod Narrow

@@ -1,31 +1,33 @@
 -- A line has one meaning.
-use Rattle.std.proofs.Common.{◌≡◌, ◌≢◌, ◌⊎◌, inl, inr, ℕ, ◌+◌, ◌<◌, ◌≤◌, List, [], slice_index, codes, ap, refl, ◌∙◌, arith}
+use Rattle.std.proofs.Common.{◌≡◌, ◌≢◌, ◌⊎◌, inl, inr, ℕ, ◌+◌, ◌*◌, ◌<◌, ◌≤◌, List, [], slice_index, codes, ap, refl, ◌∙◌, arith}
 use Rattle.clv_base.specs.declared.values.Value.TheVariants.{Num, Bytes}
 use Rattle.clv_base.specs.declared.ops.Op.TheVariants.{Get, Put, Del, Scan, Add}
 use Rattle.script_lang.specs.Bodies.{Action, Ending}
-use Rattle.script_lang.specs.Grammar.{Line, Blank, Session, Begin, Act, End, Do, Move, Commit, Abort, IsLine, IsComment, IsEnding, IsAction}
+use Rattle.script_lang.specs.Grammar.{Line, Blank, Session, Begin, Act, End, Do, Move, Save, Back, Commit, Abort, IsLine, IsComment, IsEnding, IsAction}
 use Rattle.script_lang.proofs.Verbs.{one_action}
 
--- the first two bytes of a line, together; 0 for a blank line
+-- five times the first byte of a line, and the second; 0 for a blank line
 kind : Line → ℕ
 kind Blank = 0
-kind Session = 216
-kind Begin = 199
-kind (Act (Do (Get k))) = 204
-kind (Act (Do (Put k (Num v)))) = 229
-kind (Act (Do (Put k (Bytes v)))) = 219
-kind (Act (Do (Del k))) = 201
-kind (Act (Do (Scan lo hi))) = 214
-kind (Act (Do (Add k by))) = 197
-kind (Act (Move from to amount)) = 220
-kind (End Commit) = 210
-kind (End Abort) = 195
+kind Session = 676
+kind Begin = 591
+kind (Act (Do (Get k))) = 616
+kind (Act (Do (Put k (Num v)))) = 677
+kind (Act (Do (Put k (Bytes v)))) = 611
+kind (Act (Do (Del k))) = 601
+kind (Act (Do (Scan lo hi))) = 674
+kind (Act (Do (Add k by))) = 585
+kind (Act (Move from to amount)) = 656
+kind (Act Save) = 672
+kind (Act (Back i)) = 587
+kind (End Commit) = 606
+kind (End Abort) = 583
 
 first : List ℕ → ℕ
 first bytes = slice_index bytes 0
 
 two : List ℕ → ℕ
-two bytes = slice_index bytes 0 + slice_index bytes 1
+two bytes = 5 * slice_index bytes 0 + slice_index bytes 1
 
 Shows : List ℕ → ℕ → Type 0
 Shows bytes n = ((two bytes ≡ n) × (97 ≤ first bytes)) ⊎ ((n ≡ 0) × (first bytes < 97))
@@ -38,17 +40,19 @@ begins_with : (bytes : List ℕ) (line : Line) → IsLine bytes line → Shows b
 unfolding kind first two Shows
 begins_with bytes Blank (inl none) = let g : slice_index bytes 0 ≡ 0 = ap (λ (b : List ℕ). slice_index b 0) none in inr (refl, omega arith)
 begins_with bytes Blank (inr (text, is, ascii)) = let g : slice_index bytes 0 ≡ 35 = ap (λ (b : List ℕ). slice_index b 0) is in inr (refl, omega arith)
-begins_with bytes Session is = shows_word bytes _ 216 is refl (omega arith)
-begins_with bytes Begin is = shows_word bytes _ 199 is refl (omega arith)
-begins_with bytes (Act (Do (Get k))) (words, is, number) = shows_word bytes _ 204 is refl (omega arith)
-begins_with bytes (Act (Do (Put k (Num v)))) (words, is, numbers) = shows_word bytes _ 229 is refl (omega arith)
-begins_with bytes (Act (Do (Put k (Bytes v)))) (words, is, numbers) = shows_word bytes _ 219 is refl (omega arith)
-begins_with bytes (Act (Do (Del k))) (words, is, number) = shows_word bytes _ 201 is refl (omega arith)
-begins_with bytes (Act (Do (Scan lo hi))) (words, is, numbers) = shows_word bytes _ 214 is refl (omega arith)
-begins_with bytes (Act (Do (Add k by))) (words, is, numbers) = shows_word bytes _ 197 is refl (omega arith)
-begins_with bytes (Act (Move from to amount)) (words, is, numbers) = shows_word bytes _ 220 is refl (omega arith)
-begins_with bytes (End Commit) is = shows_word bytes _ 210 is refl (omega arith)
-begins_with bytes (End Abort) is = shows_word bytes _ 195 is refl (omega arith)
+begins_with bytes Session is = shows_word bytes _ 676 is refl (omega arith)
+begins_with bytes Begin is = shows_word bytes _ 591 is refl (omega arith)
+begins_with bytes (Act (Do (Get k))) (words, is, number) = shows_word bytes _ 616 is refl (omega arith)
+begins_with bytes (Act (Do (Put k (Num v)))) (words, is, numbers) = shows_word bytes _ 677 is refl (omega arith)
+begins_with bytes (Act (Do (Put k (Bytes v)))) (words, is, numbers) = shows_word bytes _ 611 is refl (omega arith)
+begins_with bytes (Act (Do (Del k))) (words, is, number) = shows_word bytes _ 601 is refl (omega arith)
+begins_with bytes (Act (Do (Scan lo hi))) (words, is, numbers) = shows_word bytes _ 674 is refl (omega arith)
+begins_with bytes (Act (Do (Add k by))) (words, is, numbers) = shows_word bytes _ 585 is refl (omega arith)
+begins_with bytes (Act (Move from to amount)) (words, is, numbers) = shows_word bytes _ 656 is refl (omega arith)
+begins_with bytes (Act Save) is = shows_word bytes _ 672 is refl (omega arith)
+begins_with bytes (Act (Back i)) (words, is, number) = shows_word bytes _ 587 is refl (omega arith)
+begins_with bytes (End Commit) is = shows_word bytes _ 606 is refl (omega arith)
+begins_with bytes (End Abort) is = shows_word bytes _ 583 is refl (omega arith)
 
 kinds_agree_by : (bytes : List ℕ) (m n : ℕ) → Shows bytes m → Shows bytes n → m ≡ n
 unfolding Shows
@@ -78,6 +82,8 @@ same_of_kind bytes Blank (Act (Do (Del m))) e isa isb = absurd (let no : ⊥ = o
 same_of_kind bytes Blank (Act (Do (Scan m n))) e isa isb = absurd (let no : ⊥ = omega arith in no)
 same_of_kind bytes Blank (Act (Do (Add m n))) e isa isb = absurd (let no : ⊥ = omega arith in no)
 same_of_kind bytes Blank (Act (Move l m n)) e isa isb = absurd (let no : ⊥ = omega arith in no)
+same_of_kind bytes Blank (Act Save) e isa isb = absurd (let no : ⊥ = omega arith in no)
+same_of_kind bytes Blank (Act (Back n)) e isa isb = absurd (let no : ⊥ = omega arith in no)
 same_of_kind bytes Blank (End Commit) e isa isb = absurd (let no : ⊥ = omega arith in no)
 same_of_kind bytes Blank (End Abort) e isa isb = absurd (let no : ⊥ = omega arith in no)
 same_of_kind bytes Session Blank e isa isb = absurd (let no : ⊥ = omega arith in no)
@@ -89,6 +95,8 @@ same_of_kind bytes Session (Act (Do (Del m))) e isa isb = absurd (let no : ⊥ =
 same_of_kind bytes Session (Act (Do (Scan m n))) e isa isb = absurd (let no : ⊥ = omega arith in no)
 same_of_kind bytes Session (Act (Do (Add m n))) e isa isb = absurd (let no : ⊥ = omega arith in no)
 same_of_kind bytes Session (Act (Move l m n)) e isa isb = absurd (let no : ⊥ = omega arith in no)
+same_of_kind bytes Session (Act Save) e isa isb = absurd (let no : ⊥ = omega arith in no)
+same_of_kind bytes Session (Act (Back n)) e isa isb = absurd (let no : ⊥ = omega arith in no)
 same_of_kind bytes Session (End Commit) e isa isb = absurd (let no : ⊥ = omega arith in no)
 same_of_kind bytes Session (End Abort) e isa isb = absurd (let no : ⊥ = omega arith in no)
 same_of_kind bytes Begin Blank e isa isb = absurd (let no : ⊥ = omega arith in no)
@@ -100,6 +108,8 @@ same_of_kind bytes Begin (Act (Do (Del m))) e isa isb = absurd (let no : ⊥ = o
 same_of_kind bytes Begin (Act (Do (Scan m n))) e isa isb = absurd (let no : ⊥ = omega arith in no)
 same_of_kind bytes Begin (Act (Do (Add m n))) e isa isb = absurd (let no : ⊥ = omega arith in no)
 same_of_kind bytes Begin (Act (Move l m n)) e isa isb = absurd (let no : ⊥ = omega arith in no)
+same_of_kind bytes Begin (Act Save) e isa isb = absurd (let no : ⊥ = omega arith in no)
+same_of_kind bytes Begin (Act (Back n)) e isa isb = absurd (let no : ⊥ = omega arith in no)
 same_of_kind bytes Begin (End Commit) e isa isb = absurd (let no : ⊥ = omega arith in no)
 same_of_kind bytes Begin (End Abort) e isa isb = absurd (let no : ⊥ = omega arith in no)
 same_of_kind bytes (Act (Do (Get k))) Blank e isa isb = absurd (let no : ⊥ = omega arith in no)
@@ -137,6 +147,16 @@ same_of_kind bytes (Act (Move i j k)) Session e isa isb = absurd (let no : ⊥ =
 same_of_kind bytes (Act (Move i j k)) Begin e isa isb = absurd (let no : ⊥ = omega arith in no)
 same_of_kind bytes (Act (Move i j k)) (End Commit) e isa isb = absurd (let no : ⊥ = omega arith in no)
 same_of_kind bytes (Act (Move i j k)) (End Abort) e isa isb = absurd (let no : ⊥ = omega arith in no)
+same_of_kind bytes (Act Save) Blank e isa isb = absurd (let no : ⊥ = omega arith in no)
+same_of_kind bytes (Act Save) Session e isa isb = absurd (let no : ⊥ = omega arith in no)
+same_of_kind bytes (Act Save) Begin e isa isb = absurd (let no : ⊥ = omega arith in no)
+same_of_kind bytes (Act Save) (End Commit) e isa isb = absurd (let no : ⊥ = omega arith in no)
+same_of_kind bytes (Act Save) (End Abort) e isa isb = absurd (let no : ⊥ = omega arith in no)
+same_of_kind bytes (Act (Back k)) Blank e isa isb = absurd (let no : ⊥ = omega arith in no)
+same_of_kind bytes (Act (Back k)) Session e isa isb = absurd (let no : ⊥ = omega arith in no)
+same_of_kind bytes (Act (Back k)) Begin e isa isb = absurd (let no : ⊥ = omega arith in no)
+same_of_kind bytes (Act (Back k)) (End Commit) e isa isb = absurd (let no : ⊥ = omega arith in no)
+same_of_kind bytes (Act (Back k)) (End Abort) e isa isb = absurd (let no : ⊥ = omega arith in no)
 same_of_kind bytes (End Commit) Blank e isa isb = absurd (let no : ⊥ = omega arith in no)
 same_of_kind bytes (End Commit) Session e isa isb = absurd (let no : ⊥ = omega arith in no)
 same_of_kind bytes (End Commit) Begin e isa isb = absurd (let no : ⊥ = omega arith in no)
@@ -147,6 +167,8 @@ same_of_kind bytes (End Commit) (Act (Do (Del m))) e isa isb = absurd (let no : 
 same_of_kind bytes (End Commit) (Act (Do (Scan m n))) e isa isb = absurd (let no : ⊥ = omega arith in no)
 same_of_kind bytes (End Commit) (Act (Do (Add m n))) e isa isb = absurd (let no : ⊥ = omega arith in no)
 same_of_kind bytes (End Commit) (Act (Move l m n)) e isa isb = absurd (let no : ⊥ = omega arith in no)
+same_of_kind bytes (End Commit) (Act Save) e isa isb = absurd (let no : ⊥ = omega arith in no)
+same_of_kind bytes (End Commit) (Act (Back n)) e isa isb = absurd (let no : ⊥ = omega arith in no)
 same_of_kind bytes (End Commit) (End Abort) e isa isb = absurd (let no : ⊥ = omega arith in no)
 same_of_kind bytes (End Abort) Blank e isa isb = absurd (let no : ⊥ = omega arith in no)
 same_of_kind bytes (End Abort) Session e isa isb = absurd (let no : ⊥ = omega arith in no)
@@ -158,6 +180,8 @@ same_of_kind bytes (End Abort) (Act (Do (Del m))) e isa isb = absurd (let no : �
 same_of_kind bytes (End Abort) (Act (Do (Scan m n))) e isa isb = absurd (let no : ⊥ = omega arith in no)
 same_of_kind bytes (End Abort) (Act (Do (Add m n))) e isa isb = absurd (let no : ⊥ = omega arith in no)
 same_of_kind bytes (End Abort) (Act (Move l m n)) e isa isb = absurd (let no : ⊥ = omega arith in no)
+same_of_kind bytes (End Abort) (Act Save) e isa isb = absurd (let no : ⊥ = omega arith in no)
+same_of_kind bytes (End Abort) (Act (Back n)) e isa isb = absurd (let no : ⊥ = omega arith in no)
 same_of_kind bytes (End Abort) (End Commit) e isa isb = absurd (let no : ⊥ = omega arith in no)
 
 pub one_meaning : (bytes : List ℕ) (a b : Line) → IsLine bytes a → IsLine bytes b → a ≡ b

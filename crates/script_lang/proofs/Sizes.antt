@@ -8,7 +8,7 @@ use Rattle.clv_base.specs.declared.values.Value.TheVariants.{Num, Bytes}
 use Rattle.clv_base.specs.Values.{fits_value}
 use Rattle.clv_base.specs.declared.ops.Op.TheVariants.{Get, Put, Del, Scan, Add}
 use Rattle.script_lang.specs.Bodies.{Action, Ending, Body}
-use Rattle.script_lang.specs.Grammar.{Line, Blank, Session, Begin, Act, End, Do, Move, IsNumber, IsText, IsAction, IsLine, Reading, reading, nothing_read, with_last, body, read_line, Leads, lines_of, before_line}
+use Rattle.script_lang.specs.Grammar.{Line, Blank, Session, Begin, Act, End, Do, Move, Save, Back, IsNumber, IsText, IsAction, IsLine, Reading, reading, nothing_read, with_last, body, may_follow, saves_in, read_line, Leads, lines_of, before_line}
 use Rattle.script_lang.specs.Laws.{is_word, is_narrow, is_narrow_body, session_size, script_size, ScriptsAreNarrow, ScriptsAreShort, ScriptsHaveFewSessions}
 use Rattle.hex.proofs.HexLemmas.{decode_of-ok}
 use Rattle.clv_base.proofs.Fitting.{bytes_fit}
@@ -41,6 +41,8 @@ action_narrow bytes (Do (Scan lo hi)) (words, is, ((a, b, parts, m, n), rise)) =
 action_narrow bytes (Do (Add k by)) (words, is, (a, b, parts, m, n)) = and_true _ _ (word a k m) (word b by n)
 action_narrow bytes (Move from to amount) (words, is, ((a, b, parts, l, (c, d, more, m, n)), differ)) =
     and_true _ _ (and_true _ _ (word a from l) (word c to m)) (and_true _ _ (word d amount n) (ap not (ne_eqb from to differ)))
+action_narrow bytes Save is = refl
+action_narrow bytes (Back i) (words, is, n) = word words i n
 
 -- ---- readings
 
@@ -123,6 +125,12 @@ acted : (n : ℕ) (finished : List (List Body)) (session : Option (List Body)) (
 acted n finished session actions action one f =
     record { narrow = f.narrow; open_one = narrow_actions action actions f.open_one one; size = omega (arith, f.size, length-append actions (action ∷ [])); few = f.few }
 
+-- where it may follow
+allowed : (n : ℕ) (finished : List (List Body)) (session : Option (List Body)) (actions : List Action) (action : Action) (may : Bool) (after : Reading) → is_narrow action ≡ true → Fits n (reading finished session (Some actions))
+    → cond may (Some (reading finished session (Some (actions ++ action ∷ [])))) None ≡ Some after → Fits (suc n) after
+allowed n finished session actions action true after one f e = moved (suc n) (reading finished session (Some (actions ++ action ∷ []))) after e (acted n finished session actions action one f)
+allowed n finished session actions action false after one f e = none_moved (suc n) after e
+
 wider : (n : ℕ) (r : Reading) → Fits n r → Fits (suc n) r
 wider n r f = record { narrow = f.narrow; open_one = f.open_one; size = omega (arith, f.size); few = f.few }
 
@@ -136,8 +144,7 @@ step n finished (Some bodies) None bytes Begin after f l e =
     moved (suc n) (reading finished (Some bodies) (Some [])) after e (record { narrow = f.narrow; open_one = refl; size = omega (arith, f.size); few = f.few })
 step n finished session (Some actions) bytes Begin after f l e = none_moved (suc n) after e
 step n finished session None bytes (Act action) after f l e = none_moved (suc n) after e
-step n finished session (Some actions) bytes (Act action) after f l e =
-    moved (suc n) (reading finished session (Some (actions ++ action ∷ []))) after e (acted n finished session actions action (action_narrow bytes action l) f)
+step n finished session (Some actions) bytes (Act action) after f l e = allowed n finished session actions action (may_follow (saves_in actions) action) after (action_narrow bytes action l) f e
 step n finished session None bytes (End ending) after f l e = none_moved (suc n) after e
 step n finished None (Some actions) bytes (End ending) after f l e = none_moved (suc n) after e
 step n finished (Some bodies) (Some actions) bytes (End ending) after f l e =

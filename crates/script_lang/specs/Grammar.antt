@@ -1,12 +1,13 @@
 -- The grammar of scripts: lines, what each means, and where it may stand.
-use Rattle.std.specs.Prelude.{◌≡◌, ◌≢◌, ◌⊎◌, ℕ, suc, ◌<◌, ◌≤◌, ◌^◌, Bool, true, ◌||◌, ◌==◌, nat_lt, cond, List, [], ◌∷◌, ◌++◌, length, codes, slice_index, Option, Some, None, Ok}
+use Rattle.std.specs.Prelude.{◌≡◌, ◌≢◌, ◌⊎◌, ℕ, suc, ◌<◌, ◌≤◌, ◌^◌, Bool, true, ◌||◌, ◌==◌, nat_lt, cond, List, [], ◌∷◌, ◌++◌, length, codes, slice_index, Option, Some, None, is_some, Ok}
 use Rattle.std.specs.List.{list_all}
 use Rattle.std.specs.Str.Parse.{IsNumeral, digits_value}
 use Rattle.hex.specs.Hex.{decode_of}
 use Rattle.clv_base.specs.declared.values.Value.TheVariants.{Num, Bytes}
 use Rattle.clv_base.specs.declared.ops.Op.TheVariants.{Get, Put, Del, Scan, Add}
 use Rattle.script_lang.specs.Bodies.{Action, Ending, Body}
-pub use Rattle.script_lang.specs.declared.actions.Action.TheVariants.{Do, Move}
+use Rattle.script_lang.specs.Savepoints.{Savepoints, no_savepoints, keep, upto_of, back_to}
+pub use Rattle.script_lang.specs.declared.actions.Action.TheVariants.{Do, Move, Save, Back}
 pub use Rattle.script_lang.specs.declared.actions.Ending.TheVariants.{Commit, Abort}
 pub use Rattle.script_lang.specs.declared.lines.Line.{Line}
 pub use Rattle.script_lang.specs.declared.lines.Line.TheVariants.{Blank, Session, Begin, Act, End}
@@ -69,8 +70,10 @@ name_of (Do (Del k)) = codes "del"
 name_of (Do (Scan lo hi)) = codes "scan"
 name_of (Do (Add k by)) = codes "add"
 name_of (Move from to amount) = codes "move"
+name_of Save = codes "save"
+name_of (Back i) = codes "back"
 
--- the words that follow it: a scan's bounds don't fall, and a move's keys differ
+-- the words that follow it: a scan's bounds don't fall, and a move's keys differ; none follow `save`
 abbrev pub HasOperands : List ℕ → Action → Type 0
 HasOperands words (Do (Get k)) = IsNumber words k
 HasOperands words (Do (Put k (Num v))) = AreTwo words k v
@@ -79,9 +82,17 @@ HasOperands words (Do (Del k)) = IsNumber words k
 HasOperands words (Do (Scan lo hi)) = AreTwo words lo hi × (lo ≤ hi)
 HasOperands words (Do (Add k by)) = AreTwo words k by
 HasOperands words (Move from to amount) = AreThree words from to amount × (from ≢ to)
+HasOperands words Save = ⊥
+HasOperands words (Back i) = IsNumber words i
+
+abbrev pub HasWords : List ℕ → Action → Type 0
+HasWords bytes action = (words : List ℕ) × (bytes ≡ name_of action ++ 32 ∷ words) × HasOperands words action
 
 abbrev pub IsAction : List ℕ → Action → Type 0
-IsAction bytes action = (words : List ℕ) × (bytes ≡ name_of action ++ 32 ∷ words) × HasOperands words action
+IsAction bytes (Do op) = HasWords bytes (Do op)
+IsAction bytes (Move from to amount) = HasWords bytes (Move from to amount)
+IsAction bytes Save = bytes ≡ name_of Save
+IsAction bytes (Back i) = HasWords bytes (Back i)
 
 -- a line that puts a text
 abbrev pub PutsText : List ℕ → Type 0
@@ -99,6 +110,27 @@ IsLine bytes (Act action) = IsAction bytes action
 IsLine bytes (End ending) = IsEnding bytes ending
 
 -- ---- where a line may stand
+
+-- the savepoints of a transaction after these lines, which alone don't tell where each leads
+abbrev pub with_line : Action → Savepoints → Savepoints
+with_line (Do op) s = s
+with_line (Move from to amount) s = s
+with_line Save s = keep 0 s
+with_line (Back i) s = back_to i s
+
+abbrev pub saves_from : Savepoints → List Action → Savepoints
+saves_from s [] = s
+saves_from s (action ∷ actions) = saves_from (with_line action s) actions
+
+abbrev pub saves_in : List Action → Savepoints
+saves_in actions = saves_from no_savepoints actions
+
+-- an action may follow these: a going back, where its savepoint stands
+abbrev pub may_follow : Savepoints → Action → Bool
+may_follow s (Do op) = true
+may_follow s (Move from to amount) = true
+may_follow s Save = true
+may_follow s (Back i) = is_some (upto_of i s.standing)
 
 -- what the lines so far come to: the sessions that others follow, the last session, if any, and the lines of the open transaction, if any
 pub record Reading : Type 0 where
@@ -121,7 +153,7 @@ abbrev pub body : List Action → Ending → Body
 body actions ending = record { actions = actions; ending = ending }
 
 -- the reading after a line, if the line may stand there: a session outside a transaction, and at most 64 of them; a transaction in a
--- session, and not in another; an action, or an ending, in a transaction
+-- session, and not in another; an action, or an ending, in a transaction, and a going back to a savepoint of it that stands
 abbrev pub read_line : List (List Body) → Option (List Body) → Option (List Action) → Line → Option Reading
 read_line finished session current Blank = Some (reading finished session current)
 read_line finished session None Session = cond (nat_lt (length (with_last finished session)) 64) (Some (reading (with_last finished session) (Some []) None)) None
@@ -130,7 +162,7 @@ read_line finished None None Begin = None
 read_line finished (Some bodies) None Begin = Some (reading finished (Some bodies) (Some []))
 read_line finished session (Some actions) Begin = None
 read_line finished session None (Act action) = None
-read_line finished session (Some actions) (Act action) = Some (reading finished session (Some (actions ++ action ∷ [])))
+read_line finished session (Some actions) (Act action) = cond (may_follow (saves_in actions) action) (Some (reading finished session (Some (actions ++ action ∷ [])))) None
 read_line finished session None (End ending) = None
 read_line finished None (Some actions) (End ending) = None
 read_line finished (Some bodies) (Some actions) (End ending) = Some (reading finished (Some (bodies ++ body actions ending ∷ [])) None)

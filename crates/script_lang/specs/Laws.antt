@@ -5,7 +5,7 @@ use Rattle.clv_base.specs.Values.{fits_value}
 use Rattle.clv_base.specs.declared.ops.Op.{Op}
 use Rattle.clv_base.specs.declared.ops.Op.TheVariants.{Get, Put, Del, Scan, Add}
 use Rattle.script_lang.specs.Bodies.{Action, Body}
-use Rattle.script_lang.specs.Grammar.{Do, Move, IsScript, IsRefused}
+use Rattle.script_lang.specs.Grammar.{Do, Move, Save, Back, IsScript, IsRefused}
 
 -- ---- one meaning
 
@@ -36,6 +36,8 @@ is_narrow_op (Add k by) = is_word k && is_word by
 abbrev pub is_narrow : Action → Bool
 is_narrow (Do op) = is_narrow_op op
 is_narrow (Move from to amount) = (is_word from && is_word to) && (is_word amount && not (from == to))
+is_narrow Save = true
+is_narrow (Back i) = is_word i
 
 abbrev pub is_narrow_body : Body → Bool
 is_narrow_body b = list_all is_narrow b.actions

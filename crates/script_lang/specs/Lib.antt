@@ -1,4 +1,5 @@
 pub mod Bodies
+pub mod Savepoints
 pub mod Grammar
 pub mod Reading
 pub mod Following

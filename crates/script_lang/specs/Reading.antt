@@ -2,7 +2,7 @@
 use Rattle.std.specs.Prelude.{◌≡◌, ◌≢◌, ◌<◌, ℕ, length, slice_index, Bool, true, false, List, Option, Some, None, codes}
 use Rattle.script_lang.specs.Grammar.{Reading}
 use Rattle.script_lang.specs.declared.lines.Verb.{Verb}
-use Rattle.script_lang.specs.declared.lines.Verb.TheVariants.{Get, Put, Bytes, Del, Scan, Move, Add}
+use Rattle.script_lang.specs.declared.lines.Verb.TheVariants.{Get, Put, Bytes, Del, Scan, Move, Add, Back}
 
 -- the line was taken, and led to this; or it has no place
 abbrev pub Goes : Bool → Option Reading → Reading → Type 0
@@ -22,3 +22,4 @@ verb_text Del = codes "del"
 verb_text Scan = codes "scan"
 verb_text Add = codes "add"
 verb_text Move = codes "move"
+verb_text Back = codes "back"

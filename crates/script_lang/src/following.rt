@@ -1,10 +1,13 @@
 // What a transaction does next.
 
-ghost use Rattle.std.specs.Prelude.{◌≡◌, ◌<◌, ◌++◌, ◌∷◌, [], List, length, MatchOption, slice_get};
+ghost use Rattle.std.specs.Prelude.{◌≡◌, ◌++◌, ◌∷◌, [], ℕ, List, MatchOption, Some};
+ghost use Rattle.clv_base.specs.declared.ops.Op.{Op as AnOp};
 ghost use Rattle.clv_base.specs.declared.ops.Answer.{Answer as AnAnswer};
+ghost use Rattle.clv_base.specs.Backs.{has_written};
 ghost use Rattle.script_lang.specs.Bodies.{Action as AnAction};
-ghost use Rattle.script_lang.specs.Following.{all_ops, next_op, puts, value_of as value_in};
-ghost use Rattle.script_lang.specs.Places.{StandsAt, StepsTo, rest_from, after_looks};
+ghost use Rattle.script_lang.specs.Savepoints.{upto_of};
+ghost use Rattle.script_lang.specs.Following.{Way, at_start, one_done, saved, gone_back, puts, value_of as value_in};
+ghost use Rattle.script_lang.specs.Places.{StandsAt, StepsTo, IsNext, OpsLeft, step_at, step_of};
 
 use crate::actions::Action;
 use clv_base::ops::{Answer, Op};
@@ -29,8 +32,16 @@ pub enum Stage {
     LastPut(Op),
 }
 
-/// A transaction on its way through its lines: what it does next, given its answers so far. It keeps no answers, and each call takes constant
-/// time and no memory.
+/// What a transaction does next: an operation, a savepoint, or a going back to the savepoint of this number.
+#[derive(Drop)]
+pub enum Step {
+    Operate(Op),
+    Keep,
+    GoBack(u64),
+}
+
+/// A transaction on its way through its lines: what it does next, given its answers so far. It keeps no answers and no savepoints, and each call
+/// takes constant time and no memory.
 #[derive(Drop)]
 pub struct Following<'a> {
     stage: Stage,
@@ -71,19 +82,27 @@ fn puts_of(
     }
 }
 
-// The first operation of what is left.
-fn first_op(stage: &Stage, left: &[Action]) -> Option<Op>
-    ensures { result ≡ slice_get (rest_from stage.now left.now []) 0 }
+// What the lines that are left begin with.
+fn first_step(left: &[Action]) -> Option<Step>
+    ensures { result ≡ step_at Stage.AtLine left.now }
+{
+    match left.split_first() {
+        Some((Action::Do(op), _)) => Some(Step::Operate(op.op())),
+        Some((Action::Move { from, .. }, _)) => Some(Step::Operate(Op::Get(*from))),
+        Some((Action::Save, _)) => Some(Step::Keep),
+        Some((Action::Back(number), _)) => Some(Step::GoBack(*number)),
+        None => None,
+    }
+}
+
+fn next_step(stage: &Stage, left: &[Action]) -> Option<Step>
+    ensures { result ≡ step_at stage.now left.now }
 {
     match stage {
-        Stage::AtLine => match left.split_first() {
-            Some((Action::Do(op), _)) => Some(op.op()),
-            Some((Action::Move { from, .. }, _)) => Some(Op::Get(*from)),
-            None => None,
-        },
-        Stage::Second { to, .. } => Some(Op::Get(*to)),
-        Stage::Puts { one, .. } => Some(one.copy()),
-        Stage::LastPut(two) => Some(two.copy()),
+        Stage::AtLine => first_step(left),
+        Stage::Second { to, .. } => Some(Step::Operate(Op::Get(*to))),
+        Stage::Puts { one, .. } => Some(Step::Operate(one.copy())),
+        Stage::LastPut(two) => Some(Step::Operate(two.copy())),
     }
 }
 
@@ -103,7 +122,7 @@ fn begun<'a>(left: &'a [Action], answer: &Answer) -> (Stage, &'a [Action])
             };
             (stage, behind)
         }
-        None => (Stage::AtLine, left),
+        _ => (Stage::AtLine, left),
     }
 }
 
@@ -115,7 +134,7 @@ fn looked_twice(
     source: &Option<Value>,
     target: &Option<Value>,
 ) -> Stage
-    ensures { (left : List AnAction) (more : List AnAnswer) → after_looks (puts from to amount source.now target.now) left more ≡ rest_from result left more }
+    ensures { OpsLeft (puts from to amount source.now target.now) result }
 {
     match puts_of(from, to, amount, source, target) {
         Some((one, two)) => Stage::Puts { one, two },
@@ -125,20 +144,21 @@ fn looked_twice(
 
 impl<'a> Following<'a> {
     /// Before the first of these lines.
-    pub fn new(actions: &'a [Action]) -> Following<'a>
-        ensures { StandsAt actions.now [] result }
+    pub fn new(lines: &'a [Action]) -> Following<'a>
+        ensures { StandsAt lines.now [] at_start result }
     {
         Following {
             stage: Stage::AtLine,
-            left: actions,
+            left: lines,
         }
     }
 
-    /// The operation that is next; none where each line is done.
-    pub fn next(&self) -> Option<Op>
-        ensures { (actions : List AnAction) (answers : List AnAnswer) → StandsAt actions answers self.now → result ≡ next_op actions answers }
+    /// What is next; none where each line is done.
+    pub fn next(&self) -> Option<Step>
+        ensures step { result ≡ step_of self.now }
+        ensures next { (lines : List AnAction) (answers : List AnAnswer) (way : Way) → StandsAt lines answers way self.now → IsNext lines answers way result }
     {
-        first_op(&self.stage, self.left)
+        next_step(&self.stage, self.left)
     }
 
     // Goes one operation further.
@@ -168,10 +188,20 @@ impl<'a> Following<'a> {
         }
     }
 
-    /// Takes the answer of the operation that was next, if there was one.
+    /// Takes the answer of the operation that was next.
     pub fn answered(&mut self, answer: &Answer)
-        ensures { (actions : List AnAction) (answers : List AnAnswer) → StandsAt actions answers self.old → length answers < length (all_ops actions answers) → StandsAt actions (answers ++ answer.now ∷ []) self.new }
+        ensures { (lines : List AnAction) (answers : List AnAnswer) (way : Way) (op : AnOp) → StandsAt lines answers way self.old → step_of self.old ≡ Some (Step.Operate op) → StandsAt lines (answers ++ answer.now ∷ []) (one_done (has_written op answer.now) way) self.new }
     {
         self.step(answer);
+    }
+
+    /// Goes past a savepoint, or a going back, which was next.
+    pub fn passed(&mut self)
+        ensures saved { (lines : List AnAction) (answers : List AnAnswer) (way : Way) → StandsAt lines answers way self.old → step_of self.old ≡ Some Step.Keep → StandsAt lines answers (saved way) self.new }
+        ensures back { (lines : List AnAction) (answers : List AnAnswer) (way : Way) (i : ℕ) → StandsAt lines answers way self.old → step_of self.old ≡ Some (Step.GoBack i) → StandsAt lines answers (gone_back i (upto_of i way.saves.standing) way) self.new }
+    {
+        if let Some((_, behind)) = self.left.split_first() {
+            self.left = behind;
+        }
     }
 }

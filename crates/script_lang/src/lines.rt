@@ -43,6 +43,7 @@ pub enum Verb {
     Scan,
     Move,
     Add,
+    Back,
 }
 
 /// The number that a word is: decimal digits without a leading zero, below 2^64.
@@ -133,6 +134,9 @@ fn verb_of(word: &[u8]) -> Option<Verb>
     }
     if word == b"add".as_slice() {
         return Some(Verb::Add);
+    }
+    if word == b"back".as_slice() {
+        return Some(Verb::Back);
     }
     None
 }
@@ -254,6 +258,10 @@ fn with_numbers(verb: Verb, words: &[u8]) -> Option<Action>
             Some((key, by)) => Some(Action::Do(KeptOp::new(Op::Add(key, by)))),
             None => None,
         },
+        Verb::Back => match number_of(words) {
+            Some(number) => Some(Action::Back(number)),
+            None => None,
+        },
         Verb::Bytes => unreachable!(),
     }
 }
@@ -277,6 +285,9 @@ fn action_of(alloc: Global, bytes: &[u8]) -> Result<Option<Action>, AllocError>
     ensures ok { IfOk result (λ found. MatchOption found ((action : AnAction) → IsAction bytes.now action → ⊥) (λ action. IsAction bytes.now action)) }
     ensures err { OnErr result (PutsText bytes.now) }
 {
+    if bytes == b"save".as_slice() {
+        return Ok(Some(Action::Save));
+    }
     let Some((word, words)) = parted(bytes, b' ') else {
         return Ok(None);
     };

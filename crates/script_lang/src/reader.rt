@@ -1,40 +1,107 @@
 // What the lines so far come to.
 
-ghost use Rattle.std.specs.Prelude.{◌≡◌, ◌<◌, ◌≤◌, ℕ, List, [], ◌∷◌, ◌++◌, length, Some, None, IfOk, OnOk, MatchOption, nat_lt};
+ghost use Rattle.std.specs.Prelude.{◌≡◌, ◌<◌, ◌≤◌, ℕ, true, false, List, [], ◌∷◌, ◌++◌, length, Some, None, IfOk, OnOk, OnErr, MatchOption, nat_lt};
 ghost use Rattle.script_lang.specs.Bodies.{Action as AnAction, Body};
-ghost use Rattle.script_lang.specs.Grammar.{Reading, after_line, nothing_read, with_last, body, IsScript};
+ghost use Rattle.script_lang.specs.Grammar.{Reading, after_line, nothing_read, with_last, body, may_follow, saves_in, with_line, IsScript};
 ghost use Rattle.script_lang.specs.Reading.{Goes};
 
 use crate::actions::{Action, Ending};
 use crate::lines::Line;
+use crate::savepoints::Savepoints;
 use crate::script::{Script, Session, Transaction};
 use std::alloc::{AllocError, Global};
 use std::marker::Model;
 
 const MOST_SESSIONS: usize = 64;
 
+// The lines of a transaction so far, with the savepoints that stand behind them.
+#[derive(Drop)]
+struct Open {
+    actions: Vec<Action>,
+    saves: Savepoints,
+}
+
+impl Model for Open {
+    ghost use Rattle.std.specs.Prelude.{◌≡◌, List};
+    ghost use Rattle.script_lang.specs.Bodies.{Action};
+    ghost use Rattle.script_lang.specs.Grammar.{saves_in};
+
+    ghost Value = { List Action };
+
+    ghost view = { λ o. o.actions.items };
+
+    ghost invariant = { λ o. o.saves ≡ saves_in o.actions.items };
+}
+
+// Keeps a savepoint, or goes back to one that stands. By the lines alone it isn't known after how many acts they come.
+fn follow(saves: &mut Savepoints, action: &Action) -> Result<bool, AllocError>
+    ensures went { IfOk result (λ went. went ≡ may_follow saves.old action.now) }
+    ensures saves { IfOk result (λ went. went ≡ true → saves.new ≡ with_line action.now saves.old) }
+    ensures stays { IfOk result (λ went. went ≡ false → saves.new ≡ saves.old) }
+    ensures err { OnErr result (saves.new ≡ saves.old) }
+{
+    match action {
+        Action::Save => {
+            saves.keep(0)?;
+            Ok(true)
+        }
+        Action::Back(number) => {
+            if saves.upto(*number).is_none() {
+                return Ok(false);
+            }
+            saves.go_back(*number);
+            Ok(true)
+        }
+        _ => Ok(true),
+    }
+}
+
+impl Open {
+    fn new(alloc: Global) -> Self
+        ensures { result ≡ [] }
+    {
+        Open {
+            actions: Vec::new(alloc),
+            saves: Savepoints::new(alloc),
+        }
+    }
+
+    // An action follows, if it may.
+    fn add(&mut self, action: Action) -> Result<bool, AllocError>
+        ensures went { IfOk result (λ went. went ≡ may_follow (saves_in self.old) action) }
+        ensures actions { IfOk result (λ went. went ≡ true → self.new ≡ self.old ++ action ∷ []) }
+    {
+        self.actions.reserve(1)?;
+        if !follow(&mut self.saves, &action)? {
+            return Ok(false);
+        }
+        self.actions.push_reserved(action);
+        Ok(true)
+    }
+
+    // The transaction of these lines, in a list of exactly their length: what a growing list leaves over is most of a short one.
+    fn closed(self, ending: Ending) -> Transaction
+        ensures { result ≡ body self ending }
+    {
+        let Open { mut actions, .. } = self;
+        actions.shrink_to_fit();
+        Transaction::new(actions, ending)
+    }
+}
+
 #[derive(Drop)]
 pub struct Reader {
     finished: Vec<Session>,
     session: Option<Session>,
-    current: Option<Vec<Action>>,
+    current: Option<Open>,
 }
 
 impl Model for Reader {
-    ghost use Rattle.std.specs.Prelude.{option_map};
     ghost use Rattle.script_lang.specs.Grammar.{Reading};
 
     ghost Value = { Reading };
 
-    ghost view = { λ r. record { finished = r.finished.items; session = r.session; current = option_map (λ v. v.items) r.current } };
-}
-
-// The transaction of these lines, in a list of exactly their length: what a growing list leaves over is most of a short one.
-fn closed(mut actions: Vec<Action>, ending: Ending) -> Transaction
-    ensures { result ≡ body actions.items ending }
-{
-    actions.shrink_to_fit();
-    Transaction::new(actions, ending)
+    ghost view = { λ r. record { finished = r.finished.items; session = r.session; current = r.current } };
 }
 
 impl Reader {
@@ -80,19 +147,16 @@ impl Reader {
         if self.session.is_none() || self.current.is_some() {
             return false;
         }
-        self.current = Some(Vec::new(alloc));
+        self.current = Some(Open::new(alloc));
         true
     }
 
-    // An action stands in a transaction.
+    // An action stands in a transaction, and a going back where its savepoint stands.
     fn add(&mut self, action: Action) -> Result<bool, AllocError>
         ensures { IfOk result (λ went. Goes went (after_line self.old (Line.Act action)) self.new) }
     {
         match &mut self.current {
-            Some(actions) => {
-                actions.push(action)?;
-                Ok(true)
-            }
+            Some(lines) => lines.add(action),
             None => Ok(false),
         }
     }
@@ -101,13 +165,13 @@ impl Reader {
     fn end_transaction(&mut self, ending: Ending) -> Result<bool, AllocError>
         ensures { IfOk result (λ went. Goes went (after_line self.old (Line.End ending)) self.new) }
     {
-        let Some(actions) = self.current.take() else {
+        let Some(lines) = self.current.take() else {
             return Ok(false);
         };
         let Some(session) = &mut self.session else {
             return Ok(false);
         };
-        session.add(closed(actions, ending))?;
+        session.add(lines.closed(ending))?;
         Ok(true)
     }
 

@@ -3,36 +3,41 @@ use Rattle.std.proofs.Common.{◌≡◌, ap, ◌∙◌, ℕ, suc, ◌+◌, ◌�
 use Rattle.std.specs.List.{AllByRecursion}
 use Rattle.clv_base.specs.declared.names.TxId.{TxId}
 use Rattle.clv_base.specs.declared.names.Birth.{Birth}
-use Rattle.clv_base.specs.declared.ops.Answer.{Answer}
 use Rattle.clv_base.specs.Journals.{History}
 use Rattle.script_lang.specs.Bodies.{Body}
+use Rattle.session_books.specs.Done.{Done}
 use Rattle.script_runs.specs.declared.ends.StopCause.{StopCause}
 use Rattle.script_runs.specs.declared.ends.TryEnd.{TryEnd}
-use Rattle.script_runs.specs.Tries.{Try, IsTry, EndsBy, acknowledged, nothing, by_line, in_operation, at_request, at_look, down, unsettled, wanting_before, wanting_behind, unanswered, worn_at_line}
+use Rattle.script_runs.specs.Tries.{Try, IsTry, EndsBy, acknowledged, nothing, by_line, in_operation, in_going_back, at_request, at_look, down, unsettled, wanting_before, wanting_behind, wanting_between, unanswered, worn_at_line}
 use Rattle.script_runs.specs.Sessions.{InTries, last, none_left, stopped_between, further, Transaction, AreTransactions, all_done, not_begun, stopped, done, is_to_retry, tries_of, entries_of}
 use Rattle.script_runs.proofs.Tries.{entries_more}
 
 -- what is to be tried again made an entry
-ends_made : (splits : List ℕ) (body : Body) (tx : TxId) (birth : Birth) (answers : List Answer) (before behind : History) (e : TryEnd) → EndsBy splits body tx birth answers before e behind → is_to_retry e ≡ true → 1 ≤ length behind
-ends_made splits body tx birth answers before _ _ (acknowledged home asked told d a l) h = absurd cc
-ends_made splits body tx birth answers before _ _ (nothing d n) h = absurd cc
-ends_made splits body tx birth answers before behind _ (by_line _ d a) h = absurd cc
-ends_made splits body tx birth answers before _ _ (in_operation op cause n here drops next died are) h =
+ends_made : (splits : List ℕ) (body : Body) (tx : TxId) (birth : Birth) (acts : List Done) (before behind : History) (e : TryEnd) → EndsBy splits body tx birth acts before e behind → is_to_retry e ≡ true → 1 ≤ length behind
+ends_made splits body tx birth acts before _ _ (acknowledged home asked told d a l) h = absurd cc
+ends_made splits body tx birth acts before _ _ (nothing d n) h = absurd cc
+ends_made splits body tx birth acts before behind _ (by_line _ d a) h = absurd cc
+ends_made splits body tx birth acts before _ _ (in_operation op cause n here drops next died are) h =
     let long = ap length died.entries ∙ length-append died.before (died.last ∷ []) in
     let whole = length-append here drops in
     omega arith
-ends_made splits body tx birth answers before _ _ (at_request home cause asked drops d a are) h = omega arith
-ends_made splits body tx birth answers before _ _ (at_look home cause asked told drops d a l are) h = omega arith
-ends_made splits body tx birth answers before _ _ (down n here drops u are) h = absurd cc
-ends_made splits body tx birth answers before _ _ (unsettled n home asked d a) h = absurd cc
-ends_made splits body tx birth answers before behind _ (wanting_before cause _ w u) h = absurd cc
-ends_made splits body tx birth answers before _ _ (wanting_behind cause home asked w d a) h = absurd cc
-ends_made splits body tx birth answers before behind _ (unanswered op parts _ next are) h = absurd cc
-ends_made splits body tx birth answers before behind _ (worn_at_line at _ d are) h = absurd cc
+ends_made splits body tx birth acts before _ _ (in_going_back upto cause n here drops next died are) h =
+    let long = ap length died.entries ∙ length-append died.before (died.last ∷ []) in
+    let whole = length-append here drops in
+    omega arith
+ends_made splits body tx birth acts before _ _ (at_request home cause asked drops d a are) h = omega arith
+ends_made splits body tx birth acts before _ _ (at_look home cause asked told drops d a l are) h = omega arith
+ends_made splits body tx birth acts before _ _ (down n here drops u are) h = absurd cc
+ends_made splits body tx birth acts before _ _ (unsettled n home asked d a) h = absurd cc
+ends_made splits body tx birth acts before behind _ (wanting_before cause _ w u) h = absurd cc
+ends_made splits body tx birth acts before _ _ (wanting_behind cause home asked w d a) h = absurd cc
+ends_made splits body tx birth acts before _ _ wanting_between h = absurd cc
+ends_made splits body tx birth acts before behind _ (unanswered op parts _ next are) h = absurd cc
+ends_made splits body tx birth acts before behind _ (worn_at_line at _ d are) h = absurd cc
 
 try_made : (splits : List ℕ) (body : Body) (birth : Birth) (t : Try) → IsTry splits body birth t → is_to_retry t.end ≡ true → 1 ≤ length t.entries
 try_made splits body birth t is h =
-    let m = ends_made splits body t.tx birth t.answers is.before is.behind t.end is.ends h in
+    let m = ends_made splits body t.tx birth t.acts is.before is.behind t.end is.ends h in
     let e = ap length is.entries_are ∙ length-append is.before is.behind in
     omega arith
 

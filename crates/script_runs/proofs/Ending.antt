@@ -2,15 +2,15 @@
 use Rattle.std.proofs.Common.{◌≡◌, refl, sym, ap, subst, ◌∙◌, ◌⊎◌, inl, inr, ℕ, Bool, true, List, [], ◌∷◌, ◌++◌, length, append-nil, Option, None, Result, Ok, Err, arith}
 use Rattle.clv_base.specs.declared.names.TxId.{TxId}
 use Rattle.clv_base.specs.declared.names.Birth.{Birth}
-use Rattle.clv_base.specs.declared.ops.Answer.{Answer}
 use Rattle.clv_base.specs.Journals.{History}
 use Rattle.script_lang.specs.declared.actions.Ending.{Ending}
 use Rattle.script_lang.specs.Bodies.{Body}
-use Rattle.script_lang.specs.Following.{next_op}
+use Rattle.session_books.specs.Done.{Done}
 use Rattle.script_runs.specs.declared.ends.StopCause.{StopCause}
 use Rattle.script_runs.specs.declared.ends.StopCause.TheVariants.{Down, Unsettled, Worn, Memory}
 use Rattle.script_runs.specs.declared.ends.TryEnd.{TryEnd}
 use Rattle.script_runs.specs.declared.ends.TryEnd.TheVariants.{Acknowledged, Empty, Asked, Aborted, Stopped}
+use Rattle.script_runs.specs.Acts.{next_of}
 use Rattle.script_runs.specs.Tries.{Try, IsDone, EndsBy, AreDrops, is_touched}
 use Rattle.script_runs.specs.Dropped.{HasDropped, LetsGo}
 use Rattle.script_runs.specs.Seen.{Active, Seen, Misses, Grows, IsWornOut}
@@ -69,28 +69,28 @@ pub let_go_or : (missed : Misses) (touched : ℕ → Bool) (t : Try) (earlier be
 let_go_or missed touched t earlier before drops now v entries only all is (inl each) = inl (let_go missed touched t earlier before drops now entries only all is each)
 let_go_or missed touched t earlier before drops now v entries only all is (inr worn) = inr worn
 
--- with what stands behind its operations the transaction's entries are a try
+-- with what stands behind its acts the transaction's entries are a try
 abbrev pub try_with : (body : Body) (tx : TxId) (birth : Birth) (end : TryEnd) (u w : Seen) (d : HasDone tx birth body.actions u w) (behind : History) → Try
-try_with body tx birth end u w d behind = record { tx = tx; answers = d.answers; end = end; entries = d.entries ++ behind }
+try_with body tx birth end u w d behind = record { tx = tx; acts = d.acts; end = end; entries = d.entries ++ behind }
 
-abbrev pub tried : (missed : Misses) (body : Body) (tx : TxId) (birth : Birth) (end : TryEnd) (u w v : Seen) (d : HasDone tx birth body.actions u w) (behind : History) → EndsBy u.splits body tx birth d.answers d.entries end behind → Grows behind w v
+abbrev pub tried : (missed : Misses) (body : Body) (tx : TxId) (birth : Birth) (end : TryEnd) (u w v : Seen) (d : HasDone tx birth body.actions u w) (behind : History) → EndsBy u.splits body tx birth d.acts d.entries end behind → Grows behind w v
     → LeftBy birth end v.standing → LetsGo missed v.clock (try_with body tx birth end u w d behind) end → Tried missed body tx birth end u v
 tried missed body tx birth end u w v d behind ends grows left drops =
     record {
-      answers = d.answers;
+      acts = d.acts;
       entries = d.entries ++ behind;
-      is_try = record { before = d.entries; behind = behind; entries_are = refl; operations = d.operations; ends = ends };
+      is_try = record { before = d.entries; behind = behind; entries_are = refl; follows = d.follows; acts_are = d.acts_are; ends = ends };
       grows = grows_on d.entries behind u w v d.grows grows;
       left = left;
       dropped = drops;
     }
 
-pub no_answers : (answers : List Answer) → length answers ≡ 0 → answers ≡ []
-no_answers [] h = refl
-no_answers (a ∷ answers) h = absurd (let no : ⊥ = omega arith in no)
+pub none_done : (acts : List Done) → length acts ≡ 0 → acts ≡ []
+none_done [] h = refl
+none_done (d ∷ acts) h = absurd (let no : ⊥ = omega arith in no)
 
 pub more_touched : (touched : ℕ → Bool) (es : History) → ((n : ℕ) → touched n ≡ true → is_touched es n ≡ true) → (n : ℕ) → touched n ≡ true → is_touched (es ++ []) n ≡ true
 more_touched touched es only n h = ap (λ l. is_touched l n) (append-nil es) ∙ only n h
 
-pub done_as : (body : Body) (ending : Ending) (answers : List Answer) → next_op body.actions answers ≡ None → body.ending ≡ ending → IsDone body ending answers
-done_as body ending answers all is = record { all = all; ending_is = is }
+pub done_as : (body : Body) (ending : Ending) (acts : List Done) → next_of body.actions acts ≡ None → body.ending ≡ ending → IsDone body ending acts
+done_as body ending acts all is = record { all = all; ending_is = is }

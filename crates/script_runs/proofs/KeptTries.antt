@@ -3,7 +3,7 @@ use Rattle.std.proofs.Common.{◌≡◌, refl, sym, ap, subst, ◌∙◌, ℕ, s
 use Rattle.clv_base.specs.declared.names.TxId.{TxId}
 use Rattle.clv_base.specs.declared.names.Birth.{Birth}
 use Rattle.clv_base.specs.declared.events.Event.{Event}
-use Rattle.clv_base.specs.declared.events.Event.TheVariants.{Op, Request, Look}
+use Rattle.clv_base.specs.declared.events.Event.TheVariants.{Op, RollTo, Request, Look}
 use Rattle.clv_base.specs.Shards.{are_splits}
 use Rattle.clv_base.specs.Journals.{History}
 use Rattle.law_base.proofs.Lists.{all_append, all_mono}
@@ -64,6 +64,7 @@ pub record TryingKept (missed : Misses) (body : Body) (first : TxId) (birth : Bi
 
 up_to_later : (serial later clock now : ℕ) (ev : Event) → serial ≤ later → clock ≤ now → IsUpTo serial clock ev → IsUpTo later now ev
 up_to_later serial later clock now (Op tx birth nth seen op) s c h = let a = h.0 in let b = h.1 in (omega arith, omega arith)
+up_to_later serial later clock now (RollTo tx nth seen upto) s c h = omega arith
 up_to_later serial later clock now (Request tx touched) s c h = omega arith
 up_to_later serial later clock now (Look tx) s c h = omega arith
 up_to_later serial later clock now _ s c h = tt

@@ -1,5 +1,8 @@
 mod Doing
+mod Stepping
 mod Dropped
+mod EntryKinds
+mod ActsTold
 mod Ending
 mod Tries
 mod Sessions

@@ -5,9 +5,9 @@ use Rattle.std.specs.List.{AllByRecursion, list_any}
 use Rattle.std.proofs.lemmas.List.Folds.{list_any-append}
 use Rattle.clv_base.specs.declared.names.TxId.{TxId}
 use Rattle.clv_base.specs.declared.events.Event.{Event}
-use Rattle.clv_base.specs.declared.events.Event.TheVariants.{Op, Request, Look}
+use Rattle.clv_base.specs.declared.events.Event.TheVariants.{Op, RollTo, Request, Look}
 use Rattle.clv_base.specs.declared.events.Outcome.{Outcome}
-use Rattle.clv_base.specs.declared.events.Outcome.TheVariants.{Answered, Asked, Acknowledged}
+use Rattle.clv_base.specs.declared.events.Outcome.TheVariants.{Answered, Rolled, Asked, Acknowledged}
 use Rattle.clv_base.specs.declared.events.Entry.{Entry}
 use Rattle.clv_base.specs.Orders.{tx_same}
 use Rattle.clv_base.specs.Journals.{History}
@@ -15,13 +15,15 @@ use Rattle.clv_base.specs.History.{acknowledged_in, is_acknowledgement, has_requ
 use Rattle.clv_base.proofs.SameNames.{tx_ne}
 use Rattle.law_base.proofs.Bools.{or_false}
 use Rattle.law_base.proofs.Lists.{all_mono}
+use Rattle.session_books.specs.Done.{Did, WentBack}
 use Rattle.session_books.specs.declared.told.Told.{Told}
 use Rattle.session_books.specs.Told.{told_by, with_told, told_in, looked_by, is_tx, has_look}
 use Rattle.session_books.specs.Counts.{is_open}
 
--- the transaction whose operation, request or look it is
+-- the transaction whose operation, going back, request or look it is
 abbrev pub name_of : Event → Option TxId
 name_of (Op tx birth nth seen op) = Some tx
+name_of (RollTo tx nth seen upto) = Some tx
 name_of (Request tx touched) = Some tx
 name_of (Look tx) = Some tx
 name_of _ = None
@@ -58,8 +60,10 @@ apart : (t tx : TxId) → (◌≡◌ {A = Option TxId} (Some tx) (Some t) → �
 apart t tx q = (tx_ne tx t (λ h. q (ap Some h)), tx_ne t tx (λ h. q (ap Some (sym h))))
 
 told_quiet : (t : TxId) (ev : Event) (o : Outcome) (ts : List Told) → (name_of ev ≡ Some t → ⊥) → with_told t (told_by ev o) ts ≡ ts
-told_quiet t (Op tx birth nth seen op) (Answered answer epoch) ts q = ap (λ b. cond b (record { nth = nth; op = op; answer = answer } ∷ ts) ts) (apart t tx q).0
+told_quiet t (Op tx birth nth seen op) (Answered answer epoch) ts q = ap (λ b. cond b (record { nth = nth; done = Did op answer } ∷ ts) ts) (apart t tx q).0
 told_quiet t (Op tx birth nth seen op) _ ts q = refl
+told_quiet t (RollTo tx nth seen upto) Rolled ts q = ap (λ b. cond b (record { nth = nth; done = WentBack upto } ∷ ts) ts) (apart t tx q).0
+told_quiet t (RollTo tx nth seen upto) _ ts q = refl
 told_quiet t _ o ts q = refl
 
 acknowledged_quiet : (t : TxId) (ev : Event) (o : Outcome) → (name_of ev ≡ Some t → ⊥) → is_acknowledgement t ev o ≡ false

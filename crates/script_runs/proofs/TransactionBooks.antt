@@ -7,7 +7,7 @@ use Rattle.std.proofs.lemmas.List.Folds.{list_any-append}
 use Rattle.clv_base.specs.declared.names.TxId.{TxId}
 use Rattle.clv_base.specs.declared.names.Birth.{Birth}
 use Rattle.clv_base.specs.declared.events.Event.{Event}
-use Rattle.clv_base.specs.declared.events.Event.TheVariants.{Op, Request, Look}
+use Rattle.clv_base.specs.declared.events.Event.TheVariants.{Op, RollTo, Request, Look}
 use Rattle.clv_base.specs.Journals.{History}
 use Rattle.clv_base.specs.History.{acknowledged_in}
 use Rattle.clv_base.proofs.SameNames.{or_right}
@@ -223,6 +223,7 @@ module _ (splits : List ℕ) (body : Body) (birth : Birth) where
 
 up_named : (serial clock : ℕ) (ev : Event) (u : TxId) → IsUpTo serial clock ev → name_of ev ≡ Some u → u.serial ≤ serial
 up_named serial clock (Op tx birth nth seen op) u h k = subst (λ x. x.serial ≤ serial) (sym (same_name tx u k)) h.0
+up_named serial clock (RollTo tx nth seen upto) u h k = subst (λ x. x.serial ≤ serial) (sym (same_name tx u k)) h
 up_named serial clock (Request tx touched) u h k = subst (λ x. x.serial ≤ serial) (sym (same_name tx u k)) h
 up_named serial clock (Look tx) u h k = subst (λ x. x.serial ≤ serial) (sym (same_name tx u k)) h
 up_named serial clock _ u h k = absurd cc
@@ -233,6 +234,7 @@ up_born serial clock _ p h k = absurd cc
 
 as_up_to : (serial clock : ℕ) (ev : Event) → ((u : TxId) → name_of ev ≡ Some u → u.serial ≤ serial) → ((p : TxId × Birth) → try_of ev ≡ Some p → (p.1).stamp ≤ clock) → IsUpTo serial clock ev
 as_up_to serial clock (Op tx birth nth seen op) n b = (n tx refl, b (tx, birth) refl)
+as_up_to serial clock (RollTo tx nth seen upto) n b = n tx refl
 as_up_to serial clock (Request tx touched) n b = n tx refl
 as_up_to serial clock (Look tx) n b = n tx refl
 as_up_to serial clock _ n b = tt

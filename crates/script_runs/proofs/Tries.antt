@@ -43,7 +43,7 @@ entries_more (t ∷ ts) us = ap (λ es. t.entries ++ es) (entries_more ts us) �
 
 -- the try that was told
 abbrev pub try_of : (missed : Misses) (body : Body) (tx : TxId) (birth : Birth) (end : TryEnd) (v w : Seen) → Tried missed body tx birth end v w → Try
-try_of missed body tx birth end v w t = record { tx = tx; answers = t.answers; end = end; entries = t.entries }
+try_of missed body tx birth end v w t = record { tx = tx; acts = t.acts; end = end; entries = t.entries }
 
 -- the tries so far, of which each calls for a further one, and the next one's name
 pub record Trying (missed : Misses) (body : Body) (first : TxId) (birth : Birth) (most : Option ℕ) (tried : ℕ) (u v : Seen) : Type 0 where
@@ -85,7 +85,7 @@ trying_later missed later body first birth most tried u v keeps d =
 abbrev pub tried_later : (missed later : Misses) (body : Body) (tx : TxId) (birth : Birth) (end : TryEnd) (v w : Seen) → Keeps missed later → Tried missed body tx birth end v w → Tried later body tx birth end v w
 tried_later missed later body tx birth end v w keeps t =
     record {
-      answers = t.answers;
+      acts = t.acts;
       entries = t.entries;
       is_try = t.is_try;
       grows = t.grows;
@@ -175,7 +175,7 @@ tries_stopped missed body first birth most tried end next cause u v w d t is n =
 
 -- what stopped the session between two tries made nothing
 pub told_between : (birth : Birth) (cause : StopCause) (w x : Seen) → RetryTold {A = Unit {0}} birth (Err cause) w x → (stops_between cause ≡ true) × Grows [] w x
-told_between birth (Down n) w x grows = (refl, grows)
+told_between birth (Down n) w x (grows, standing) = (refl, grows)
 told_between birth (Unsettled n) w x told = absurd told
 told_between birth (Worn at) w x grows = (refl, grows)
 told_between birth Memory w x told = absurd told

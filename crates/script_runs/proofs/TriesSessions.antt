@@ -1,27 +1,27 @@
 -- A transaction's tries, and a session's transactions.
-use Rattle.std.proofs.Common.{◌≡◌, refl, sym, ap, subst, ◌∙◌, ℕ, suc, ◌+◌, ◌<◌, ◌≤◌, true, false, nat_lt, List, [], ◌∷◌, ◌++◌, length, map, append_assoc, append-nil, Option, Some, None, arith}
+use Rattle.std.proofs.Common.{◌≡◌, refl, sym, ap, subst, ◌∙◌, ℕ, suc, ◌+◌, ◌<◌, ◌≤◌, true, false, nat_lt, List, [], ◌∷◌, ◌++◌, length, map, append_assoc, Option, Some, None, arith}
 use Rattle.std.specs.List.{AllByRecursion}
 use Rattle.std.proofs.lemmas.Bool.{both_ways, ltb-true, and_parts}
 use Rattle.clv_base.specs.declared.names.TxId.{TxId}
 use Rattle.clv_base.specs.declared.names.Birth.{Birth}
 use Rattle.clv_base.specs.declared.causes.AbortCause.{AbortCause}
 use Rattle.clv_base.specs.declared.causes.AbortCause.TheVariants.{Asked, Died, Predecessor, NoVote, Restarted}
-use Rattle.clv_base.specs.declared.ops.Answer.{Answer}
 use Rattle.clv_base.specs.FileRules.{numbers_rise}
 use Rattle.clv_base.specs.Journals.{History}
-use Rattle.clv_base.specs.History.{ops_in}
+use Rattle.clv_base.specs.History.{acts_in}
 use Rattle.clv_base.proofs.SameNames.{tx_ne}
 use Rattle.script_lang.specs.Bodies.{Body}
+use Rattle.session_books.specs.Done.{Done}
 use Rattle.script_runs.specs.declared.ends.StopCause.{StopCause}
 use Rattle.script_runs.specs.declared.ends.TryEnd.{TryEnd}
 use Rattle.script_runs.specs.declared.ends.TryEnd.TheVariants as end
-use Rattle.script_runs.specs.Tries.{Try, IsTry, EndsBy, acknowledged, nothing, by_line, in_operation, at_request, at_look, down, unsettled, wanting_before, wanting_behind, unanswered, worn_at_line}
+use Rattle.script_runs.specs.Tries.{Try, IsTry, EndsBy, acknowledged, nothing, by_line, in_operation, in_going_back, at_request, at_look, down, unsettled, wanting_before, wanting_behind, wanting_between, unanswered, worn_at_line}
 use Rattle.script_runs.specs.Sessions.{Transaction, IsTransaction, InTries, last, none_left, stopped_between, further, is_to_retry, stopped_by, has_left, AreTransactions, all_done, not_begun, stopped, done, entries_of, tries_of}
 use Rattle.script_runs.specs.TriesLaws.{TriesAreFew, IsBornSo, TriesHaveOneBirth, TransactionsHaveOwnBirths, Completes, IsComplete, SessionsGoThrough, SessionsTellTheirTries}
 use Rattle.script_runs.specs.TriesLaws as laws
 use Rattle.script_runs.proofs.TriesListed.{try_born, entries_tell_of_no_other}
 use Rattle.law_base.proofs.Lists.{all_append}
-use Rattle.law_base.proofs.Names.{ops_append}
+use Rattle.law_base.proofs.Acts.{acts_before_none, acts_after_none}
 
 -- ---- how many tries
 
@@ -77,20 +77,22 @@ was_asked most body count (Predecessor tx) h = absurd (both_ways true h refl)
 was_asked most body count (NoVote shard why) h = absurd (both_ways true h refl)
 was_asked most body count (Restarted shard seen now) h = absurd (both_ways true h refl)
 
-ended : (most : Option ℕ) (count : ℕ) (splits : List ℕ) (body : Body) (tx : TxId) (birth : Birth) (answers : List Answer) (before : History) (e : TryEnd) (behind : History) → EndsBy splits body tx birth answers before e behind
+ended : (most : Option ℕ) (count : ℕ) (splits : List ℕ) (body : Body) (tx : TxId) (birth : Birth) (acts : List Done) (before : History) (e : TryEnd) (behind : History) → EndsBy splits body tx birth acts before e behind
     → is_to_retry e ≡ false → stopped_by e ≡ None → Completes most body count e
-ended most count splits body tx birth answers before _ _ (acknowledged home asked told all a l) r s = laws.acknowledged all.ending_is
-ended most count splits body tx birth answers before _ _ (nothing all none) r s = laws.empty all.ending_is
-ended most count splits body tx birth answers before _ _ (by_line drops all d) r s = laws.by_line all.ending_is
-ended most count splits body tx birth answers before _ _ (in_operation op cause n here drops next died d) r s = was_asked most body count cause r
-ended most count splits body tx birth answers before _ _ (at_request home cause asked drops all a d) r s = was_asked most body count cause r
-ended most count splits body tx birth answers before _ _ (at_look home cause asked told drops all a l d) r s = was_asked most body count cause r
-ended most count splits body tx birth answers before _ _ (down n here drops u d) r s = absurd cc
-ended most count splits body tx birth answers before _ _ (unsettled n home asked all a) r s = absurd cc
-ended most count splits body tx birth answers before _ _ (wanting_before cause here w u) r s = absurd cc
-ended most count splits body tx birth answers before _ _ (unanswered op parts here next are) r s = absurd cc
-ended most count splits body tx birth answers before _ _ (wanting_behind cause home asked w all a) r s = absurd cc
-ended most count splits body tx birth answers before _ _ (worn_at_line at drops all d) r s = absurd cc
+ended most count splits body tx birth acts before _ _ (acknowledged home asked told all a l) r s = laws.acknowledged all.ending_is
+ended most count splits body tx birth acts before _ _ (nothing all none) r s = laws.empty all.ending_is
+ended most count splits body tx birth acts before _ _ (by_line drops all d) r s = laws.by_line all.ending_is
+ended most count splits body tx birth acts before _ _ (in_operation op cause n here drops next died d) r s = was_asked most body count cause r
+ended most count splits body tx birth acts before _ _ (in_going_back upto cause n here drops next died d) r s = was_asked most body count cause r
+ended most count splits body tx birth acts before _ _ (at_request home cause asked drops all a d) r s = was_asked most body count cause r
+ended most count splits body tx birth acts before _ _ (at_look home cause asked told drops all a l d) r s = was_asked most body count cause r
+ended most count splits body tx birth acts before _ _ (down n here drops u d) r s = absurd cc
+ended most count splits body tx birth acts before _ _ (unsettled n home asked all a) r s = absurd cc
+ended most count splits body tx birth acts before _ _ (wanting_before cause here w u) r s = absurd cc
+ended most count splits body tx birth acts before _ _ wanting_between r s = absurd cc
+ended most count splits body tx birth acts before _ _ (unanswered op parts here next are) r s = absurd cc
+ended most count splits body tx birth acts before _ _ (wanting_behind cause home asked w all a) r s = absurd cc
+ended most count splits body tx birth acts before _ _ (worn_at_line at drops all d) r s = absurd cc
 
 record Ends (most : Option ℕ) (body : Body) (count : ℕ) (ts : List Try) : Type 0 where
   front : List Try
@@ -101,7 +103,7 @@ record Ends (most : Option ℕ) (body : Body) (count : ℕ) (ts : List Try) : Ty
 goes : (most : Option ℕ) (count : ℕ) (splits : List ℕ) (body : Body) (birth : Birth) (n : ℕ) (ts : List Try) (cause : Option StopCause) → InTries most n ts cause → cause ≡ None → suc count ≡ n + length ts
     → AllByRecursion (IsTry splits body birth) ts → Ends most body count ts
 goes most count splits body birth _ _ _ (last n t r) none is each =
-    record { front = []; final = t; tries_are = refl; completes = ended most count splits body t.tx birth t.answers (each.0).before t.end (each.0).behind (each.0).ends r none }
+    record { front = []; final = t; tries_are = refl; completes = ended most count splits body t.tx birth t.acts (each.0).before t.end (each.0).behind (each.0).ends r none }
 goes most count splits body birth _ _ _ (none_left n t r k) none is each =
     let same : n ≡ count = omega arith in
     record { front = []; final = t; tries_are = refl; completes = laws.no_try_left t.end r (ap (has_left most) (sym same) ∙ k) }
@@ -147,15 +149,15 @@ all_tried splits run walker most _ _ _ (done tr bodies trs cause is more) =
 abbrev serials : List Try → List ℕ
 serials ts = map (λ t. (t.tx).serial) ts
 
-silent_of : (splits : List ℕ) (tx : TxId) (t : Try) → IsTried splits t → (tx.serial ≡ (t.tx).serial → ⊥) → ops_in tx t.entries ≡ []
+silent_of : (splits : List ℕ) (tx : TxId) (t : Try) → IsTried splits t → (tx.serial ≡ (t.tx).serial → ⊥) → acts_in tx t.entries ≡ []
 silent_of splits tx t is apart = entries_tell_of_no_other splits is.0 is.1 t tx is.2 (tx_ne tx t.tx (λ h. apart (ap (λ x. x.serial) h)))
 
-later_silent : (splits : List ℕ) (tx : TxId) (n : ℕ) (ts : List Try) → AllByRecursion (IsTried splits) ts → tx.serial ≤ n → numbers_rise (n ∷ serials ts) ≡ true → ops_in tx (entries_of ts) ≡ []
+later_silent : (splits : List ℕ) (tx : TxId) (n : ℕ) (ts : List Try) → AllByRecursion (IsTried splits) ts → tx.serial ≤ n → numbers_rise (n ∷ serials ts) ≡ true → acts_in tx (entries_of ts) ≡ []
 later_silent splits tx n [] is low h = refl
 later_silent splits tx n (t ∷ ts) is low h =
     let p = and_parts (nat_lt n (t.tx).serial) (numbers_rise (serials (t ∷ ts))) h in
     let less = ltb-true n (t.tx).serial p.0 in
-    ops_append tx t.entries (entries_of ts) ∙ ap (λ l. l ++ ops_in tx (entries_of ts)) (silent_of splits tx t is.0 (λ same. omega arith))
+    acts_after_none tx t.entries (entries_of ts) (silent_of splits tx t is.0 (λ same. omega arith))
     ∙ later_silent splits tx (t.tx).serial ts is.1 (omega arith) p.1
 
 is_less : (u t : Try) (us behind : List Try) → numbers_rise (serials (u ∷ us ++ t ∷ behind)) ≡ true → (u.tx).serial < (t.tx).serial
@@ -167,16 +169,16 @@ is_less u t (w ∷ us) behind h =
     omega arith
 
 tells_one : (splits : List ℕ) (front behind : List Try) (t : Try) → AllByRecursion (IsTried splits) (front ++ t ∷ behind) → numbers_rise (serials (front ++ t ∷ behind)) ≡ true
-    → ops_in t.tx (entries_of (front ++ t ∷ behind)) ≡ ops_in t.tx t.entries
+    → acts_in t.tx (entries_of (front ++ t ∷ behind)) ≡ acts_in t.tx t.entries
 tells_one splits [] behind t is h =
-    ops_append t.tx t.entries (entries_of behind) ∙ ap (λ l. ops_in t.tx t.entries ++ l) (later_silent splits t.tx (t.tx).serial behind is.1 (omega arith) h) ∙ append-nil (ops_in t.tx t.entries)
+    acts_before_none t.tx t.entries (entries_of behind) (later_silent splits t.tx (t.tx).serial behind is.1 (omega arith) h)
 tells_one splits (u ∷ front) behind t is h =
     let less = is_less u t front behind h in
-    ops_append t.tx u.entries (entries_of (front ++ t ∷ behind)) ∙ ap (λ l. l ++ ops_in t.tx (entries_of (front ++ t ∷ behind))) (silent_of splits t.tx u is.0 (λ same. omega arith))
+    acts_after_none t.tx u.entries (entries_of (front ++ t ∷ behind)) (silent_of splits t.tx u is.0 (λ same. omega arith))
     ∙ tells_one splits front behind t is.1 (tail_rises (u.tx).serial (serials (front ++ t ∷ behind)) h)
 
 pub sessions_tell_their_tries : SessionsTellTheirTries
 sessions_tell_their_tries splits run walker most bodies cause es f front behind t is =
-    ap (ops_in t.tx) (f.entries_are ∙ ap entries_of is)
+    ap (acts_in t.tx) (f.entries_are ∙ ap entries_of is)
     ∙ tells_one splits front behind t (subst (AllByRecursion (IsTried splits)) is (all_tried splits run walker most bodies f.transactions cause f.in_order))
     (sym (ap (λ ts. numbers_rise (serials ts)) is) ∙ f.serials_rise)

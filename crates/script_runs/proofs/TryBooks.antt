@@ -1,27 +1,27 @@
 -- What a try adds to a book: its row, and as what it is counted.
-use Rattle.std.proofs.Common.{◌≡◌, refl, sym, ap, subst, ◌∙◌, ℕ, suc, Bool, true, false, cond, ◌||◌, ◌&&◌, List, [], ◌∷◌, ◌++◌, length, append-nil, Option, Some, None}
+use Rattle.std.proofs.Common.{◌≡◌, refl, sym, ap, subst, ◌∙◌, inl, inr, ℕ, Bool, true, false, cond, ◌||◌, ◌&&◌, List, [], ◌∷◌, ◌++◌, append-nil, Option, Some, None}
 use Rattle.std.specs.Prelude.{is_some}
-use Rattle.std.specs.List.{AllByRecursion}
+use Rattle.std.specs.List.{AllByRecursion, list_all}
 use Rattle.std.proofs.lemmas.Bool.{both_ways, false_from_ne_true}
 use Rattle.std.proofs.lemmas.List.Folds.{list_any-append}
 use Rattle.clv_base.specs.declared.names.TxId.{TxId}
 use Rattle.clv_base.specs.declared.names.Birth.{Birth}
-use Rattle.clv_base.specs.declared.causes.AbortCause.{AbortCause}
-use Rattle.clv_base.specs.declared.ops.Op.{Op}
-use Rattle.clv_base.specs.declared.ops.Answer.{Answer}
 use Rattle.clv_base.specs.declared.events.Event.{Event}
-use Rattle.clv_base.specs.declared.events.Event.TheVariants.{Op as OpEvent, Request, Look, Drop}
+use Rattle.clv_base.specs.declared.events.Event.TheVariants.{Op as OpEvent, RollTo, Request, Look, Drop}
 use Rattle.clv_base.specs.declared.events.Outcome.{Outcome}
-use Rattle.clv_base.specs.declared.events.Outcome.TheVariants.{Dead, Asked, Acknowledged, Aborted}
+use Rattle.clv_base.specs.declared.events.Outcome.TheVariants.{Asked, Acknowledged}
 use Rattle.clv_base.specs.declared.events.Entry.{Entry}
 use Rattle.clv_base.specs.Journals.{History}
 use Rattle.clv_base.specs.History.{acknowledged_in, is_acknowledgement, request_of}
 use Rattle.clv_base.proofs.SameNames.{tx_self, or_left, or_right}
 use Rattle.law_base.proofs.Bools.{same_truth}
-use Rattle.law_base.proofs.Lists.{all_append, all_mono}
+use Rattle.law_base.proofs.Lists.{all_mono}
 use Rattle.law_base.proofs.Names.{birth_self}
 use Rattle.script_lang.specs.Bodies.{Body}
-use Rattle.script_lang.specs.Following.{all_ops}
+use Rattle.script_lang.specs.declared.actions.Action.{Action}
+use Rattle.script_lang.specs.Laws.{is_narrow}
+use Rattle.script_lang.specs.Following.{all_acts}
+use Rattle.session_books.specs.Done.{Done}
 use Rattle.session_books.specs.Told.{told_in, with_told, told_by, try_of, same_birth, is_of_birth, has_birth}
 use Rattle.session_books.specs.declared.counts.Counts.{Counts}
 use Rattle.session_books.specs.Counts.{nothing_counted, counted, count_try, counts_in, is_open, is_acknowledged_try, has_acknowledged_try}
@@ -29,79 +29,18 @@ use Rattle.session_books.specs.declared.books.Row.{Row}
 use Rattle.session_books.specs.Books.{row_of, row_at, rows_in, rows, whole_ops}
 use Rattle.script_runs.specs.declared.ends.TryEnd.{TryEnd}
 use Rattle.script_runs.specs.declared.ends.TryEnd.TheVariants as end
-use Rattle.script_runs.specs.Operations.{parts_of, ArePartsAnswered, no_part, part, AreOperations, no_operation, operation, IsDeath}
-use Rattle.script_runs.specs.Tries.{Try, IsTry, IsRequest, IsLook, AreDrops, IsUnderWay, operation_begun, request_next, EndsBy, acknowledged, nothing, by_line, in_operation, at_request, at_look, down, unsettled, wanting_before, wanting_behind, unanswered, worn_at_line, ops_so_far}
+use Rattle.script_runs.specs.Acts.{acts_of, answers_in}
+use Rattle.script_runs.specs.Tries.{Try, IsTry, IsRequest, IsLook}
 use Rattle.script_runs.specs.TriesLaws.{DidItsLines, IsBornSo}
 use Rattle.script_runs.specs.Told.{place_of}
-use Rattle.script_runs.specs.Books.{answered, AcknowledgedHaveRows, OthersHaveNone, has_op, is_acknowledged, fate_by, fate_of, count_as}
+use Rattle.script_runs.specs.Books.{AcknowledgedHaveRows, OthersHaveNone, has_op, is_acknowledged, fate_by, fate_of, count_as}
 use Rattle.script_runs.proofs.TriesListed.{acknowledged_did_their_lines, try_born}
 use Rattle.script_runs.proofs.TriesTell.{acknowledged_end_so}
 use Rattle.script_runs.proofs.Doing.{lines_pass}
+use Rattle.script_runs.proofs.EntryKinds.{IsActOf, AreActsOf, acts_are, entries_all}
 use Rattle.script_runs.proofs.Quiet.{name_of, AreNamed}
 use Rattle.script_runs.proofs.BooksApart.{rows_append, rows_none, AreTried, AreBorn, named_try}
-use Rattle.script_runs.proofs.Wholes.{told_append, told_whole, has_bounds, bounds_narrow}
-
--- ---- entries of a try, by kind
-
--- an operation of the transaction, of this birth
-pub record IsOpOf (tx : TxId) (birth : Birth) (e : ℕ × Entry) : Type 0 where
-  pub nth : ℕ
-  pub seen : Option ℕ
-  pub op : Op
-  pub event : (e.1).event ≡ OpEvent tx birth nth seen op
-
-abbrev pub AreOpsOf : TxId → Birth → History → Type 0
-AreOpsOf tx birth es = AllByRecursion (IsOpOf tx birth) es
-
-module _ (tx : TxId) (birth : Birth) where
-  pub parts_are : (nth : ℕ) (parts : List (ℕ × Op)) (answers : List Answer) (es : History) → ArePartsAnswered tx birth nth parts answers es → AreOpsOf tx birth es
-  parts_are nth _ _ _ no_part = tt
-  parts_are nth _ _ _ (part p answer epoch e parts answers es is more) = (record { nth = nth; seen = is.seen; op = p.1; event = is.event }, parts_are nth parts answers es more)
-
-  pub operations_are : (splits : List ℕ) (nth : ℕ) (ops : List Op) (answers : List Answer) (es : History) → AreOperations splits tx birth nth ops answers es → AreOpsOf tx birth es
-  operations_are splits _ _ _ _ (no_operation nth) = tt
-  operations_are splits _ _ _ _ (operation nth op answer ops answers here behind es is o more) =
-      subst (AreOpsOf tx birth) (sym is) (all_append (IsOpOf tx birth) here behind (parts_are nth (parts_of splits op) o.answers here o.parts) (operations_are splits (suc nth) ops answers behind more))
-
-  pub way_is : (splits : List ℕ) (body : Body) (answers : List Answer) (es : History) → IsUnderWay splits body tx birth answers es → AreOpsOf tx birth es
-  way_is splits body answers _ (operation_begun op es next b) = parts_are (suc (length answers)) b.done b.answers es b.answered
-  way_is splits body answers _ (request_next all) = tt
-
-  pub death_is : (splits : List ℕ) (nth : ℕ) (op : Op) (cause : AbortCause) (n : ℕ) (es : History) → IsDeath splits tx birth nth op cause n es → AreOpsOf tx birth es
-  death_is splits nth op cause n es d =
-      subst (AreOpsOf tx birth) (sym d.entries)
-      (all_append (IsOpOf tx birth) d.before (d.last ∷ []) (parts_are nth d.done d.answers d.before d.answered) (record { nth = nth; seen = (d.died).seen; op = (d.next).1; event = (d.died).event }, tt))
-
-  -- its entries: of operations, of a request and of a look, and drops
-  module _ (P : ℕ × Entry → Type 0) (of_op : (e : ℕ × Entry) → IsOpOf tx birth e → P e) (of_drop : (e : ℕ × Entry) → (e.1).event ≡ Drop tx → P e) where
-    pub ops_all : (es : History) → AreOpsOf tx birth es → AllByRecursion P es
-    ops_all es o = all_mono (IsOpOf tx birth) P of_op es o
-
-    pub drops_all : (before : History) (except : Option ℕ) (es : History) → AreDrops tx before except es → AllByRecursion P es
-    drops_all before except [] d = tt
-    drops_all before except (e ∷ es) d = (of_drop e (d.0).event, drops_all before except es d.1)
-
-    module _ (of_request : (home : ℕ) (o : Outcome) (e : ℕ × Entry) → IsRequest tx home o e → P e) (of_look : (home : ℕ) (o : Outcome) (e : ℕ × Entry) → IsLook tx home o e → P e) where
-      behind_all : (splits : List ℕ) (body : Body) (answers : List Answer) (before : History) (e : TryEnd) (behind : History) → EndsBy splits body tx birth answers before e behind → AllByRecursion P behind
-      behind_all splits body answers before _ _ (acknowledged home asked told all a l) = (of_request home Asked asked a, (of_look home Acknowledged told l, tt))
-      behind_all splits body answers before _ _ (nothing all none) = tt
-      behind_all splits body answers before _ _ (by_line drops all d) = drops_all before None drops d
-      behind_all splits body answers before _ _ (in_operation op cause n here drops next died d) =
-          all_append P here drops (ops_all here (death_is splits (suc (length answers)) op cause n here died)) (drops_all (before ++ here) (Some n) drops d)
-      behind_all splits body answers before _ _ (at_request home cause asked drops all a d) = (of_request home (Dead cause) asked a, drops_all before (Some home) drops d)
-      behind_all splits body answers before _ _ (at_look home cause asked told drops all a l d) =
-          (of_request home Asked asked a, (of_look home (Aborted cause) told l, drops_all before (Some home) drops d))
-      behind_all splits body answers before _ _ (down n here drops u d) = all_append P here drops (ops_all here (way_is splits body answers here u)) (drops_all (before ++ here) None drops d)
-      behind_all splits body answers before _ _ (unsettled n home asked all a) = (of_request home Asked asked a, tt)
-      behind_all splits body answers before _ _ (wanting_before cause here w u) = ops_all here (way_is splits body answers here u)
-      behind_all splits body answers before _ _ (wanting_behind cause home asked w all a) = (of_request home Asked asked a, tt)
-      behind_all splits body answers before _ _ (unanswered op parts here next are) = ops_all here (parts_are (suc (length answers)) (parts_of splits op) parts here are)
-      behind_all splits body answers before _ _ (worn_at_line at drops all d) = drops_all before None drops d
-
-      entries_all : (splits : List ℕ) (body : Body) (answers : List Answer) (e : TryEnd) (es : History) → IsTry splits body birth (record { tx = tx; answers = answers; end = e; entries = es }) → AllByRecursion P es
-      entries_all splits body answers e es is =
-          subst (AllByRecursion P) (sym is.entries_are)
-          (all_append P is.before is.behind (ops_all is.before (operations_are splits 1 (ops_so_far body.actions answers) answers is.before is.operations)) (behind_all splits body answers is.before e is.behind is.ends))
+use Rattle.script_runs.proofs.Wholes.{told_append, told_whole, has_bounds, has_act_bounds, bounds_narrow}
 
 -- ---- names
 
@@ -114,8 +53,8 @@ same_name tx t h = ap (λ o. elim o as (λ z. TxId) [ Some u ↦ u | None ↦ tx
 pub try_named : (splits : List ℕ) (body : Body) (birth : Birth) (t : Try) → IsTry splits body birth t → AreNamed (λ u. u ≡ t.tx) t.entries
 try_named splits body birth t is =
     entries_all t.tx birth (λ e. (u : TxId) → name_of (e.1).event ≡ Some u → u ≡ t.tx) (λ e o. name_by t.tx e (OpEvent t.tx birth o.nth o.seen o.op) o.event (λ u h. same_name t.tx u h))
-    (λ e d. name_by t.tx e (Drop t.tx) d (λ u h. absurd cc)) (λ home o e a. name_by t.tx e (Request t.tx a.touched) a.event (λ u h. same_name t.tx u h))
-    (λ home o e l. name_by t.tx e (Look t.tx) l.event (λ u h. same_name t.tx u h)) splits body t.answers t.end t.entries is
+    (λ e b. name_by t.tx e (RollTo t.tx b.nth b.seen b.upto) b.event (λ u h. same_name t.tx u h)) (λ e d. name_by t.tx e (Drop t.tx) d (λ u h. absurd cc)) (λ home o e a. name_by t.tx e (Request t.tx a.touched) a.event (λ u h. same_name t.tx u h))
+    (λ home o e l. name_by t.tx e (Look t.tx) l.event (λ u h. same_name t.tx u h)) splits body t.acts t.end t.entries is
 
 birth_by : (birth : Birth) (ev : Event) (p : TxId × Birth) → IsBornSo birth ev → try_of ev ≡ Some p → p.1 ≡ birth
 birth_by birth (OpEvent tx b nth seen op) p k h = ap (λ o. elim o as (λ z. Birth) [ Some q ↦ q.1 | None ↦ b ]) (sym h) ∙ k
@@ -126,12 +65,13 @@ born_as birth es k = all_mono (λ e. IsBornSo birth (e.1).event) (λ e. (p : TxI
 
 -- ---- rows
 
-pub op_asks_none : (tx : TxId) (birth : Birth) (e : ℕ × Entry) → IsOpOf tx birth e → request_of (e.1).event (e.1).outcome ≡ None
-op_asks_none tx birth e o = ap (λ ev. request_of ev (e.1).outcome) o.event
+pub act_asks_none : (tx : TxId) (birth : Birth) (e : ℕ × Entry) → IsActOf tx birth e → request_of (e.1).event (e.1).outcome ≡ None
+act_asks_none tx birth e (inl o) = ap (λ ev. request_of ev (e.1).outcome) o.event
+act_asks_none tx birth e (inr b) = ap (λ ev. request_of ev (e.1).outcome) b.event
 
-ops_rows : (tx : TxId) (birth : Birth) (h es : History) → AreOpsOf tx birth es → rows_in h es ≡ []
-ops_rows tx birth h [] o = refl
-ops_rows tx birth h (e ∷ es) o = ap (λ r. row_at h e r ++ rows_in h es) (op_asks_none tx birth e o.0) ∙ ops_rows tx birth h es o.1
+acts_rows : (tx : TxId) (birth : Birth) (h es : History) → AreActsOf tx birth es → rows_in h es ≡ []
+acts_rows tx birth h [] o = refl
+acts_rows tx birth h (e ∷ es) o = ap (λ r. row_at h e r ++ rows_in h es) (act_asks_none tx birth e o.0) ∙ acts_rows tx birth h es o.1
 
 pub asks : (tx : TxId) (home : ℕ) (e : ℕ × Entry) → IsRequest tx home Asked e → request_of (e.1).event (e.1).outcome ≡ Some tx
 asks tx home e a = ap (λ ev. request_of ev (e.1).outcome) a.event ∙ ap (request_of (Request tx a.touched)) a.outcome
@@ -152,29 +92,31 @@ none_told : (tx : TxId) (home : ℕ) (asked told : ℕ × Entry) → IsRequest t
 none_told tx home asked told a l =
     ap (λ ev. with_told tx (told_by ev (asked.1).outcome) (told_in tx (told ∷ []))) a.event ∙ ap (λ ev. with_told tx (told_by ev (told.1).outcome) []) l.event
 
-abbrev row_is : TxId → ℕ × Entry → List (Op × Answer) → Row
+abbrev row_is : TxId → ℕ × Entry → List Done → Row
 row_is tx asked ops = record { tx = tx; point = place_of asked; ops = ops }
 
-pub acknowledged_rows : (splits : List ℕ) (body : Body) (birth : Birth) (t : Try) (d : DidItsLines splits body birth t) → whole_ops (told_in t.tx d.before) ≡ answered (all_ops body.actions t.answers) t.answers
-    → rows t.entries ≡ record { tx = t.tx; point = place_of d.asked; ops = answered (all_ops body.actions t.answers) t.answers } ∷ []
+pub acknowledged_rows : (splits : List ℕ) (body : Body) (birth : Birth) (t : Try) (d : DidItsLines splits body birth t) → whole_ops (told_in t.tx d.before) ≡ t.acts
+    → rows t.entries ≡ record { tx = t.tx; point = place_of d.asked; ops = t.acts } ∷ []
 acknowledged_rows splits body birth t d told =
     let tail = d.asked ∷ d.told ∷ [] in
     let es = d.before ++ tail in
-    let ops = all_ops body.actions t.answers in
     let told_is : told_in t.tx es ≡ told_in t.tx d.before =
     told_append t.tx d.before tail ∙ ap (λ l. told_in t.tx d.before ++ l) (none_told t.tx d.home d.asked d.told d.asked_is d.told_is) ∙ append-nil (told_in t.tx d.before) in
     ap rows d.entries_are ∙ rows_append es d.before tail
-    ∙ ap (λ l. l ++ rows_in es tail) (ops_rows t.tx birth es d.before (operations_are t.tx birth splits 1 ops t.answers d.before d.operations))
+    ∙ ap (λ l. l ++ rows_in es tail) (acts_rows t.tx birth es d.before (acts_are t.tx birth splits 1 [] t.acts d.before d.acts_are))
     ∙ ap (λ r. row_at es d.asked r ++ rows_in es (d.told ∷ [])) (asks t.tx d.home d.asked d.asked_is)
     ∙ ap (λ b. cond b (row_of es d.asked t.tx ∷ []) [] ++ rows_in es (d.told ∷ [])) (is_told t.tx d.home d.before d.asked d.told d.told_is)
     ∙ ap (λ r. row_of es d.asked t.tx ∷ row_at es d.told r ++ []) (look_asks_none t.tx d.home Acknowledged d.told d.told_is)
     ∙ ap (λ os. row_is t.tx d.asked os ∷ []) (ap whole_ops told_is ∙ told)
 
+-- what narrow lines ask for has bounds
+pub acts_have_bounds : (lines : List Action) (ds : List Done) → list_all is_narrow lines ≡ true → acts_of ds ≡ all_acts lines (answers_in ds) → list_all has_act_bounds (acts_of ds) ≡ true
+acts_have_bounds lines ds narrow is = ap (list_all has_act_bounds) is ∙ lines_pass has_bounds bounds_narrow (λ k. refl) (λ k v. refl) lines (answers_in ds) narrow
+
 pub acknowledged_have_rows : AcknowledgedHaveRows
 acknowledged_have_rows splits body birth t s narrow is e =
     let d = acknowledged_did_their_lines splits body birth t is e in
-    let ops = all_ops body.actions t.answers in
-    (d, acknowledged_rows splits body birth t d (told_whole splits t.tx birth ops t.answers d.before s (lines_pass has_bounds bounds_narrow (λ k. refl) (λ k v. refl) body.actions t.answers narrow) d.operations))
+    (d, acknowledged_rows splits body birth t d (told_whole splits t.tx birth t.acts d.before s (acts_have_bounds body.actions t.acts narrow d.all) d.acts_are))
 
 pub not_acknowledged : (splits : List ℕ) (body : Body) (birth : Birth) (t : Try) → IsTry splits body birth t → (t.end ≡ end.Acknowledged → ⊥) → (tx : TxId) → acknowledged_in t.entries tx ≡ false
 not_acknowledged splits body birth t is other tx = false_from_ne_true (acknowledged_in t.entries tx) (λ h. other (acknowledged_end_so splits body birth t tx is h).0)

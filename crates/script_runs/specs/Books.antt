@@ -3,15 +3,12 @@ use Rattle.std.specs.Prelude.{◌≡◌, ⊤, ℕ, suc, ◌+◌, ◌<◌, ◌≤
 use Rattle.std.specs.List.{AllByRecursion, list_any, list_all}
 use Rattle.clv_base.specs.declared.names.TxId.{TxId}
 use Rattle.clv_base.specs.declared.names.Birth.{Birth}
-use Rattle.clv_base.specs.declared.ops.Op.{Op}
-use Rattle.clv_base.specs.declared.ops.Answer.{Answer}
 use Rattle.clv_base.specs.declared.events.Event.{Event}
-use Rattle.clv_base.specs.declared.events.Event.TheVariants.{Op as OpEvent, Request, Look}
+use Rattle.clv_base.specs.declared.events.Event.TheVariants.{Op as OpEvent, RollTo, Request, Look}
 use Rattle.clv_base.specs.Shards.{are_splits}
 use Rattle.clv_base.specs.Journals.{History}
 use Rattle.script_lang.specs.Laws.{is_narrow}
 use Rattle.script_lang.specs.Bodies.{Body}
-use Rattle.script_lang.specs.Following.{all_ops}
 use Rattle.session_books.specs.declared.books.Row.{Row}
 use Rattle.session_books.specs.Told.{try_of}
 use Rattle.session_books.specs.declared.counts.Counts.{Counts}
@@ -31,22 +28,16 @@ use Rattle.script_runs.specs.Ran.{Rise, serials}
 
 -- ---- rows
 
--- operations with their answers
-abbrev pub answered : List Op → List Answer → List (Op × Answer)
-answered [] answers = []
-answered (op ∷ ops) [] = []
-answered (op ∷ ops) (answer ∷ answers) = (op, answer) ∷ answered ops answers
-
 -- the rows of all tries
 abbrev pub rows_by : List Try → List Row
 rows_by [] = []
 rows_by (t ∷ ts) = rows t.entries ++ rows_by ts
 
--- an acknowledged try has one row: its name, the place of its request, and its lines' operations with their answers
+-- an acknowledged try has one row: its name, the place of its request, and what it did
 abbrev pub AcknowledgedHaveRows : Type 0
 AcknowledgedHaveRows =
     (splits : List ℕ) (body : Body) (birth : Birth) (t : Try) → are_splits splits ≡ true → list_all is_narrow body.actions ≡ true → IsTry splits body birth t → t.end ≡ end.Acknowledged
-    → (d : DidItsLines splits body birth t) × (rows t.entries ≡ record { tx = t.tx; point = place_of d.asked; ops = answered (all_ops body.actions t.answers) t.answers } ∷ [])
+    → (d : DidItsLines splits body birth t) × (rows t.entries ≡ record { tx = t.tx; point = place_of d.asked; ops = t.acts } ∷ [])
 
 -- any other has none
 abbrev pub OthersHaveNone : Type 0
@@ -97,6 +88,7 @@ count_as (Some Aborted) c = record { acknowledged = c.acknowledged; unsettled = 
 -- what it says is of a transaction with a serial up to this one, and of a birth with a stamp up to this clock
 abbrev pub IsUpTo : ℕ → ℕ → Event → Type 0
 IsUpTo serial clock (OpEvent tx birth nth seen op) = (tx.serial ≤ serial) × (birth.stamp ≤ clock)
+IsUpTo serial clock (RollTo tx nth seen upto) = tx.serial ≤ serial
 IsUpTo serial clock (Request tx touched) = tx.serial ≤ serial
 IsUpTo serial clock (Look tx) = tx.serial ≤ serial
 IsUpTo serial clock _ = ⊤

@@ -1,4 +1,4 @@
--- A session whose transfer dies and is tried again, with a scan over two shards; and one that is stopped.
+-- A session whose transfer dies and is tried again, with a scan over two shards; one that is stopped; and one that goes back.
 use Rattle.std.specs.Prelude.{◌≡◌, ℕ, true, List, [], ◌∷◌, ◌++◌, Option, Some, None}
 use Rattle.clv_base.specs.declared.names.TxId.{TxId}
 use Rattle.clv_base.specs.declared.names.Birth.{Birth}
@@ -8,13 +8,13 @@ use Rattle.clv_base.specs.declared.ops.Op.TheVariants.{Get, Put, Scan}
 use Rattle.clv_base.specs.declared.ops.Answer.TheVariants.{Value, Pairs}
 use Rattle.clv_base.specs.declared.causes.AbortCause.TheVariants.{Died}
 use Rattle.clv_base.specs.declared.events.Event.{Event}
-use Rattle.clv_base.specs.declared.events.Event.TheVariants.{Op as OpEvent, Request, Look, Drop}
+use Rattle.clv_base.specs.declared.events.Event.TheVariants.{Op as OpEvent, RollTo, Request, Look, Drop}
 use Rattle.clv_base.specs.declared.events.Outcome.{Outcome}
-use Rattle.clv_base.specs.declared.events.Outcome.TheVariants.{Answered, Dead, Asked, Acknowledged, Dropped}
+use Rattle.clv_base.specs.declared.events.Outcome.TheVariants.{Answered, Rolled, Dead, Asked, Acknowledged, Dropped}
 use Rattle.clv_base.specs.declared.events.Entry.{Entry}
 use Rattle.clv_base.specs.Journals.{History}
 use Rattle.clv_base.specs.Sessions.{is_session}
-use Rattle.script_lang.specs.declared.actions.Action.TheVariants.{Do, Move}
+use Rattle.script_lang.specs.declared.actions.Action.TheVariants.{Do, Move, Save, Back}
 use Rattle.script_lang.specs.declared.actions.Ending.TheVariants.{Commit, Abort}
 use Rattle.script_lang.specs.Bodies.{Body}
 use Rattle.script_runs.specs.declared.ends.StopCause.TheVariants as stop
@@ -92,3 +92,25 @@ stopped_try =
 
 abbrev pub ScanIsStopped : Type 0
 ScanIsStopped = FollowsScript splits 1 2 (Some 1) (transfer ∷ look_round ∷ transfer ∷ []) (Some (stop.Down 1)) (first_try ++ stopped_try)
+
+-- a write is taken back: what is read behind it is the one before the savepoint
+abbrev pub second_thought : Body
+second_thought =
+    record { actions = Do (Put 5 (Num 1)) ∷ Save ∷ Do (Put 5 (Num 2)) ∷ Do (Get 5) ∷ Back 1 ∷ Do (Get 5) ∷ []; ending = Commit }
+
+abbrev pub thinking : History
+thinking =
+    on 0 2 (op 1 (born 1 1) 1 None (Put 5 (Num 1))) (Answered (Value None) 0)
+    ∷ on 0 3 (op 1 (born 1 1) 2 (Some 0) (Put 5 (Num 2))) (value 1)
+    ∷ on 0 4 (op 1 (born 1 1) 3 (Some 0) (Get 5)) (value 2)
+    ∷ on 0 5 (RollTo (named 2 1) 4 0 1) Rolled
+    ∷ on 0 6 (op 1 (born 1 1) 5 (Some 0) (Get 5)) (value 1)
+    ∷ on 0 7 (Request (named 2 1) ((0, 0) ∷ [])) Asked
+    ∷ on 0 9 (Look (named 2 1)) Acknowledged
+    ∷ []
+
+abbrev pub SecondThoughtGoesBack : Type 0
+SecondThoughtGoesBack = FollowsScript splits 1 2 (Some 100) (second_thought ∷ []) None thinking
+
+abbrev pub ThoughtIsSession : Type 0
+ThoughtIsSession = is_session splits 1 2 thinking ≡ true

@@ -3,11 +3,10 @@ use Rattle.std.specs.Prelude.{◌≡◌, ℕ, Bool, true, false, cond, List, [],
 use Rattle.clv_base.specs.declared.names.TxId.{TxId}
 use Rattle.clv_base.specs.declared.names.Birth.{Birth}
 use Rattle.clv_base.specs.declared.names.Point.{Point}
-use Rattle.clv_base.specs.declared.ops.Op.{Op}
-use Rattle.clv_base.specs.declared.ops.Answer.{Answer}
 use Rattle.script_lang.specs.declared.actions.Ending.{Ending}
 use Rattle.script_lang.specs.declared.actions.Ending.TheVariants.{Commit, Abort}
 use Rattle.script_lang.specs.Bodies.{Body}
+use Rattle.session_books.specs.Done.{Done}
 use Rattle.session_books.specs.declared.books.Row.{Row}
 use Rattle.session_books.specs.Books.{Book, rows}
 use Rattle.script_runs.specs.declared.ends.StopCause.{StopCause}
@@ -38,7 +37,7 @@ abbrev pub fate_told : Bool → TryEnd → Bool → Option Fate
 fate_told some end asked = cond some (Some (fate_by (is_acknowledged end) asked)) None
 
 -- the row of an acknowledged one
-abbrev pub row_told : TryEnd → TxId → Point → List (Op × Answer) → List Row
+abbrev pub row_told : TryEnd → TxId → Point → List Done → List Row
 row_told Acknowledged tx point ops = record { tx = tx; point = point; ops = ops } ∷ []
 row_told Empty tx point ops = []
 row_told Asked tx point ops = []
@@ -52,7 +51,7 @@ pub record AddsRows (more : List Row) (old new : Book) : Type 0 where
   pub keeps_same : new.keeps ≡ old.keeps
 
 -- a commit, what is given up behind it, and its row
-pub record CommitKept (missed : Misses) (tx : TxId) (birth : Birth) (nth : ℕ) (touched : ℕ → Bool) (ops : List (Op × Answer)) (end : TryEnd) (asked : Bool) (old new : Book) (u v : Seen) : Type 0 where
+pub record CommitKept (missed : Misses) (tx : TxId) (birth : Birth) (nth : ℕ) (touched : ℕ → Bool) (ops : List Done) (end : TryEnd) (asked : Bool) (old new : Book) (u v : Seen) : Type 0 where
   pub now : Seen
   pub told : CommitTold tx birth nth touched end u now
   pub given : GivenUp missed end now v
@@ -60,12 +59,12 @@ pub record CommitKept (missed : Misses) (tx : TxId) (birth : Birth) (nth : ℕ) 
   pub adds : AddsRows (row_told end tx now.asked ops) old new
 
 -- the end that its lines ask for
-abbrev pub EndKept : Misses → TxId → Birth → ℕ → (ℕ → Bool) → List (Op × Answer) → Ending → TryEnd → Bool → Book → Book → Seen → Seen → Type 0
+abbrev pub EndKept : Misses → TxId → Birth → ℕ → (ℕ → Bool) → List Done → Ending → TryEnd → Bool → Book → Book → Seen → Seen → Type 0
 EndKept missed tx birth nth touched ops Commit end asked old new u v = CommitKept missed tx birth nth touched ops end asked old new u v
 EndKept missed tx birth nth touched ops Abort end asked old new u v = LineAborts missed tx birth touched end u v × (asked ≡ false) × AddsRows [] old new
 
 -- and as what the try is counted
-pub record EndMade (missed : Misses) (tx : TxId) (birth : Birth) (nth : ℕ) (touched : ℕ → Bool) (ops : List (Op × Answer)) (ending : Ending) (end : TryEnd) (fate : Option Fate) (old new : Book) (u v : Seen) : Type 0 where
+pub record EndMade (missed : Misses) (tx : TxId) (birth : Birth) (nth : ℕ) (touched : ℕ → Bool) (ops : List Done) (ending : Ending) (end : TryEnd) (fate : Option Fate) (old new : Book) (u v : Seen) : Type 0 where
   pub some : Bool
   pub touching : IsTouching touched some
   pub asked : Bool

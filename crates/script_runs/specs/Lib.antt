@@ -5,6 +5,7 @@ pub mod Dropped
 pub mod Tried
 pub mod Ran
 pub mod Operations
+pub mod Acts
 pub mod Tries
 pub mod Sessions
 pub mod TriesLaws

@@ -1,4 +1,4 @@
--- The entries of a transaction's operations.
+-- The entries of a transaction's operation.
 use Rattle.std.specs.Prelude.{◌≡◌, ℕ, zero, suc, cond, max, min, nat_le, List, [], ◌∷◌, ◌++◌, Option, Some, None}
 use Rattle.clv_base.specs.declared.values.Value.{Value as ValueType}
 use Rattle.clv_base.specs.declared.names.TxId.{TxId}
@@ -82,14 +82,6 @@ pub record IsOperation (splits : List ℕ) (tx : TxId) (birth : Birth) (nth : �
   pub answers : List Answer
   pub parts : ArePartsAnswered tx birth nth (parts_of splits op) answers es
   pub whole : answer ≡ answer_of op answers
-
--- the entries are these operations, numbered from nth on, each answered so
-pub data AreOperations (splits : List ℕ) (tx : TxId) (birth : Birth) : ℕ → List Op → List Answer → History → Type 0 where
-  no_operation : (nth : ℕ) → AreOperations splits tx birth nth [] [] []
-  operation :
-      (nth : ℕ) (op : Op) (answer : Answer) (ops : List Op) (answers : List Answer) (here behind es : History)
-      → es ≡ here ++ behind → IsOperation splits tx birth nth op answer here → AreOperations splits tx birth (suc nth) ops answers behind
-      → AreOperations splits tx birth nth (op ∷ ops) (answer ∷ answers) es
 
 -- the entries are the parts of this operation up to one that wasn't answered
 pub record IsBegun (splits : List ℕ) (tx : TxId) (birth : Birth) (nth : ℕ) (op : Op) (es : History) : Type 0 where

@@ -1,10 +1,13 @@
 -- What whoever runs a script knows of a session.
-use Rattle.std.specs.Prelude.{◌≡◌, ℕ, ◌+◌, ◌<◌, ◌≤◌, ◌^◌, ◌-◌, max, Bool, true, false, List, ◌++◌, Option}
-use Rattle.std.specs.List.{AllByRecursion}
+use Rattle.std.specs.Prelude.{◌≡◌, ℕ, ◌+◌, ◌<◌, ◌≤◌, ◌^◌, ◌-◌, max, Bool, true, false, nat_le, List, [], ◌++◌, Option}
+use Rattle.std.specs.List.{AllByRecursion, filter}
 use Rattle.clv_base.specs.declared.names.TxId.{TxId}
 use Rattle.clv_base.specs.declared.names.Birth.{Birth}
 use Rattle.clv_base.specs.declared.names.Point.{Point}
 use Rattle.clv_base.specs.Journals.{History}
+use Rattle.script_lang.specs.Savepoints.{Savepoints, no_savepoints, keep, back_to}
+use Rattle.session_books.specs.Done.{Done}
+use Rattle.script_runs.specs.Acts.{written_after}
 use Rattle.script_runs.specs.declared.calls.Stage.{Stage}
 use Rattle.script_runs.specs.declared.calls.Stage.TheVariants as stage
 
@@ -28,6 +31,25 @@ abbrev pub IsStage : Standing → Stage → Type 0
 IsStage (Idle again) st = st ≡ stage.Idle
 IsStage (Active tx birth nth touched) st = (some : Bool) × (st ≡ stage.Active some) × IsTouching touched some
 IsStage Asked st = st ≡ stage.Asked
+
+-- what the active transaction may go back over: its savepoints, and shard and number of each operation whose write stands, the last one first
+pub record Going : Type 0 where
+  pub saves : Savepoints
+  pub written : List (ℕ × ℕ)
+
+abbrev pub going_at_start : Going
+going_at_start = record { saves = no_savepoints; written = [] }
+
+-- after its act number nth
+abbrev pub going_on : List ℕ → ℕ → Done → Going → Going
+going_on splits nth d g = record { saves = g.saves; written = written_after splits nth d g.written }
+
+-- after a savepoint, behind so many acts; and after a going back to one, which leads to upto
+abbrev pub going_saved : ℕ → Going → Going
+going_saved nth g = record { saves = keep nth g.saves; written = g.written }
+
+abbrev pub going_back_to : ℕ → ℕ → Going → Going
+going_back_to number upto g = record { saves = back_to number g.saves; written = filter (λ w. nat_le w.1 upto) g.written }
 
 -- a session: the splits, its run and its walker's number, the entries that it made, a clock that none of its births is past, the greatest stamp of the entries
 -- that it has seen, whoever made them, the serial of its last transaction, how that stands, and the place of its last request

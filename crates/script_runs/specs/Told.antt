@@ -1,5 +1,5 @@
 -- What a session's calls tell.
-use Rattle.std.specs.Prelude.{◌≡◌, ◌⊎◌, ⊤, ℕ, suc, ◌<◌, ◌≤◌, Bool, true, nat_le, List, [], ◌∷◌, ◌++◌, Option, Some, None, Result, Ok, Err}
+use Rattle.std.specs.Prelude.{◌≡◌, ◌⊎◌, ⊤, ℕ, suc, ◌<◌, ◌≤◌, Bool, true, false, nat_le, List, [], ◌∷◌, ◌++◌, Option, Some, None, Result, Ok, Err}
 use Rattle.std.specs.List.{AllByRecursion}
 use Rattle.clv_base.specs.declared.names.TxId.{TxId}
 use Rattle.clv_base.specs.declared.names.Birth.{Birth}
@@ -17,7 +17,8 @@ use Rattle.script_runs.specs.declared.ends.StopCause.TheVariants.{Down, Unsettle
 use Rattle.script_runs.specs.declared.ends.TryEnd.{TryEnd}
 use Rattle.script_runs.specs.declared.ends.TryEnd.TheVariants.{Acknowledged, Empty, Asked, Aborted, Stopped}
 use Rattle.script_runs.specs.Operations.{IsOperation, ArePartsAnswered, IsBegun, IsDeath, parts_of}
-use Rattle.script_runs.specs.Tries.{IsRequest, IsLook, is_touched}
+use Rattle.script_runs.specs.Acts.{is_touched, stands_above, IsGoingBack, IsBackBegun, IsBackDeath}
+use Rattle.script_runs.specs.Tries.{IsRequest, IsLook}
 use Rattle.script_runs.specs.Seen.{Idle, Active, Seen, Misses, Grows, GrowsIn, IsWornOut, untouched}
 use Rattle.script_runs.specs.Seen as seen
 
@@ -41,12 +42,12 @@ BeginTold (Err Memory) u v = ⊥
 BeginTold (Err (Down n)) u v = ⊥
 BeginTold (Err (Unsettled n)) u v = ⊥
 
--- nor did a further try before which a shard was found down
+-- nor did a further try before which a shard was found down: the session stands as it did
 abbrev pub RetryTold : {A : Type 0} → Birth → Result A StopCause → Seen → Seen → Type 0
 RetryTold birth (Ok a) u v = Begins birth u v
 RetryTold birth (Err (Worn at)) u v = Grows [] u v
 RetryTold birth (Err Memory) u v = ⊥
-RetryTold birth (Err (Down n)) u v = Grows [] u v
+RetryTold birth (Err (Down n)) u v = Grows [] u v × (v.standing ≡ Idle (Some birth))
 RetryTold birth (Err (Unsettled n)) u v = ⊥
 
 -- ---- drops
@@ -113,6 +114,32 @@ OperateTold tx birth nth touched op (Err Acknowledged) u v = ⊥
 OperateTold tx birth nth touched op (Err Empty) u v = ⊥
 OperateTold tx birth nth touched op (Err Asked) u v = ⊥
 
+-- ---- goings back
+
+-- each is on a shard that is touched
+abbrev pub AreOn : (ℕ → Bool) → History → Type 0
+AreOn touched es = (n : ℕ) → is_touched es n ≡ true → touched n ≡ true
+
+-- of the active transaction's going back to where it was after so many acts, where these writes stand: where none of a later act does it makes nothing, and else
+-- it is told where it led
+abbrev pub BackTold : TxId → Birth → ℕ → (ℕ → Bool) → ℕ → List (ℕ × ℕ) → Result (Option ℕ) TryEnd → Seen → Seen → Type 0
+BackTold tx birth nth touched upto ws (Ok None) u v = (stands_above upto ws ≡ false) × Grows [] u v × (v.standing ≡ Active tx birth nth touched)
+BackTold tx birth nth touched upto ws (Ok (Some to)) u v =
+    (to ≡ upto) × (stands_above upto ws ≡ true) × (here : History) × IsGoingBack tx (suc nth) upto ws here × AreOn touched here × Grows here u v
+    × (v.standing ≡ Active tx birth (suc nth) touched)
+BackTold tx birth nth touched upto ws (Err (Aborted cause)) u v =
+    (here drops : History) × (n : ℕ) × IsBackDeath tx (suc nth) upto ws cause n here × AreOn touched here × AreDropsOf tx touched (Some n) drops × Grows (here ++ drops) u v
+    × (v.standing ≡ Idle (Some birth))
+BackTold tx birth nth touched upto ws (Err (Stopped (Down n))) u v =
+    (here : History) × IsBackBegun tx (suc nth) upto ws n here × AreOn touched here × Grows here u v × StaysActive tx birth touched v
+BackTold tx birth nth touched upto ws (Err (Stopped (Worn at))) u v =
+    (here : History) × (n : ℕ) × IsBackBegun tx (suc nth) upto ws n here × AreOn touched here × Grows here u v × StaysActive tx birth touched v
+BackTold tx birth nth touched upto ws (Err (Stopped (Unsettled n))) u v = ⊥
+BackTold tx birth nth touched upto ws (Err (Stopped Memory)) u v = ⊥
+BackTold tx birth nth touched upto ws (Err Acknowledged) u v = ⊥
+BackTold tx birth nth touched upto ws (Err Empty) u v = ⊥
+BackTold tx birth nth touched upto ws (Err Asked) u v = ⊥
+
 -- ---- ends
 
 -- its request stands at its home, and nothing else was made
@@ -140,7 +167,7 @@ AbortsAtLook tx touched cause u v =
     (home : ℕ) × (asked told : ℕ × Entry) × (drops : History) × IsRequest tx home AskedOut asked × IsLook tx home (AbortedOut cause) told
     × AreDropsOf tx touched (Some home) drops × Grows (asked ∷ told ∷ drops) u v
 
--- of the active transaction's commit: there is nothing to commit only where it had no operation
+-- of the active transaction's commit: there is nothing to commit only where it had no act
 abbrev pub CommitTold : TxId → Birth → ℕ → (ℕ → Bool) → TryEnd → Seen → Seen → Type 0
 CommitTold tx birth nth touched Acknowledged u v =
     (home : ℕ) × (asked told : ℕ × Entry) × IsRequest tx home AskedOut asked × IsLook tx home AcknowledgedOut told × Grows (asked ∷ told ∷ []) u v

@@ -2,9 +2,9 @@
 use Rattle.std.specs.Prelude.{◌≡◌, ⊤, List, Some, None, Result, Ok, Err}
 use Rattle.clv_base.specs.declared.names.TxId.{TxId}
 use Rattle.clv_base.specs.declared.names.Birth.{Birth}
-use Rattle.clv_base.specs.declared.ops.Answer.{Answer}
 use Rattle.clv_base.specs.Journals.{History}
 use Rattle.script_lang.specs.Bodies.{Body}
+use Rattle.session_books.specs.Done.{Done}
 use Rattle.script_runs.specs.declared.ends.StopCause.{StopCause}
 use Rattle.script_runs.specs.declared.ends.TryEnd.{TryEnd}
 use Rattle.script_runs.specs.declared.ends.TryEnd.TheVariants.{Acknowledged, Empty, Asked, Aborted, Stopped}
@@ -22,12 +22,12 @@ LeftBy birth (Stopped cause) st = ⊤
 
 -- the entries that were added are a try of the transaction, which let go of its parts where it was given up
 pub record Tried (missed : Misses) (body : Body) (tx : TxId) (birth : Birth) (end : TryEnd) (u v : Seen) : Type 0 where
-  pub answers : List Answer
+  pub acts : List Done
   pub entries : History
-  pub is_try : IsTry u.splits body birth (record { tx = tx; answers = answers; end = end; entries = entries })
+  pub is_try : IsTry u.splits body birth (record { tx = tx; acts = acts; end = end; entries = entries })
   pub grows : Grows entries u v
   pub left : LeftBy birth end v.standing
-  pub dropped : LetsGo missed v.clock (record { tx = tx; answers = answers; end = end; entries = entries }) end
+  pub dropped : LetsGo missed v.clock (record { tx = tx; acts = acts; end = end; entries = entries }) end
 
 -- what holds where a session is stopped
 abbrev pub OnStop : (StopCause → Type 0) → TryEnd → Type 0

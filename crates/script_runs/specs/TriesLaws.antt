@@ -1,31 +1,32 @@
 -- What a session of a script keeps.
-use Rattle.std.specs.Prelude.{◌≡◌, ⊤, ℕ, ◌+◌, ◌≤◌, Bool, true, false, List, [], ◌∷◌, ◌++◌, map, length, Option, Some, None}
+use Rattle.std.specs.Prelude.{◌≡◌, ⊤, ℕ, suc, ◌+◌, ◌≤◌, Bool, true, false, List, [], ◌∷◌, ◌++◌, map, length, Option, Some, None}
 use Rattle.std.specs.List.{AllByRecursion, list_any}
 use Rattle.clv_base.specs.declared.names.TxId.{TxId}
 use Rattle.clv_base.specs.declared.names.Birth.{Birth}
 use Rattle.clv_base.specs.declared.causes.AbortCause.TheVariants.{Asked as AskedCause}
-use Rattle.clv_base.specs.declared.ops.Op.{Op}
 use Rattle.clv_base.specs.declared.events.Event.{Event}
 use Rattle.clv_base.specs.declared.events.Event.TheVariants.{Op as OpEvent, Drop}
 use Rattle.clv_base.specs.declared.events.Outcome.TheVariants.{Asked, Acknowledged}
 use Rattle.clv_base.specs.declared.events.Entry.{Entry}
 use Rattle.clv_base.specs.Orders.{tx_same}
 use Rattle.clv_base.specs.Journals.{History}
-use Rattle.clv_base.specs.History.{ops_in}
+use Rattle.clv_base.specs.Maps.{Act, Operates, GoesBack, Acts}
+use Rattle.clv_base.specs.History.{acts_in}
 use Rattle.script_lang.specs.declared.actions.Ending.TheVariants.{Commit, Abort}
 use Rattle.script_lang.specs.Bodies.{Body}
-use Rattle.script_lang.specs.Following.{all_ops}
+use Rattle.script_lang.specs.Following.{all_acts}
 use Rattle.script_runs.specs.declared.ends.StopCause.{StopCause}
 use Rattle.script_runs.specs.declared.ends.StopCause.TheVariants as stop
 use Rattle.script_runs.specs.declared.ends.TryEnd.{TryEnd}
 use Rattle.script_runs.specs.declared.ends.TryEnd.TheVariants as end
-use Rattle.script_runs.specs.Operations.{parts_of, AreOperations}
+use Rattle.script_runs.specs.Operations.{parts_of}
+use Rattle.script_runs.specs.Acts.{acts_of, answers_in, numbered, numbered_parts, AreActs}
 use Rattle.script_runs.specs.Tries.{Try, IsTry, IsRequest, IsLook}
 use Rattle.script_runs.specs.Sessions.{Transaction, IsTransaction, AreTransactions, FollowsScript, is_to_retry, has_left, entries_of, tries_of}
 
 -- ---- an acknowledged try
 
--- the entries are all operations of the lines under its answers, then the request and the look that was told
+-- it did all that the lines ask for, and the entries are that, then the request and the look that was told
 pub record DidItsLines (splits : List ℕ) (body : Body) (birth : Birth) (t : Try) : Type 0 where
   pub ending_is : body.ending ≡ Commit
   pub before : History
@@ -33,7 +34,8 @@ pub record DidItsLines (splits : List ℕ) (body : Body) (birth : Birth) (t : Tr
   pub asked : ℕ × Entry
   pub told : ℕ × Entry
   pub entries_are : t.entries ≡ before ++ asked ∷ told ∷ []
-  pub operations : AreOperations splits t.tx birth 1 (all_ops body.actions t.answers) t.answers before
+  pub all : acts_of t.acts ≡ all_acts body.actions (answers_in t.acts)
+  pub acts_are : AreActs splits t.tx birth 1 [] t.acts before
   pub asked_is : IsRequest t.tx home Asked asked
   pub told_is : IsLook t.tx home Acknowledged told
 
@@ -41,21 +43,22 @@ abbrev pub AcknowledgedDidTheirLines : Type 0
 AcknowledgedDidTheirLines =
     (splits : List ℕ) (body : Body) (birth : Birth) (t : Try) → IsTry splits body birth t → t.end ≡ end.Acknowledged → DidItsLines splits body birth t
 
--- the parts of operations, one operation's after another's
-abbrev pub all_parts : List ℕ → List Op → List Op
-all_parts splits [] = []
-all_parts splits (op ∷ ops) = map (λ p. p.1) (parts_of splits op) ++ all_parts splits ops
+-- the parts of acts with their numbers, from nth on, one act's after another's: a going back is one
+abbrev pub all_parts : List ℕ → ℕ → List Act → Acts
+all_parts splits nth [] = []
+all_parts splits nth (Operates op ∷ acts) = numbered_parts nth (parts_of splits op) ++ all_parts splits (suc nth) acts
+all_parts splits nth (GoesBack upto ∷ acts) = (nth, GoesBack upto) ∷ all_parts splits (suc nth) acts
 
--- what its entries tell of its answered operations are the parts of these
+-- what its entries tell that it did are the parts of what its lines ask for
 abbrev pub EntriesTellTheirLines : Type 0
 EntriesTellTheirLines =
     (splits : List ℕ) (body : Body) (birth : Birth) (t : Try) → IsTry splits body birth t → t.end ≡ end.Acknowledged
-    → map (λ p. p.0) (ops_in t.tx t.entries) ≡ all_parts splits (all_ops body.actions t.answers)
+    → numbered (acts_in t.tx t.entries) ≡ all_parts splits 1 (all_acts body.actions (answers_in t.acts))
 
 -- and of another transaction's they tell nothing
 abbrev pub EntriesTellOfNoOther : Type 0
 EntriesTellOfNoOther =
-    (splits : List ℕ) (body : Body) (birth : Birth) (t : Try) (tx : TxId) → IsTry splits body birth t → tx_same tx t.tx ≡ false → ops_in tx t.entries ≡ []
+    (splits : List ℕ) (body : Body) (birth : Birth) (t : Try) (tx : TxId) → IsTry splits body birth t → tx_same tx t.tx ≡ false → acts_in tx t.entries ≡ []
 
 -- ---- drops
 
@@ -130,8 +133,8 @@ SessionsGoThrough =
     (splits : List ℕ) (run walker : ℕ) (most : Option ℕ) (bodies : List Body) (es : History) (f : FollowsScript splits run walker most bodies None es)
     → (map (λ tr. tr.body) f.transactions ≡ bodies) × AllByRecursion (IsComplete most) f.transactions
 
--- of a transaction that a try names, the session's entries tell the operations of this try alone
+-- of a transaction that a try names, the session's entries tell what this try did alone
 abbrev pub SessionsTellTheirTries : Type 0
 SessionsTellTheirTries =
     (splits : List ℕ) (run walker : ℕ) (most : Option ℕ) (bodies : List Body) (cause : Option StopCause) (es : History) (f : FollowsScript splits run walker most bodies cause es)
-    → (front behind : List Try) (t : Try) → tries_of f.transactions ≡ front ++ t ∷ behind → ops_in t.tx es ≡ ops_in t.tx t.entries
+    → (front behind : List Try) (t : Try) → tries_of f.transactions ≡ front ++ t ∷ behind → acts_in t.tx es ≡ acts_in t.tx t.entries

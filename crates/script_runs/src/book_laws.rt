@@ -1,7 +1,7 @@
 // What tries add to a session's book.
 ghost use Rattle.script_runs.specs.Books.{AcknowledgedHaveRows, OthersHaveNone, TransactionsAddToBooks, NewBooksAreKept};
 
-/// An acknowledged try has one row: its name, the place of its request, and its lines' operations with their answers.
+/// An acknowledged try has one row: its name, the place of its request, and what it did.
 pub fn acknowledged_have_rows()
     ensures { AcknowledgedHaveRows }
 {}

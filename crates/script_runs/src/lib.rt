@@ -24,3 +24,6 @@ pub use ends::{StopCause, TryEnd};
 pub use running::run_session;
 pub use seats::Seat;
 pub use threads::{Start, run_all};
+
+/// Want of memory.
+pub type Memory = std::alloc::AllocError;

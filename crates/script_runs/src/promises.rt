@@ -7,7 +7,7 @@ pub fn acknowledged_did_their_lines()
     ensures { AcknowledgedDidTheirLines }
 {}
 
-/// What its entries tell of answered operations are the parts of its lines' operations, under its answers.
+/// What its entries tell that it did are the parts of what its lines ask for, under its answers.
 pub fn entries_tell_their_lines()
     ensures { EntriesTellTheirLines }
 {}
@@ -22,7 +22,7 @@ pub fn acknowledged_end_so()
     ensures { AcknowledgedEndSo }
 {}
 
-/// Of operations of another transaction they tell nothing.
+/// Of what another transaction did they tell nothing.
 pub fn entries_tell_of_no_other()
     ensures { EntriesTellOfNoOther }
 {}

@@ -6,7 +6,7 @@ ghost use Rattle.clv_base.specs.declared.names.Birth.{Birth as BirthIs};
 ghost use Rattle.clv_base.specs.Shards.{are_splits};
 ghost use Rattle.script_lang.specs.Laws.{is_narrow};
 ghost use Rattle.script_runs.specs.Sessions.{has_left};
-ghost use Rattle.script_runs.specs.Seen.{Active, untouched, Keeps};
+ghost use Rattle.script_runs.specs.Seen.{Active, untouched, going_at_start, Keeps};
 ghost use Rattle.script_runs.specs.Ran.{NextIs, stop_in, IsIdle, IdleAfter, Ran, NotBegun};
 ghost use Rattle.script_runs.specs.Books.{IsKept};
 ghost use Rattle.script_runs.specs.Keeping.{TriesKept};
@@ -94,6 +94,7 @@ fn run_tries<R: Wait, C: SessionCalls>(
 ) -> Tries
     requires session { C.holds session.old }
     requires begun { (tx : TxId) × (birth : BirthIs) × ((C.seen session.old).standing ≡ Active tx birth 0 untouched) × (tx.serial ≡ (C.seen session.old).serial) × (tx.run ≡ (C.seen session.old).run) × (tx.session ≡ (C.seen session.old).walker) }
+    requires fresh { C.going session.old ≡ Some going_at_start }
     requires narrow { list_all is_narrow transaction.now.actions ≡ true }
     requires splits { are_splits (C.seen session.old).splits ≡ true }
     ensures session { C.holds session.new }

@@ -1,14 +1,16 @@
 // One try of a transaction.
-ghost use Rattle.std.specs.Prelude.{◌≡◌, ◌<◌, ℕ, Bool, true};
+ghost use Rattle.std.specs.Prelude.{◌≡◌, ◌<◌, ℕ, Bool, true, List, Some, IfOk, vec_len, vec_capacity};
 ghost use Rattle.std.specs.List.{list_all};
 ghost use Rattle.clv_base.specs.declared.names.TxId.{TxId};
 ghost use Rattle.clv_base.specs.declared.names.Birth.{Birth as BirthIs};
+ghost use Rattle.script_lang.specs.declared.actions.Action.{Action as AnAction};
 ghost use Rattle.script_lang.specs.Laws.{is_narrow};
+ghost use Rattle.script_lang.specs.Places.{step_of};
 ghost use Rattle.clv_base.specs.Shards.{are_splits};
-ghost use Rattle.script_runs.specs.Seen.{Active, untouched, Keeps};
-ghost use Rattle.script_runs.specs.Told.{GivenUp, IsActiveWhereDown, LineAborts};
+ghost use Rattle.script_runs.specs.Seen.{Active, untouched, Seen, Going, going_at_start, Keeps};
+ghost use Rattle.script_runs.specs.Told.{has_range, GivenUp, IsActiveWhereDown, LineAborts};
 ghost use Rattle.script_runs.specs.Tried.{OnStop, OnRefusal};
-ghost use Rattle.script_runs.specs.Lines.{LinesTold};
+ghost use Rattle.script_runs.specs.Lines.{Doing, LinesTold, StepTold};
 ghost use Rattle.script_runs.specs.Keeping.{TouchedBy, is_asked as is_asked_in, AddsRows, row_told, CommitKept, EndMade, TriedKept};
 
 use crate::calls::{SessionCalls, Stage};
@@ -16,12 +18,136 @@ use crate::fates::{Fate, fate_of};
 use crate::{StopCause, TryEnd};
 use clv_base::kept::KeptOp;
 use clv_base::names::TxId;
-use script_lang::{Action, Ending, Following, Transaction};
+use clv_base::ops::Op;
+use script_lang::{Action, Ending, Following, Step, Transaction};
 use session_books::books::{Book, Operations, Row};
+use session_books::done::Done;
 use std::alloc::Global;
 use std::sync::Wait;
 
-// The operations of its lines, until each is done; their answers are kept.
+// Memory was wanting between two acts.
+fn lack<C: SessionCalls>(session: &C) -> TryEnd
+    ensures { result ≡ TryEnd.Stopped StopCause.Memory }
+{
+    session.tell_lack();
+    TryEnd::Stopped(StopCause::Memory)
+}
+
+// The operation that is next.
+fn operate<C: SessionCalls>(
+    alloc: Global,
+    session: &mut C,
+    following: &mut Following<'_>,
+    op: Op,
+    done: &mut Vec<Done>,
+) -> Result<(), TryEnd>
+    requires session { C.holds session.old }
+    requires doing { (tx : TxId) × (birth : BirthIs) × (lines : List AnAction) × (u : Seen) × Doing tx birth lines u (C.seen session.old) (C.going session.old) following.old done.old.items }
+    requires next { step_of following.old ≡ Some (Step.Operate op) }
+    requires range { has_range op ≡ true }
+    requires room { vec_len done.old < vec_capacity done.old }
+    ensures session { C.holds session.new }
+    ensures base { C.base session.new ≡ C.base session.old }
+    ensures misses { Keeps (C.missed session.old) (C.missed session.new) }
+    ensures told { (tx : TxId) (birth : BirthIs) (lines : List AnAction) (u : Seen) → Doing tx birth lines u (C.seen session.old) (C.going session.old) following.old done.old.items → StepTold tx birth lines result u (C.seen session.new) (C.going session.new) following.new done.new.items }
+    ensures grounds { OnRefusal (C.grounds session.new) result }
+{
+    match session.operate(alloc, &op) {
+        Ok(answer) => {
+            following.answered(&answer);
+            done.push_reserved(Done::did(KeptOp::new(op), answer));
+            Ok(())
+        }
+        Err(end) => Err(end),
+    }
+}
+
+// The savepoint that is next.
+fn save<C: SessionCalls>(
+    session: &mut C,
+    following: &mut Following<'_>,
+    done: &[Done],
+) -> Result<(), TryEnd>
+    requires session { C.holds session.old }
+    requires doing { (tx : TxId) × (birth : BirthIs) × (lines : List AnAction) × (u : Seen) × Doing tx birth lines u (C.seen session.old) (C.going session.old) following.old done.now }
+    requires next { step_of following.old ≡ Some Step.Keep }
+    ensures session { C.holds session.new }
+    ensures base { C.base session.new ≡ C.base session.old }
+    ensures misses { Keeps (C.missed session.old) (C.missed session.new) }
+    ensures told { (tx : TxId) (birth : BirthIs) (lines : List AnAction) (u : Seen) → Doing tx birth lines u (C.seen session.old) (C.going session.old) following.old done.now → StepTold tx birth lines result u (C.seen session.new) (C.going session.new) following.new done.now }
+    ensures grounds { OnRefusal (C.grounds session.new) result }
+{
+    if session.save().is_err() {
+        return Err(lack(session));
+    }
+    following.passed();
+    Ok(())
+}
+
+// The going back that is next. One to a savepoint that doesn't stand, which no script has, does nothing.
+fn go_back<C: SessionCalls>(
+    alloc: Global,
+    session: &mut C,
+    following: &mut Following<'_>,
+    number: u64,
+    done: &mut Vec<Done>,
+) -> Result<(), TryEnd>
+    requires session { C.holds session.old }
+    requires doing { (tx : TxId) × (birth : BirthIs) × (lines : List AnAction) × (u : Seen) × Doing tx birth lines u (C.seen session.old) (C.going session.old) following.old done.old.items }
+    requires next { step_of following.old ≡ Some (Step.GoBack number) }
+    requires room { vec_len done.old < vec_capacity done.old }
+    ensures session { C.holds session.new }
+    ensures base { C.base session.new ≡ C.base session.old }
+    ensures misses { Keeps (C.missed session.old) (C.missed session.new) }
+    ensures told { (tx : TxId) (birth : BirthIs) (lines : List AnAction) (u : Seen) → Doing tx birth lines u (C.seen session.old) (C.going session.old) following.old done.old.items → StepTold tx birth lines result u (C.seen session.new) (C.going session.new) following.new done.new.items }
+    ensures grounds { OnRefusal (C.grounds session.new) result }
+{
+    if !session.has_savepoint(number) {
+        following.passed();
+        return Ok(());
+    }
+    match session.go_back(alloc, number) {
+        Ok(Some(upto)) => {
+            following.passed();
+            done.push_reserved(Done::went_back(upto));
+            Ok(())
+        }
+        Ok(None) => {
+            following.passed();
+            Ok(())
+        }
+        Err(end) => Err(end),
+    }
+}
+
+// What is next. There is room for what is kept of it before it is done, as none may be wanting behind it.
+fn do_step<C: SessionCalls>(
+    alloc: Global,
+    session: &mut C,
+    following: &mut Following<'_>,
+    step: Step,
+    done: &mut Vec<Done>,
+) -> Result<(), TryEnd>
+    requires session { C.holds session.old }
+    requires doing { (tx : TxId) × (birth : BirthIs) × (lines : List AnAction) × (u : Seen) × (list_all is_narrow lines ≡ true) × Doing tx birth lines u (C.seen session.old) (C.going session.old) following.old done.old.items }
+    requires next { step_of following.old ≡ Some step }
+    ensures session { C.holds session.new }
+    ensures base { C.base session.new ≡ C.base session.old }
+    ensures misses { Keeps (C.missed session.old) (C.missed session.new) }
+    ensures told { (tx : TxId) (birth : BirthIs) (lines : List AnAction) (u : Seen) → Doing tx birth lines u (C.seen session.old) (C.going session.old) following.old done.old.items → StepTold tx birth lines result u (C.seen session.new) (C.going session.new) following.new done.new.items }
+    ensures grounds { OnRefusal (C.grounds session.new) result }
+{
+    if done.reserve(1).is_err() {
+        return Err(lack(session));
+    }
+    match step {
+        Step::Operate(op) => operate(alloc, session, following, op, done),
+        Step::Keep => save(session, following, done),
+        Step::GoBack(number) => go_back(alloc, session, following, number, done),
+    }
+}
+
+// What its lines ask for, until each is done; what was done is kept.
 fn do_lines<R: Wait, C: SessionCalls>(
     rt: &R,
     alloc: Global,
@@ -30,27 +156,23 @@ fn do_lines<R: Wait, C: SessionCalls>(
 ) -> Result<Operations, TryEnd>
     requires session { C.holds session.old }
     requires begun { (tx : TxId) × (birth : BirthIs) × ((C.seen session.old).standing ≡ Active tx birth 0 untouched) }
+    requires fresh { C.going session.old ≡ Some going_at_start }
     requires narrow { list_all is_narrow lines.now ≡ true }
     ensures session { C.holds session.new }
     ensures base { C.base session.new ≡ C.base session.old }
     ensures misses { Keeps (C.missed session.old) (C.missed session.new) }
     ensures told { (tx : TxId) (birth : BirthIs) → (C.seen session.old).standing ≡ Active tx birth 0 untouched → LinesTold tx birth lines.now result (C.seen session.old) (C.seen session.new) }
+    ensures whole { IfOk result (λ done. (g : Going) × (C.going session.new ≡ Some g)) }
     ensures grounds { OnRefusal (C.grounds session.new) result }
 {
     let mut following = Following::new(lines);
     let mut done = Vec::new(alloc);
     for _ in rt.forever() {
-        let Some(op) = following.next() else {
+        let Some(step) = following.next() else {
             return Ok(Operations::new(done));
         };
-        match session.operate(alloc, &op) {
-            Ok(answer) => {
-                following.answered(&answer);
-                if done.push((KeptOp::new(op), answer)).is_err() {
-                    session.tell_lack();
-                    return Err(TryEnd::Stopped(StopCause::Memory));
-                }
-            }
+        match do_step(alloc, session, &mut following, step, &mut done) {
+            Ok(()) => {}
             Err(end) => return Err(end),
         }
     }
@@ -146,6 +268,7 @@ fn commit<C: SessionCalls>(
 ) -> Committed
     requires session { C.holds session.old }
     requires active { (tx : TxId) × (birth : BirthIs) × (nth : ℕ) × (touched : ℕ → Bool) × ((C.seen session.old).standing ≡ Active tx birth nth touched) }
+    requires whole { (g : Going) × (C.going session.old ≡ Some g) }
     ensures session { C.holds session.new }
     ensures base { C.base session.new ≡ C.base session.old }
     ensures misses { Keeps (C.missed session.old) (C.missed session.new) }
@@ -199,6 +322,7 @@ fn end_as<C: SessionCalls>(
 ) -> Made
     requires session { C.holds session.old }
     requires active { (tx : TxId) × (birth : BirthIs) × (nth : ℕ) × (touched : ℕ → Bool) × ((C.seen session.old).standing ≡ Active tx birth nth touched) }
+    requires whole { (g : Going) × (C.going session.old ≡ Some g) }
     ensures session { C.holds session.new }
     ensures base { C.base session.new ≡ C.base session.old }
     ensures misses { Keeps (C.missed session.old) (C.missed session.new) }
@@ -231,6 +355,7 @@ pub(crate) fn run_try<R: Wait, C: SessionCalls>(
 ) -> Made
     requires session { C.holds session.old }
     requires begun { (tx : TxId) × (birth : BirthIs) × ((C.seen session.old).standing ≡ Active tx birth 0 untouched) }
+    requires fresh { C.going session.old ≡ Some going_at_start }
     requires narrow { list_all is_narrow transaction.now.actions ≡ true }
     requires splits { are_splits (C.seen session.old).splits ≡ true }
     ensures session { C.holds session.new }

@@ -6,15 +6,16 @@ use Rattle.std.proofs.lemmas.Bool.{both_ways, false_from_ne_true}
 use Rattle.clv_base.specs.declared.names.TxId.{TxId}
 use Rattle.clv_base.specs.declared.names.Birth.{Birth}
 use Rattle.clv_base.specs.declared.events.Event.{Event}
-use Rattle.clv_base.specs.declared.events.Event.TheVariants.{Op as OpEvent, Request, Look}
+use Rattle.clv_base.specs.declared.events.Event.TheVariants.{Op as OpEvent, RollTo, Request, Look}
 use Rattle.clv_base.specs.declared.events.Outcome.{Outcome}
-use Rattle.clv_base.specs.declared.events.Outcome.TheVariants.{Answered, Asked, Acknowledged}
+use Rattle.clv_base.specs.declared.events.Outcome.TheVariants.{Answered, Rolled, Asked, Acknowledged}
 use Rattle.clv_base.specs.Orders.{tx_same}
 use Rattle.clv_base.specs.Journals.{History, own}
 use Rattle.clv_base.specs.History.{is_acknowledgement, acknowledged_in, request_of, has_request}
 use Rattle.clv_base.specs.Sessions.{is_of_session}
 use Rattle.clv_base.proofs.SameNames.{tx_ne, nat_cmp_true, then_eq}
 use Rattle.history_cases.proofs.Merging.{Placed, Among}
+use Rattle.session_books.specs.Done.{Did, WentBack}
 use Rattle.session_books.specs.declared.told.Told.{Told}
 use Rattle.session_books.specs.Told.{told_by, with_told, told_in, is_tx, looked_by, has_look, try_of, same_birth, is_of_birth, has_birth}
 use Rattle.session_books.specs.Counts.{is_acknowledged_try}
@@ -94,9 +95,12 @@ no_session : {A : Type 0} → true ≡ false → A
 no_session e = absurd (both_ways false refl (sym e))
 
 told_elsewhere : (t : TxId) (v w : ℕ) (e : Event) (o : Outcome) (ts : List Told) → t.session ≡ w → IsOfWalker v e → Elsewhere v w e → with_told t (told_by e o) ts ≡ ts
-told_elsewhere t v w (OpEvent tx birth nth seen op) (Answered answer epoch) ts n i (inl f) = ap (λ b. cond b (record { nth = nth; op = op; answer = answer } ∷ ts) ts) (name_of_other t tx v w n i.0 f)
+told_elsewhere t v w (OpEvent tx birth nth seen op) (Answered answer epoch) ts n i (inl f) = ap (λ b. cond b (record { nth = nth; done = Did op answer } ∷ ts) ts) (name_of_other t tx v w n i.0 f)
 told_elsewhere t v w (OpEvent tx birth nth seen op) (Answered answer epoch) ts n i (inr f) = no_session f
 told_elsewhere t v w (OpEvent tx birth nth seen op) _ ts n i k = refl
+told_elsewhere t v w (RollTo tx nth seen upto) Rolled ts n i (inl f) = ap (λ b. cond b (record { nth = nth; done = WentBack upto } ∷ ts) ts) (name_of_other t tx v w n i f)
+told_elsewhere t v w (RollTo tx nth seen upto) Rolled ts n i (inr f) = no_session f
+told_elsewhere t v w (RollTo tx nth seen upto) _ ts n i k = refl
 told_elsewhere t v w _ o ts n i k = refl
 
 acknowledged_elsewhere : (t : TxId) (v w : ℕ) (e : Event) (o : Outcome) → t.session ≡ w → IsOfWalker v e → Elsewhere v w e → is_acknowledgement t e o ≡ false

@@ -1,5 +1,5 @@
 -- What only sessions make is named after its walker, and born there.
-use Rattle.std.proofs.Common.{◌≡◌, inl, inr, refl, sym, ap, subst, ◌∙◌, ℕ, Bool, true, false, cond, List, [], ◌∷◌, Option, Some, None, ◌&&◌, ◌==◌, nat_lt, eqb-true}
+use Rattle.std.proofs.Common.{◌≡◌, inl, inr, refl, sym, ap, subst, ◌∙◌, ℕ, suc, Bool, true, false, cond, List, [], ◌∷◌, Option, Some, None, ◌&&◌, ◌==◌, nat_lt, eqb-true}
 use Rattle.std.specs.List.{list_all}
 use Rattle.std.specs.Ordering.{nat_cmp}
 use Rattle.std.proofs.lemmas.Bool.{both_ways, and_parts}
@@ -8,20 +8,22 @@ use Rattle.clv_base.specs.declared.names.Birth.{Birth}
 use Rattle.clv_base.specs.declared.logs.LogRecord.{LogRecord}
 use Rattle.clv_base.specs.declared.ops.Op.{Op}
 use Rattle.clv_base.specs.declared.events.Event.{Event}
-use Rattle.clv_base.specs.declared.events.Event.TheVariants.{Op as OpEvent, Request, Look, Drop}
+use Rattle.clv_base.specs.declared.events.Event.TheVariants.{Op as OpEvent, RollTo, Request, Look, Drop}
 use Rattle.clv_base.specs.declared.events.Outcome.{Outcome}
-use Rattle.clv_base.specs.declared.events.Outcome.TheVariants.{Answered, Dead, Asked, Acknowledged, Aborted}
+use Rattle.clv_base.specs.declared.events.Outcome.TheVariants.{Answered, Rolled, Dead, Asked, Acknowledged, Aborted}
 use Rattle.clv_base.specs.Orders.{tx_same}
+use Rattle.clv_base.specs.Backs.{stands_for_back}
 use Rattle.clv_base.specs.Restarts.{run_after}
 use Rattle.clv_base.specs.Journals.{History, own}
 use Rattle.clv_base.specs.History.{Legal}
-use Rattle.clv_base.specs.Sessions.{SessionState, no_session, is_touching, same_birth, follows_birth, goes_on, begins, begun, session_for, op_answered, op_in_session, same_touched, is_lowest, requested, looked, stands_at, session_after, makes_from, is_session}
+use Rattle.clv_base.specs.Sessions.{SessionState, no_session, is_touching, same_birth, follows_birth, goes_on, begins, begun, session_for, op_answered, op_in_session, goes_on_back, numbered, is_whole_now, back_for, went_back, back_in_session, same_touched, is_lowest, requested, looked, stands_at, session_after, makes_from, is_session}
 use Rattle.clv_base.proofs.SameNames.{tx_true, nat_cmp_true, then_eq}
 use Rattle.history_cases.proofs.Merging.{Placed, Among, in_own}
 
--- an operation, a request or a look of this walker's
+-- an operation, a going back, a request or a look of this walker's
 abbrev pub IsOfWalker : ℕ → Event → Type 0
 IsOfWalker w (OpEvent tx birth nth seen op) = (tx.session ≡ w) × (birth.session ≡ w)
+IsOfWalker w (RollTo tx nth seen upto) = tx.session ≡ w
 IsOfWalker w (Request tx touched) = tx.session ≡ w
 IsOfWalker w (Look tx) = tx.session ≡ w
 IsOfWalker w _ = Unit {0}
@@ -84,6 +86,24 @@ op_goes : (splits : List ℕ) (w n nth : ℕ) (seen : Option ℕ) (op : Op) (o :
 op_goes splits w n nth seen op o tx birth None f = gone
 op_goes splits w n nth seen op o tx birth (Some v) (one a b i) = goes_if w (OpEvent tx birth nth seen op) _ _ (λ c. op_out w n nth op v o (OpEvent tx birth nth seen op) (a, b) i)
 
+back_out : (w n upto : ℕ) (t : SessionState) (o : Outcome) (e : Event) → IsOfWalker w e → IsItsOwn w t → Goes w e (went_back n upto t o)
+back_out w n upto t Rolled e k i = goes k (record { named = i.named; born = i.born })
+back_out w n upto t (Dead cause) e k i = goes k (record { named = i.named; born = i.born })
+back_out w n upto t _ e k i = gone
+
+-- the session as a going back finds it
+back_goes : (w n nth upto : ℕ) (t : SessionState) (o : Outcome) (e : Event) → IsOfWalker w e → IsItsOwn w t → Goes w e (back_in_session n upto o (back_for t n nth upto))
+back_goes w n nth upto t o e k i = at (nth == suc t.nth) (nat_lt upto nth) ((nth == t.nth) && goes_on_back t.back n upto)
+  where
+    new : SessionState
+    new = record (numbered nth t) { is_whole = is_whole_now t && stands_for_back nth upto t.backs; backs = (nth, upto) ∷ t.backs }
+
+    at : (a b c : Bool) → Goes w e (back_in_session n upto o (cond a (cond b (Some new) None) (cond c (Some t) None)))
+    at true true c = back_out w n upto new o e k (record { named = i.named; born = i.born })
+    at true false c = gone
+    at false b true = back_out w n upto t o e k i
+    at false b false = gone
+
 request_out : (w n : ℕ) (t : SessionState) (o : Outcome) (e : Event) → IsOfWalker w e → IsItsOwn w t → Goes w e (requested n t o)
 request_out w n t Asked e k i = goes k (record { named = i.named; born = i.born })
 request_out w n t (Dead cause) e k i = goes k (record { named = i.named; born = i.born })
@@ -99,11 +119,16 @@ its_name w t tx e i = ap (λ x. x.session) (tx_true tx t.tx e) ∙ i.named
 
 next_goes : (splits : List ℕ) (w n : ℕ) (t : SessionState) (e : Event) (o : Outcome) → IsItsOwn w t → Goes w e (session_after splits n t e o)
 next_goes splits w n t (OpEvent tx birth nth seen op) o i = op_goes splits w n nth seen op o tx birth (session_for t tx birth) (for_by w t tx birth (tx_same tx t.tx) refl i)
+next_goes splits w n t (RollTo tx nth seen upto) o i =
+    goes_if w (RollTo tx nth seen upto) _ _ (λ c.
+    let p = and_parts (tx_same tx t.tx && is_touching t.phase) _ c in
+    back_goes w n nth upto t o (RollTo tx nth seen upto) (its_name w t tx (and_parts (tx_same tx t.tx) (is_touching t.phase) p.0).0 i) i)
 next_goes splits w n t (Request tx touched) o i =
     goes_if w (Request tx touched) _ _ (λ c.
-    let p = and_parts (tx_same tx t.tx && is_touching t.phase && same_touched touched t.touched) (is_lowest n touched) c in
-    let q = and_parts (tx_same tx t.tx && is_touching t.phase) (same_touched touched t.touched) p.0 in
-    request_out w n t o (Request tx touched) (its_name w t tx (and_parts (tx_same tx t.tx) (is_touching t.phase) q.0).0 i) i)
+    let p = and_parts (tx_same tx t.tx && is_touching t.phase && is_whole_now t && same_touched touched t.touched) (is_lowest n touched) c in
+    let q = and_parts (tx_same tx t.tx && is_touching t.phase && is_whole_now t) (same_touched touched t.touched) p.0 in
+    let r = and_parts (tx_same tx t.tx && is_touching t.phase) (is_whole_now t) q.0 in
+    request_out w n t o (Request tx touched) (its_name w t tx (and_parts (tx_same tx t.tx) (is_touching t.phase) r.0).0 i) i)
 next_goes splits w n t (Look tx) o i = goes_if w (Look tx) _ _ (λ c. look_out w t o (Look tx) (its_name w t tx (and_parts (tx_same tx t.tx) (stands_at n t.phase) c).0 i) i)
 next_goes splits w n t (Drop tx) o i = goes_if w (Drop tx) _ _ (λ c. goes tt (record { named = i.named; born = i.born }))
 next_goes splits w n t _ o i = goes tt i

@@ -1,35 +1,35 @@
 -- What a history's report is made of, and what of it a session keeps.
 use Rattle.std.specs.Prelude.{◌≡◌, ℕ, Bool, cond, List, [], ◌∷◌, ◌++◌, Option, Some, None}
 use Rattle.clv_base.specs.declared.names.TxId.{TxId}
-use Rattle.clv_base.specs.declared.ops.Op.{Op}
 use Rattle.clv_base.specs.declared.ops.Op.TheVariants.{Get, Put, Del, Scan, Add}
-use Rattle.clv_base.specs.declared.ops.Answer.{Answer}
 use Rattle.clv_base.specs.declared.ops.Answer.TheVariants.{Pairs}
 use Rattle.clv_base.specs.declared.events.Entry.{Entry}
 use Rattle.clv_base.specs.Journals.{History}
 use Rattle.clv_base.specs.History.{acknowledged_in, request_of}
 use Rattle.session_books.specs.declared.told.Told.{Told}
+use Rattle.session_books.specs.Done.{Done, Did, WentBack}
 use Rattle.session_books.specs.declared.books.Row.{Row}
 use Rattle.session_books.specs.Told.{told_in}
 use Rattle.session_books.specs.Parts.{parts_of, upper_of, pairs_of, all_pairs, goes_on}
 use Rattle.session_books.specs.declared.counts.Counts.{Counts}
 use Rattle.session_books.specs.Counts.{counts_in}
 
--- an operation as a line tells it: a scan goes up to its last part's upper bound, and has the pairs of all parts
-abbrev pub whole : Op → Answer → List Told → Op × Answer
-whole (Get k) a parts = (Get k, a)
-whole (Put k v) a parts = (Put k v, a)
-whole (Del k) a parts = (Del k, a)
-whole (Scan lo hi) a parts = (Scan lo (upper_of hi parts), Pairs (pairs_of a ++ all_pairs parts))
-whole (Add k by) a parts = (Add k by, a)
+-- an act as a line tells it: a scan goes up to its last part's upper bound, and has the pairs of all parts
+abbrev pub whole : Done → List Told → Done
+whole (Did (Get k) a) parts = Did (Get k) a
+whole (Did (Put k v) a) parts = Did (Put k v) a
+whole (Did (Del k) a) parts = Did (Del k) a
+whole (Did (Scan lo hi) a) parts = Did (Scan lo (upper_of hi parts)) (Pairs (pairs_of a ++ all_pairs parts))
+whole (Did (Add k by) a) parts = Did (Add k by) a
+whole (WentBack upto) parts = WentBack upto
 
--- each operation once, with its parts
-abbrev pub whole_from : Option ℕ → List Told → List (Op × Answer)
+-- each act once, with its parts
+abbrev pub whole_from : Option ℕ → List Told → List Done
 whole_from before [] = []
 whole_from before (t ∷ ts) =
-    cond (goes_on before t.nth) (whole_from (Some t.nth) ts) (whole t.op t.answer (parts_of t.nth ts) ∷ whole_from (Some t.nth) ts)
+    cond (goes_on before t.nth) (whole_from (Some t.nth) ts) (whole t.done (parts_of t.nth ts) ∷ whole_from (Some t.nth) ts)
 
-abbrev pub whole_ops : List Told → List (Op × Answer)
+abbrev pub whole_ops : List Told → List Done
 whole_ops ts = whole_from None ts
 
 -- what a history tells of a transaction whose request is this entry

@@ -1,28 +1,31 @@
--- What a history tells of operations, acknowledgements, requests and looks.
+-- What a history tells of operations, goings back, acknowledgements, requests and looks.
 use Rattle.std.specs.Prelude.{Bool, false, cond, List, [], ◌∷◌, Option, Some, None}
 use Rattle.std.specs.List.{list_any}
 use Rattle.std.specs.Ordering.{is_eq}
 use Rattle.clv_base.specs.declared.names.TxId.{TxId}
 use Rattle.clv_base.specs.declared.names.Birth.{Birth}
 use Rattle.clv_base.specs.declared.events.Event.{Event}
-use Rattle.clv_base.specs.declared.events.Event.TheVariants.{Op, Look}
+use Rattle.clv_base.specs.declared.events.Event.TheVariants.{Op, RollTo, Look}
 use Rattle.clv_base.specs.declared.events.Outcome.{Outcome}
-use Rattle.clv_base.specs.declared.events.Outcome.TheVariants.{Answered, Acknowledged}
+use Rattle.clv_base.specs.declared.events.Outcome.TheVariants.{Answered, Rolled, Acknowledged}
 use Rattle.clv_base.specs.Orders.{tx_same, birth_cmp}
 use Rattle.clv_base.specs.Journals.{History}
+use Rattle.session_books.specs.Done.{Did, WentBack}
 use Rattle.session_books.specs.declared.told.Told.{Told}
 
--- the answered operation that an entry tells, with its transaction
+-- the answered operation, or the going back, that an entry tells, with its transaction
 abbrev pub told_by : Event → Outcome → Option (TxId × Told)
-told_by (Op tx birth nth seen op) (Answered answer epoch) = Some (tx, record { nth = nth; op = op; answer = answer })
+told_by (Op tx birth nth seen op) (Answered answer epoch) = Some (tx, record { nth = nth; done = Did op answer })
 told_by (Op tx birth nth seen op) _ = None
+told_by (RollTo tx nth seen upto) Rolled = Some (tx, record { nth = nth; done = WentBack upto })
+told_by (RollTo tx nth seen upto) _ = None
 told_by _ o = None
 
 abbrev pub with_told : TxId → Option (TxId × Told) → List Told → List Told
 with_told t None ts = ts
 with_told t (Some p) ts = cond (tx_same p.0 t) (p.1 ∷ ts) ts
 
--- the transaction's answered operations, in the history's order
+-- those of the transaction, in the history's order
 abbrev pub told_in : TxId → History → List Told
 told_in t [] = []
 told_in t (e ∷ es) = with_told t (told_by (e.1).event (e.1).outcome) (told_in t es)

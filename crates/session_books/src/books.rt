@@ -5,39 +5,37 @@ ghost use Rattle.session_books.specs.Counts.{nothing_counted};
 
 use crate::Memory;
 use crate::counts::Counts;
-use clv_base::kept::KeptOp;
+use crate::done::Done;
 use clv_base::names::{Point, TxId};
-use clv_base::ops::Answer;
 use quiet_list::Told;
 use std::alloc::Global;
 use std::marker::Model;
 
-/// Operations with their answers, in order; a scan is one.
+/// What a transaction did, in order; a scan is one operation, and a going back is one.
 #[derive(Drop)]
 pub struct Operations {
-    items: Vec<(KeptOp, Answer)>,
+    items: Vec<Done>,
 }
 
 impl Model for Operations {
     ghost use Rattle.std.specs.Prelude.{List};
-    ghost use Rattle.clv_base.specs.declared.ops.Op.{Op};
-    ghost use Rattle.clv_base.specs.declared.ops.Answer.{Answer};
+    ghost use Rattle.session_books.specs.Done.{Done};
 
-    ghost Value = { List (Op × Answer) };
+    ghost Value = { List Done };
 
     ghost view = { λ o. o.items.items };
 }
 
 impl Operations {
-    /// The list of the vector's operations, in its order. Takes no memory.
-    pub fn new(items: Vec<(KeptOp, Answer)>) -> Self
+    /// The list of what the vector has, in its order. Takes no memory.
+    pub fn new(items: Vec<Done>) -> Self
         ensures { result ≡ items.items }
     {
         Operations { items }
     }
 
-    /// The operations, in order.
-    pub fn as_slice(&self) -> &[(KeptOp, Answer)]
+    /// All of it, in order.
+    pub fn as_slice(&self) -> &[Done]
         ensures { result.now ≡ self.now }
     {
         self.items.as_slice()

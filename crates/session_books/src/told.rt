@@ -1,11 +1,10 @@
-// What a history tells of an operation.
+// What a history tells of an act.
 
-use clv_base::ops::{Answer, Op};
+use crate::done::Done;
 
-/// An answered operation, with its number.
+/// An answered operation, or a going back, with its number.
 #[derive(Drop)]
 pub struct Told {
     pub nth: u64,
-    pub op: Op,
-    pub answer: Answer,
+    pub done: Done,
 }

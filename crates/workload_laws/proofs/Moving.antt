@@ -11,7 +11,8 @@ use Rattle.clv_base.specs.declared.ops.Answer.{Answer}
 use Rattle.clv_base.specs.Maps.{KeyMap, map_get, map_set, ops_after, ops_answers}
 use Rattle.clv_base.proofs.Folding.{get_set, get_other}
 use Rattle.script_lang.specs.declared.actions.Action.TheVariants.{Move}
-use Rattle.script_lang.specs.Following.{puts, all_ops}
+use Rattle.script_lang.specs.Following.{puts}
+use Rattle.script_lang.proofs.Laws.{all_ops}
 use Rattle.script_lang.specs.Loads.{fill}
 use Rattle.workload_laws.proofs.Held.{worth, held, held_set, held_each, AreFilled}
 

@@ -1,6 +1,6 @@
 use Rattle.std.proofs.Common.{◌∙◌, ap}
 use Rattle.script_lang.specs.Reading.{verb_text}
-use Rattle.script_lang.proofs.Verbs.{get_operands, put_operands, del_operands, scan_operands, add_operands, moved}
+use Rattle.script_lang.proofs.Verbs.{get_operands, put_operands, del_operands, scan_operands, add_operands, back_operands, moved}
 use Rattle.script_lang.proofs.lines.with_numbers.Goals as goal
 
 pub returns-in-None : goal.returns-in-None
@@ -20,3 +20,6 @@ returns-in-None-two_numbers-2 c = λ action names has. let is = add_operands _ a
 
 pub returns-in-Move : goal.returns-in-Move
 returns-in-Move c = moved _ _ c.move_of.result (ap verb_text c.in-Move.is) c.move_of.ensures
+
+pub returns-in-None-number_of-2 : goal.returns-in-None-number_of-2
+returns-in-None-number_of-2 c = λ action names has. let is = back_operands _ action (names ∙ ap verb_text c.in-Back.is) has in c.in-None-number_of-2.ensures is.0 is.1

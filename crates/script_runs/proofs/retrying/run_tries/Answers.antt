@@ -9,6 +9,7 @@ use Rattle.script_runs.proofs.retrying.run_tries.Goals as goal
 pub loop-init : goal.loop-init
 loop-init g c = record {
   session = c.requires.session;
+  fresh = c.requires.fresh;
   base = refl;
   misses = λ tx n es h. h;
   trying = λ tx birth active serial run session. record {
@@ -41,6 +42,7 @@ retry-requires-clause-ended g c =
 pub loop-preserved : goal.loop-preserved
 loop-preserved g c = record {
   session = c.in-Ok.ensures.session;
+  fresh = c.in-Ok.ensures.going;
   base = c.in-Ok.ensures.base ∙ (c.run_try-made.ensures.base ∙ c.loop.invariant.base);
   misses = λ tx n es h. c.in-Ok.ensures.misses tx n es (c.run_try-made.ensures.misses tx n es (c.loop.invariant.misses tx n es h));
   trying = λ tx birth active serial run session.

@@ -1,7 +1,7 @@
-use Rattle.std.proofs.Common.{◌≡◌}
+use Rattle.std.proofs.Common.{◌≡◌, Some}
 use Rattle.clv_base.specs.declared.names.TxId.{TxId}
 use Rattle.clv_base.specs.declared.names.Birth.{Birth as BirthIs}
-use Rattle.script_runs.specs.Seen.{Active, Keeps, untouched}
+use Rattle.script_runs.specs.Seen.{Active, Keeps, going_at_start, untouched}
 use Rattle.script_runs.proofs.KeptTries.{TryingKept}
 use Rattle.script_runs.proofs.retrying.run_tries.Given as goal
 
@@ -10,6 +10,7 @@ invariant-loop g l =
     let u = g.C.SessionCalls.seen l.fn.session in
     record {
       session : g.C.SessionCalls.holds l.session;
+      fresh : g.C.SessionCalls.going l.session ≡ Some going_at_start;
       base : g.C.SessionCalls.base l.session ≡ g.C.SessionCalls.base l.fn.session;
       misses : Keeps (g.C.SessionCalls.missed l.fn.session) (g.C.SessionCalls.missed l.session);
       trying :

@@ -16,5 +16,5 @@ returns-in-Err-clause-kept g c tx birth is =
     let u = g.C.SessionCalls.seen c.args.session.now in
     let x = g.C.SessionCalls.seen c.do_lines.new.session in
     let t = subst (λ ls. LinesTold tx birth ls (Err c.in-Err.end) u x) c.actions.ensures (c.in-Err.ensures.told tx birth is) in
-    kept_part (g.C.SessionCalls.missed c.give_up.new.session) c.args.transaction.now tx birth c.in-Err.end c.fate_of-fate.result c.args.book.now c.args.book.now c.has_touched-touched.result u t.0 x (g.C.SessionCalls.seen c.give_up.new.session) t.1 t.2 t.3 t.4
+    kept_part (g.C.SessionCalls.missed c.give_up.new.session) c.args.transaction.now tx birth c.in-Err.end c.fate_of-fate.result c.args.book.now c.args.book.now c.has_touched-touched.result u t.0 x (g.C.SessionCalls.seen c.give_up.new.session) t.1 t.2
     c.give_up.ensures.told c.has_touched-touched.ensures c.fate_of-fate.ensures (adds_none c.args.book.now)

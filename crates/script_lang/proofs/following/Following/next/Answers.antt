@@ -1,6 +1,7 @@
-use Rattle.std.proofs.Common.{◌∙◌}
-use Rattle.script_lang.proofs.Progress.{next_is}
+use Rattle.std.proofs.Common.{sym, subst}
+use Rattle.script_lang.specs.Places.{IsNext}
+use Rattle.script_lang.proofs.Progress.{is_next}
 use Rattle.script_lang.proofs.following.Following.next.Goals as goal
 
-pub returns : goal.returns
-returns c = λ actions answers stands. c.first_op.ensures ∙ next_is actions answers c.args.self.now stands
+pub returns-clause-next : goal.returns-clause-next
+returns-clause-next c = λ lines answers way stands. subst (IsNext lines answers way) (sym c.next_step.ensures) (is_next lines answers way c.args.self.now stands)
