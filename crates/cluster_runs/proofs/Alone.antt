@@ -11,6 +11,7 @@ use Rattle.cluster_turns.specs.declared.shards.Walker.{Walker}
 use Rattle.cluster_turns.specs.Walkers.{kept}
 use Rattle.cluster_opening.specs.Made.{IsNewWalker}
 use Rattle.script_lang.specs.Bodies.{Body}
+use Rattle.script_lang.specs.Savepoints.{Savepoints}
 use Rattle.script_runs.specs.declared.ends.StopCause.TheVariants as stop
 use Rattle.script_runs.specs.Sessions.{FollowsScript, all_done, not_begun, session_entries}
 use Rattle.script_runs.specs.Alone.{BeginsBy, BeginsPast}
@@ -62,11 +63,11 @@ module _ {M S G : Type 0} (sh : Shards M S G) (most : Option ℕ) (script : List
 
   -- ---- a seat
 
-  made_all : (clock0 k : ℕ) (old : Shards M S G) (w v : Walker M S G) (s : Progress) (bodies : List Body) (more : History) → IsSeated sh clock0 script k old w s bodies → session_entries (kept v.passes.items) ≡ session_entries (kept w.passes.items) ++ more
+  made_all : {saves : List ℕ} {marks : Savepoints} (clock0 k : ℕ) (old : Shards M S G) (w v : Walker M S G) (s : Progress) (bodies : List Body) (more : History) → IsSeated sh clock0 script k old w s saves marks bodies → session_entries (kept v.passes.items) ≡ session_entries (kept w.passes.items) ++ more
       → session_entries (kept v.passes.items) ≡ more
   made_all clock0 k old w v s bodies more seat is = is ∙ ap (λ l. session_entries l ++ more) (new_walkers_keep_none _ _ _ sh (suc k) clock0 w seat.new)
 
-  pub sat_first : (clock0 clock : ℕ) (old new : Shards M S G) (w v : Walker M S G) (a b : Point) (s t : Progress) (bodies wanted : List Body) → IsSeated sh clock0 script 0 old w s bodies → slice_get script 0 ≡ Some wanted
+  pub sat_first : {saves : List ℕ} {marks : Savepoints} (clock0 clock : ℕ) (old new : Shards M S G) (w v : Walker M S G) (a b : Point) (s t : Progress) (bodies wanted : List Body) → IsSeated sh clock0 script 0 old w s saves marks bodies → slice_get script 0 ≡ Some wanted
       → BeginsBy clock bodies most (seen_in old w a s) (seen_in new v b t) → BeginsWith sh.splits sh.run most wanted clock (session_entries (kept v.passes.items))
   sat_first clock0 clock old new w v a b s t bodies wanted seat at begun = record {
     cause = begun.cause;
@@ -80,7 +81,7 @@ module _ {M S G : Type 0} (sh : Shards M S G) (most : Option ℕ) (script : List
     early = begun.early;
   }
 
-  pub sat_past : (clock0 clock k : ℕ) (old new : Shards M S G) (w v : Walker M S G) (a b : Point) (s t : Progress) (bodies : List Body) → IsSeated sh clock0 script k old w s bodies → BeginsPast clock (seen_in old w a s) (seen_in new v b t)
+  pub sat_past : {saves : List ℕ} {marks : Savepoints} (clock0 clock k : ℕ) (old new : Shards M S G) (w v : Walker M S G) (a b : Point) (s t : Progress) (bodies : List Body) → IsSeated sh clock0 script k old w s saves marks bodies → BeginsPast clock (seen_in old w a s) (seen_in new v b t)
       → AllByRecursion (λ e. clock < (e.1).stamp) (session_entries (kept v.passes.items))
   sat_past clock0 clock k old new w v a b s t bodies seat past = subst (AllByRecursion (λ e. clock < (e.1).stamp)) (sym (made_all clock0 k old w v s bodies past.more seat past.entries_are)) past.late
 

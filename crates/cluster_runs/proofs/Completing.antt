@@ -6,18 +6,18 @@ use Rattle.clv_base.specs.declared.names.TxId.{TxId}
 use Rattle.clv_base.specs.declared.names.Birth.{Birth}
 use Rattle.clv_base.specs.declared.causes.AbortCause.{AbortCause}
 use Rattle.clv_base.specs.declared.causes.AbortCause.TheVariants.{Asked, Died}
-use Rattle.clv_base.specs.declared.ops.Answer.{Answer}
 use Rattle.clv_base.specs.declared.logs.LogRecord.{LogRecord}
 use Rattle.clv_base.specs.declared.events.Entry.{Entry}
 use Rattle.clv_base.specs.Restarts.{run_after}
 use Rattle.clv_base.specs.Journals.{History, own}
 use Rattle.clv_base.specs.History.{Legal}
-use Rattle.fate_laws.specs.Causes.{TellsCause, op_died, request_died, look_found}
+use Rattle.fate_laws.specs.Causes.{TellsCause, op_died, going_back_died, request_died, look_found}
 use Rattle.history_cases.proofs.Merging.{Among, among_left, among_right}
 use Rattle.settled_laws.proofs.Laws.{aborts_are_deaths}
 use Rattle.cluster_runs.specs.Histories.{entries}
 use Rattle.script_lang.specs.Bodies.{Body}
-use Rattle.script_lang.specs.Following.{next_op}
+use Rattle.session_books.specs.Done.{Done}
+use Rattle.script_runs.specs.Acts.{next_of, numbered}
 use Rattle.script_runs.specs.declared.ends.StopCause.{StopCause}
 use Rattle.script_runs.specs.declared.ends.TryEnd.{TryEnd}
 use Rattle.script_runs.specs.declared.ends.TryEnd.TheVariants as end
@@ -31,7 +31,7 @@ use Rattle.cluster_runs.specs.PromisedSessions.{SessionWent}
 use Rattle.cluster_runs.specs.Completing.{HasEnded, acknowledged, empty, by_line, given_up, IsWanted, TransactionEnded, SessionEnded, SessionsHaveEnded}
 use Rattle.cluster_runs.proofs.Beginnings.{begins_settled}
 use Rattle.cluster_runs.proofs.Entries.{from_session, from_own, split, acknowledged_by}
-use Rattle.cluster_runs.proofs.Scripted.{whole_ops}
+use Rattle.cluster_runs.proofs.Scripted.{whole_acts}
 
 -- ---- the cause that a try's entries tell
 
@@ -47,64 +47,76 @@ same_cause : (a b : AbortCause) → end.Aborted a ≡ end.Aborted b → a ≡ b
 same_cause a b h = cc
 
 aborts :
-    (splits : List ℕ) (body : Body) (tx : TxId) (birth : Birth) (answers : List Answer) (before : History) (e : TryEnd) (behind : History) (cause : AbortCause) → EndsBy splits body tx birth answers before e behind
+    (splits : List ℕ) (body : Body) (tx : TxId) (birth : Birth) (acts : List Done) (before : History) (e : TryEnd) (behind : History) (cause : AbortCause) → EndsBy splits body tx birth acts before e behind
     → e ≡ end.Aborted cause → Tells tx cause behind
-aborts splits body tx birth answers before _ _ cause (tries.in_operation op c n here drops next died d) is =
+aborts splits body tx birth acts before _ _ cause (tries.in_operation op c n here drops next died d) is =
     let same = same_cause c cause is in
     record {
       entry = died.last;
       among = subst (λ l. Among died.last (l ++ drops)) (sym died.entries) (among_left died.last (died.before ++ died.last ∷ []) drops (among_right died.last died.before (died.last ∷ []) (inl refl)));
       tells = subst (λ k. TellsCause ((died.last).1).event ((died.last).1).outcome tx k) same (told_so died.last tx c _ _ (died.died).event (died.died).outcome (op_died tx birth _ (died.died).seen _ c));
     }
-aborts splits body tx birth answers before _ _ cause (tries.at_request home c asked drops all a d) is =
+aborts splits body tx birth acts before _ _ cause (tries.in_going_back upto c n here drops next died d) is =
+    let same = same_cause c cause is in
+    record {
+      entry = died.last;
+      among = subst (λ l. Among died.last (l ++ drops)) (sym died.entries) (among_left died.last (died.before ++ died.last ∷ []) drops (among_right died.last died.before (died.last ∷ []) (inl refl)));
+      tells = subst (λ k. TellsCause ((died.last).1).event ((died.last).1).outcome tx k) same (told_so died.last tx c _ _ (died.died).event (died.died).outcome (going_back_died tx _ (died.died).seen upto c));
+    }
+aborts splits body tx birth acts before _ _ cause (tries.at_request home c asked drops all a d) is =
     let same = same_cause c cause is in
     record { entry = asked; among = inl refl; tells = subst (λ k. TellsCause (asked.1).event (asked.1).outcome tx k) same (told_so asked tx c _ _ a.event a.outcome (request_died tx a.touched c)) }
-aborts splits body tx birth answers before _ _ cause (tries.at_look home c asked told drops all a l d) is =
+aborts splits body tx birth acts before _ _ cause (tries.at_look home c asked told drops all a l d) is =
     let same = same_cause c cause is in
     record { entry = told; among = inr (inl refl); tells = subst (λ k. TellsCause (told.1).event (told.1).outcome tx k) same (told_so told tx c _ _ l.event l.outcome (look_found tx c)) }
-aborts splits body tx birth answers before _ _ cause (tries.acknowledged home asked told all a l) is = absurd cc
-aborts splits body tx birth answers before _ _ cause (tries.nothing all none) is = absurd cc
-aborts splits body tx birth answers before _ _ cause (tries.by_line drops all d) is = absurd cc
-aborts splits body tx birth answers before _ _ cause (tries.down n here drops u d) is = absurd cc
-aborts splits body tx birth answers before _ _ cause (tries.unsettled n home asked all a) is = absurd cc
-aborts splits body tx birth answers before _ _ cause (tries.wanting_before c here w u) is = absurd cc
-aborts splits body tx birth answers before _ _ cause (tries.wanting_behind c home asked w all a) is = absurd cc
-aborts splits body tx birth answers before _ _ cause (tries.unanswered op parts here next are) is = absurd cc
-aborts splits body tx birth answers before _ _ cause (tries.worn_at_line at drops all d) is = absurd cc
+aborts splits body tx birth acts before _ _ cause (tries.acknowledged home asked told all a l) is = absurd cc
+aborts splits body tx birth acts before _ _ cause (tries.nothing all none) is = absurd cc
+aborts splits body tx birth acts before _ _ cause (tries.by_line drops all d) is = absurd cc
+aborts splits body tx birth acts before _ _ cause (tries.down n here drops u d) is = absurd cc
+aborts splits body tx birth acts before _ _ cause (tries.unsettled n home asked all a) is = absurd cc
+aborts splits body tx birth acts before _ _ cause (tries.wanting_before c here w u) is = absurd cc
+aborts splits body tx birth acts before _ _ cause (tries.wanting_behind c home asked w all a) is = absurd cc
+aborts splits body tx birth acts before _ _ cause tries.wanting_between is = absurd cc
+aborts splits body tx birth acts before _ _ cause (tries.unanswered op parts here next are) is = absurd cc
+aborts splits body tx birth acts before _ _ cause (tries.worn_at_line at drops all d) is = absurd cc
 
 -- ---- each line was done
 
 lines_done :
-    (splits : List ℕ) (body : Body) (tx : TxId) (birth : Birth) (answers : List Answer) (before : History) (e : TryEnd) (behind : History) → EndsBy splits body tx birth answers before e behind → e ≡ end.Asked
-    → next_op body.actions answers ≡ None
-lines_done splits body tx birth answers before _ _ (tries.by_line drops all d) is = all.all
-lines_done splits body tx birth answers before _ _ (tries.in_operation op c n here drops next died d) is = absurd cc
-lines_done splits body tx birth answers before _ _ (tries.at_request home c asked drops all a d) is = absurd cc
-lines_done splits body tx birth answers before _ _ (tries.at_look home c asked told drops all a l d) is = absurd cc
-lines_done splits body tx birth answers before _ _ (tries.acknowledged home asked told all a l) is = absurd cc
-lines_done splits body tx birth answers before _ _ (tries.nothing all none) is = absurd cc
-lines_done splits body tx birth answers before _ _ (tries.down n here drops u d) is = absurd cc
-lines_done splits body tx birth answers before _ _ (tries.unsettled n home asked all a) is = absurd cc
-lines_done splits body tx birth answers before _ _ (tries.wanting_before c here w u) is = absurd cc
-lines_done splits body tx birth answers before _ _ (tries.wanting_behind c home asked w all a) is = absurd cc
-lines_done splits body tx birth answers before _ _ (tries.unanswered op parts here next are) is = absurd cc
-lines_done splits body tx birth answers before _ _ (tries.worn_at_line at drops all d) is = absurd cc
+    (splits : List ℕ) (body : Body) (tx : TxId) (birth : Birth) (acts : List Done) (before : History) (e : TryEnd) (behind : History) → EndsBy splits body tx birth acts before e behind → e ≡ end.Asked
+    → next_of body.actions acts ≡ None
+lines_done splits body tx birth acts before _ _ (tries.by_line drops all d) is = all.all
+lines_done splits body tx birth acts before _ _ (tries.in_operation op c n here drops next died d) is = absurd cc
+lines_done splits body tx birth acts before _ _ (tries.in_going_back upto c n here drops next died d) is = absurd cc
+lines_done splits body tx birth acts before _ _ (tries.at_request home c asked drops all a d) is = absurd cc
+lines_done splits body tx birth acts before _ _ (tries.at_look home c asked told drops all a l d) is = absurd cc
+lines_done splits body tx birth acts before _ _ (tries.acknowledged home asked told all a l) is = absurd cc
+lines_done splits body tx birth acts before _ _ (tries.nothing all none) is = absurd cc
+lines_done splits body tx birth acts before _ _ (tries.down n here drops u d) is = absurd cc
+lines_done splits body tx birth acts before _ _ (tries.unsettled n home asked all a) is = absurd cc
+lines_done splits body tx birth acts before _ _ (tries.wanting_before c here w u) is = absurd cc
+lines_done splits body tx birth acts before _ _ (tries.wanting_behind c home asked w all a) is = absurd cc
+lines_done splits body tx birth acts before _ _ tries.wanting_between is = absurd cc
+lines_done splits body tx birth acts before _ _ (tries.unanswered op parts here next are) is = absurd cc
+lines_done splits body tx birth acts before _ _ (tries.worn_at_line at drops all d) is = absurd cc
 
 has_none :
-    (splits : List ℕ) (body : Body) (tx : TxId) (birth : Birth) (answers : List Answer) (before : History) (e : TryEnd) (behind : History) → EndsBy splits body tx birth answers before e behind → e ≡ end.Empty
-    → next_op body.actions [] ≡ None
-has_none splits body tx birth answers before _ _ (tries.nothing all none) is = subst (λ l. next_op body.actions l ≡ None) none all.all
-has_none splits body tx birth answers before _ _ (tries.by_line drops all d) is = absurd cc
-has_none splits body tx birth answers before _ _ (tries.in_operation op c n here drops next died d) is = absurd cc
-has_none splits body tx birth answers before _ _ (tries.at_request home c asked drops all a d) is = absurd cc
-has_none splits body tx birth answers before _ _ (tries.at_look home c asked told drops all a l d) is = absurd cc
-has_none splits body tx birth answers before _ _ (tries.acknowledged home asked told all a l) is = absurd cc
-has_none splits body tx birth answers before _ _ (tries.down n here drops u d) is = absurd cc
-has_none splits body tx birth answers before _ _ (tries.unsettled n home asked all a) is = absurd cc
-has_none splits body tx birth answers before _ _ (tries.wanting_before c here w u) is = absurd cc
-has_none splits body tx birth answers before _ _ (tries.wanting_behind c home asked w all a) is = absurd cc
-has_none splits body tx birth answers before _ _ (tries.unanswered op parts here next are) is = absurd cc
-has_none splits body tx birth answers before _ _ (tries.worn_at_line at drops all d) is = absurd cc
+    (splits : List ℕ) (body : Body) (tx : TxId) (birth : Birth) (acts : List Done) (before : History) (e : TryEnd) (behind : History) → EndsBy splits body tx birth acts before e behind → e ≡ end.Empty
+    → next_of body.actions [] ≡ None
+has_none splits body tx birth acts before _ _ (tries.nothing all none) is = subst (λ l. next_of body.actions l ≡ None) none all.all
+has_none splits body tx birth acts before _ _ (tries.by_line drops all d) is = absurd cc
+has_none splits body tx birth acts before _ _ (tries.in_operation op c n here drops next died d) is = absurd cc
+has_none splits body tx birth acts before _ _ (tries.in_going_back upto c n here drops next died d) is = absurd cc
+has_none splits body tx birth acts before _ _ (tries.at_request home c asked drops all a d) is = absurd cc
+has_none splits body tx birth acts before _ _ (tries.at_look home c asked told drops all a l d) is = absurd cc
+has_none splits body tx birth acts before _ _ (tries.acknowledged home asked told all a l) is = absurd cc
+has_none splits body tx birth acts before _ _ (tries.down n here drops u d) is = absurd cc
+has_none splits body tx birth acts before _ _ (tries.unsettled n home asked all a) is = absurd cc
+has_none splits body tx birth acts before _ _ (tries.wanting_before c here w u) is = absurd cc
+has_none splits body tx birth acts before _ _ (tries.wanting_behind c home asked w all a) is = absurd cc
+has_none splits body tx birth acts before _ _ tries.wanting_between is = absurd cc
+has_none splits body tx birth acts before _ _ (tries.unanswered op parts here next are) is = absurd cc
+has_none splits body tx birth acts before _ _ (tries.worn_at_line at drops all d) is = absurd cc
 
 -- ---- a try among all
 
@@ -158,7 +170,7 @@ module _
 
   died : (tr : Transaction) (front behind : List Try) (t : Try) → tries_of f.transactions ≡ front ++ t ∷ behind → IsTry splits tr.body tr.birth t → (cause : AbortCause) → t.end ≡ end.Aborted cause → (older : TxId) × (cause ≡ Died older)
   died tr front behind t at tried cause same =
-      let a = aborts splits tr.body t.tx tr.birth t.answers tried.before t.end tried.behind cause tried.ends same in
+      let a = aborts splits tr.body t.tx tr.birth t.acts tried.before t.end tried.behind cause tried.ends same in
       deaths a.entry t.tx cause (in_history a.entry front behind t at (subst (Among a.entry) (sym tried.entries_are) (among_right a.entry tried.before tried.behind a.among))) a.tells
 
   asked_not : (older : TxId) → Asked ≡ Died older → ⊥
@@ -173,10 +185,10 @@ module _
       acknowledged ending same
       (record {
         told = acknowledged_by t.tx d.told h (in_history d.told front behind t at among) (d.told_is).event (d.told_is).outcome;
-        operations = ap (map (λ p. p.0)) (whole_ops splits before after h legal w most bodies f front behind t at named) ∙ entries_tell_their_lines splits tr.body tr.birth t tried same;
+        acts = ap numbered (whole_acts splits before after h legal w most bodies f front behind t at named) ∙ entries_tell_their_lines splits tr.body tr.birth t tried same;
       })
-  last_ended tr front behind t at is tried named _ (laws.empty ending) same = empty ending same (has_none splits tr.body t.tx tr.birth t.answers tried.before t.end tried.behind tried.ends same)
-  last_ended tr front behind t at is tried named _ (laws.by_line ending) same = by_line ending same (lines_done splits tr.body t.tx tr.birth t.answers tried.before t.end tried.behind tried.ends same)
+  last_ended tr front behind t at is tried named _ (laws.empty ending) same = empty ending same (has_none splits tr.body t.tx tr.birth t.acts tried.before t.end tried.behind tried.ends same)
+  last_ended tr front behind t at is tried named _ (laws.by_line ending) same = by_line ending same (lines_done splits tr.body t.tx tr.birth t.acts tried.before t.end tried.behind tried.ends same)
   last_ended tr front behind t at is tried named _ laws.was_asked same = absurd (let d = died tr front behind t at tried Asked same in asked_not d.0 d.1)
   last_ended tr front behind t at is tried named _ (laws.no_try_left e retry none) same =
       let c = was_aborted e retry in

@@ -3,7 +3,7 @@ use Rattle.std.proofs.Common.{◌≡◌, refl, sym, ap, ◌∙◌, subst, ℕ, �
 use Rattle.std.specs.Prelude.{not}
 use Rattle.std.proofs.lemmas.Bool.{both_ways, and_parts}
 use Rattle.clv_base.specs.declared.events.Event.{Event}
-use Rattle.clv_base.specs.declared.events.Event.TheVariants.{Op, Request, Look, Drop, Send, Deliver, Remind, FlushOut, FlushIn, Stop, Restart}
+use Rattle.clv_base.specs.declared.events.Event.TheVariants.{Op, RollTo, Request, Look, Drop, Send, Deliver, Remind, FlushOut, FlushIn, Stop, Restart}
 use Rattle.clv_base.specs.declared.events.Outcome.{Outcome}
 use Rattle.clv_base.specs.declared.events.Outcome.TheVariants.{Durable, Failed}
 use Rattle.clv_base.specs.declared.events.Entry.{Entry}
@@ -31,6 +31,7 @@ use Rattle.law_base.proofs.Bools.{not_true as not_so}
 restarts : (e : Event) → ends_holding e ≡ true → is_restart e ≡ true
 restarts Restart h = refl
 restarts (Op u b nth seen op) h = h
+restarts (RollTo u nth seen upto) h = h
 restarts (Request u ts) h = h
 restarts (Look u) h = h
 restarts (Drop u) h = h
@@ -63,6 +64,7 @@ leads s t FlushOut o b up n r =
     let fine : is_failed o ≡ false = ap is_failed f.outcome in
     record { is_up = f.is_up ∙ ap not (sym fine); flush = sym fine }
 leads s t (Op tx birth nth seen op) o b up n r = calmly s t (Op tx birth nth seen op) o up (does_calm s t (Op tx birth nth seen op) o b.1 refl refl) refl
+leads s t (RollTo tx nth seen upto) o b up n r = calmly s t (RollTo tx nth seen upto) o up (does_calm s t (RollTo tx nth seen upto) o b refl refl) refl
 leads s t (Request tx ts) o b up n r = calmly s t (Request tx ts) o up (does_calm s t (Request tx ts) o b refl refl) refl
 leads s t (Look tx) o b up n r = calmly s t (Look tx) o up (does_calm s t (Look tx) o b refl refl) refl
 leads s t (Drop tx) o b up n r = calmly s t (Drop tx) o up (does_calm s t (Drop tx) o b refl refl) refl

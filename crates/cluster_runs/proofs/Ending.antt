@@ -6,7 +6,7 @@ use Rattle.std.proofs.lemmas.Bool.{and_parts, and_from, ltb-true, ltb-false, eq-
 use Rattle.std.proofs.lemmas.List.{map-append}
 use Rattle.clv_base.specs.declared.logs.LogRecord.{LogRecord}
 use Rattle.clv_base.specs.declared.events.Event.{Event}
-use Rattle.clv_base.specs.declared.events.Event.TheVariants.{Op, Request, Look, Drop, Send, Deliver, Remind, FlushOut, FlushIn, Stop, Restart}
+use Rattle.clv_base.specs.declared.events.Event.TheVariants.{Op, RollTo, Request, Look, Drop, Send, Deliver, Remind, FlushOut, FlushIn, Stop, Restart}
 use Rattle.clv_base.specs.declared.events.Entry.{Entry}
 use Rattle.clv_base.specs.Shards.{shard_count}
 use Rattle.clv_base.specs.LogRules.{log_of}
@@ -88,6 +88,7 @@ none_fetched s n layout (f ∷ fs) before now out story none back = absurd (omeg
 
 same_restart : (e : Event) → ends_holding e ≡ is_restart e
 same_restart (Op tx birth nth seen op) = refl
+same_restart (RollTo tx nth seen upto) = refl
 same_restart (Request tx ts) = refl
 same_restart (Look tx) = refl
 same_restart (Drop tx) = refl

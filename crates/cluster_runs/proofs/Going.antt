@@ -6,7 +6,7 @@ use Rattle.std.proofs.lemmas.Option.{slice_get_cases}
 use Rattle.clv_base.specs.declared.names.TxId.{TxId}
 use Rattle.clv_base.specs.declared.names.Birth.{Birth}
 use Rattle.clv_base.specs.declared.events.Event.{Event}
-use Rattle.clv_base.specs.declared.events.Event.TheVariants.{Op as OpEvent, Request, Look, Drop, Send, Deliver, Remind, FlushOut, FlushIn, Stop, Restart}
+use Rattle.clv_base.specs.declared.events.Event.TheVariants.{Op as OpEvent, RollTo, Request, Look, Drop, Send, Deliver, Remind, FlushOut, FlushIn, Stop, Restart}
 use Rattle.clv_base.specs.declared.events.Outcome.{Outcome}
 use Rattle.clv_base.specs.declared.events.Entry.{Entry}
 use Rattle.clv_base.specs.Sessions.{is_of_session}
@@ -81,6 +81,7 @@ none_some t h = absurd cc
 
 pub of_session : (e : Event) (o : Outcome) (t : TxId) → request_of e o ≡ Some t → is_of_session e ≡ true
 of_session (OpEvent u birth nth seen op) o t h = refl
+of_session (RollTo u nth seen upto) o t h = refl
 of_session (Request u ts) o t h = refl
 of_session (Look u) o t h = refl
 of_session (Drop u) o t h = refl

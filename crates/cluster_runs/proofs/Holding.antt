@@ -3,7 +3,7 @@ use Rattle.std.proofs.Common.{◌≡◌, ◌∙◌, refl, sym, ap, subst, ℕ, �
 use Rattle.std.specs.Prelude.{unwrap_or, IfSome}
 use Rattle.std.proofs.lemmas.Bool.{both_ways, and_parts}
 use Rattle.clv_base.specs.declared.events.Event.{Event}
-use Rattle.clv_base.specs.declared.events.Event.TheVariants.{Op, Request, Look, Drop, Send, Deliver, Remind, FlushOut, FlushIn, Stop, Restart}
+use Rattle.clv_base.specs.declared.events.Event.TheVariants.{Op, RollTo, Request, Look, Drop, Send, Deliver, Remind, FlushOut, FlushIn, Stop, Restart}
 use Rattle.clv_base.specs.declared.events.Outcome.{Outcome}
 use Rattle.clv_base.specs.declared.events.Outcome.TheVariants.{Durable, Failed}
 use Rattle.clv_base.specs.State.{Shard}
@@ -49,6 +49,7 @@ becomes_tells s t Restart o b (up, (kept, epoch, after, r, p, q)) n h down = abs
 becomes_tells s t Stop o b k n h down = absurd (both_ways true n refl)
 becomes_tells s t FlushOut o b k n h down = absurd (both_ways t.is_up down (does_fly s t o k).is_up)
 becomes_tells s t (Op tx birth nth seen op) o b k n h down = calm_tells s t b (does_calm s t (Op tx birth nth seen op) o k.1 refl refl).is_up h down
+becomes_tells s t (RollTo tx nth seen upto) o b k n h down = calm_tells s t b (does_calm s t (RollTo tx nth seen upto) o k refl refl).is_up h down
 becomes_tells s t (Request tx ts) o b k n h down = calm_tells s t b (does_calm s t (Request tx ts) o k refl refl).is_up h down
 becomes_tells s t (Look tx) o b k n h down = calm_tells s t b (does_calm s t (Look tx) o k refl refl).is_up h down
 becomes_tells s t (Drop tx) o b k n h down = calm_tells s t b (does_calm s t (Drop tx) o k refl refl).is_up h down

@@ -8,7 +8,7 @@ use Rattle.clv_base.specs.declared.names.TxId.{TxId}
 use Rattle.clv_base.specs.declared.names.Birth.{Birth}
 use Rattle.clv_base.specs.declared.logs.LogRecord.{LogRecord}
 use Rattle.clv_base.specs.declared.events.Event.{Event}
-use Rattle.clv_base.specs.declared.events.Event.TheVariants.{Op as OpEvent, Request, Look, Drop, Send, Deliver, Remind, FlushOut, FlushIn, Stop, Restart}
+use Rattle.clv_base.specs.declared.events.Event.TheVariants.{Op as OpEvent, RollTo, Request, Look, Drop, Send, Deliver, Remind, FlushOut, FlushIn, Stop, Restart}
 use Rattle.clv_base.specs.declared.events.Outcome.{Outcome}
 use Rattle.clv_base.specs.declared.events.Entry.{Entry}
 use Rattle.clv_base.specs.Logs.{committed_in}
@@ -16,20 +16,22 @@ use Rattle.clv_base.specs.LogRules.{log_of}
 use Rattle.clv_base.specs.Restarts.{run_after}
 use Rattle.clv_base.specs.Sessions.{is_of_session}
 use Rattle.clv_base.specs.Journals.{History, own}
-use Rattle.clv_base.specs.History.{Legal, Member, members, logs_left, acknowledged_in, is_acknowledgement, ops_in, request_of}
+use Rattle.clv_base.specs.History.{Legal, Member, members, logs_left, acknowledged_in, is_acknowledgement, acts_in, request_of}
 use Rattle.history_cases.proofs.Merging.{Among, in_own}
 use Rattle.history_laws.proofs.Laws.{walker_of}
 use Rattle.script_lang.specs.Bodies.{Body}
-use Rattle.script_lang.specs.Following.{all_ops}
+use Rattle.script_lang.specs.Following.{all_acts}
+use Rattle.session_books.specs.Done.{Done}
+use Rattle.script_runs.specs.Acts.{acts_of, answers_in}
 use Rattle.script_runs.specs.declared.ends.StopCause.{StopCause}
 use Rattle.script_runs.specs.Tries.{Try, IsTry}
 use Rattle.script_runs.specs.Sessions.{Transaction, IsNamed, AreTransactions, FollowsScript, all_done, not_begun, stopped, done, tries_of, entries_of, session_entries}
 use Rattle.script_runs.specs.TriesTell.{ArePartsOf}
-use Rattle.script_runs.proofs.Laws.{acknowledged_end_so, entries_tell_their_answers, sessions_tell_their_tries, entries_more as more_entries}
+use Rattle.script_runs.proofs.Laws.{acknowledged_did_their_lines, acknowledged_end_so, entries_tell_their_answers, sessions_tell_their_tries, entries_more as more_entries}
 use Rattle.cluster_runs.specs.Histories.{entries}
 use Rattle.cluster_runs.specs.PromisedSessions.{SessionWent}
 use Rattle.cluster_runs.specs.Members.{IsOfScript, MembersAreOfScript}
-use Rattle.cluster_runs.proofs.Entries.{all_from, session_ops, own_ops}
+use Rattle.cluster_runs.proofs.Entries.{all_from, session_acts, own_acts}
 use Rattle.cluster_runs.proofs.Going.{any_of, in_session, requests_are_told}
 use Rattle.cluster_runs.proofs.Replaying.{IsKnown, known_by}
 
@@ -91,13 +93,13 @@ in_transactions splits run w most tx _ _ _ (done tr bodies trs cause is more) no
 
 -- ---- what a session of a legal history tells
 
--- of a try's transaction the history tells the operations of the try alone
-pub whole_ops :
+-- of a try's transaction the history tells what the try did alone
+pub whole_acts :
     (splits : List ℕ) (before after : List (List LogRecord)) (h : History) → Legal splits before h after → (w : ℕ) (most : Option ℕ) (bodies : List Body) (f : FollowsScript splits (run_after before) w most bodies None (session_entries (own w h)))
-    → (front behind : List Try) (t : Try) → tries_of f.transactions ≡ front ++ t ∷ behind → IsNamed (run_after before) w t → ops_in t.tx h ≡ ops_in t.tx t.entries
-whole_ops splits before after h legal w most bodies f front behind t is named =
-    own_ops w t.tx h (all_from _ h (λ x m of_tx. sym (walker_of splits before after h x t.tx legal m of_tx).1 ∙ named.session_is))
-    ∙ session_ops t.tx (own w h)
+    → (front behind : List Try) (t : Try) → tries_of f.transactions ≡ front ++ t ∷ behind → IsNamed (run_after before) w t → acts_in t.tx h ≡ acts_in t.tx t.entries
+whole_acts splits before after h legal w most bodies f front behind t is named =
+    own_acts w t.tx h (all_from _ h (λ x m of_tx. sym (walker_of splits before after h x t.tx legal m of_tx).1 ∙ named.session_is))
+    ∙ session_acts t.tx (own w h)
     ∙ sessions_tell_their_tries splits (run_after before) w most bodies None (session_entries (own w h)) f front behind t is
 
 -- an acknowledged transaction of the history
@@ -105,8 +107,9 @@ record DidLines (splits : List ℕ) (bodies : List Body) (h : History) (tx : TxI
   number : ℕ
   body : Body
   body_is : slice_get bodies number ≡ Some body
-  answers : _
-  parts : ArePartsOf splits (all_ops body.actions answers) answers (ops_in tx h)
+  acts : List Done
+  all : acts_of acts ≡ all_acts body.actions (answers_in acts)
+  parts : ArePartsOf splits 1 acts (acts_in tx h)
 
 in_walker :
     (splits : List ℕ) (before after : List (List LogRecord)) (h : History) → Legal splits before h after → (w : ℕ) (most : Option ℕ) (bodies : List Body) (tx : TxId) → FollowsScript splits (run_after before) w most bodies None (session_entries (own w h))
@@ -115,21 +118,21 @@ in_walker splits before after h legal w most bodies tx f told =
     let found = in_transactions splits (run_after before) w most tx bodies f.transactions None f.in_order refl (sym (ap (λ es. acknowledged_in es tx) f.entries_are) ∙ told) in
     let try = found.found in
     let so = acknowledged_end_so splits found.body found.birth try.t tx try.tried try.told in
-    let ops : ops_in tx h ≡ ops_in (try.t).tx (try.t).entries = ap (λ u. ops_in u h) so.1 ∙ whole_ops splits before after h legal w most bodies f try.front try.behind try.t try.at try.named in
+    let same : acts_in tx h ≡ acts_in (try.t).tx (try.t).entries = ap (λ u. acts_in u h) so.1 ∙ whole_acts splits before after h legal w most bodies f try.front try.behind try.t try.at try.named in
     record {
       number = found.number;
       body = found.body;
       body_is = found.body_is;
-      answers = (try.t).answers;
-      parts =
-          subst (ArePartsOf splits (all_ops (found.body).actions (try.t).answers) (try.t).answers) (sym ops)
-          (entries_tell_their_answers splits found.body found.birth try.t try.tried so.0);
+      acts = (try.t).acts;
+      all = (acknowledged_did_their_lines splits found.body found.birth try.t try.tried so.0).all;
+      parts = subst (ArePartsOf splits 1 (try.t).acts) (sym same) (entries_tell_their_answers splits found.body found.birth try.t try.tried so.0);
     }
 
 -- ---- where the history tells of it
 
 of_session : (e : Event) (o : Outcome) (t : TxId) → is_acknowledgement t e o ≡ true → is_of_session e ≡ true
 of_session (OpEvent u birth nth seen op) o t h = refl
+of_session (RollTo u nth seen upto) o t h = refl
 of_session (Request u ts) o t h = refl
 of_session (Look u) o t h = refl
 of_session (Drop u) o t h = refl
@@ -148,8 +151,8 @@ some_of test (x ∷ xs) h = ⊎_elim (λ a. (x, inl refl, a)) (λ b. let s = som
 -- ---- members
 
 module _ (logs : List (List LogRecord)) (h : History) (P : Member → Type 0)
-    (made : (t : TxId) (point : _) → acknowledged_in h t ≡ true → P (record { tx = t; point = point; ops = ops_in t h })) where
-  chosen : (t : TxId) (point : _) (c a : Bool) (ms : List Member) → (c ≡ true → a ≡ true) → acknowledged_in h t ≡ a → AllByRecursion P ms → AllByRecursion P (cond (c || a) (record { tx = t; point = point; ops = ops_in t h } ∷ ms) ms)
+    (made : (t : TxId) (point : _) → acknowledged_in h t ≡ true → P (record { tx = t; point = point; acts = acts_in t h })) where
+  chosen : (t : TxId) (point : _) (c a : Bool) (ms : List Member) → (c ≡ true → a ≡ true) → acknowledged_in h t ≡ a → AllByRecursion P ms → AllByRecursion P (cond (c || a) (record { tx = t; point = point; acts = acts_in t h } ∷ ms) ms)
   chosen t point true true ms known is rest = (made t point is, rest)
   chosen t point true false ms known is rest = absurd (both_ways false refl (known refl))
   chosen t point false true ms known is rest = (made t point is, rest)
@@ -158,7 +161,7 @@ module _ (logs : List (List LogRecord)) (h : History) (P : Member → Type 0)
   at : (e : ℕ × Entry) (ms : List Member) (o : Option TxId) → ((t : TxId) → o ≡ Some t → committed_in (log_of logs e.0) t ≡ true → acknowledged_in h t ≡ true) → AllByRecursion P ms
       → AllByRecursion P
       (elim o as (λ z. List Member) [
-        | Some t ↦ cond (committed_in (log_of logs e.0) t || acknowledged_in h t) (record { tx = t; point = record { stamp = (e.1).stamp; shard = e.0 }; ops = ops_in t h } ∷ ms) ms
+        | Some t ↦ cond (committed_in (log_of logs e.0) t || acknowledged_in h t) (record { tx = t; point = record { stamp = (e.1).stamp; shard = e.0 }; acts = acts_in t h } ∷ ms) ms
         | None ↦ ms
       ])
   at e ms None known rest = rest
@@ -179,7 +182,7 @@ members_are_of_script splits before now counts counts_now most script went kept 
     left : List (List LogRecord)
     left = (p.keeps).left
 
-    made : (t : TxId) (point : _) → ((x : ℕ × Entry) × Among x h × (is_acknowledgement t (x.1).event (x.1).outcome ≡ true)) → IsOfScript splits script h (record { tx = t; point = point; ops = ops_in t h })
+    made : (t : TxId) (point : _) → ((x : ℕ × Entry) × Among x h × (is_acknowledgement t (x.1).event (x.1).outcome ≡ true)) → IsOfScript splits script h (record { tx = t; point = point; acts = acts_in t h })
     made t point (x, among, tells) = seek_walker (x.1).walker refl
       where
         Found : ℕ → Type 0
@@ -192,7 +195,7 @@ members_are_of_script splits before now counts counts_now most script went kept 
         nowhere w m none = absurd (subst (Among x) none m)
 
         Wanted : Type 0
-        Wanted = IsOfScript splits script h (record { tx = t; point = point; ops = ops_in t h })
+        Wanted = IsOfScript splits script h (record { tx = t; point = point; acts = acts_in t h })
 
         seek_walker : (w : ℕ) → w ≡ (x.1).walker → Wanted
         seek_walker zero same = nowhere 0 (subst Found (sym same) found) ((p.sessions).others 0 (inl refl))
@@ -203,5 +206,5 @@ members_are_of_script splits before now counts counts_now most script went kept 
                 let d = in_walker splits kept.found left h (((p.keeps).legal).legal) (suc k) most bodies t
                 (subst (λ z. SessionWent splits (run_after kept.found) (suc k) most bodies z (own (suc k) h)) (gone k low) ((p.sessions).each k bodies is))
                 (any_of (λ e. is_acknowledgement t (e.1).event (e.1).outcome) x (session_entries (own (suc k) h)) (subst Found (sym same) found) tells) in
-                record { told = refl; session = k; bodies = bodies; session_is = is; number = d.number; body = d.body; body_is = d.body_is; answers = d.answers; parts = d.parts }
+                record { told = refl; session = k; bodies = bodies; session_is = is; number = d.number; body = d.body; body_is = d.body_is; acts = d.acts; all = d.all; parts = d.parts }
             seek (inr (past, is)) = nowhere (suc k) (subst Found (sym same) found) ((p.sessions).others (suc k) (inr (omega arith)))

@@ -21,6 +21,7 @@ use Rattle.clv_base.proofs.splits.Splits.TheSendSync as splits
 use Rattle.cluster_turns.specs.contracts.shards.Shards as shards
 use Rattle.session_api.specs.contracts.session.Session as session
 use Rattle.session_api.proofs.progress.Progress.TheSendSync as progress
+use Rattle.script_lang.proofs.savepoints.Savepoints.TheSendSync as saves
 use Rattle.session_api.specs.contracts.script_session.ScriptSession as script
 
 pub origin_send : IsSend Origin.the_field.row
@@ -60,13 +61,13 @@ session_send l M P R S G a b c m p r =
     let sh = shards_sync M S G a b c m in
     let w = walker_send M S G m in
     let W = session.the_type l M P R S G a b c in
-    struct_send (shape W) (search sendable, (search (shards_row_sync, sendable), (search sendable, (w, (progress.the_field_send, tt)))))
+    struct_send (shape W) (search sendable, (search (shards_row_sync, sendable), (search sendable, (w, (progress.the_field_send, (search (sendable, crosses) depth 20, tt))))))
 
 pub session_row_send : (l : NamedLft) (M P R S G : RattleType) (a : _) (b : _) (c : _) → IsSend M → IsSync P → IsSync R → IsSend (session.the_row l M P R S G a b c)
 session_row_send l M P R S G a b c m p r = let W = session.the_type l M P R S G a b c in recorded_send (Struct (shape W)) W.D W.to W.to_one (session_send l M P R S G a b c m p r)
 
 pub script_send : (l : NamedLft) (M P R S G : RattleType) (a : _) (b : _) (c : _) → IsSend M → IsSync P → IsSync R → IsSend (script.the_field l M P R S G a b c).row
-script_send l M P R S G a b c m p r = struct_send (shape (script.the_type l M P R S G a b c)) (session_send l M P R S G a b c m p r, (search (sendable, crosses) depth 20, tt))
+script_send l M P R S G a b c m p r = struct_send (shape (script.the_type l M P R S G a b c)) (session_send l M P R S G a b c m p r, (search (sendable, crosses) depth 20, (saves.the_send, (search (sendable, crosses) depth 20, tt))))
 
 pub script_row_send : (l : NamedLft) (M P R S G : RattleType) (a : _) (b : _) (c : _) → IsSend M → IsSync P → IsSync R → IsSend (script.the_row l M P R S G a b c)
 script_row_send l M P R S G a b c m p r = let W = script.the_type l M P R S G a b c in recorded_send (Struct (shape W)) W.D W.to W.to_one (script_send l M P R S G a b c m p r)

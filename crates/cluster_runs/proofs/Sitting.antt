@@ -6,6 +6,7 @@ use Rattle.cluster_turns.specs.declared.shards.Shards.{Shards}
 use Rattle.cluster_turns.specs.declared.shards.Walker.{Walker}
 use Rattle.script_lang.specs.Bodies.{Body}
 use Rattle.script_lang.specs.Laws.{is_narrow_body}
+use Rattle.script_lang.specs.Savepoints.{Savepoints}
 use Rattle.script_runs.specs.Ran.{stop_in, FollowsFrom}
 use Rattle.command_line.specs.Running.{End}
 use Rattle.session_api.specs.declared.progress.Progress.{Progress}
@@ -26,8 +27,8 @@ use Rattle.cluster_runs.specs.Sessions.{IsSeated, HasSat, base_from}
 use Rattle.law_base.proofs.Bools.{and_first, and_second}
 
 module _ {M S G : Type 0} where
-  pub sat : (sh old new : Shards M S G) (clock base : ℕ) (w v : Walker M S G) (a b : Point) (s t : Progress) (bodies : List Body) (most : Option ℕ) (script : List (List Body)) (k : ℕ) (end : End)
-      → IsSeated sh clock script k old w s bodies → Holds new v t → new ≡ old → FollowsFrom base (HasMissed v) bodies most (stop_in end) (seen_in old w a s) (seen_in new v b t) → IfErr end (Grounds v) → HasSat sh clock base most script k v end
+  pub sat : {saves : List ℕ} {marks : Savepoints} (sh old new : Shards M S G) (clock base : ℕ) (w v : Walker M S G) (a b : Point) (s t : Progress) (bodies : List Body) (most : Option ℕ) (script : List (List Body)) (k : ℕ) (end : End)
+      → IsSeated sh clock script k old w s saves marks bodies → Holds new v t → new ≡ old → FollowsFrom base (HasMissed v) bodies most (stop_in end) (seen_in old w a s) (seen_in new v b t) → IfErr end (Grounds v) → HasSat sh clock base most script k v end
   sat sh old new clock base w v a b s t bodies most script k end seat holds stays follows grounds =
       let is : new ≡ sh = stays ∙ seat.on in
       let f = subst (λ z. FollowsFrom base (HasMissed v) bodies most (stop_in end) (seen_in sh w a s) (seen_in z v b t)) is (subst (λ z. FollowsFrom base (HasMissed v) bodies most (stop_in end) (seen_in z w a s) (seen_in new v b t)) seat.on follows) in
@@ -52,11 +53,11 @@ module _ {M S G : Type 0} where
       }
 
   -- a new session has made nothing, and its book is blank
-  pub new_kept : (sh old : Shards M S G) (clock : ℕ) (w : Walker M S G) (a : Point) (s : Progress) (bodies : List Body) (script : List (List Body)) (k : ℕ) (book : Book) → IsSeated sh clock script k old w s bodies → IsBlank book → IsKept (seen_in old w a s) book
+  pub new_kept : {saves : List ℕ} {marks : Savepoints} (sh old : Shards M S G) (clock : ℕ) (w : Walker M S G) (a : Point) (s : Progress) (bodies : List Body) (script : List (List Body)) (k : ℕ) (book : Book) → IsSeated sh clock script k old w s saves marks bodies → IsBlank book → IsKept (seen_in old w a s) book
   new_kept sh old clock w a s bodies script k book seat blank =
       let none : session_entries (kept w.passes.items) ≡ [] = ap session_entries (new_walkers_keep_none M S G sh (suc k) clock w seat.new) in
       record {
-        splits_are = ap (λ z. are_splits z.splits) seat.on ∙ (seat.holds).splits;
+        splits_are = ap (λ z. are_splits z.splits) seat.on ∙ (seat.holds).holds.splits;
         is_book = record { rows = blank.rows ∙ ap rows (sym none); counts = blank.counts ∙ ap (λ es. counts_in es es) (sym none) };
         up_to = subst (AreUpTo w.serial w.clock) (sym none) tt;
         few = subst (λ c. total c ≤ w.clock) (sym blank.counts) (omega arith);

@@ -26,7 +26,7 @@ use Rattle.law_base.proofs.Restarts.{left_length as length_left}
 use Rattle.history_cases.proofs.Merging.{Among, in_own}
 use Rattle.history_laws.proofs.Laws.{left_at}
 use Rattle.history_replay.specs.Entries.{Kept}
-use Rattle.history_replay.specs.Replayed.{acknowledged_ops, operations_at, replayed}
+use Rattle.history_replay.specs.Replayed.{acknowledged_acts, acts_at, replayed}
 use Rattle.io_model.specs.Story.{Story}
 use Rattle.journal_laws.specs.Gathered.{MakesHistory}
 use Rattle.headline_laws.specs.Shares.{in_turn}
@@ -88,9 +88,9 @@ no_request e o of = at (request_of e o) refl
     at None is = is
     at (Some t) is = absurd (both_ways (is_of_session e) of (of_session e o t is))
 
-no_operations : (h es : History) → ((x : ℕ × Entry) → Among x es → is_of_session (x.1).event ≡ false) → acknowledged_ops h es ≡ []
-no_operations h [] none = refl
-no_operations h (e ∷ es) none = ap₂ (λ o ops. operations_at h o ++ ops) (no_request (e.1).event (e.1).outcome (none e (inl refl))) (no_operations h es (λ x m. none x (inr m)))
+no_acts : (h es : History) → ((x : ℕ × Entry) → Among x es → is_of_session (x.1).event ≡ false) → acknowledged_acts h es ≡ []
+no_acts h [] none = refl
+no_acts h (e ∷ es) none = ap₂ (λ o acts. acts_at h o ++ acts) (no_request (e.1).event (e.1).outcome (none e (inl refl))) (no_acts h es (λ x m. none x (inr m)))
 
 -- where there is no session, no walker makes such an entry
 none_at : (h : History) → ((w : ℕ) → (w ≡ 0) ⊎ (0 < w) → session_entries (own w h) ≡ []) → (w : ℕ) → session_entries (own w h) ≡ []
@@ -99,7 +99,7 @@ none_at h others (suc w) = others (suc w) (inr (omega arith))
 
 pub nothing_is_replayed : NothingIsReplayed
 nothing_is_replayed splits before now counts counts_now most went kept p =
-    ap (replay_map (stands kept.found)) (no_operations (entries kept) (entries kept) (never kept (none_at (entries kept) (p.sessions).others)))
+    ap (replay_map (stands kept.found)) (no_acts (entries kept) (entries kept) (never kept (none_at (entries kept) (p.sessions).others)))
 
 -- ---- a quiet shard
 

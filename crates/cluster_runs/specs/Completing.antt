@@ -6,12 +6,13 @@ use Rattle.clv_base.specs.declared.causes.AbortCause.TheVariants.{Died}
 use Rattle.clv_base.specs.FileRules.{may_open}
 use Rattle.clv_base.specs.Shards.{shard_count}
 use Rattle.clv_base.specs.Journals.{History, own}
-use Rattle.clv_base.specs.History.{acknowledged_in, ops_in}
+use Rattle.clv_base.specs.History.{acknowledged_in, acts_in}
 use Rattle.io_model.specs.Story.{Story}
 use Rattle.history_replay.specs.Entries.{Kept}
 use Rattle.script_lang.specs.declared.actions.Ending.TheVariants as line
 use Rattle.script_lang.specs.Bodies.{Body}
-use Rattle.script_lang.specs.Following.{all_ops, next_op}
+use Rattle.script_lang.specs.Following.{all_acts}
+use Rattle.script_runs.specs.Acts.{answers_in, next_of, numbered}
 use Rattle.script_runs.specs.declared.ends.TryEnd.TheVariants as end
 use Rattle.script_runs.specs.TriesLaws.{all_parts}
 use Rattle.script_runs.specs.Tries.{Try}
@@ -21,19 +22,19 @@ use Rattle.cluster_runs.specs.Histories.{entries}
 use Rattle.cluster_runs.specs.PromisedSessions.{Went, Begun}
 use Rattle.cluster_runs.specs.Promises.{RunPromised}
 
--- the history tells of the acknowledgement, and of the transaction's operations: those of its lines, under these answers, on each shard that they meet
+-- the history tells of the acknowledgement, and of what the transaction did: what its lines ask for, under these answers, on each shard that it meets
 pub record IsAcknowledged (splits : List ℕ) (h : History) (body : Body) (t : Try) : Type 0 where
   pub told : acknowledged_in h t.tx ≡ true
-  pub operations : map (λ p. p.0) (ops_in t.tx h) ≡ all_parts splits (all_ops body.actions t.answers)
+  pub acts : numbered (acts_in t.tx h) ≡ all_parts splits 1 (all_acts body.actions (answers_in t.acts))
 
 -- how a transaction of this many tries ended, by its last one
 pub data HasEnded (splits : List ℕ) (h : History) (most : Option ℕ) (body : Body) (count : ℕ) (last : Try) : Type 0 where
   -- its line `commit` was done
   acknowledged : body.ending ≡ line.Commit → last.end ≡ end.Acknowledged → IsAcknowledged splits h body last → HasEnded splits h most body count last
   -- it had nothing to commit
-  empty : body.ending ≡ line.Commit → last.end ≡ end.Empty → next_op body.actions [] ≡ None → HasEnded splits h most body count last
-  -- its line `abort` was done, after all operations
-  by_line : body.ending ≡ line.Abort → last.end ≡ end.Asked → next_op body.actions last.answers ≡ None → HasEnded splits h most body count last
+  empty : body.ending ≡ line.Commit → last.end ≡ end.Empty → next_of body.actions [] ≡ None → HasEnded splits h most body count last
+  -- its line `abort` was done, after all that stands before it
+  by_line : body.ending ≡ line.Abort → last.end ≡ end.Asked → next_of body.actions last.acts ≡ None → HasEnded splits h most body count last
   -- as many tries as are wanted were aborted, the last of which died: an older transaction was in its way
   given_up : (older : TxId) → last.end ≡ end.Aborted (Died older) → most ≡ Some count → HasEnded splits h most body count last
 

@@ -1,5 +1,6 @@
 -- What the shards' disks hold when a run ends, where they tell it.
-use Rattle.std.specs.Prelude.{◌≡◌, ◌⊎◌, ℕ, ◌<◌, Bool, true, false, List, [], ◌∷◌, Option, None, IfSome}
+use Rattle.std.specs.Prelude.{◌≡◌, ◌⊎◌, ℕ, ◌<◌, Bool, true, false, not, List, [], ◌∷◌, Option, None, IfSome}
+use Rattle.clv_base.specs.declared.names.TxId.{TxId}
 use Rattle.clv_base.specs.declared.logs.LogRecord.{LogRecord}
 use Rattle.clv_base.specs.declared.logs.LogRecord.TheVariants.{Update, Clr, Prepare, Commit, Abort, End, Restart, Add, Unadd}
 use Rattle.clv_base.specs.declared.events.Event.{Event}
@@ -53,14 +54,14 @@ UntoldAreDurable splits found h left now =
 
 -- ---- a run that was refused
 
--- what an opening that is not completed may have added to a log
-abbrev pub is_undo : LogRecord → Bool
-is_undo (Abort tx) = true
-is_undo (Clr tx undo_next key after) = true
-is_undo (Unadd tx undo_next key by) = true
-is_undo (Restart run epoch) = true
-is_undo (Update tx key before after) = false
-is_undo (Prepare tx home predecessors) = false
-is_undo (Commit tx parts) = false
-is_undo (End tx) = false
-is_undo (Add tx key by) = false
+-- what an opening that is not completed may have added to a log: it takes back no write of one that passes
+abbrev pub is_undo : (TxId → Bool) → LogRecord → Bool
+is_undo keep (Abort tx) = true
+is_undo keep (Clr tx undo_next key after) = not (keep tx)
+is_undo keep (Unadd tx undo_next key by) = not (keep tx)
+is_undo keep (Restart run epoch) = true
+is_undo keep (Update tx key before after) = false
+is_undo keep (Prepare tx home predecessors) = false
+is_undo keep (Commit tx parts) = false
+is_undo keep (End tx) = false
+is_undo keep (Add tx key by) = false

@@ -1,31 +1,33 @@
 -- The members of a run whose sessions went through are transactions of its script.
 use Rattle.std.specs.Prelude.{◌≡◌, ℕ, true, Bool, List, Option, Some, slice_get}
 use Rattle.std.specs.List.{AllByRecursion}
-use Rattle.clv_base.specs.declared.ops.Answer.{Answer}
 use Rattle.clv_base.specs.FileRules.{may_open}
 use Rattle.clv_base.specs.Journals.{History}
-use Rattle.clv_base.specs.History.{Member, ops_in}
+use Rattle.clv_base.specs.History.{Member, acts_in}
 use Rattle.io_model.specs.Story.{Story}
 use Rattle.history_replay.specs.Entries.{Kept}
 use Rattle.script_lang.specs.Bodies.{Body}
-use Rattle.script_lang.specs.Following.{all_ops}
+use Rattle.script_lang.specs.Following.{all_acts}
+use Rattle.session_books.specs.Done.{Done}
+use Rattle.script_runs.specs.Acts.{acts_of, answers_in}
 use Rattle.script_runs.specs.TriesTell.{ArePartsOf}
 use Rattle.cluster_runs.specs.Histories.{entries, members_by}
 use Rattle.cluster_runs.specs.PromisedSessions.{Went}
 use Rattle.cluster_runs.specs.Promises.{RunPromised}
 use Rattle.cluster_runs.specs.Replays.{HaveGone}
 
--- its operations are those that the history tells of it: those of the lines of one of a session's transactions, under the answers that it was told
+-- its acts are those that the history tells of it: what the lines of one of a session's transactions ask for, under the answers that it was told
 pub record IsOfScript (splits : List ℕ) (script : List (List Body)) (h : History) (m : Member) : Type 0 where
-  pub told : m.ops ≡ ops_in m.tx h
+  pub told : m.acts ≡ acts_in m.tx h
   pub session : ℕ
   pub bodies : List Body
   pub session_is : slice_get script session ≡ Some bodies
   pub number : ℕ
   pub body : Body
   pub body_is : slice_get bodies number ≡ Some body
-  pub answers : List Answer
-  pub parts : ArePartsOf splits (all_ops body.actions answers) answers m.ops
+  pub acts : List Done
+  pub all : acts_of acts ≡ all_acts body.actions (answers_in acts)
+  pub parts : ArePartsOf splits 1 acts m.acts
 
 -- each member is so, whatever a crash keeps of what is in flight
 abbrev pub MembersAreOfScript : Type 0

@@ -6,11 +6,11 @@ use Rattle.clv_base.specs.declared.events.Entry.{Entry}
 use Rattle.clv_base.specs.Logs.{stands}
 use Rattle.clv_base.specs.FileRules.{may_open}
 use Rattle.clv_base.specs.Journals.{History}
-use Rattle.clv_base.specs.History.{IsAmong, acknowledged_in, request_of, serial_ops}
+use Rattle.clv_base.specs.History.{IsAmong, acknowledged_in, request_of, serial_acts}
 use Rattle.history_laws.specs.Outcomes.{aborted_in_history}
 use Rattle.io_model.specs.Story.{Story}
 use Rattle.history_replay.specs.Entries.{Kept}
-use Rattle.history_replay.specs.Replayed.{acknowledged_ops, replayed}
+use Rattle.history_replay.specs.Replayed.{acknowledged_acts, replayed}
 use Rattle.cluster_runs.specs.Histories.{entries, crash_logs, members_by}
 use Rattle.script_lang.specs.Bodies.{Body}
 use Rattle.cluster_runs.specs.Promises.{RunPromised}
@@ -40,12 +40,12 @@ RunsReplay =
     → may_open splits kept.found ≡ true → (p : RunPromised splits before now counts counts_now most script went kept) → HaveGone script went
     → LeavesReplayed splits kept (p.keeps).left
 
--- and the members are the acknowledged transactions, with their operations
+-- and the members are the acknowledged transactions, with what they did
 abbrev pub MembersAreAcknowledged : Type 0
 MembersAreAcknowledged =
     (splits : List ℕ) (before now : ℕ → Option Story) (counts counts_now : ℕ → ℕ) (most : Option ℕ) (script : List (List Body)) (went : ℕ → Went) (kept : Kept) (choice : ℕ → Bool)
     → may_open splits kept.found ≡ true → (p : RunPromised splits before now counts counts_now most script went kept) → HaveGone script went
-    → serial_ops (members_by splits kept (p.keeps).left choice) ≡ acknowledged_ops (entries kept) (entries kept)
+    → serial_acts (members_by splits kept (p.keeps).left choice) ≡ acknowledged_acts (entries kept) (entries kept)
 
 -- where there was no session, the map after the acknowledged transactions is what the logs found stand for
 abbrev pub NothingIsReplayed : Type 0

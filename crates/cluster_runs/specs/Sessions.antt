@@ -7,13 +7,14 @@ use Rattle.cluster_turns.specs.Walkers.{kept}
 use Rattle.cluster_turns.specs.Dates.{last_seen}
 use Rattle.cluster_opening.specs.Made.{IsNewWalker}
 use Rattle.script_lang.specs.Bodies.{Body}
+use Rattle.script_lang.specs.Savepoints.{Savepoints}
 use Rattle.script_runs.specs.declared.ends.StopCause.TheVariants.{Worn}
 use Rattle.script_runs.specs.Ran.{stop_in}
 use Rattle.script_runs.specs.Sessions.{session_entries}
 use Rattle.command_line.specs.Running.{End, IsOk}
 use Rattle.session_api.specs.declared.progress.Progress.{Progress}
 use Rattle.session_api.specs.declared.progress.Progress.TheVariants.{Idle}
-use Rattle.session_api.specs.Standing.{Holds, IsAtRest}
+use Rattle.session_api.specs.Standing.{HoldsSaves, IsAtRest}
 use Rattle.session_api.specs.Grounds.{Grounds}
 use Rattle.cluster_runs.specs.PromisedSessions.{Went, NotBegun, Begun, SessionWent}
 
@@ -32,11 +33,11 @@ base_from clock base (suc k) = max clock base
 
 module _ {M S G : Type 0} where
   -- a seat of session k, before it has begun, whose walker has this clock
-  pub record IsSeated (sh : Shards M S G) (clock : ℕ) (script : List (List Body)) (k : ℕ) (shards : Shards M S G) (w : Walker M S G) (s : Progress) (transactions : List Body) : Type 0 where
+  pub record IsSeated (sh : Shards M S G) (clock : ℕ) (script : List (List Body)) (k : ℕ) (shards : Shards M S G) (w : Walker M S G) (s : Progress) (saves : List ℕ) (marks : Savepoints) (transactions : List Body) : Type 0 where
     pub on : shards ≡ sh
     pub new : IsNewWalker sh (suc k) clock w
     pub none_begun : s ≡ Idle
-    pub holds : Holds sh w s
+    pub holds : HoldsSaves sh w s saves marks
     pub bodies : (bodies : List Body) → slice_get script k ≡ Some bodies → transactions ≡ bodies
 
   -- ---- stamps that come to their end

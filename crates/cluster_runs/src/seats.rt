@@ -47,7 +47,7 @@ pub(crate) fn take_seats<'a, M: Flier, P: Pace, R: Wait>(
     requires room { (vec_len seats ≡ 0) × (length plan.sessions.now ≤ vec_capacity seats) }
     ensures len { (vec_len walkers.new ≡ 1) × (vec_capacity walkers.new ≡ vec_capacity walkers.old) × (vec_len result ≡ length plan.entry.sessions.now) }
     ensures first { (d : _) → slice_index_or walkers.new.items 0 d ≡ slice_index_or walkers.old.items 0 d }
-    ensures seated { (k : ℕ) (d : _) → k < length plan.entry.sessions.now → IsSeated shards.now clock plan.entry.sessions.now k (slice_index_or result.items k d).session.session.shards.now (slice_index_or result.items k d).session.session.walker (slice_index_or result.items k d).session.session.progress (slice_index_or result.items k d).transactions.now }
+    ensures seated { (k : ℕ) (d : _) → k < length plan.entry.sessions.now → IsSeated shards.now clock plan.entry.sessions.now k (slice_index_or result.items k d).session.session.shards.now (slice_index_or result.items k d).session.session.walker (slice_index_or result.items k d).session.session.progress (slice_index_or result.items k d).session.session.saves.items (slice_index_or result.items k d).session.saves (slice_index_or result.items k d).transactions.now }
     ensures blank { (k : ℕ) (d : _) → k < length plan.entry.sessions.now → IsBlank (slice_index_or result.items k d).book }
     ensures keeps { (k : ℕ) (d : _) → k < length plan.entry.sessions.now → (slice_index_or result.items k d).book.keeps ≡ plan.entry.keeps_rows }
 {
@@ -59,7 +59,7 @@ pub(crate) fn take_seats<'a, M: Flier, P: Pace, R: Wait>(
         walker.clock = clock;
         let book = blank_book(alloc, plan.keeps_rows);
         seats.push_reserved(Seat {
-            session: ScriptSession::new(rt, shards, pace, walker),
+            session: ScriptSession::new(rt, alloc, shards, pace, walker),
             transactions: sessions[place].transactions(),
             ended: Ok(()),
             book,

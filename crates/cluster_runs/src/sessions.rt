@@ -42,7 +42,7 @@ where
     M::Gate: Send,
     requires count { vec_len seats.old ≡ length plan.sessions.now }
     requires narrow { list_all (list_all is_narrow_body) plan.sessions.now ≡ true }
-    requires seated { (k : ℕ) (d : _) → k < length plan.sessions.now → IsSeated shards.now clock plan.sessions.now k (slice_index_or seats.old.items k d).session.session.shards.now (slice_index_or seats.old.items k d).session.session.walker (slice_index_or seats.old.items k d).session.session.progress (slice_index_or seats.old.items k d).transactions.now }
+    requires seated { (k : ℕ) (d : _) → k < length plan.sessions.now → IsSeated shards.now clock plan.sessions.now k (slice_index_or seats.old.items k d).session.session.shards.now (slice_index_or seats.old.items k d).session.session.walker (slice_index_or seats.old.items k d).session.session.progress (slice_index_or seats.old.items k d).session.session.saves.items (slice_index_or seats.old.items k d).session.saves (slice_index_or seats.old.items k d).transactions.now }
     requires blank { (k : ℕ) (d : _) → k < length plan.sessions.now → IsBlank (slice_index_or seats.old.items k d).book }
     requires keeps { (k : ℕ) (d : _) → k < length plan.sessions.now → (slice_index_or seats.old.items k d).book.keeps ≡ plan.keeps_rows }
     ensures len { vec_len seats.new ≡ vec_len seats.old }

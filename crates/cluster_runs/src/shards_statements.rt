@@ -15,9 +15,9 @@ pub fn runs_are_promised()
     ensures { RunsArePromised }
 {}
 
-/// Each transaction of a session that went through, behind a drain that settled each shard, has ended: it is acknowledged with the operations
-/// of its lines, it had nothing to commit, its line `abort` was done after all operations, or as many tries as are wanted were aborted, the
-/// last of which died.
+/// Each transaction of a session that went through, behind a drain that settled each shard, has ended: it is acknowledged with what its lines
+/// ask for, it had nothing to commit, its line `abort` was done after all that stands before it, or as many tries as are wanted were aborted,
+/// the last of which died.
 pub fn sessions_have_ended()
     ensures { SessionsHaveEnded }
 {}

@@ -1,24 +1,36 @@
 -- The transactions of a workload, and what a history tells of one that did its lines.
-use Rattle.std.proofs.Common.{◌≡◌, refl, sym, ap, ap₂, subst, ◌∙◌, ◌⊎◌, inl, inr, ℕ, zero, suc, ◌+◌, ◌^◌, ◌==◌, nat_le, nat_lt, ◌&&◌, Bool, true, false, cond, List, [], ◌∷◌, ◌++◌, drop, map, Option, Some, None, slice_get}
-use Rattle.std.specs.List.{AllByRecursion}
+use Rattle.std.proofs.Common.{◌≡◌, refl, sym, ap, ap₂, subst, ◌∙◌, ℕ, zero, suc, ◌==◌, Bool, true, false, cond, List, [], ◌∷◌, ◌++◌, drop, map, append_assoc, Option, Some, None, slice_get}
+use Rattle.std.specs.List.{AllByRecursion, list_all}
 use Rattle.std.proofs.lemmas.List.{map-append}
 use Rattle.clv_base.specs.declared.values.Value.{Value as ValueType}
 use Rattle.clv_base.specs.declared.values.Value.TheVariants.{Num, Bytes}
 use Rattle.clv_base.specs.declared.ops.Op.{Op}
 use Rattle.clv_base.specs.declared.ops.Op.TheVariants.{Get, Put, Del, Scan, Add}
 use Rattle.clv_base.specs.declared.ops.Answer.{Answer}
-use Rattle.clv_base.specs.Shards.{shard_of}
+use Rattle.clv_base.specs.declared.names.TxId.{TxId}
+use Rattle.clv_base.specs.declared.events.Event.{Event}
+use Rattle.clv_base.specs.declared.events.Event.TheVariants.{Op as OpEvent, RollTo}
+use Rattle.clv_base.specs.declared.events.Outcome.{Outcome}
+use Rattle.clv_base.specs.declared.events.Outcome.TheVariants.{Answered, Rolled}
+use Rattle.clv_base.specs.Orders.{tx_same}
+use Rattle.clv_base.specs.Maps.{Act, Operates, GoesBack}
+use Rattle.clv_base.specs.Backs.{answers_by}
+use Rattle.clv_base.specs.Journals.{History}
+use Rattle.clv_base.specs.History.{DoneAct, act_of, is_with_next, put_act, acts_in, answers_given}
 use Rattle.law_base.proofs.Lists.{all_append}
 use Rattle.script_lang.specs.declared.actions.Action.{Action}
-use Rattle.script_lang.specs.declared.actions.Action.TheVariants.{Do, Move}
+use Rattle.script_lang.specs.declared.actions.Action.TheVariants.{Move}
 use Rattle.script_lang.specs.declared.actions.Ending.TheVariants.{Commit}
 use Rattle.script_lang.specs.Bodies.{Body}
 use Rattle.script_lang.specs.Grammar.{body}
-use Rattle.script_lang.specs.Following.{puts, first_value, action_ops, all_ops}
+use Rattle.script_lang.specs.Following.{puts, first_value, action_ops, all_acts}
+use Rattle.script_lang.proofs.Laws.{all_ops, is_plain, plain_acts}
 use Rattle.script_lang.specs.Loads.{fill, transfer, transfers, session, first_state, next_state, after_filling, sessions_from, load}
-use Rattle.script_runs.specs.Operations.{parts_of, answer_of}
+use Rattle.session_books.specs.Done.{Done, Did, WentBack}
+use Rattle.script_runs.specs.Operations.{parts_of, first_answer, answer_of}
+use Rattle.script_runs.specs.Acts.{acts_of, answers_in, numbered, numbered_parts}
 use Rattle.script_runs.specs.TriesLaws.{all_parts}
-use Rattle.script_runs.specs.TriesTell.{ArePartsOf, no_operation, operation}
+use Rattle.script_runs.specs.TriesTell.{ArePartsOf, no_act, operation, going_back}
 
 -- ---- the lines of a workload
 
@@ -81,55 +93,140 @@ pub lines_of_keys : (accounts : ℕ) (lines : List Action) (answers : List Answe
 lines_of_keys accounts lines answers (fills is) = subst (λ l. AllByRecursion IsOfKey (all_ops l answers)) (sym is) (fill_of_keys 0 accounts answers)
 lines_of_keys accounts lines answers (transfers_by x is) = subst (λ l. AllByRecursion IsOfKey (all_ops l answers)) (sym is) (move_of_keys _ _ _ answers)
 
--- so it has one part, with its answer
-record IsOne (op : Op) (answer : Answer) (here : List (Op × Answer)) : Type 0 where
-  ops : map (λ p. p.0) here ≡ op ∷ []
-  answers : map (λ p. p.1) here ≡ answer ∷ []
+-- and no line keeps a savepoint
+fill_is_plain : (k n : ℕ) → list_all is_plain (fill k n) ≡ true
+fill_is_plain k zero = refl
+fill_is_plain k (suc n) = fill_is_plain (suc k) n
 
-same_head : {A : Type 0} (x y : A) (xs ys : List A) → x ∷ xs ≡ y ∷ ys → x ≡ y
-same_head x y xs ys h = cc
+pub lines_are_plain : (accounts : ℕ) (lines : List Action) → IsLine accounts lines → list_all is_plain lines ≡ true
+lines_are_plain accounts lines (fills is) = ap (list_all is_plain) is ∙ fill_is_plain 0 accounts
+lines_are_plain accounts lines (transfers_by x is) = ap (list_all is_plain) is
 
-one_part : (splits : List ℕ) (op : Op) (answer : Answer) (here : List (Op × Answer)) → IsOfKey op → map (λ p. p.0) here ≡ map (λ p. p.1) (parts_of splits op) → answer ≡ answer_of op (map (λ p. p.1) here) → IsOne op answer here
-one_part splits (Scan lo hi) answer here key ops is = absurd key
-one_part splits (Get k) answer [] key ops is = absurd cc
-one_part splits (Get k) answer (p ∷ []) key ops is = record { ops = ops; answers = ap (λ a. a ∷ []) (sym is) }
-one_part splits (Get k) answer (p ∷ q ∷ ps) key ops is = absurd cc
-one_part splits (Put k v) answer [] key ops is = absurd cc
-one_part splits (Put k v) answer (p ∷ []) key ops is = record { ops = ops; answers = ap (λ a. a ∷ []) (sym is) }
-one_part splits (Put k v) answer (p ∷ q ∷ ps) key ops is = absurd cc
-one_part splits (Del k) answer [] key ops is = absurd cc
-one_part splits (Del k) answer (p ∷ []) key ops is = record { ops = ops; answers = ap (λ a. a ∷ []) (sym is) }
-one_part splits (Del k) answer (p ∷ q ∷ ps) key ops is = absurd cc
-one_part splits (Add k by) answer [] key ops is = absurd cc
-one_part splits (Add k by) answer (p ∷ []) key ops is = record { ops = ops; answers = ap (λ a. a ∷ []) (sym is) }
-one_part splits (Add k by) answer (p ∷ q ∷ ps) key ops is = absurd cc
+-- ---- so each act of it has one part, with its answer
 
-pub record AreWhole (ops : List Op) (answers : List Answer) (told : List (Op × Answer)) : Type 0 where
-  pub ops_are : map (λ p. p.0) told ≡ ops
-  pub answers_are : map (λ p. p.1) told ≡ answers
+abbrev IsKeyed : Done → Type 0
+IsKeyed (Did op a) = IsOfKey op
+IsKeyed (WentBack upto) = ⊥
 
-pub parts_whole : (splits : List ℕ) (ops : List Op) (answers : List Answer) (told : List (Op × Answer)) → ArePartsOf splits ops answers told → AllByRecursion IsOfKey ops → AreWhole ops answers told
-parts_whole splits _ _ _ no_operation keys = record { ops_are = refl; answers_are = refl }
-parts_whole splits _ _ _ (operation op answer ops answers here behind all is same whole more) keys =
-    let one = one_part splits op answer here keys.0 same whole in
-    let rest = parts_whole splits ops answers behind more keys.1 in
+keyed : (ds : List Done) (ops : List Op) → acts_of ds ≡ map Operates ops → AllByRecursion IsOfKey ops → AllByRecursion IsKeyed ds
+keyed [] ops is keys = tt
+keyed (Did op a ∷ ds) [] is keys = absurd cc
+keyed (Did op a ∷ ds) (o ∷ os) is keys =
+    let same : op ≡ o = cc in
+    let rest : acts_of ds ≡ map Operates os = cc in
+    (subst IsOfKey (sym same) keys.0, keyed ds os rest keys.1)
+keyed (WentBack upto ∷ ds) [] is keys = absurd cc
+keyed (WentBack upto ∷ ds) (o ∷ os) is keys = absurd cc
+
+-- an operation that a history tells of has its answer
+abbrev IsFull : DoneAct → Type 0
+IsFull p = (op : Op) → p.1 ≡ Operates op → (answer : Answer) × (p.2 ≡ Some answer)
+
+own_act : (b : Bool) (p q : DoneAct) → cond b (Some p) None ≡ Some q → q ≡ p
+own_act true p q h = let e : q ≡ p = cc in e
+own_act false p q h = absurd cc
+
+act_full : (t : TxId) (ev : Event) (o : Outcome) (q : DoneAct) → act_of t ev o ≡ Some q → IsFull q
+act_full t (OpEvent tx birth nth seen op) (Answered answer epoch) q h of_op is = (answer, ap (λ p. p.2) (own_act (tx_same t tx) (nth, Operates op, Some answer) q h))
+act_full t (OpEvent tx birth nth seen op) _ q h of_op is = absurd cc
+act_full t (RollTo tx nth seen upto) Rolled q h of_op is = absurd (let e : GoesBack upto ≡ Operates of_op = sym (ap (λ p. p.1) (own_act (tx_same t tx) (nth, GoesBack upto, None) q h)) ∙ is in cc)
+act_full t (RollTo tx nth seen upto) _ q h of_op is = absurd cc
+act_full t _ o q h of_op is = absurd cc
+
+put_full : (p : DoneAct) (ps : List DoneAct) → IsFull p → AllByRecursion IsFull ps → AllByRecursion IsFull (put_act p ps)
+put_full p ps one all = at (is_with_next p ps)
+  where
+    at : (b : Bool) → AllByRecursion IsFull (cond b ps (p ∷ ps))
+    at true = all
+    at false = (one, all)
+
+told_full : (o : Option DoneAct) (ps : List DoneAct) → ((q : DoneAct) → o ≡ Some q → IsFull q) → AllByRecursion IsFull ps → AllByRecursion IsFull (elim o as (λ z. List DoneAct) [ Some p ↦ put_act p ps | None ↦ ps ])
+told_full None ps one all = all
+told_full (Some p) ps one all = put_full p ps (one p refl) all
+
+pub acts_full : (t : TxId) (h : History) → AllByRecursion IsFull (acts_in t h)
+acts_full t [] = tt
+acts_full t (e ∷ es) = told_full (act_of t (e.1).event (e.1).outcome) (acts_in t es) (λ q is. act_full t (e.1).event (e.1).outcome q is) (acts_full t es)
+
+key_part : (splits : List ℕ) (nth : ℕ) (op : Op) → IsOfKey op → numbered_parts nth (parts_of splits op) ≡ (nth, Operates op) ∷ []
+key_part splits nth (Get k) key = refl
+key_part splits nth (Put k v) key = refl
+key_part splits nth (Del k) key = refl
+key_part splits nth (Scan lo hi) key = absurd key
+key_part splits nth (Add k by) key = refl
+
+key_answer : (op : Op) (answers : List Answer) → IsOfKey op → answer_of op answers ≡ first_answer answers
+key_answer (Get k) answers key = refl
+key_answer (Put k v) answers key = refl
+key_answer (Del k) answers key = refl
+key_answer (Scan lo hi) answers key = absurd key
+key_answer (Add k by) answers key = refl
+
+record IsOne (op : Op) (answer : Answer) (here : List DoneAct) : Type 0 where
+  acts : map (λ p. p.1) here ≡ Operates op ∷ []
+  answers : answers_given here ≡ answer ∷ []
+
+one_part : (nth : ℕ) (op : Op) (answer : Answer) (here : List DoneAct) → AllByRecursion IsFull here → numbered here ≡ (nth, Operates op) ∷ [] → answer ≡ first_answer (answers_given here) → IsOne op answer here
+one_part nth op answer [] full is whole = absurd cc
+one_part nth op answer (p ∷ []) full is whole =
+    let acts : p.1 ∷ [] ≡ Operates op ∷ [] = ap (map (λ q. q.1)) is in
+    let told = full.0 op (let e : p.1 ≡ Operates op = cc in e) in
+    let given : answers_given (p ∷ []) ≡ told.0 ∷ [] = ap (λ o. answers_by o ++ []) told.1 in
+    record { acts = acts; answers = given ∙ ap (λ a. a ∷ []) (sym (whole ∙ ap first_answer given)) }
+one_part nth op answer (p ∷ q ∷ ps) full is whole = absurd cc
+
+full_here : (here behind : List DoneAct) → AllByRecursion IsFull (here ++ behind) → AllByRecursion IsFull here × AllByRecursion IsFull behind
+full_here [] behind all = (tt, all)
+full_here (p ∷ here) behind all = let r = full_here here behind all.1 in ((all.0, r.0), r.1)
+
+given_on : (ps qs : List DoneAct) → answers_given (ps ++ qs) ≡ answers_given ps ++ answers_given qs
+given_on [] qs = refl
+given_on (p ∷ ps) qs = ap (λ l. answers_by p.2 ++ l) (given_on ps qs) ∙ sym (append_assoc (answers_by p.2) (answers_given ps) (answers_given qs))
+
+pub record AreWhole (ds : List Done) (told : List DoneAct) : Type 0 where
+  pub acts_are : map (λ p. p.1) told ≡ acts_of ds
+  pub answers_are : answers_given told ≡ answers_in ds
+
+whole_parts : (splits : List ℕ) (nth : ℕ) (ds : List Done) (told : List DoneAct) → ArePartsOf splits nth ds told → AllByRecursion IsKeyed ds → AllByRecursion IsFull told → AreWhole ds told
+whole_parts splits _ _ _ (no_act nth) keys full = record { acts_are = refl; answers_are = refl }
+whole_parts splits _ _ _ (operation nth op answer ds here behind all is same whole more) keys full =
+    let f = full_here here behind (subst (AllByRecursion IsFull) is full) in
+    let one = one_part nth op answer here f.0 (same ∙ key_part splits nth op keys.0) (whole ∙ key_answer op (answers_given here) keys.0) in
+    let rest = whole_parts splits (suc nth) ds behind more keys.1 f.1 in
     record {
-      ops_are = ap (map (λ p. p.0)) is ∙ map-append (λ p. p.0) here behind ∙ ap₂ (λ xs ys. xs ++ ys) one.ops rest.ops_are;
-      answers_are = ap (map (λ p. p.1)) is ∙ map-append (λ p. p.1) here behind ∙ ap₂ (λ xs ys. xs ++ ys) one.answers rest.answers_are;
+      acts_are = ap (map (λ p. p.1)) is ∙ map-append (λ p. p.1) here behind ∙ ap₂ (λ (xs ys : List Act). xs ++ ys) one.acts rest.acts_are;
+      answers_are = ap answers_given is ∙ given_on here behind ∙ ap₂ (λ (xs ys : List Answer). xs ++ ys) one.answers rest.answers_are;
     }
+whole_parts splits _ _ _ (going_back nth upto ds behind more) keys full = absurd keys.0
 
-one_op : (splits : List ℕ) (op : Op) → IsOfKey op → map (λ p. p.1) (parts_of splits op) ≡ op ∷ []
-one_op splits (Get k) key = refl
-one_op splits (Put k v) key = refl
-one_op splits (Del k) key = refl
-one_op splits (Scan lo hi) key = absurd key
-one_op splits (Add k by) key = refl
+-- what a history tells of one that did its lines is all of it
+pub parts_whole : (splits : List ℕ) (accounts : ℕ) (lines : List Action) (ds : List Done) (t : TxId) (h : History) (told : List DoneAct) → IsLine accounts lines → acts_of ds ≡ all_acts lines (answers_in ds) → told ≡ acts_in t h → ArePartsOf splits 1 ds told
+    → AreWhole ds told
+parts_whole splits accounts lines ds t h told line all is parts =
+    whole_parts splits 1 ds told parts
+    (keyed ds (all_ops lines (answers_in ds)) (all ∙ plain_acts lines (answers_in ds) (lines_are_plain accounts lines line)) (lines_of_keys accounts lines (answers_in ds) line))
+    (subst (AllByRecursion IsFull) (sym is) (acts_full t h))
 
-pub parts_alone : (splits : List ℕ) (ops : List Op) → AllByRecursion IsOfKey ops → all_parts splits ops ≡ ops
-parts_alone splits [] keys = refl
-parts_alone splits (op ∷ ops) keys = ap₂ (λ xs ys. xs ++ ys) (one_op splits op keys.0) (parts_alone splits ops keys.1)
+parts_of_ops : (splits : List ℕ) (nth : ℕ) (ops : List Op) → AllByRecursion IsOfKey ops → map (λ q. q.1) (all_parts splits nth (map Operates ops)) ≡ map Operates ops
+parts_of_ops splits nth [] keys = refl
+parts_of_ops splits nth (op ∷ ops) keys =
+    map-append (λ q. q.1) (numbered_parts nth (parts_of splits op)) (all_parts splits (suc nth) (map Operates ops))
+    ∙ ap₂ (λ (xs ys : List Act). xs ++ ys) (ap (map (λ q. q.1)) (key_part splits nth op keys.0)) (parts_of_ops splits (suc nth) ops keys.1)
+
+pub parts_alone : (splits : List ℕ) (accounts : ℕ) (lines : List Action) (answers : List Answer) → IsLine accounts lines → map (λ q. q.1) (all_parts splits 1 (all_acts lines answers)) ≡ all_acts lines answers
+parts_alone splits accounts lines answers line =
+    let plain = plain_acts lines answers (lines_are_plain accounts lines line) in
+    ap (λ acts. map (λ q. q.1) (all_parts splits 1 acts)) plain ∙ parts_of_ops splits 1 (all_ops lines answers) (lines_of_keys accounts lines answers line) ∙ sym plain
+
+pub only_acts : (ps : List DoneAct) → map (λ q. q.1) (numbered ps) ≡ map (λ p. p.1) ps
+only_acts [] = refl
+only_acts (p ∷ ps) = ap (λ l. p.1 ∷ l) (only_acts ps)
 
 -- a filling asks for no answer
-pub fill_alike : (k n : ℕ) (answers others : List Answer) → all_ops (fill k n) answers ≡ all_ops (fill k n) others
-fill_alike k zero answers others = refl
-fill_alike k (suc n) answers others = ap (λ l. Put k (Num 1000) ∷ l) (fill_alike (suc k) n (drop 1 answers) (drop 1 others))
+fill_ops_alike : (k n : ℕ) (answers others : List Answer) → all_ops (fill k n) answers ≡ all_ops (fill k n) others
+fill_ops_alike k zero answers others = refl
+fill_ops_alike k (suc n) answers others = ap (λ l. Put k (Num 1000) ∷ l) (fill_ops_alike (suc k) n (drop 1 answers) (drop 1 others))
+
+pub fill_alike : (n : ℕ) (answers others : List Answer) → all_acts (fill 0 n) answers ≡ all_acts (fill 0 n) others
+fill_alike n answers others =
+    plain_acts (fill 0 n) answers (fill_is_plain 0 n) ∙ ap (map Operates) (fill_ops_alike 0 n answers others) ∙ sym (plain_acts (fill 0 n) others (fill_is_plain 0 n))

@@ -7,7 +7,7 @@ use Rattle.clv_base.specs.Orders.{tx_same, tx_in}
 use Rattle.clv_base.specs.Logs.{stands}
 use Rattle.clv_base.specs.Maps.{replay_map, replay_answers}
 use Rattle.clv_base.specs.Journals.{History}
-use Rattle.clv_base.specs.History.{Member, serial_ops, serial_answers, acknowledged_in, ops_in}
+use Rattle.clv_base.specs.History.{Member, answers_given, serial_acts, serial_answers, acknowledged_in, acts_in}
 use Rattle.clv_base.proofs.SameNames.{tx_true}
 use Rattle.law_base.proofs.Lists.{all_mono}
 use Rattle.io_model.specs.Story.{Story}
@@ -24,19 +24,21 @@ use Rattle.script_lang.specs.declared.actions.Ending.TheVariants.{Commit}
 use Rattle.script_lang.specs.declared.actions.Action.{Action}
 use Rattle.script_lang.specs.Bodies.{Body}
 use Rattle.script_lang.specs.Grammar.{body}
-use Rattle.script_lang.specs.Following.{all_ops, next_op}
+use Rattle.script_lang.specs.Following.{all_acts}
 use Rattle.script_lang.specs.Loads.{fill, transfer, session, load}
 use Rattle.script_runs.specs.Sessions.{Transaction}
+use Rattle.session_books.specs.Done.{Done}
+use Rattle.script_runs.specs.Acts.{acts_of, answers_in, next_of, numbered}
 use Rattle.script_runs.specs.Tries.{Try}
 use Rattle.script_runs.specs.TriesLaws.{all_parts}
 use Rattle.workload_laws.specs.Sums.{accounts_sum, Follows, Fills, Transfers, WorkloadsKeepTheirSum}
 use Rattle.clv_commands.specs.Sums.{LoadsKeepTheirSum}
-use Rattle.clv_commands.proofs.Lines.{IsLine, fills, transfers_by, in_load, lines_of_keys, AreWhole, parts_whole, parts_alone, fill_alike}
+use Rattle.clv_commands.proofs.Lines.{IsLine, fills, transfers_by, in_load, AreWhole, parts_whole, parts_alone, only_acts, fill_alike}
 
 -- ---- a member
 
-follows : (lines : List Action) (answers : _) (m : Member) → AreWhole (all_ops lines answers) answers m.ops → Follows lines m
-follows lines answers m w = w.ops_are ∙ ap (all_ops lines) (sym w.answers_are)
+follows : (lines : List Action) (ds : List Done) (m : Member) → acts_of ds ≡ all_acts lines (answers_in ds) → AreWhole ds m.acts → Follows lines m
+follows lines ds m all w = w.acts_are ∙ all ∙ ap (all_acts lines) (sym w.answers_are)
 
 kind : (accounts : ℕ) (lines : List Action) (m : Member) → IsLine accounts lines → Follows lines m → Fills accounts m ⊎ Transfers accounts m
 kind accounts lines m (fills is) f = inl (subst (λ l. Follows l m) is f)
@@ -46,7 +48,7 @@ of_workload : (splits : List ℕ) (seed sessions accounts count : ℕ) (h : Hist
 of_workload splits seed sessions accounts count h m is =
     let line = in_load seed sessions accounts count is.session is.number is.bodies is.body is.session_is is.body_is in
     let lines = (is.body).actions in
-    kind accounts lines m line (follows lines is.answers m (parts_whole splits (all_ops lines is.answers) is.answers m.ops is.parts (lines_of_keys accounts lines is.answers line)))
+    kind accounts lines m line (follows lines is.acts m is.all (parts_whole splits accounts lines is.acts m.tx h m.acts line is.all is.told is.parts))
 
 -- ---- the filling
 
@@ -54,13 +56,13 @@ record Filled (splits : List ℕ) (h : History) (accounts : ℕ) : Type 0 where
   tx : TxId
   told : acknowledged_in h tx ≡ true
   answers : _
-  ops : map (λ p. p.0) (ops_in tx h) ≡ all_parts splits (all_ops (fill 0 accounts) answers)
+  acts : numbered (acts_in tx h) ≡ all_parts splits 1 (all_acts (fill 0 accounts) answers)
 
 fill_ended : (splits : List ℕ) (h : History) (accounts : ℕ) (b : Body) (count : ℕ) (last : Try) → 1 ≤ accounts → b ≡ body (fill 0 accounts) Commit → HasEnded splits h None b count last → Filled splits h accounts
 fill_ended splits h accounts b count last some is (acknowledged ending so a) =
-    record { tx = last.tx; told = a.told; answers = last.answers; ops = a.operations ∙ ap (λ x. all_parts splits (all_ops x.actions last.answers)) is }
+    record { tx = last.tx; told = a.told; answers = answers_in last.acts; acts = a.acts ∙ ap (λ x. all_parts splits 1 (all_acts x.actions (answers_in last.acts))) is }
 fill_ended splits h zero b count last some is (empty ending so none) = absurd (omega arith)
-fill_ended splits h (suc n) b count last some is (empty ending so none) = absurd (let e = sym (ap (λ x. next_op x.actions []) is) ∙ none in cc)
+fill_ended splits h (suc n) b count last some is (empty ending so none) = absurd (let e = sym (ap (λ x. next_of x.actions []) is) ∙ none in cc)
 fill_ended splits h accounts b count last some is (by_line ending so none) = absurd (let e = sym (ap (λ x. x.ending) is) ∙ ending in cc)
 fill_ended splits h accounts b count last some is (given_up older so most) = absurd cc
 
@@ -92,9 +94,9 @@ all_behind P (y ∷ front) x behind all = all_behind P front x behind all.1
 
 filling_is : (splits : List ℕ) (h : History) (script : List (List Body)) (accounts : ℕ) (f : Filled splits h accounts) (m : Member) → m.tx ≡ f.tx → IsOfScript splits script h m → Fills accounts m
 filling_is splits h script accounts f m same is =
-    let told : ops_in f.tx h ≡ m.ops = ap (λ t. ops_in t h) (sym same) ∙ sym is.told in
-    ap (map (λ p. p.0)) (sym told) ∙ f.ops ∙ parts_alone splits (all_ops (fill 0 accounts) f.answers) (lines_of_keys accounts (fill 0 accounts) f.answers (fills refl))
-    ∙ fill_alike 0 accounts f.answers (map (λ p. p.1) m.ops)
+    let told : acts_in f.tx h ≡ m.acts = ap (λ t. acts_in t h) (sym same) ∙ sym is.told in
+    sym (only_acts m.acts) ∙ ap (λ l. map (λ q. q.1) (numbered l)) (sym told) ∙ ap (map (λ q. q.1)) f.acts ∙ parts_alone splits accounts (fill 0 accounts) f.answers (fills refl)
+    ∙ fill_alike accounts f.answers (answers_given m.acts)
 
 -- the first session of a workload begins with the filling
 first_session : (seed sessions accounts count : ℕ) → 1 ≤ sessions → slice_get (load seed sessions accounts count) 0 ≡ Some (session seed accounts count 1)
@@ -138,14 +140,14 @@ module _
       }
 
   -- what the members were told is what they find
-  told : (f : HasFilling accounts ms) → replay_answers (stands kept.found) (serial_ops (f.front ++ f.filling ∷ f.behind)) ≡ serial_answers (f.front ++ f.filling ∷ f.behind)
-  told f = subst (λ l. replay_answers (stands kept.found) (serial_ops l) ≡ serial_answers l) f.at (((r.promised).keeps).promised all_kept).answers
+  told : (f : HasFilling accounts ms) → replay_answers (stands kept.found) (serial_acts (f.front ++ f.filling ∷ f.behind)) ≡ serial_answers (f.front ++ f.filling ∷ f.behind)
+  told f = subst (λ l. replay_answers (stands kept.found) (serial_acts l) ≡ serial_answers l) f.at (((r.promised).keeps).promised all_kept).answers
 
 pub loads_keep : MembersAreOfScript → RunsReplay → WorkloadsKeepTheirSum → LoadsKeepTheirSum
 loads_keep are replay keep seed sessions accounts count before now counts counts_now kept some two r =
     let f = has_filling are seed sessions accounts count before now counts counts_now kept some two r in
     let promised = ((r.promised).keeps).promised all_kept in
     let sum = keep accounts kept.found f.front f.behind f.filling two (told are seed sessions accounts count before now counts counts_now kept some two r f) f.kinds f.fills in
-    let map_is : replayed kept ≡ replay_map (stands kept.found) (serial_ops (f.front ++ f.filling ∷ f.behind)) =
-    sym (replay r.splits before now counts counts_now None (load seed sessions accounts count) r.went kept r.opens r.promised r.told.1 all_kept) ∙ sym promised.map ∙ ap (λ l. replay_map (stands kept.found) (serial_ops l)) f.at in
+    let map_is : replayed kept ≡ replay_map (stands kept.found) (serial_acts (f.front ++ f.filling ∷ f.behind)) =
+    sym (replay r.splits before now counts counts_now None (load seed sessions accounts count) r.went kept r.opens r.promised r.told.1 all_kept) ∙ sym promised.map ∙ ap (λ l. replay_map (stands kept.found) (serial_acts l)) f.at in
     ap (accounts_sum accounts) map_is ∙ sum

@@ -4,7 +4,7 @@ use Rattle.std.specs.List.{list_any, list_all}
 use Rattle.std.proofs.lemmas.Bool.{both_ways, or_cases, and_parts, eqb-true}
 use Rattle.clv_base.specs.declared.names.TxId.{TxId}
 use Rattle.clv_base.specs.declared.events.Event.{Event}
-use Rattle.clv_base.specs.declared.events.Event.TheVariants.{Op, Request, Look, Drop}
+use Rattle.clv_base.specs.declared.events.Event.TheVariants.{Op, RollTo, Request, Look, Drop}
 use Rattle.clv_base.specs.declared.events.Outcome.{Outcome}
 use Rattle.clv_base.specs.declared.events.Outcome.TheVariants.{Acknowledged}
 use Rattle.clv_base.specs.declared.events.Entry.{Entry}
@@ -63,6 +63,7 @@ named_step :
     → (is_acknowledgement t v o || acknowledged_in es t) ≡ true → Named run walker t
 unfolding Named
 named_step run walker lo es t rec (Op tx birth nth seen op) o r h = rec tx.serial r.3 h
+named_step run walker lo es t rec (RollTo tx nth seen upto) o r h = rec tx.serial r.3 h
 named_step run walker lo es t rec (Request tx touched) o r h = rec tx.serial r.3 h
 named_step run walker lo es t rec (Drop tx) o r h = rec tx.serial r.3 h
 named_step run walker lo es t rec (Look tx) Acknowledged r h = of (or_cases (tx_same t tx) (acknowledged_in es t) h)
@@ -90,7 +91,7 @@ replied :
     (splits : List ℕ) (run walker : ℕ) (life : Life) (es : History) → Lived splits run walker life es
     → TellCommits life.replies es × TellAnswers splits life.replies es
 replied splits run walker life es l =
-    let tells = replies_tell_entries life.asked life.replies (l.first) (l.lived).last l.closed (l.lived).course (l.lived).served (l.lived).closes in
+    let tells = replies_tell_entries life.asked life.replies (l.first) (l.lived).last l.closed (l.lived).course (l.lived).over (l.lived).served (l.lived).closes in
     let are = replies_are_true life.asked life.replies l.first l.closed tells (l.new).entries_are in (
       subst (TellCommits life.replies) l.entries_are are.0,
       subst (λ s. TellAnswers s life.replies es) (l.new).splits_are (subst (TellAnswers (l.first).splits life.replies) l.entries_are are.2),

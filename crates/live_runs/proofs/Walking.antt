@@ -10,9 +10,10 @@ use Rattle.cluster_turns.specs.Dates.{last_seen}
 use Rattle.cluster_opening.specs.Made.{IsNewWalker}
 use Rattle.command_line.specs.Running.{End, IsOk}
 use Rattle.session_api.specs.declared.progress.Progress.{Progress}
-use Rattle.session_api.specs.Standing.{Holds, IsAtRest, seen_in, standing_of}
+use Rattle.session_api.specs.Standing.{Holds, HoldsSaves, IsAtRest, seen_in, standing_of}
 use Rattle.session_api.specs.Grounds.{Grounds}
 use Rattle.session_api.proofs.Laws.{sessions_rest, new_walkers_keep_none}
+use Rattle.script_lang.specs.Savepoints.{Savepoints}
 use Rattle.script_runs.specs.declared.ends.StopCause.{StopCause}
 use Rattle.script_runs.specs.Sessions.{session_entries}
 use Rattle.script_runs.specs.Seen.{Seen, Idle}
@@ -32,15 +33,16 @@ use Rattle.live_runs.specs.Lived.{Lived}
 use Rattle.live_runs.specs.Walked.{IsPlaced, HasWalked, HaveLived, AreDrained}
 
 module _ {M S G : Type 0} where
-  pub holds_on : (sh old : Shards M S G) (clock k : ℕ) (w : Walker M S G) (s : Progress) → IsPlaced sh clock k old w s → Holds old w s
-  holds_on sh old clock k w s placed = subst (λ z. Holds z w s) (sym placed.on) placed.holds
+  pub holds_on : (sh old : Shards M S G) (clock k : ℕ) (w : Walker M S G) (s : Progress) (saves : List ℕ) (script : Savepoints) → IsPlaced sh clock k old w s saves script → HoldsSaves old w s saves script
+  holds_on sh old clock k w s saves script placed = subst (λ z. HoldsSaves z w s saves script) (sym placed.on) placed.holds
 
-  pub idle : (sh old : Shards M S G) (clock k : ℕ) (w : Walker M S G) (a : Point) (s : Progress) → IsPlaced sh clock k old w s → IsIdle (seen_in old w a s)
-  idle sh old clock k w a s placed = (None, ap standing_of placed.none_begun)
+  pub idle : (sh old : Shards M S G) (clock k : ℕ) (w : Walker M S G) (a : Point) (s : Progress) (saves : List ℕ) (script : Savepoints) → IsPlaced sh clock k old w s saves script → IsIdle (seen_in old w a s)
+  idle sh old clock k w a s saves script placed = (None, ap standing_of placed.none_begun)
 
   -- a life of a new walker's session
-  pub lived_new : (sh : Shards M S G) (clock k : ℕ) (w : Walker M S G) (a : Point) (s : Progress) (life : Life) (closed : Seen) → IsPlaced sh clock k sh w s → HasLived life (seen_in sh w a s) closed → Lived sh.splits sh.run (suc k) life closed.entries
-  lived_new sh clock k w a s life closed placed lives = record {
+  pub lived_new :
+      (sh : Shards M S G) (clock k : ℕ) (w : Walker M S G) (a : Point) (s : Progress) (saves : List ℕ) (script : Savepoints) (life : Life) (closed : Seen) → IsPlaced sh clock k sh w s saves script → HasLived life (seen_in sh w a s) closed → Lived sh.splits sh.run (suc k) life closed.entries
+  lived_new sh clock k w a s saves script life closed placed lives = record {
     first = seen_in sh w a s;
     closed = closed;
     new = record {
@@ -55,12 +57,12 @@ module _ {M S G : Type 0} where
     entries_are = refl;
   }
 
-  walked_on : (sh : Shards M S G) (clock k : ℕ) (w v : Walker M S G) (a b : Point) (s t : Progress) (life : Life) (end : End)
-      → IsPlaced sh clock k sh w s → Holds sh v t → HasLived life (seen_in sh w a s) (seen_in sh v b t) → IfErr end (Grounds v) → HasWalked sh clock k life v end
-  walked_on sh clock k w v a b s t life end placed holds lives grounds =
+  walked_on : (sh : Shards M S G) (clock k : ℕ) (w v : Walker M S G) (a b : Point) (s t : Progress) (saves : List ℕ) (script : Savepoints) (life : Life) (end : End)
+      → IsPlaced sh clock k sh w s saves script → Holds sh v t → HasLived life (seen_in sh w a s) (seen_in sh v b t) → IfErr end (Grounds v) → HasWalked sh clock k life v end
+  walked_on sh clock k w v a b s t saves script life end placed holds lives grounds =
       let u : Seen = seen_in sh w a s in
       let z : Seen = seen_in sh v b t in
-      let told = replies_tell_entries life.asked life.replies u lives.last z lives.course lives.served lives.closes in
+      let told = replies_tell_entries life.asked life.replies u lives.last z lives.course lives.over lives.served lives.closes in
       let g = told.grows in
       let r = sessions_rest M S G sh v t holds in
       let new = placed.new in
@@ -68,18 +70,18 @@ module _ {M S G : Type 0} where
       let zero_is = new.none_begun in let clock_is = new.clock_is in let begun = g.serial_is in let few = told.few in let dated = g.dated in
       record {
         rest = record { walker = r.walker; number_is = g.walker_is ∙ new.number_is; landed = r.landed; fetched = r.fetched; disks = r.disks };
-        lived = lived_new sh clock k w a s life z placed lives;
+        lived = lived_new sh clock k w a s saves script life z placed lives;
         few = omega arith;
         dated = omega arith;
         grounds = grounds;
         later = subst (AllByRecursion (λ e. clock < (e.1).stamp)) (sym (g.entries_are ∙ ap (λ l. l ++ (told.es ++ told.end)) none)) (all_past clock w.clock v.clock (told.es ++ told.end) (omega arith) g.stamped);
       }
 
-  pub walked : (sh old new : Shards M S G) (clock k : ℕ) (w v : Walker M S G) (a b : Point) (s t : Progress) (life : Life) (end : End)
-      → IsPlaced sh clock k old w s → Holds new v t → new ≡ old → HasLived life (seen_in old w a s) (seen_in new v b t) → IfErr end (Grounds v) → HasWalked sh clock k life v end
-  walked sh old new clock k w v a b s t life end placed holds stays lives grounds =
+  pub walked : (sh old new : Shards M S G) (clock k : ℕ) (w v : Walker M S G) (a b : Point) (s t : Progress) (saves : List ℕ) (script : Savepoints) (life : Life) (end : End)
+      → IsPlaced sh clock k old w s saves script → Holds new v t → new ≡ old → HasLived life (seen_in old w a s) (seen_in new v b t) → IfErr end (Grounds v) → HasWalked sh clock k life v end
+  walked sh old new clock k w v a b s t saves script life end placed holds stays lives grounds =
       let is : new ≡ sh = stays ∙ placed.on in
-      walked_on sh clock k w v a b s t life end (subst (λ z. IsPlaced sh clock k z w s) placed.on placed) (subst (λ z. Holds z v t) is holds)
+      walked_on sh clock k w v a b s t saves script life end (subst (λ z. IsPlaced sh clock k z w s saves script) placed.on placed) (subst (λ z. Holds z v t) is holds)
       (subst (λ z. HasLived life (seen_in sh w a s) (seen_in z v b t)) is (subst (λ z. HasLived life (seen_in z w a s) (seen_in new v b t)) placed.on lives)) grounds
 
 -- the base of each session's clock is the one that they all had
@@ -129,7 +131,7 @@ module _ {M S G : Type 0} (sh : Shards M S G) where
           serial_is = new.none_begun;
           standing_is = refl;
         };
-        lived = record { last = u; course = record { may_retry = false; ended = None }; served = none_taken u _ (refl, refl); closes = refl };
+        lived = record { last = u; course = record { may_retry = false; ended = None }; over = None; served = none_taken u _ None (refl, refl); closes = refl };
         entries_are = refl;
       })
 

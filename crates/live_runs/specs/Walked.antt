@@ -12,8 +12,9 @@ use Rattle.cluster_turns.specs.Dates.{last_seen}
 use Rattle.command_line.specs.Running.{End, IsOk}
 use Rattle.session_api.specs.declared.progress.Progress.{Progress}
 use Rattle.session_api.specs.declared.progress.Progress.TheVariants.{Idle}
-use Rattle.session_api.specs.Standing.{Holds, IsAtRest}
+use Rattle.session_api.specs.Standing.{HoldsSaves, IsAtRest}
 use Rattle.session_api.specs.Grounds.{Grounds}
+use Rattle.script_lang.specs.Savepoints.{Savepoints}
 use Rattle.script_runs.specs.Sessions.{session_entries}
 use Rattle.cluster_runs.specs.Drained.{WasSettled}
 use Rattle.live_lines.specs.declared.calls.Refusal.{Refusal}
@@ -23,11 +24,11 @@ use Rattle.live_runs.specs.Lived.{Lived}
 
 module _ {M S G : Type 0} where
   -- the session of place k, before it has begun, whose walker has this clock
-  pub record IsPlaced (sh : Shards M S G) (clock k : ℕ) (shards : Shards M S G) (w : Walker M S G) (s : Progress) : Type 0 where
+  pub record IsPlaced (sh : Shards M S G) (clock k : ℕ) (shards : Shards M S G) (w : Walker M S G) (s : Progress) (saves : List ℕ) (script : Savepoints) : Type 0 where
     pub on : shards ≡ sh
     pub new : IsNewWalker sh (suc k) clock w
     pub none_begun : s ≡ Idle
-    pub holds : Holds sh w s
+    pub holds : HoldsSaves sh w s saves script
 
   -- what the walker of place k made, once its session has ended; all of it past that clock, from which its own rose by no more than one for each line
   pub record HasWalked (sh : Shards M S G) (clock k : ℕ) (life : Life) (w : Walker M S G) (end : End) : Type 0 where

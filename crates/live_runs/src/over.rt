@@ -67,7 +67,7 @@ where
     M::Store: Send,
     M::Gate: Send,
     requires few { vec_len places.old ≤ 64 }
-    requires placed { (k : ℕ) (d : _) → k < vec_len places.old → IsPlaced shards.now clock k (slice_index_or places.old.items k d).session.session.shards.now (slice_index_or places.old.items k d).session.session.walker (slice_index_or places.old.items k d).session.session.progress }
+    requires placed { (k : ℕ) (d : _) → k < vec_len places.old → IsPlaced shards.now clock k (slice_index_or places.old.items k d).session.session.shards.now (slice_index_or places.old.items k d).session.session.walker (slice_index_or places.old.items k d).session.session.progress (slice_index_or places.old.items k d).session.session.saves.items (slice_index_or places.old.items k d).session.saves }
     requires fine { (k : ℕ) (d : _) → k < vec_len places.old → (slice_index_or places.old.items k d).ended ≡ Ok (tt {0}) }
     ensures len { vec_len places.new ≡ vec_len places.old }
     ensures lived { (lives : ℕ → Life) × ((k : ℕ) (d : _) → k < vec_len places.old → HasWalked shards.now clock k (lives (suc k)) (slice_index_or places.new.items k d).session.session.walker (slice_index_or places.new.items k d).ended) × Streamed (vec_len places.old) lives (S.left source.old) (S.left source.new) (K.taken sink.old) (K.taken sink.new) result.read result.written }
@@ -115,7 +115,7 @@ where
     let Ok(room) = Vec::with_capacity(alloc, sessions) else {
         return served_nothing(StopCause::Memory);
     };
-    let mut places = take_places(rt, shards, pace, walkers, sessions, room, clock);
+    let mut places = take_places(rt, alloc, shards, pace, walkers, sessions, room, clock);
     let Streams { read, written } = serve_placed(
         rt,
         alloc,

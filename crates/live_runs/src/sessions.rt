@@ -12,11 +12,13 @@ use live_threads::Place;
 use machine_calls::Flier;
 use script_runs::StopCause;
 use session_api::ScriptSession;
+use std::alloc::Global;
 use std::sync::Wait;
 
 /// A place for each session, with its walker, which leaves the list of walkers, and has this clock from then on; walker 0 stays.
 pub fn take_places<'a, M: Flier, P: Pace, R: Wait>(
     rt: &'a R,
+    alloc: Global,
     shards: &'a Shards<M>,
     pace: &'a P,
     walkers: &mut Vec<Walker<M>>,
@@ -31,14 +33,14 @@ pub fn take_places<'a, M: Flier, P: Pace, R: Wait>(
     requires room { (vec_len places ≡ 0) × (sessions ≤ vec_capacity places) }
     ensures len { (vec_len walkers.new ≡ 1) × (vec_capacity walkers.new ≡ vec_capacity walkers.old) × (vec_len result ≡ sessions) }
     ensures first { (d : _) → slice_index_or walkers.new.items 0 d ≡ slice_index_or walkers.old.items 0 d }
-    ensures placed { (k : ℕ) (d : _) → k < sessions → IsPlaced shards.now clock k (slice_index_or result.items k d).session.session.shards.now (slice_index_or result.items k d).session.session.walker (slice_index_or result.items k d).session.session.progress }
+    ensures placed { (k : ℕ) (d : _) → k < sessions → IsPlaced shards.now clock k (slice_index_or result.items k d).session.session.shards.now (slice_index_or result.items k d).session.session.walker (slice_index_or result.items k d).session.session.progress (slice_index_or result.items k d).session.session.saves.items (slice_index_or result.items k d).session.saves }
     ensures fine { (k : ℕ) (d : _) → k < sessions → (slice_index_or result.items k d).ended ≡ Ok (tt {0}) }
 {
     for _ in 0..sessions {
         let mut walker = walkers.pop().unwrap();
         walker.clock = clock;
         places.push_reserved(Place {
-            session: ScriptSession::new(rt, shards, pace, walker),
+            session: ScriptSession::new(rt, alloc, shards, pace, walker),
             ended: Ok(()),
         });
     }

@@ -7,6 +7,10 @@ pub const EMPTY: &[u8] = b"CLVLOG01\x01\0\0\0\0\0\0\0\x01\0\0\0\0";
 pub const ONE_PUT: &[u8] =
     b"CLVLOG01\x01\0\0\0\0\0\0\0\x01\0\0\0\x01\x0d\0\0\0\x07\x01\0\0\0\0\0\0\0\0\0\0\0\x01\x38\0\0\0\x01\x01\0\0\0\x01\0\0\0\x01\0\0\0\0\0\0\0\x05\0\0\0\0\0\0\0\0\x01\x0a\0\0\0\0\0\0\0\x04\x01\0\0\0\x01\0\0\0\x01\0\0\0\0\0\0\0\0\0\0\0\0";
 
+/// Behind the RESTART a batch with two UPDATEs of key 5, from none to 1 and on to 2, the CLR of the second one, which leads to the first, and the COMMIT.
+pub const WENT_BACK: &[u8] =
+    b"CLVLOG01\x01\0\0\0\0\0\0\0\x01\0\0\0\x01\x0d\0\0\0\x07\x01\0\0\0\0\0\0\0\0\0\0\0\x01\x8d\0\0\0\x01\x01\0\0\0\x01\0\0\0\x01\0\0\0\0\0\0\0\x05\0\0\0\0\0\0\0\0\x01\x01\0\0\0\0\0\0\0\x01\x01\0\0\0\x01\0\0\0\x01\0\0\0\0\0\0\0\x05\0\0\0\0\0\0\0\x01\x01\0\0\0\0\0\0\0\x01\x02\0\0\0\0\0\0\0\x02\x01\0\0\0\x01\0\0\0\x01\0\0\0\0\0\0\0\x01\0\0\0\0\0\0\0\x05\0\0\0\0\0\0\0\x01\x01\0\0\0\0\0\0\0\x04\x01\0\0\0\x01\0\0\0\x01\0\0\0\0\0\0\0\0\0\0\0\0";
+
 /// The first and the second of two shards with the split 10, as they are made.
 pub const FIRST: &[u8] = b"CLVLOG01\x01\0\0\0\0\0\0\0\x02\0\0\0\x0a\0\0\0\0\0\0\0\0";
 

@@ -1,6 +1,6 @@
 // Runs of scripts, and what `show` finds behind them.
 
-use crate::disks::{EMPTY, NONE, ONE_PUT, PUT, PUT_REPORT};
+use crate::disks::{EMPTY, NONE, ONE_PUT, PUT, PUT_REPORT, WENT_BACK};
 use crate::row::{Given, ROW, Row};
 use command_line::Status;
 
@@ -83,6 +83,39 @@ const ROWS: &[Row] = &[
         ..ROW
     },
     Row {
+        shows: "a put that is taken back",
+        disks: &[(0, Given::Bytes(EMPTY))],
+        words: &["run"],
+        script: b"session\nbegin\nput 5 1\nsave\nput 5 2\nget 5\nback 1\nget 5\ncommit\n",
+        text: b"{\"ops\":[[\"put\",5,1,null],[\"put\",5,2,1],[\"get\",5,2],[\"back\",1],[\"get\",5,1]],\"serial\":1,\"session\":1}\n{\"aborted\":0,\"acknowledged\":1,\"unsettled\":0}\n",
+        bytes: WENT_BACK,
+        ..ROW
+    },
+    Row {
+        shows: "the pair from before the savepoint",
+        words: &["show"],
+        text: b"[5,1]\n",
+        lengths: &[203],
+        ..ROW
+    },
+    Row {
+        shows: "savepoints with nothing to take back, and numbers that go on behind forgotten ones",
+        disks: &[(0, Given::Bytes(EMPTY))],
+        words: &["run"],
+        script: b"session\nbegin\nsave\nget 5\nback 1\nsave\nback 1\nsave\nput 5 10\nback 3\nback 1\nget 5\ncommit\nbegin\nsave\nback 1\ncommit\n",
+        text: b"{\"ops\":[[\"get\",5,null],[\"put\",5,10,null],[\"back\",1],[\"get\",5,null]],\"serial\":1,\"session\":1}\n{\"aborted\":0,\"acknowledged\":1,\"unsettled\":0}\n",
+        ..ROW
+    },
+    Row {
+        shows: "a savepoint that is forgotten",
+        disks: &[(0, Given::Bytes(EMPTY))],
+        words: &["run"],
+        script: b"session\nbegin\nsave\nsave\nback 1\nback 2\ncommit\n",
+        status: Status::Script { line: 6 },
+        bytes: EMPTY,
+        ..ROW
+    },
+    Row {
         shows: "the second of two sessions",
         disks: &[(0, Given::Bytes(EMPTY))],
         words: &["run"],
@@ -112,6 +145,19 @@ const ROWS: &[Row] = &[
         shows: "the pairs of three shards",
         words: &["show"],
         text: b"[0,1]\n[10,2]\n[20,3]\n[18446744073709551615,4]\n",
+        ..ROW
+    },
+    Row {
+        shows: "a going back over three shards, behind a put that stays",
+        words: &["run"],
+        script: b"session\nbegin\nput 0 7\nsave\nadd 0 5\ndel 10\nput 21 9\nback 1\nscan 0 30\ncommit\n",
+        text: b"{\"ops\":[[\"put\",0,7,1],[\"add\",0,5,true],[\"del\",10,2],[\"put\",21,9,null],[\"back\",1],[\"scan\",0,30,[[0,7],[10,2],[20,3]]]],\"serial\":1,\"session\":1}\n{\"aborted\":0,\"acknowledged\":1,\"unsettled\":0}\n",
+        ..ROW
+    },
+    Row {
+        shows: "what stayed",
+        words: &["show"],
+        text: b"[0,7]\n[10,2]\n[20,3]\n[18446744073709551615,4]\n",
         ..ROW
     },
     Row {

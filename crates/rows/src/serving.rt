@@ -38,6 +38,14 @@ const ROWS: &[Row] = &[
         ..ROW
     },
     Row {
+        shows: "savepoints, and one that is forgotten",
+        disks: &[(0, Given::Bytes(EMPTY))],
+        words: ONE,
+        script: b"1 save\n1 begin\n1 save\n1 put 5 10\n1 save\n1 put 5 11\n1 back 2\n1 get 5\n1 back 1\n1 back 2\n1 get 5\n1 commit\n",
+        text: b"[1,\"refused\",\"no transaction is active\"]\n[1,\"begin\",1]\n[1,\"save\",1]\n[1,\"put\",5,10,null]\n[1,\"save\",2]\n[1,\"put\",5,11,10]\n[1,\"back\",2]\n[1,\"get\",5,10]\n[1,\"back\",1]\n[1,\"refused\",\"no such savepoint\"]\n[1,\"get\",5,null]\n[1,\"committed\",1]\n",
+        ..ROW
+    },
+    Row {
         shows: "two sessions that add to one number",
         disks: &[(0, Given::Bytes(ONE_PUT))],
         words: &["serve", "--sessions", "2"],

@@ -2,7 +2,7 @@ use Rattle.std.proofs.Common.{arith, ◌≡◌, ◌∙◌, ◌+◌, ◌-◌, ℕ
 use Rattle.std.proofs.lemmas.List.{get_or-take}
 use Rattle.cluster_opening.specs.Made.{IsNewWalker}
 use Rattle.session_api.proofs.Laws.{new_walkers_are_sessions}
-use Rattle.session_api.specs.Standing.{Holds}
+use Rattle.session_api.specs.Standing.{HoldsSaves}
 use Rattle.cluster_runs.specs.Sessions.{IsSeated}
 use Rattle.cluster_runs.specs.Books.{IsBlank}
 use Rattle.cluster_runs.proofs.Drained.{new_up}
@@ -30,14 +30,14 @@ loop-taken-preserved g c =
       same = λ j d l. ap (λ z. get_or z j d) c.pop.ensures.rest ∙ (get_or-take (vec_len c.loop-taken.walkers - 1) c.loop-taken.walkers.items j d (omega arith) ∙ inv.same j d (omega arith));
       seats = omega arith;
       wide = omega arith;
-      seated = λ j d l. subst (λ z. (k : ℕ) → j + suc k ≡ length c.args.plan.sessions.now → IsSeated c.args.shards.now c.args.clock c.args.plan.sessions.now k (get_or z j d).session.session.shards.now (get_or z j d).session.session.walker (get_or z j d).session.session.progress (get_or z j d).transactions.now) (sym c.push_reserved.ensures.items)
-          (pushed_each (λ a z. (k : ℕ) → a + suc k ≡ length c.args.plan.sessions.now → IsSeated c.args.shards.now c.args.clock c.args.plan.sessions.now k z.session.session.shards.now z.session.session.walker z.session.session.progress z.transactions.now) c.loop-taken.seats.items _ i (omega arith) inv.seated
+      seated = λ j d l. subst (λ z. (k : ℕ) → j + suc k ≡ length c.args.plan.sessions.now → IsSeated c.args.shards.now c.args.clock c.args.plan.sessions.now k (get_or z j d).session.session.shards.now (get_or z j d).session.session.walker (get_or z j d).session.session.progress (get_or z j d).session.session.saves.items (get_or z j d).session.saves (get_or z j d).transactions.now) (sym c.push_reserved.ensures.items)
+          (pushed_each (λ a z. (k : ℕ) → a + suc k ≡ length c.args.plan.sessions.now → IsSeated c.args.shards.now c.args.clock c.args.plan.sessions.now k z.session.session.shards.now z.session.session.walker z.session.session.progress z.session.session.saves.items z.session.saves z.transactions.now) c.loop-taken.seats.items _ i (omega arith) inv.seated
           (λ k at. (let w = c.unwrap-walker.result in
           let is = ap (the w) (sym c.unwrap-walker.ensures ∙ c.pop.ensures.value w (omega arith)) ∙ (inv.same (vec_len c.loop-taken.walkers - 1) w (omega arith) ∙ ap (λ x. get_or c.args.walkers.now.items x w) (omega arith)) in record {
             on = c.new.ensures.shards;
             new = subst (λ z. IsNewWalker c.args.shards.now (suc k) c.args.clock z) (sym c.new.ensures.begins.0) (new_up c.args.shards.now (suc k) c.args.clock w (subst (λ z. IsNewWalker c.args.shards.now (suc k) 0 z) (sym is) (c.requires.new k w (omega arith))));
             none_begun = c.new.ensures.begins.1;
-            holds = subst (λ z. Holds z c.new.result.session.walker c.new.result.session.progress) c.new.ensures.shards c.new.ensures.session;
+            holds = subst (λ z. HoldsSaves z c.new.result.session.walker c.new.result.session.progress c.new.result.session.saves.items c.new.result.saves) c.new.ensures.shards c.new.ensures.session;
             bodies = λ b has. c.transactions.ensures ∙ (c.index-sessions-place.is ∙ (ap (λ x. get_or c.args.plan.sessions.now x c.index-sessions-place.result) (omega arith) ∙ bodies_at c.args.plan.sessions.now k b c.index-sessions-place.result has));
           })) j d l);
       blank = λ j d l. subst (λ z. IsBlank (get_or z j d).book) (sym c.push_reserved.ensures.items)
@@ -49,7 +49,7 @@ loop-taken-preserved g c =
 pub returns-clause-seated : goal.returns-clause-seated
 returns-clause-seated g c =
     let inv = c.loop-taken.invariant in let out = c.loop-taken-test.false in let hs = inv.seats in
-    λ k d l. subst (λ z. IsSeated c.args.shards.now c.args.clock c.args.plan.sessions.now k z.session.session.shards.now z.session.session.walker z.session.session.progress z.transactions.now) (sym (c.reverse.ensures.by_index k d (omega arith)))
+    λ k d l. subst (λ z. IsSeated c.args.shards.now c.args.clock c.args.plan.sessions.now k z.session.session.shards.now z.session.session.walker z.session.session.progress z.session.session.saves.items z.session.saves z.transactions.now) (sym (c.reverse.ensures.by_index k d (omega arith)))
     (inv.seated (vec_len c.loop-taken.seats - 1 - k) d (omega arith) k (omega arith))
 
 pub returns-clause-blank : goal.returns-clause-blank

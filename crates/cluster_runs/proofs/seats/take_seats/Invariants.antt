@@ -10,7 +10,7 @@ invariant-loop-taken g l = record {
   same : (j : ℕ) (d : _) → j + l.taken < l.count + 1 → get_or l.walkers.items j d ≡ get_or l.fn.walkers.items j d;
   seats : vec_len l.seats ≡ l.taken;
   wide : l.count ≤ vec_capacity l.seats;
-  seated : (j : ℕ) (d : _) → j < l.taken → (k : ℕ) → j + suc k ≡ l.count → IsSeated l.shards l.fn.clock l.plan.sessions.now k (get_or l.seats.items j d).session.session.shards.now (get_or l.seats.items j d).session.session.walker (get_or l.seats.items j d).session.session.progress (get_or l.seats.items j d).transactions.now;
+  seated : (j : ℕ) (d : _) → j < l.taken → (k : ℕ) → j + suc k ≡ l.count → IsSeated l.shards l.fn.clock l.plan.sessions.now k (get_or l.seats.items j d).session.session.shards.now (get_or l.seats.items j d).session.session.walker (get_or l.seats.items j d).session.session.progress (get_or l.seats.items j d).session.session.saves.items (get_or l.seats.items j d).session.saves (get_or l.seats.items j d).transactions.now;
   blank : (j : ℕ) (d : _) → j < l.taken → IsBlank (get_or l.seats.items j d).book;
   keeps : (j : ℕ) (d : _) → j < l.taken → (get_or l.seats.items j d).book.keeps ≡ l.plan.keeps_rows;
 }

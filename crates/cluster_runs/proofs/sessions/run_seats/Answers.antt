@@ -59,16 +59,16 @@ returns-clause-sat g c =
       base = r.clock;
       reached = λ d some. (let low : 0 < length c.run_all.new.seats = omega arith in let was : 0 < length c.as_mut_slice.result.now = omega arith in
           let o = get_or c.as_mut_slice.result.now 0 d in
-          let seat = subst (λ z. IsSeated sh c.args.clock c.args.plan.sessions.now 0 (get_or z 0 d).session.session.shards.now (get_or z 0 d).session.session.walker (get_or z 0 d).session.session.progress (get_or z 0 d).transactions.now) (sym value) (c.requires.seated 0 d some) in
+          let seat = subst (λ z. IsSeated sh c.args.clock c.args.plan.sessions.now 0 (get_or z 0 d).session.session.shards.now (get_or z 0 d).session.session.walker (get_or z 0 d).session.session.progress (get_or z 0 d).session.session.saves.items (get_or z 0 d).session.saves (get_or z 0 d).transactions.now) (sym value) (c.requires.seated 0 d some) in
           let h = r.reached d was in let at = (seat.new).clock_is in let none = (seat.new).none_begun in
           subst (λ z. r.clock ≤ z.session.session.walker.serial + max c.args.clock (last_seen z.session.session.walker.passes.items)) (sym (written c.run_all.new.seats _ c.args.seats.now.len 0 d (omega arith) low)) (omega arith));
       each = λ k d l. (let low : k < length c.run_all.new.seats = omega arith in let was : k < length c.as_mut_slice.result.now = omega arith in
           let v = get_or c.run_all.new.seats k d in let o = get_or c.as_mut_slice.result.now k d in
-          let seat = subst (λ z. IsSeated sh c.args.clock c.args.plan.sessions.now k (get_or z k d).session.session.shards.now (get_or z k d).session.session.walker (get_or z k d).session.session.progress (get_or z k d).transactions.now) (sym value) (c.requires.seated k d l) in
+          let seat = subst (λ z. IsSeated sh c.args.clock c.args.plan.sessions.now k (get_or z k d).session.session.shards.now (get_or z k d).session.session.walker (get_or z k d).session.session.progress (get_or z k d).session.session.saves.items (get_or z k d).session.saves (get_or z k d).transactions.now) (sym value) (c.requires.seated k d l) in
           subst (λ z. HasSat sh c.args.clock (base_from c.args.clock r.clock k) c.args.plan.most c.args.plan.sessions.now k z.session.session.walker z.ended) (sym (written c.run_all.new.seats _ c.args.seats.now.len k d (omega arith) low))
           (subst (λ b. HasSat sh c.args.clock b c.args.plan.most c.args.plan.sessions.now k v.session.session.walker v.ended) (same_base c.args.clock r.clock k _ (seat.new).clock_is)
           (sat sh o.session.session.shards.now v.session.session.shards.now c.args.clock _ o.session.session.walker v.session.session.walker o.session.asked v.session.asked o.session.session.progress v.session.session.progress o.transactions.now c.args.plan.most c.args.plan.sessions.now k v.ended seat
-          (E.session k d was) (E.base k d was) (r.each k d was) (E.grounds k d was))));
+          (E.session k d was).holds (E.base k d was) (r.each k d was) (E.grounds k d was))));
     }
 
 pub returns-clause-alone : goal.returns-clause-alone
@@ -78,13 +78,13 @@ returns-clause-alone g c =
       clock = r.clock;
       first = λ bodies d at. (let some = slice_get_within c.args.plan.sessions.now 0 bodies at in let low : 0 < length c.run_all.new.seats = omega arith in
           let v = get_or c.run_all.new.seats 0 d in let o = get_or c.as_mut_slice.result.now 0 d in
-          let seat = subst (λ z. IsSeated sh c.args.clock c.args.plan.sessions.now 0 (get_or z 0 d).session.session.shards.now (get_or z 0 d).session.session.walker (get_or z 0 d).session.session.progress (get_or z 0 d).transactions.now) (sym value) (c.requires.seated 0 d some) in
+          let seat = subst (λ z. IsSeated sh c.args.clock c.args.plan.sessions.now 0 (get_or z 0 d).session.session.shards.now (get_or z 0 d).session.session.walker (get_or z 0 d).session.session.progress (get_or z 0 d).session.session.saves.items (get_or z 0 d).session.saves (get_or z 0 d).transactions.now) (sym value) (c.requires.seated 0 d some) in
           subst (λ z. BeginsWith sh.splits sh.run c.args.plan.most bodies r.clock (session_entries (kept z.session.session.walker.passes.items))) (sym (written c.run_all.new.seats _ c.args.seats.now.len 0 d (omega arith) low))
           (sat_first sh c.args.plan.most c.args.plan.sessions.now c.args.clock r.clock o.session.session.shards.now v.session.session.shards.now o.session.session.walker v.session.session.walker o.session.asked v.session.asked o.session.session.progress v.session.session.progress o.transactions.now bodies seat at
           (r.first d (omega arith))));
       others = λ k d pos l. (let low : k < length c.run_all.new.seats = omega arith in
           let v = get_or c.run_all.new.seats k d in let o = get_or c.as_mut_slice.result.now k d in
-          let seat = subst (λ z. IsSeated sh c.args.clock c.args.plan.sessions.now k (get_or z k d).session.session.shards.now (get_or z k d).session.session.walker (get_or z k d).session.session.progress (get_or z k d).transactions.now) (sym value) (c.requires.seated k d l) in
+          let seat = subst (λ z. IsSeated sh c.args.clock c.args.plan.sessions.now k (get_or z k d).session.session.shards.now (get_or z k d).session.session.walker (get_or z k d).session.session.progress (get_or z k d).session.session.saves.items (get_or z k d).session.saves (get_or z k d).transactions.now) (sym value) (c.requires.seated k d l) in
           subst (λ z. AllByRecursion (λ e. r.clock < (e.1).stamp) (session_entries (kept z.session.session.walker.passes.items))) (sym (written c.run_all.new.seats _ c.args.seats.now.len k d (omega arith) low))
           (sat_past sh c.args.plan.most c.args.plan.sessions.now c.args.clock r.clock k o.session.session.shards.now v.session.session.shards.now o.session.session.walker v.session.session.walker o.session.asked v.session.asked o.session.session.progress v.session.session.progress o.transactions.now seat
           (r.others k d pos (omega arith))));

@@ -16,17 +16,17 @@ serve_places-requires-send-C g c κs within =
     record { owned = s.owned; leaving = (param_send 1 _ s).leaving }
 
 pub serve_places-requires-clause-session : goal.serve_places-requires-clause-session
-serve_places-requires-clause-session g c κs within k d l = holds_on c.args.shards.now _ c.args.clock k _ _ (c.requires.placed k d l)
+serve_places-requires-clause-session g c κs within k d l = holds_on c.args.shards.now _ c.args.clock k _ _ _ _ (c.requires.placed k d l)
 
 pub serve_places-requires-clause-idle : goal.serve_places-requires-clause-idle
-serve_places-requires-clause-idle g c κs within k d l = idle c.args.shards.now _ c.args.clock k _ (get_or c.args.places.now.items k d).session.asked _ (c.requires.placed k d l)
+serve_places-requires-clause-idle g c κs within k d l = idle c.args.shards.now _ c.args.clock k _ (get_or c.args.places.now.items k d).session.asked _ _ _ (c.requires.placed k d l)
 
 pub returns-clause-lived : goal.returns-clause-lived
 returns-clause-lived g c =
     let E = c.serve_places.ensures in let (lives, each, streamed) = E.lived in let ok = c.args.places.now.ok in (
       lives,
       (λ k d l. (let o = get_or c.args.places.now.items k d in let n = get_or c.serve_places.new.places.items k d in
-          walked c.args.shards.now o.session.session.shards.now n.session.session.shards.now c.args.clock k o.session.session.walker n.session.session.walker o.session.asked n.session.asked o.session.session.progress n.session.session.progress (lives (suc k)) n.ended
-          (c.requires.placed k d l) (E.session k d l) (E.base k d l) (each k d (omega arith)) (E.grounds k d l))),
+          walked c.args.shards.now o.session.session.shards.now n.session.session.shards.now c.args.clock k o.session.session.walker n.session.session.walker o.session.asked n.session.asked o.session.session.progress n.session.session.progress o.session.session.saves.items o.session.saves (lives (suc k)) n.ended
+          (c.requires.placed k d l) (E.session k d l).holds (E.base k d l) (each k d (omega arith)) (E.grounds k d l))),
       streamed,
     )
