@@ -95,6 +95,14 @@ class Transaction:
         """All pairs from one key to another, both in, by rising keys."""
         return [(key, value_of(told)) for key, told in self.session.ask(f"scan {low} {high}")[-1]]
 
+    def save(self):
+        """Keeps a savepoint, where the transaction stands now; gives its number."""
+        return self.session.ask("save")[-1]
+
+    def back(self, savepoint):
+        """Takes back what was written since a savepoint, and forgets those after it. What was read and written stays locked."""
+        self.session.ask(f"back {savepoint}")
+
     def abort(self):
         """Leaves the block, or the work that was given to `run`: nothing of the transaction is done."""
         raise Left
@@ -143,7 +151,7 @@ class Session:
             raise MemoryError(answer[2])
         if word == "refused":
             raise Refused(words, answer[2])
-        self.is_active = word in ("begin", "get", "put", "add", "del", "scan")
+        self.is_active = word in ("begin", "get", "put", "add", "del", "scan", "save", "back")
         if word == "aborted":
             raise Aborted(answer[2:])
         if word == "down":

@@ -93,6 +93,42 @@ add 14 20
 add 5 20
 commit
 """
+# Sessions that go back on one shard and on both, beside each other, and go on behind that.
+SAVEPOINTS = b"""session
+begin
+save
+put 3 1
+put 13 1
+add 2 5
+back 1
+put 3 2
+save
+add 14 5
+put 4 1
+back 2
+commit
+begin
+put 11 6
+save
+del 11
+back 1
+abort
+session
+begin
+add 2 1
+save
+add 14 2
+put 15 1
+back 1
+put 15 2
+commit
+begin
+put 5 3
+save
+put 16 3
+back 1
+commit
+"""
 # Sessions that meet on one shard, and end in each way.
 ONE_SHARD = b"""session
 begin
@@ -128,6 +164,7 @@ SCRIPTS = [
     ("two shards", (10,), FILLING, TWO_SHARDS),
     ("three shards", (10, 20), b"", THREE_SHARDS),
     ("additions", (10,), FILLING, ADDITIONS),
+    ("savepoints", (10,), FILLING, SAVEPOINTS),
 ]
 
 # What ONE_PUT reports where its Nth call of a kind fails, and what may stand then.
@@ -170,9 +207,9 @@ class Reported:
             self.lines = [json.loads(it) for it in got.out.splitlines()[:-1]]
 
     def lost(self, files, run):
-        """Acknowledged transactions that wrote, and aren't committed in these logs."""
+        """Acknowledged transactions of which something stands, and that aren't committed in these logs."""
         there = {it for facts in logs.opened(files)[1] for it in facts.committed}
-        writing = [it for it in self.lines if any(op[0] == "put" or (op[0] == "del" and op[-1] is not None) or (op[0] == "add" and op[-1]) for op in it["ops"])]
+        writing = [it for it in self.lines if reports.standing(it["ops"])]
         return [it for it in writing if (run, it["session"], it["serial"]) not in there]
 
 
@@ -419,10 +456,12 @@ def crowd(numbers):
         lines.append("session")
         for _ in range(numbers.randrange(1, 8)):
             lines.append("begin")
+            mine = []
             for key in numbers.sample(range(30), numbers.randrange(1, 4)):
                 value += 1
                 put = f"put {key} {value}"
-                lines.append(numbers.choice((put, put, f"add {key} {value}", f"get {key}", f"scan {key} {key + 5}")))
+                mine.append(numbers.choice((put, put, f"add {key} {value}", f"get {key}", f"scan {key} {key + 5}")))
+            lines += reports.with_savepoints(numbers, mine)
             lines.append(numbers.choice(("commit", "commit", "commit", "abort")))
     return reports.script_of(lines)
 

@@ -144,7 +144,7 @@ def takes_sums_apart(checks, folder):
         "an UPDATE over an open ADD": [*start, ("ADD", SECOND, 5, 7), update(third, 5, 107, 1)],
         "an UPDATE with a value before that leaves an ADD out": [*prepared, update(third, 5, 100, 1)],
         "an UNADD of another number": [*start, ("ADD", SECOND, 5, 7), ("ABORT", SECOND), ("UNADD", SECOND, None, 5, 6)],
-        "an UNADD without an ABORT": [*start, ("ADD", SECOND, 5, 7), ("UNADD", SECOND, None, 5, 7)],
+        "an UNADD of a prepared one": [*prepared, ("UNADD", SECOND, None, 5, 7)],
         "an UNADD below an UPDATE": [*prepared, update(third, 5, 107, 1), ("ABORT", SECOND), ("UNADD", SECOND, None, 5, 7)],
         "a CLR of an ADD": [*start, ("ADD", SECOND, 5, 7), ("ABORT", SECOND), ("CLR", SECOND, None, 5, 100)],
         "a CLR below an ADD": [*under, ("ADD", SECOND, 5, 1), ("ABORT", FIRST), ("CLR", FIRST, None, 5, None)],
@@ -158,11 +158,50 @@ def takes_sums_apart(checks, folder):
         "ADDs beside each other": [*start, ("ADD", SECOND, 5, 7), ("ADD", third, 5, 8), ("COMMIT", third, ()), ("COMMIT", SECOND, ())],
         "an UNADD below an ADD": [*start, ("ADD", SECOND, 5, 7), ("ADD", third, 5, 8), ("ABORT", SECOND), ("UNADD", SECOND, None, 5, 7)],
         "an UPDATE over a listed ADD": [*prepared, update(third, 5, 107, 1), ("PREPARE", third, 0, (SECOND,))],
+        "an UNADD without an ABORT": [*start, ("ADD", SECOND, 5, 7), ("UNADD", SECOND, None, 5, 7)],
         "an own UPDATE over an own ADD": [*start, ("ADD", SECOND, 5, 7), update(SECOND, 5, 107, 1), ("COMMIT", SECOND, ())],
     }
     for name, records in right.items():
         judge(checks, folder, name, [logs.log(0, [], [records])])
         checks.check(f"{name}: by logs.py", expected([logs.log(0, [], [records])])[0] is None)
+
+
+def takes_back(checks, folder):
+    """One that went back, and then committed; and records that only stand where something of its transaction stands."""
+    once, twice = update(FIRST, 5, None, 1), update(FIRST, 5, 1, 2)
+    back, first = ("CLR", FIRST, 1, 5, 1), ("CLR", FIRST, None, 5, None)
+    right = {
+        "a CLR without an ABORT": ([RESTART, once, twice, back, update(FIRST, 7, None, 3), ("COMMIT", FIRST, ())], "[5,1]\n[7,3]\n"),
+        "a CLR without an ABORT, and a PREPARE": ([RESTART, once, twice, back, ("PREPARE", FIRST, 0, ()), ("COMMIT", FIRST, ())], "[5,1]\n"),
+        "all of one is taken back": ([RESTART, once, first, update(SECOND, 5, None, 9), ("COMMIT", SECOND, ())], "[5,9]\n"),
+        "a loser that went back": ([RESTART, once, twice, back], ""),
+    }
+    for name, (records, want) in right.items():
+        files = [logs.log(0, [], [records])]
+        judge(checks, folder, name, files)
+        checks.check(f"{name}: by logs.py", expected(files)[0] is None and logs.shown(expected(files)[1]) == want, expected(files))
+    wrong = {
+        "a CLR of a committed one": [RESTART, once, ("COMMIT", FIRST, ()), first],
+        "a CLR of a prepared one": [RESTART, once, ("PREPARE", FIRST, 0, ()), first],
+        "a CLR of one's first UPDATE": [RESTART, once, twice, first],
+        "a PREPARE of which nothing stands": [RESTART, once, first, ("PREPARE", FIRST, 0, ())],
+        "a COMMIT of which nothing stands": [RESTART, once, first, ("COMMIT", FIRST, ())],
+        "an ABORT of which nothing stands": [RESTART, once, first, ("ABORT", FIRST)],
+    }
+    for name, records in wrong.items():
+        files = [logs.log(0, [], [records])]
+        judge(checks, folder, name, files)
+        checks.check(f"{name}: by logs.py", expected(files)[0] is not None)
+
+
+def took_all_back_elsewhere(checks, folder):
+    """Committed at home, where it has no part: on the other shard it took all back, or it didn't."""
+    home, part = [RESTART, update(FIRST, 1, None, 7), ("COMMIT", FIRST, ())], [RESTART, update(FIRST, 11, None, 8)]
+    for name, more, is_fine in (("all is taken back", [("CLR", FIRST, None, 11, None)], True), ("something stands", [], False)):
+        files = [logs.log(0, [10], [home]), logs.log(1, [10], [[*part, *more]])]
+        judge(checks, folder, f"{name} where it is no part", files)
+        fault, pairs = expected(files)
+        checks.check(f"{name} where it is no part: by logs.py", pairs == {1: 7} if is_fine else fault.status == 11, (fault, pairs))
 
 
 def commits_what_its_home_committed(checks, folder):
@@ -220,7 +259,7 @@ def misses_a_file(checks, folder):
 
 
 def rows(checks, program):
-    for row in (undoes_doubt_over_a_loser, takes_sums_apart, commits_what_its_home_committed, refuses_counts, reads_the_longest_batch, misses_a_file):
+    for row in (undoes_doubt_over_a_loser, takes_sums_apart, takes_back, took_all_back_elsewhere, commits_what_its_home_committed, refuses_counts, reads_the_longest_batch, misses_a_file):
         with Folder(program) as folder:
             row(checks, folder)
 
@@ -415,11 +454,13 @@ def script_at(numbers, keys):
         lines.append("session")
         for _ in range(numbers.randrange(1, 5)):
             lines.append("begin")
+            mine = []
             for _ in range(numbers.randrange(1, 6)):
                 key = numbers.choice(keys)
                 put = f"put {key} {numbers.randrange(9)}"
                 add = f"add {key} {numbers.randrange(9)}"
-                lines.append(numbers.choice((put, put, add, add, f"del {key}", f"get {key}", f"scan {min(keys)} {max(keys)}")))
+                mine.append(numbers.choice((put, put, add, add, f"del {key}", f"get {key}", f"scan {min(keys)} {max(keys)}")))
+            lines += reports.with_savepoints(numbers, mine)
             lines.append(numbers.choice(("commit", "commit", "commit", "abort")))
     return reports.script_of(lines)
 

@@ -47,14 +47,20 @@ class Faults:
 
     def run(self, folder, *words, script=b"", seconds=60, **faults):
         """Runs the program in a folder. The faults are what faults.c is told, without FAULTS_. Gives what the program answered, and the trace."""
+        got = folder.run(*words, script=script, seconds=seconds, environment=self.environment(folder, **faults))
+        return got, self.trace(folder)
+
+    def environment(self, folder, **faults):
+        """What a program that is started in a folder finds in its environment, for a trace that begins anew."""
         trace = os.path.join(folder.path, "trace")
         with open(trace, "wb"):
             pass
         told = {f"FAULTS_{name.upper()}": str(it) for name, it in faults.items()}
-        environment = {"LD_PRELOAD": self.path, "FAULTS_TRACE": trace, **told}
-        got = folder.run(*words, script=script, seconds=seconds, environment=environment)
-        with open(trace) as lines:
-            return got, Trace(lines.read().splitlines())
+        return {"LD_PRELOAD": self.path, "FAULTS_TRACE": trace, **told}
+
+    def trace(self, folder):
+        with open(os.path.join(folder.path, "trace")) as lines:
+            return Trace(lines.read().splitlines())
 
 
 def spelled(faults):

@@ -6,7 +6,7 @@ these pairs, with values of this round alone; now and then a run ends, most are 
 random. What must hold after each round:
 
 - the logs may be opened, and `show`, which now and then is killed first, ends with status 0 and tells what they stand for;
-- transfers between accounts, all over the shards, by moves and by additions, leave their sum;
+- transfers between accounts, all over the shards, by moves and by additions, leave their sum, also where one takes back what it wrote in its middle;
 - pairs of keys on two shards, which each transaction writes alike, are alike;
 - of the keys that a session writes one transaction after another, those with a value of this round are the first ones;
 - two counts, to which each of these transactions adds one, have grown by one for each such key;
@@ -70,15 +70,25 @@ def filling(places):
     return reports.script_of(["session", "begin", *lines, "commit"])
 
 
+def second_thoughts(numbers, *lines):
+    """These lines, and back to before them; now and then."""
+    return ("save", *lines, "back 1") if numbers.random() < 0.3 else ()
+
+
 def transfers(numbers, places, session, number, value):
-    """A transfer with the session's twins, which others may make die, and then a link of its chain, which nobody meets, but beside others at the counts."""
+    """A transfer with the session's twins, which others may make die, and then a link of its chain, which nobody meets, but beside others at the counts. Each may
+    have second thoughts in its middle."""
     source, target = map(places.account, numbers.sample(range(ACCOUNTS), 2))
     amount = numbers.randrange(1, 40)
     yield "begin"
     yield from numbers.choice(([f"move {source} {target} {amount}"], [f"add {source} {logs.BEYOND - amount}", f"add {target} {amount}"]))
+    yield from second_thoughts(numbers, f"put {places.twins(session)[0]} 0", f"del {source}", f"add {target} 1")
     yield from (f"put {it} {value}" for it in places.twins(session))
     yield numbers.choice(("commit", "commit", "commit", "abort"))
-    yield from ("begin", f"put {places.chain(session, number)} {value}", *(f"add {it} 1" for it in places.counts()), "commit")
+    link = places.chain(session, number)
+    yield "begin"
+    yield from second_thoughts(numbers, *(f"add {it} 7" for it in places.counts()), f"del {link}")
+    yield from (f"put {link} {value}", *(f"add {it} 1" for it in places.counts()), "commit")
 
 
 def round_at(numbers, places, value):

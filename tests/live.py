@@ -19,6 +19,7 @@ import threading
 import time
 
 import logs
+from live_rows import ODD_LINES, TRANSCRIPT
 from program import Checks, Folder, arguments, cases, seeded
 
 LIMIT = 60
@@ -32,8 +33,9 @@ NO_ANSWER = "no answer in time"
 class Live:
     """A store that serves, and the lines that it writes."""
 
-    def __init__(self, folder, *words):
-        self.process = folder.start("serve", *words, stdin=subprocess.PIPE, stdout=subprocess.PIPE, stderr=subprocess.PIPE)
+    def __init__(self, folder, *words, environment=None):
+        streams = {"stdin": subprocess.PIPE, "stdout": subprocess.PIPE, "stderr": subprocess.PIPE}
+        self.process = folder.start("serve", *words, environment=environment, **streams)
         self.lines = queue.SimpleQueue()
         self.reader = threading.Thread(target=self.read, daemon=True)
         self.reader.start()
@@ -76,105 +78,6 @@ class Live:
         return status, left, self.process.stderr.read().decode()
 
 
-def refused(session, text):
-    return [session, "refused", text]
-
-
-# One request after another, each with its answer.
-TRANSCRIPT = [
-    ("1 begin", [1, "begin", 1]),
-    ("1 put 1 100", [1, "put", 1, 100, None]),
-    ("1 get 1", [1, "get", 1, 100]),
-    ("1 put 11 5", [1, "put", 11, 5, None]),
-    ("1 get 12", [1, "get", 12, None]),
-    ("1 scan 0 20", [1, "scan", 0, 20, [[1, 100], [11, 5]]]),
-    ("1 del 11", [1, "del", 11, 5]),
-    ("1 put 11 6", [1, "put", 11, 6, None]),
-    ("1 commit", [1, "committed", 1]),
-    ("1 begin", [1, "begin", 2]),
-    ("1 commit", [1, "empty", 2]),
-    ("1 begin", [1, "begin", 3]),
-    ("1 put 1 7", [1, "put", 1, 7, 100]),
-    ("1 abort", [1, "aborted", "asked"]),
-    ("1 retry", [1, "begin", 4]),
-    ("1 get 1", [1, "get", 1, 100]),
-    ("1 commit", [1, "committed", 4]),
-    ("1 retry", refused(1, "nothing to try again")),
-    ("1 commit", refused(1, "no transaction is active")),
-    ("1 abort", refused(1, "no transaction is active")),
-    ("1 get 1", refused(1, "no transaction is active")),
-    ("2 retry", refused(2, "nothing to try again")),
-    ("2 begin", [2, "begin", 1]),
-    ("2 begin", refused(2, "a transaction is active")),
-    ("2 retry", refused(2, "a transaction is active")),
-    ("2 get", refused(2, "no request")),
-    ("2 scan 2 1", refused(2, "no request")),
-    ("2 move 1 2 3", refused(2, "no request")),
-    ("2  get 1", refused(2, "no request")),
-    ("2 get 18446744073709551616", refused(2, "no request")),
-    ("2 get 18446744073709551615", [2, "get", 18446744073709551615, None]),
-    ("2 session", refused(2, "no request")),
-    ("2 #", refused(2, "no request")),
-    ("17 begin", refused(0, "no session")),
-    ("0 begin", refused(0, "no session")),
-    ("02 commit", refused(0, "no session")),
-    ("begin", refused(0, "no session")),
-    ("2", refused(0, "no session")),
-    (" 2 commit", refused(0, "no session")),
-    ("#" + "x" * 4095 + "\n2 commit", [2, "committed", 1]),
-    ("#" + "x" * 4096, refused(0, "the line is too long")),
-    ("\n\n# a comment\n16 begin", [16, "begin", 1]),
-    # Whoever finds an older one in its way dies, and keeps its age.
-    ("3 begin", [3, "begin", 1]),
-    ("4 begin", [4, "begin", 1]),
-    ("3 put 5 1", [3, "put", 5, 1, None]),
-    ("4 put 5 2", [4, "aborted", "died", [1, 3, 1]]),
-    ("4 put 5 2", refused(4, "no transaction is active")),
-    ("4 retry", [4, "begin", 2]),
-    ("3 commit", [3, "committed", 1]),
-    ("4 put 5 2", [4, "put", 5, 2, 1]),
-    ("4 commit", [4, "committed", 2]),
-    # A text is told as its digits.
-    ("7 bytes 9 00ff", refused(7, "no transaction is active")),
-    ("7 begin", [7, "begin", 1]),
-    ("7 bytes 9 00ff", [7, "put", 9, "00ff", None]),
-    ("7 bytes 13 -", [7, "put", 13, "", None]),
-    ("7 put 9 3", [7, "put", 9, 3, "00ff"]),
-    ("7 bytes 9 " + "ab" * 200, [7, "put", 9, "ab" * 200, 3]),
-    ("7 bytes 9 " + "ab" * 201, refused(7, "no request")),
-    ("7 bytes 9 0", refused(7, "no request")),
-    ("7 bytes 9 0A", refused(7, "no request")),
-    ("7 bytes 9", refused(7, "no request")),
-    ("7 get 9", [7, "get", 9, "ab" * 200]),
-    ("7 bytes 9 0d0a", [7, "put", 9, "0d0a", "ab" * 200]),
-    ("7 scan 8 20", [7, "scan", 8, 20, [[9, "0d0a"], [11, 6], [13, ""]]]),
-    ("7 del 13", [7, "del", 13, ""]),
-    ("7 commit", [7, "committed", 1]),
-    # Those that add to a number don't wait for each other, and one that is aborted takes its own away; who reads the sum may not.
-    ("8 add 14 1", refused(8, "no transaction is active")),
-    ("8 begin", [8, "begin", 1]),
-    ("8 add 14 1", [8, "add", 14, 1, False]),
-    ("8 put 14 18446744073709551615", [8, "put", 14, 18446744073709551615, None]),
-    ("8 add 14", refused(8, "no request")),
-    ("8 add 14 -1", refused(8, "no request")),
-    ("8 add 14 18446744073709551616", refused(8, "no request")),
-    ("8 commit", [8, "committed", 1]),
-    ("8 begin", [8, "begin", 2]),
-    ("9 begin", [9, "begin", 1]),
-    ("8 add 14 3", [8, "add", 14, 3, True]),
-    ("9 add 14 5", [9, "add", 14, 5, True]),
-    ("8 get 14", [8, "aborted", "died", [1, 9, 1]]),
-    ("8 retry", [8, "begin", 3]),
-    ("8 add 14 6", [8, "add", 14, 6, True]),
-    ("8 commit", [8, "committed", 3]),
-    ("9 add 9 1", [9, "add", 9, 1, False]),
-    ("9 abort", [9, "aborted", "asked"]),
-    ("9 begin", [9, "begin", 2]),
-    ("9 get 14", [9, "get", 14, 5]),
-    ("9 commit", [9, "committed", 2]),
-]
-
-
 def transcript(checks, program):
     with Folder(program) as folder:
         folder.run("make", "10")
@@ -195,7 +98,7 @@ def transcript(checks, program):
         status, left, err = live.end()
         checks.check("end of input", (status, left, err) == (0, [], ""), (status, left, err))
         shown = folder.run("show")
-        checks.check("what stands", shown.out == "[1,100]\n[5,2]\n[8,1]\n[9,\"0d0a\"]\n[11,6]\n[14,5]\n", shown)
+        checks.check("what stands", shown.out == "[1,100]\n[5,2]\n[8,1]\n[9,\"0d0a\"]\n[11,6]\n[14,5]\n[16,9]\n", shown)
 
 
 def whole_input(checks, program):
@@ -260,38 +163,6 @@ def peers(checks, program):
         with open("/dev/full", "wb") as full:
             got = folder.run("serve", script=b"1 begin\n1 put 3 4\n1 commit\n" * 3, stdout=full)
         checks.check("a full output", got.status == 5, got)
-
-
-# Lines that are none, each behind an open transaction of session 1, and what comes of each.
-NO_REQUEST, NO_SESSION, TOO_LONG = refused(1, "no request"), refused(0, "no session"), refused(0, "the line is too long")
-ODD_LINES = [
-    (b"1 get 5" + b" " * 4089, NO_REQUEST),
-    (b"1 get 5" + b" " * 4090, TOO_LONG),
-    (b"x" * 1_000_000, TOO_LONG),
-    (b"#" * 4096 + b"\n1 get", NO_REQUEST),
-    (b"# caf\xc3\xa9", NO_SESSION),
-    (b"\xff\xfe\x00", NO_SESSION),
-    (b"1 put \xff 5", NO_REQUEST),
-    (b"1 get \xc3\xa9", NO_REQUEST),
-    (b"1 get 5\r", NO_REQUEST),
-    (b"\r", NO_SESSION),
-    (b"\0", NO_SESSION),
-    (b"1 get 5\0", NO_REQUEST),
-    (b"1\tget 5", NO_SESSION),
-    (b"1  get 5", NO_REQUEST),
-    (b"1 ", NO_REQUEST),
-    (b"1 GET 5", NO_REQUEST),
-    (b"1 get 05", NO_REQUEST),
-    (b"1 get +5", NO_REQUEST),
-    (b"1 get -5", NO_REQUEST),
-    (b"1 get 5 5", NO_REQUEST),
-    (b"1 put 5", NO_REQUEST),
-    (b"1 commit now", NO_REQUEST),
-    (b"1 begin 1", NO_REQUEST),
-    (b"99999999999999999999 get 5", NO_SESSION),
-    (b"-1 get 5", NO_SESSION),
-    (b"1 get 5", [1, "get", 5, None]),
-]
 
 
 def odd_lines(checks, program):
@@ -433,9 +304,20 @@ class Client:
         value = self.number * 1_000_000 + self.value
         return value.to_bytes(8, "big") if self.value % 3 == 0 else value
 
+    def think_again(self, t, thoughts):
+        """Puts others behind a savepoint of its own, takes these back, and finds what it had put before."""
+        savepoint = t.save()
+        for key in (*thoughts, *thoughts):
+            t.put(key, self.fresh())
+        t.back(savepoint)
+        found = {it: t.get(it) for it in thoughts}
+        if found != thoughts:
+            raise Wrong(f"{found} in the place of {thoughts}")
+
     def one(self, session, numbers, keys):
         """One transaction, tried until it is committed; its operations with their answers."""
-        plan = [(numbers.choice(("get", "put", "put", "scan")), numbers.choice(keys), numbers.choice(keys)) for _ in range(numbers.randrange(1, 6))]
+        words_ = ("get", "put", "put", "put", "scan", "think")
+        plan = [(numbers.choice(words_), numbers.choice(keys), numbers.choice(keys)) for _ in range(numbers.randrange(1, 6))]
         for _ in range(numbers.choice((0, 1, 1, 2))):
             counter = numbers.choice(list(self.powers))
             power = next(self.powers[counter], None)
@@ -452,6 +334,13 @@ class Client:
                     done.append(("put", key, value, t.put(key, value)))
                 elif word == "add":
                     done.append(("add", key, other, t.add(key, other)))
+                elif word == "think":
+                    # What it puts and takes back tells what was there before, as what it finds then.
+                    savepoint, thoughts = t.save(), {it: self.fresh() for it in (key, other)}
+                    done.extend([("get", it, t.put(it, value)) for it, value in thoughts.items()])
+                    self.think_again(t, thoughts)
+                    t.back(savepoint)
+                    done.extend([("get", it, t.get(it)) for it in (key, other)])
                 else:
                     low, high = min(key, other), max(key, other)
                     done.append(("scan", low, high, t.scan(low, high)))
@@ -656,7 +545,8 @@ def goes_away(checks, case, numbers, program):
         folder.run("make", "50")
         process = folder.start("serve", "--sessions", "2", stdin=subprocess.PIPE, stdout=subprocess.PIPE, stderr=subprocess.PIPE, bufsize=0)
         count, committed = numbers.randrange(1, 200), 0
-        text = "".join(f"1 begin\n1 put 1 {it}\n1 put 51 {it}\n1 commit\n" for it in range(1, count + 1)) + "1 begin\n1 put 1 0\n1 put 51 0\n"
+        second_thoughts = "1 save\n1 put 51 0\n1 del 1\n1 back 1\n"
+        text = "".join(f"1 begin\n1 put 1 {it}\n{second_thoughts}1 put 51 {it}\n1 commit\n" for it in range(1, count + 1)) + "1 begin\n1 put 1 0\n1 put 51 0\n"
 
         def send():
             with contextlib.suppress(OSError):
@@ -694,9 +584,16 @@ def goes_away(checks, case, numbers, program):
 
 
 def twins(t, client, nth, source, target):
-    """Two keys of the client's own, on shards of their own, get the number, all count together, and an account of all gives another one something."""
+    """Two keys of the client's own, on shards of their own, get the number, all count together, and an account of all gives another one something. Every second time it
+    has other thoughts in its middle, and takes these back."""
     t.add(COUNTER, 1)
     t.put(1000 + client, nth)
+    if nth % 2 == 0:
+        savepoint = t.save()
+        t.add(COUNTER, 1000)
+        t.delete(1000 + client)
+        t.put(3000 + client, 0)
+        t.back(savepoint)
     t.put(3000 + client, nth)
     one = t.get(source)
     if one > 0:

@@ -12,6 +12,8 @@ What must hold after each run:
   commit has no answer or `unsettled`, all or nothing is;
 - `show` tells what the image stands for, and live sessions go on from there.
 
+Then a shard fails while one session has savepoints: that session goes back line by line, over shards of which this one is down.
+
 And while lines put texts, a malformed one is told as no request whatever memory there is, one that finds none is told as that, and a session that found none elsewhere
 has ended.
 """
@@ -24,6 +26,8 @@ import tempfile
 import faults
 import logs
 from calls import expected
+from live import Live
+from live_rows import refused
 from program import Checks, Folder, arguments
 
 SECONDS = 60
@@ -44,8 +48,10 @@ def transactions():
 
 
 def lines_of(session, nth, wrote, added):
-    by = 1 << BITS * (session - 1) + nth
-    return [f"{session} begin", *(f"{session} put {key} {value}" for key, value in wrote.items()), *(f"{session} add {key} {by}" for key in added), f"{session} commit"]
+    """Behind its savepoint it writes something else, and goes back."""
+    by, last = 1 << BITS * (session - 1) + nth, max(wrote)
+    puts, adds = [f"put {key} {value}" for key, value in wrote.items()], [f"add {key} {by}" for key in added]
+    return [f"{session} {it}" for it in ("begin", *puts, "save", *adds, f"put {last} 0", "back 1", *adds, "commit")]
 
 
 def lines():
@@ -61,7 +67,7 @@ LINES, INPUT = lines()
 FILLED = {key: 1 for plan in PLANS for keys in plan for key in keys} | dict.fromkeys(COUNTERS, 0)
 FILLING = "\n".join(["session", "begin", *(f"put {key} {value}" for key, value in FILLED.items()), "commit", ""]).encode()
 SERVE = ("serve", "--sessions", str(SESSIONS))
-WORDS = {"begin": {"begin"}, "put": {"put"}, "add": {"add"}, "commit": {"committed"}}
+WORDS = {it: {it} for it in ("begin", "put", "add", "save", "back")} | {"commit": {"committed"}}
 MEMORY, ENDED = '[1,"memory"]', '[1,"refused","the session has ended"]'
 CAUSES = {"aborted", "down", "unsettled", "worn", "memory", "refused"}
 
@@ -220,6 +226,119 @@ def threads(trial):
     trial.run("no thread", is_whole=False, statuses={(8, "want of memory\n")}, call=f"thread:1:{errno.EAGAIN}:on")
 
 
+# Session 1 has a savepoint, and session 2 commits at a key of a shard that fails then. The shard; the lines up to that commit, and those behind it, each with its answer;
+# what stands; and the records of session 1's first transaction on the other shard.
+BACK_ROWS = [
+    (
+        "the second of two shards is down",
+        1,
+        [
+            ("1 begin", [1, "begin", 1]),
+            ("1 put 1 100", [1, "put", 1, 100, 1]),
+            ("1 save", [1, "save", 1]),
+            ("1 put 2 5", [1, "put", 2, 5, 1]),
+            ("1 add 30 7", [1, "add", 30, 7, True]),
+            ("1 put 51 7", [1, "put", 51, 7, 1]),
+            ("1 save", [1, "save", 2]),
+            ("1 put 2 6", [1, "put", 2, 6, 5]),
+        ],
+        [
+            ("1 back 3", refused(1, "no such savepoint")),
+            ("1 back 1", [1, "down", 1]),
+            ("1 back 1", refused(1, "no transaction is active")),
+            ("1 commit", refused(1, "no transaction is active")),
+            ("1 retry", [1, "begin", 2]),
+            ("1 back 1", refused(1, "no such savepoint")),
+            ("1 scan 0 49", [1, "scan", 0, 49, [[1, 1], [2, 1], [11, 1], [21, 1], [22, 1], [30, 0]]]),
+            ("1 save", [1, "save", 1]),
+            ("1 put 2 7", [1, "put", 2, 7, 1]),
+            ("1 get 51", [1, "down", 1]),
+            ("1 begin", [1, "begin", 3]),
+            ("1 save", [1, "save", 1]),
+            ("1 put 2 8", [1, "put", 2, 8, 1]),
+            ("1 add 30 1", [1, "add", 30, 1, True]),
+            ("1 back 1", [1, "back", 1]),
+            ("1 put 22 4", [1, "put", 22, 4, 1]),
+            ("1 commit", [1, "committed", 3]),
+        ],
+        {22: 4},
+        ["UPDATE", "UPDATE", "ADD", "UPDATE", "CLR", "UNADD", "CLR", "ABORT", "CLR"],
+    ),
+    (
+        "the first of two shards is down",
+        0,
+        [
+            ("1 begin", [1, "begin", 1]),
+            ("1 save", [1, "save", 1]),
+            ("1 put 51 7", [1, "put", 51, 7, 1]),
+            ("1 put 1 100", [1, "put", 1, 100, 1]),
+        ],
+        [
+            ("1 back 1", [1, "down", 0]),
+            ("1 retry", [1, "begin", 2]),
+            ("1 get 51", [1, "get", 51, 1]),
+            ("1 put 52 4", [1, "put", 52, 4, 1]),
+            ("1 commit", [1, "committed", 2]),
+        ],
+        {52: 4},
+        ["UPDATE", "ABORT", "CLR"],
+    ),
+    (
+        "a shard is down on which nothing is to take back",
+        1,
+        [
+            ("1 begin", [1, "begin", 1]),
+            ("1 put 51 7", [1, "put", 51, 7, 1]),
+            ("1 save", [1, "save", 1]),
+            ("1 put 1 100", [1, "put", 1, 100, 1]),
+        ],
+        [
+            ("1 back 1", [1, "back", 1]),
+            ("1 get 1", [1, "get", 1, 1]),
+            ("1 back 1", [1, "back", 1]),
+            ("1 commit", [1, "unsettled", 1]),
+            ("1 retry", refused(1, "the session has ended")),
+            ("3 begin", [3, "begin", 1]),
+            ("3 put 1 5", [3, "put", 1, 5, 1]),
+            ("3 commit", [3, "committed", 1]),
+        ],
+        {1: 5},
+        ["UPDATE", "CLR"],
+    ),
+]
+# The calls on the failing shard's log by which session 2's batch is written; whether it may stand then.
+BATCH_CALLS = [("write", 3, False), ("sync", 4, False), ("write", 4, True), ("sync", 5, True)]
+
+
+def goes_back(trial, title, kind, number, may_stand, shard, first, then, stands, records):
+    """One run of lines that are answered one behind the other."""
+    name, key = f"{title}, {kind} {number}", 61 if shard else 21
+    commit = [("2 begin", [2, "begin", 1]), (f"2 put {key} 9", [2, "put", key, 9, 1]), ("2 commit", [2, "unsettled", shard])]
+    with Folder(trial.program) as folder:
+        folder.put(trial.start)
+        live = Live(folder, *SERVE[1:], environment=trial.library.environment(folder, call=f"{kind}@shard-{shard:02}.log:{number}:{errno.EIO}"))
+        for asked, want in first + commit + then:
+            got = live.ask(asked)
+            trial.checks.check(f"{name}: {asked}", got == want, (got, want))
+        ended, want = live.end(), (6, [], f"disk fault on shard {shard}\n")
+        trial.checks.check(f"{name}: status", ended == want, (ended, want))
+        left = folder.logs()
+        images = faults.Disks(trial.start, trial.library.trace(folder)).images()
+    found = [it[0] for it in logs.opened(left)[1][1 - shard].records if it[1] == (2, 1, 1)]
+    trial.checks.check(f"{name}: records", found == records, (found, records))
+    maps = [{**FILLED, **stands}] + [{**FILLED, **stands, key: 9}] * may_stand
+    for choices, files in images:
+        pairs = logs.map_of(files)
+        trial.checks.check(f"{name}: {choices}: what stands", pairs in maps, (pairs, maps))
+        trial.goes_on(f"{name}: {choices}", files, pairs)
+
+
+def goings_back(trial):
+    for title, *row in BACK_ROWS:
+        for kind, number, may_stand in BATCH_CALLS:
+            goes_back(trial, title, kind, number, may_stand, *row)
+
+
 # So many runs in which no allocation was refused end a sweep.
 QUIET = 4
 
@@ -284,6 +403,7 @@ def main():
         if library:
             trial = Trial(checks, library, told.program)
             disks(trial, told.step)
+            goings_back(trial)
             streams(trial)
             memory(trial, told.step)
             texts(trial, told.step)

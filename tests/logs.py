@@ -256,7 +256,7 @@ class Facts:
 
     def __init__(self, shard, records):
         self.shard, self.records = shard, []
-        self.named = set()  # the transactions that have records
+        self.named = {}  # transaction: the kinds of its records
         self.wrote = {}  # transaction: the LSNs of all its UPDATEs and ADDs
         self.open = {}  # transaction: those of them that stand
         self.keys = {}  # key: the LSNs of its UPDATEs and ADDs that stand
@@ -304,8 +304,20 @@ class Facts:
         """The transactions that an opening undoes, rising."""
         return sorted(it for it in self.open if self.open[it] and it not in self.committed and not self.is_in_doubt(it))
 
+    def standing(self):
+        """The UPDATEs and ADDs that stand, in order."""
+        return [self.records[it] for it in sorted(lsn for lsns in self.open.values() for lsn in lsns)]
+
     def is_decided(self, transaction):
         return transaction in self.committed or transaction in self.aborted
+
+    def may_undo(self, transaction):
+        """What was written is taken back where its transaction was aborted, or went back before it was prepared or committed."""
+        return transaction in self.aborted or not (transaction in self.prepared or transaction in self.committed)
+
+    def is_taken_back(self, transaction):
+        """Whether of its records here there are none but of writes, all of them taken back."""
+        return not self.open.get(transaction) and self.named.get(transaction, set()) <= {"UPDATE", "ADD", "CLR", "UNADD"}
 
     def allows(self, record):
         kind = record[0]
@@ -339,9 +351,9 @@ class Facts:
         return self.may_cover(transaction, filter(self.sets, self.keys.get(key, ())))
 
     def undone_by(self, transaction, kind):
-        """The last record of an aborted transaction that stands, with what is undone next; None where it is of another kind."""
+        """The last record of a transaction that stands, with what is undone next; None where it is of another kind, or may not be undone."""
         mine = self.open.get(transaction, [])
-        if transaction not in self.aborted or not mine or self.records[mine[-1]][0] != kind:
+        if not self.may_undo(transaction) or not mine or self.records[mine[-1]][0] != kind:
             return None
         return mine[-1], mine[-2] if len(mine) > 1 else None
 
@@ -361,8 +373,8 @@ class Facts:
         return not is_under and (undo_next, key, by) == (found[1], undone[2], undone[3])
 
     def allows_prepare(self, transaction, _home, predecessors):
-        wrote = self.wrote.get(transaction)
-        if self.is_decided(transaction) or transaction in self.prepared or not wrote or wrote[-1] < self.last_restart:
+        mine = self.open.get(transaction)
+        if self.is_decided(transaction) or transaction in self.prepared or not mine or mine[-1] < self.last_restart:
             return False
         if any(it == transaction or it not in self.prepared or self.is_decided(it) for it in predecessors):
             return False
@@ -375,10 +387,10 @@ class Facts:
         if transaction not in self.prepared and transaction[0] != self.restarts[-1][0]:
             return False
         is_after = all(it in self.committed for it in (*predecessors, *self.below(transaction)))
-        return is_after and bool(transaction in self.wrote or parts)
+        return is_after and bool(self.open.get(transaction) or parts)
 
     def allows_abort(self, transaction):
-        return transaction in self.wrote and not self.is_decided(transaction)
+        return bool(self.open.get(transaction)) and not self.is_decided(transaction)
 
     def allows_end(self, transaction):
         return bool(self.committed.get(transaction)) and transaction not in self.ended
@@ -391,7 +403,7 @@ class Facts:
             self.last_restart = lsn
             return
         transaction = record[1]
-        self.named.add(transaction)
+        self.named.setdefault(transaction, set()).add(kind)
         if kind in ("UPDATE", "ADD"):
             for lists, name in ((self.wrote, transaction), (self.open, transaction), (self.keys, record[2])):
                 lists.setdefault(name, []).append(lsn)
@@ -428,7 +440,7 @@ def is_home(logs, transaction, home):
         if shard in parts:
             if not is_part(other, transaction, home, has_ended):
                 return False
-        elif shard != home and transaction in other.named:
+        elif shard != home and not other.is_taken_back(transaction):
             return False
     return True
 
@@ -460,10 +472,10 @@ def told(value):
 
 
 def stands(logs):
-    """The map that logs stand for: what the committed transactions wrote."""
+    """The map that logs stand for: what the committed transactions wrote, and what stands of it."""
     done, pairs = {it for facts in logs for it in facts.committed}, {}
     for facts in logs:
-        for record in facts.records:
+        for record in facts.standing():
             if record[1] in done:
                 written(pairs, record)
     return {key: told(value) for key, value in pairs.items() if value is not None}

@@ -14,8 +14,8 @@ def with_sum(found, key, by):
 
 
 def writes_alone(transaction):
-    """The last value of each key that it writes, None for none; where it only adds the sum, as a tuple."""
-    found = {}
+    """The last value of each key that it writes, None for none; where it only adds the sum, as a tuple. To go back is to have what was there at the savepoint."""
+    found, saves = {}, []
     for line in transaction.lines:
         if line[0] == "put":
             found[line[1]] = line[2]
@@ -23,6 +23,10 @@ def writes_alone(transaction):
             found[line[1]] = None
         elif line[0] == "add":
             with_sum(found, line[1], line[2])
+        elif line[0] == "save":
+            saves.append(dict(found))
+        elif line[0] == "back":
+            found = dict(saves[line[1] - 1])
     return found
 
 
@@ -33,10 +37,10 @@ def writes_of(script):
 
 
 def members(opened, run):
-    """The transactions of a run that are committed in some log, with what they wrote in all of them."""
+    """The transactions of a run that are committed in some log, with what they wrote in all of them, and didn't take back."""
     found = {it: {} for facts in opened for it in facts.committed if it[0] == run}
     for facts in opened:
-        for record in facts.records:
+        for record in facts.standing():
             if record[0] == "UPDATE" and record[1] in found:
                 found[record[1]][record[2]] = logs.told(record[4])
             elif record[0] == "ADD" and record[1] in found:

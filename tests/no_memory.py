@@ -64,6 +64,26 @@ begin
 add 0 2
 commit
 """
+# Goings back over three shards, and of one that then writes on another one.
+SAVEPOINTS = b"""session
+begin
+put 0 5
+save
+put 10 5
+add 20 1
+save
+del 18446744073709551615
+back 1
+put 11 1
+commit
+session
+begin
+save
+add 20 2
+put 12 3
+back 1
+commit
+"""
 LOAD = "load --seed 7 --sessions 3 --accounts 4 --transfers 2".split()
 # Splits, a script that ran before, the words, the script.
 COMMANDS = [
@@ -75,6 +95,7 @@ COMMANDS = [
     ("three sessions", (10, 20), SPREAD, RUN, DYING),
     ("texts", (), TEXTS, RUN, TEXTS),
     ("additions", (10, 20), SPREAD, RUN, ADDITIONS),
+    ("savepoints", (10, 20), SPREAD, RUN, SAVEPOINTS),
     ("show", (10, 20), SPREAD, ("show",), b""),
     ("load", (50,), b"", LOAD, b""),
     ("make", None, b"", ("make", "10"), b""),

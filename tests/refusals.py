@@ -1,7 +1,8 @@
 #!/usr/bin/env python3
 """Memory is refused at moments at which `clv_shell` can't be stopped: over the program of tried/refusals, which tools/refusals builds.
 
-- While a session that made ten puts on three shards aborts, no allocation finds memory: the abort is done, and what stood before stands.
+- While a session that made ten puts on three shards aborts, no allocation finds memory: the abort is done, and what stood before stands. So it is while one
+  goes back over ten puts: what it had put before stands.
 - Of the list of steps by which an abort takes two others along over three shards each allocation is refused in its turn, alone and with all later
   ones: each run tells what it tells with memory, or ends with status 8 and tells nothing.
 """
@@ -11,8 +12,9 @@ import tempfile
 import faults
 from program import Checks, Folder, arguments
 
-STOOD = ", ".join(f"({key}, 1)" for key in (1, 2, 3, 4, 11, 12, 13, 21, 22, 23))
-ABORTED = f"refuse\ngive\n[{STOOD}]\n"
+KEYS = (1, 2, 3, 4, 11, 12, 13, 21, 22, 23)
+STOOD, STANDS = (", ".join(f"({key}, {value})" for key in KEYS) for value in (1, 2))
+TOLD = f"refuse\ngive\n[{STOOD}]\nrefuse\ngive\n[{STANDS}]\n"
 CHAIN = """21 entries
 session 1 is aborted: no of shard 1, restarted from 0 to 1
 session 2 is aborted: with that of session 1
@@ -23,10 +25,10 @@ SECONDS = 60
 
 def aborts(checks, library, folder):
     got = folder.run("puts", seconds=SECONDS)
-    checks.check("puts, with memory", got.is_fine() and got.out == ABORTED, got)
+    checks.check("puts, with memory", got.is_fine() and got.out == TOLD, got)
     got, trace = library.run(folder, "puts", seconds=SECONDS, marks=1)
-    checks.check("puts, FAULTS_MARKS=1", got.is_fine() and got.out == ABORTED, got)
-    # The operation before the abort has asked for some.
+    checks.check("puts, FAULTS_MARKS=1", got.is_fine() and got.out == TOLD, got)
+    # The operations before the abort and the going back have asked for some.
     checks.check("puts, FAULTS_MARKS=1: memory was refused", "alloc" in trace.faults, trace.faults)
 
 

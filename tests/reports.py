@@ -16,6 +16,10 @@ class Transaction:
     def __init__(self):
         self.lines, self.commits = [], False
 
+    def operates(self):
+        """Whether it has an operation, and not savepoints alone."""
+        return any(it[0] not in ("save", "back") for it in self.lines)
+
 
 def sessions_of(script):
     """The transactions of each session of a script that is in the grammar."""
@@ -75,11 +79,39 @@ def operate(pairs, word, *numbers):
     return [["scan", low, high, [[key, pairs[key]] for key in sorted(pairs) if low <= key <= high]]]
 
 
+def writes(operation):
+    """Whether an operation that is told so wrote something."""
+    word, answer = operation[0], operation[-1]
+    return word == "put" or (word == "del" and answer is not None) or (word == "add" and answer)
+
+
+def standing(operations):
+    """The numbers of those that wrote something which no going back behind them took back."""
+    found = []
+    for number, operation in enumerate(operations, 1):
+        if operation[0] == "back":
+            found = [it for it in found if it <= operation[1]]
+        elif writes(operation):
+            found.append(number)
+    return found
+
+
 def done_alone(transaction, pairs):
-    """The operations with their answers, and the map after them, where the transaction runs alone from these pairs."""
-    after, done = dict(pairs), []
-    for line in transaction.lines:
-        done += operate(after, *line)
+    """The operations with their answers, and the map after them, where the transaction runs alone from these pairs. A savepoint is how many there were, and
+    the map then; to go back to it is one, too, where something behind it stands."""
+    after, done, kept, saves = dict(pairs), [], 0, {}
+    for word, *numbers in transaction.lines:
+        if word == "save":
+            kept += 1
+            saves[kept] = len(done), dict(after)
+        elif word == "back":
+            upto, before = saves[numbers[0]]
+            saves = {number: save for number, save in saves.items() if number <= numbers[0]}
+            if any(it > upto for it in standing(done)):
+                done.append(["back", upto])
+                after = dict(before)
+        else:
+            done += operate(after, word, *numbers)
     return done, after
 
 
@@ -110,7 +142,7 @@ class Replay:
 
 def begun(script):
     """How many transactions of a script have an operation, and how many of these end by `commit`."""
-    found = [it for session in sessions_of(script) for it in session if it.lines]
+    found = [it for session in sessions_of(script) for it in session if it.operates()]
     return len(found), sum(it.commits for it in found)
 
 
@@ -141,7 +173,8 @@ def replay(script, report, pairs):
 def meets(transaction, line):
     """Whether a transaction writes where this line of a report has been."""
     written = {it[1] for it in transaction.lines if it[0] in ("put", "del", "add")}
-    return any(op[1] in written or (op[0] == "scan" and any(op[1] <= key <= op[2] for key in written)) for op in json.loads(line)["ops"])
+    done = [op for op in json.loads(line)["ops"] if op[0] != "back"]
+    return any(op[1] in written or (op[0] == "scan" and any(op[1] <= key <= op[2] for key in written)) for op in done)
 
 
 def unsettled(run, line, sessions):
@@ -222,3 +255,22 @@ def load_script(seed, sessions, accounts, transfers):
 
 def script_of(lines):
     return "".join(f"{line}\n" for line in lines).encode()
+
+
+def with_savepoints(numbers, lines):
+    """The lines of a transaction; now and then with savepoints among them, and goings back to such as stand."""
+    if numbers.random() < 0.5:
+        return lines
+    found, stand, kept = [], [], 0
+    for line in (*lines, None):
+        if numbers.random() < 0.4:
+            kept += 1
+            stand.append(kept)
+            found.append("save")
+        if stand and numbers.random() < 0.3:
+            number = numbers.choice(stand)
+            stand = [it for it in stand if it <= number]
+            found.append(f"back {number}")
+        if line is not None:
+            found.append(line)
+    return found

@@ -60,13 +60,13 @@ def line_at(numbers, keys):
 
 
 def script_at(numbers, keys):
-    """Sessions, each with some transactions of some lines; a few of these have none."""
+    """Sessions, each with some transactions of some lines, half of these with savepoints; a few have none."""
     lines = []
     for _ in range(numbers.randrange(1, 9)):
         lines.append("session")
         for _ in range(numbers.randrange(1, 9)):
             lines.append("begin")
-            lines += [line_at(numbers, keys) for _ in range(numbers.randrange(7))]
+            lines += reports.with_savepoints(numbers, [line_at(numbers, keys) for _ in range(numbers.randrange(7))])
             lines.append(numbers.choice(ENDS))
     return reports.script_of(lines)
 

@@ -137,6 +137,45 @@ REPORTS = [
         + counts(3, 1),
     ),
     (
+        "a put is taken back",
+        (),
+        one("put 5 1", "save", "put 5 2", "get 5", "back 1", "get 5"),
+        line_of('["put",5,1,null],["put",5,2,1],["get",5,2],["back",1],["get",5,1]') + counts(1),
+    ),
+    (
+        "savepoints, with goings back over two shards, to one and to one before it, and twice to the same",
+        (10,),
+        b"session\nbegin\nput 1 7\nput 2 5\nbytes 11 0a\ncommit\nbegin\nsave\nput 1 8\nsave\ndel 11\nadd 2 3\nscan 0 99\nback 2\nscan 0 99\nback 1\nback 1\nget 1\nput 11 4\ncommit\n",
+        line_of('["put",1,7,null],["put",2,5,null],["put",11,"0a",null]')
+        + line_of(
+            '["put",1,8,7],["del",11,"0a"],["add",2,3,true],["scan",0,99,[[1,8],[2,8]]],["back",1],["scan",0,99,[[1,8],[2,5],[11,"0a"]]],["back",0],["get",1,7],["put",11,4,"0a"]',
+            2,
+        )
+        + counts(2),
+    ),
+    (
+        "savepoints without anything to take back, and numbers that go on behind forgotten ones",
+        (),
+        one("save", "get 5", "back 1", "save", "save", "del 5", "back 2", "save", "put 5 10", "back 4", "get 5"),
+        line_of('["get",5,null],["del",5,null],["put",5,10,null],["back",2],["get",5,null]') + counts(1),
+    ),
+    (
+        "a move is taken back, and one before it isn't",
+        (10,),
+        one("put 1 9", "put 11 0", "move 1 11 4", "save", "move 1 11 5", "back 1", "move 11 1 1"),
+        line_of(
+            '["put",1,9,null],["put",11,0,null],["get",1,9],["get",11,0],["put",1,5,9],["put",11,4,0],["get",1,5],["get",11,4],["put",1,0,5],["put",11,9,4],'
+            '["back",6],["get",11,4],["get",1,5],["put",11,3,4],["put",1,6,5]'
+        )
+        + counts(1),
+    ),
+    (
+        "all is taken back, and a transaction with a savepoint alone isn't counted",
+        (10,),
+        b"session\nbegin\nsave\nput 5 1\nput 15 1\nback 1\ncommit\nbegin\nsave\nback 1\ncommit\nbegin\nput 5 1\nsave\nput 5 2\nback 1\nabort\nbegin\nscan 0 99\ncommit\n",
+        line_of('["put",5,1,null],["put",15,1,null],["back",0]') + line_of('["scan",0,99,[]]', 4) + counts(2, 1),
+    ),
+    (
         "empty lines and remarks",
         (),
         b"# one\n\nsession\n#\nbegin\n\nput 5 10\n# two\ncommit\n\n",
@@ -176,6 +215,18 @@ REFUSED_SCRIPTS = [
     (b"session\nbegin\nbytes 1 --\ncommit\n", 3),
     (b"session\nbegin\nbytes 1 00 \ncommit\n", 3),
     (b"session\nbegin\nbytes 1 " + 402 * b"0" + b"\ncommit\n", 3),
+    (b"save\n", 1),
+    (b"session\nsave\n", 2),
+    (b"session\nback 1\n", 2),
+    (b"session\nbegin\nback 1\ncommit\n", 3),
+    (b"session\nbegin\nsave\nback 2\ncommit\n", 4),
+    (b"session\nbegin\nsave\nback 0\ncommit\n", 4),
+    (b"session\nbegin\nsave\nback\ncommit\n", 4),
+    (b"session\nbegin\nsave\nback 01\ncommit\n", 4),
+    (b"session\nbegin\nsave\nback 1 1\ncommit\n", 4),
+    (b"session\nbegin\nsave 1\ncommit\n", 3),
+    (b"session\nbegin\nsave\nsave\nback 1\nback 2\ncommit\n", 6),
+    (b"session\nbegin\nsave\ncommit\nbegin\nback 1\ncommit\n", 6),
     (b"session\nbegin\nGET 1\ncommit\n", 3),
     (b"session\nbegin\nget  1\ncommit\n", 3),
     (b"session\nbegin\nget 1 \ncommit\n", 3),
