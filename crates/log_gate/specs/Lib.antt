@@ -9,3 +9,6 @@ pub mod Inside
 pub mod Errors
 pub mod Opening
 pub mod Make
+pub mod Sides
+pub mod SideLogs
+pub mod Switch
