@@ -1,0 +1,8 @@
+//! The report of a run is told to be true by an audit.
+//!
+//! In a legal history whose members were all told of it, the pairs that the logs found stand for, with the report of the history behind them, are
+//! right transaction by transaction, and lead to what the logs left stand for. New beside the promise is that a report joins the parts of a scan. It
+//! stands on the promise of `headline_laws`, the books of `session_books`, and the verdicts of `clv_audit`.
+#![tactic(auto)]
+
+pub mod statements;
