@@ -1,24 +1,26 @@
 //! The candidates.
-ghost use Rattle.std.specs.Prelude.{◌≡◌, ◌≤◌, ◌+◌, ◌||◌, [], ◌∷◌, length, max, OnOk, OnErr};
+ghost use Rattle.std.specs.Prelude.{◌≡◌, ◌≤◌, ◌+◌, ◌||◌, [], ◌∷◌, length, max, is_ok, OnOk, OnErr, IfErr};
+ghost use Rattle.std.specs.List.{insert as with_inserted};
 ghost use Rattle.std.specs.List.Sorted.{IsStrictlySortedBy};
 ghost use Rattle.clv_base.specs.Orders.{tx_cmp, tx_in, tx_insert};
 ghost use Rattle.clv_base.specs.declared.names.TxId.{TxId as Tx};
 ghost use Rattle.tx_table.specs.Held.{HasRoomFor, least, but_least};
 
-use crate::sorted::{contains, insert};
 use clv_base::names::TxId;
 use std::alloc::{AllocError, Global};
+use std::collections::VecDeque;
 use std::marker::Model;
 
 /// Transactions, rising.
 #[derive(Drop)]
 pub struct Candidates {
-    txs: Vec<TxId>,
+    txs: VecDeque<TxId>,
     limit: usize,
 }
 
 impl Model for Candidates {
-    ghost use Rattle.std.specs.Prelude.{◌≤◌, vec_capacity, vec_len};
+    ghost use Rattle.std.specs.Prelude.{◌≤◌};
+    ghost use Rattle.std.specs.VecDeque.{deque_len, deque_capacity};
     ghost use Rattle.std.specs.List.Sorted.{IsStrictlySortedBy};
     ghost use Rattle.clv_base.specs.Orders.{tx_cmp};
     ghost use Rattle.tx_table.specs.Held.{Candidates};
@@ -27,7 +29,7 @@ impl Model for Candidates {
 
     ghost view = { λ c. record { txs = c.txs.items; limit = c.limit } };
 
-    ghost invariant = { λ c. IsStrictlySortedBy tx_cmp c.txs.items × (vec_len c.txs ≤ c.limit) × (c.limit ≤ vec_capacity c.txs) };
+    ghost invariant = { λ c. IsStrictlySortedBy tx_cmp c.txs.items × (deque_len c.txs ≤ c.limit) × (c.limit ≤ deque_capacity c.txs) };
 }
 
 impl Candidates {
@@ -36,7 +38,7 @@ impl Candidates {
         ensures { (result.txs ≡ []) × (result.limit ≡ 0) }
     {
         Candidates {
-            txs: Vec::new(alloc),
+            txs: VecDeque::new(alloc),
             limit: 0,
         }
     }
@@ -75,16 +77,14 @@ impl Candidates {
         ensures rise { IsStrictlySortedBy tx_cmp self.now.txs }
         ensures few { length self.now.txs ≤ self.now.limit }
     {
-        self.txs.first().copied()
+        self.txs.front().copied()
     }
 
     /// The least candidate goes. Takes no memory.
     pub fn leave_first(&mut self)
         ensures { self.new ≡ record self.old { txs = but_least self.old.txs } }
     {
-        if !self.txs.is_empty() {
-            self.txs.remove(0);
-        }
+        self.txs.pop_front();
     }
 
     /// Nobody is a candidate any more. Takes no memory.
@@ -94,11 +94,25 @@ impl Candidates {
         self.txs.clear();
     }
 
+    /// Where the transaction stands, else where it would be put.
+    fn find(&self, tx: TxId) -> Result<usize, usize>
+        ensures there { is_ok result ≡ tx_in tx self.now.txs }
+        ensures ok { OnOk result (tx_insert tx self.now.txs ≡ self.now.txs) }
+        ensures err { IfErr result (λ i. (i ≤ length self.now.txs) × (with_inserted self.now.txs i tx ≡ tx_insert tx self.now.txs)) }
+    {
+        if let Some(last) = self.txs.back() {
+            if last.cmp(&tx).is_lt() {
+                return Err(self.txs.len());
+            }
+        }
+        self.txs.binary_search(&tx)
+    }
+
     /// Whether the transaction is a candidate.
     pub fn contains(&self, tx: TxId) -> bool
         ensures { result ≡ tx_in tx self.now.txs }
     {
-        contains(&self.txs, &tx)
+        self.find(tx).is_ok()
     }
 
     /// The transaction is a candidate besides. Takes no memory.
@@ -106,8 +120,10 @@ impl Candidates {
         requires { HasRoomFor (tx ∷ []) self.old }
         ensures { self.new ≡ record self.old { txs = tx_insert tx self.old.txs } }
     {
-        if !contains(&self.txs, &tx) {
-            insert(&mut self.txs, tx);
+        if let Err(at) = self.find(tx) {
+            let Ok(()) = self.txs.insert(at, tx) else {
+                unreachable!()
+            };
         }
     }
 

@@ -7,5 +7,5 @@ use Rattle.tx_table.proofs.candidates.Candidates.leave_first.Goals as goal
 
 pub invariant_of-self : goal.invariant_of-self
 invariant_of-self c =
-    let e = c.remove.ensures in let i = c.self.invariant in
-    (subst (λ (l : List TxId). IsStrictlySortedBy tx_cmp l) (sym e.items) (rest_rises c.self.inside.txs.items i.0), omega (arith, e.len, i.1), omega (arith, e.capacity, i.2))
+    let e = c.pop_front.ensures in let i = c.self.invariant in
+    (subst (λ (l : List TxId). IsStrictlySortedBy tx_cmp l) (sym e.rest) (rest_rises c.self.inside.txs.items i.0), omega (arith, e.len, i.1), omega (arith, e.capacity, i.2))
