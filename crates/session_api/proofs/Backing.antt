@@ -1,8 +1,7 @@
 -- The entries of a going back.
-use Rattle.std.proofs.Common.{◌≡◌, ◌∙◌, refl, sym, ap, subst, ℕ, zero, suc, ◌<◌, ◌==◌, nat_lt, Bool, true, false, cond, ◌&&◌, ◌||◌, List, [], ◌∷◌, ◌++◌, append_assoc, append-nil, map, length, Some, None, Result, Ok, Err, inl, inr, arith, eqb-true, eq-eqb}
+use Rattle.std.proofs.Common.{◌≡◌, ◌∙◌, refl, sym, ap, subst, ℕ, suc, ◌<◌, ◌==◌, nat_lt, Bool, true, false, cond, ◌&&◌, ◌||◌, List, [], ◌∷◌, ◌++◌, append_assoc, append-nil, map, length, Some, None, Result, Ok, Err, inl, inr, arith, eqb-true, eq-eqb}
 use Rattle.std.specs.Prelude.{is_some, not}
 use Rattle.std.specs.List.{AllByRecursion}
-use Rattle.std.specs.Map.{lookup}
 use Rattle.std.proofs.lemmas.Bool.{both_ways, lt-ltb, le-ltb, ltb-true, ltb-false}
 use Rattle.std.proofs.lemmas.List.Folds.{list_any-append}
 use Rattle.clv_base.specs.declared.names.Birth.{Birth}
@@ -11,16 +10,15 @@ use Rattle.clv_base.specs.declared.events.Event.TheVariants.{RollTo}
 use Rattle.clv_base.specs.declared.events.Outcome.{Outcome}
 use Rattle.clv_base.specs.declared.events.Outcome.TheVariants.{Rolled, Dead, Down as DownOut}
 use Rattle.clv_base.specs.declared.events.Entry.{Entry}
-use Rattle.clv_base.specs.Backs.{stands_for_back}
 use Rattle.clv_base.specs.FileRules.{numbers_rise}
 use Rattle.clv_base.specs.Journals.{History}
-use Rattle.clv_base.specs.Sessions.{SessionState, is_whole_now, numbered, is_of_session}
+use Rattle.clv_base.specs.Sessions.{SessionState, is_of_session}
 use Rattle.machine_calls.specs.declared.machine.StepError.{StepError}
 use Rattle.machine_calls.specs.declared.machine.StepError.TheVariants.{Worn as IsWorn}
 use Rattle.cluster_turns.specs.declared.shards.Shards.{Shards}
 use Rattle.cluster_turns.specs.declared.shards.Walker.{Walker}
 use Rattle.cluster_turns.specs.Walkers.{IsSameWalker, kept}
-use Rattle.cluster_turns.specs.Notes.{is_above, is_noted, back_begun}
+use Rattle.cluster_turns.specs.Notes.{is_above}
 use Rattle.cluster_turns.specs.States.{AreTouched, GoesOnBy}
 use Rattle.cluster_turns.specs.CallTurns.{Turn, Took, entry_on}
 use Rattle.cluster_turns.specs.Answers.{is_quiet, is_kept}
@@ -28,8 +26,9 @@ use Rattle.cluster_turns.proofs.Laws.{written_are_touched, ok_same}
 use Rattle.session_ops.specs.Standing.{IsActive}
 use Rattle.session_ops.specs.declared.rolling.BackError.{BackError}
 use Rattle.session_ops.specs.declared.rolling.BackError.TheVariants as left
-use Rattle.session_ops.specs.WentBack.{IsRoll as IsRollTurn, place_back, back_below, RollsBelow, no_shard, passed_by, rolled_on, BackFailed, BackTold as Backs, has_died}
+use Rattle.session_ops.specs.WentBack.{IsRoll as IsRollTurn, back_below, RollsBelow, no_shard, passed_by, rolled_on, BackFailed, BackTold as Backs, has_died}
 use Rattle.session_ops.specs.Undone.{IsBack, LeftBy}
+use Rattle.session_ops.proofs.Laws.{noted_above, noted_touched, same_at}
 use Rattle.script_runs.specs.Acts.{IsRoll, IsBackBegun, is_touched, stands_on}
 use Rattle.script_runs.specs.Seen.{Standing, Idle, Active, Grows}
 use Rattle.script_runs.specs.Told.{AreDropsOf, AreOn, BackTold}
@@ -41,29 +40,6 @@ use Rattle.session_api.proofs.Committing.{quiet_turn}
 use Rattle.session_api.proofs.Leaving.{all_below}
 use Rattle.law_base.proofs.Bools.{and_first, and_second, and_true, or_none}
 use Rattle.law_base.proofs.Lists.{all_mono, all_push}
-
--- ---- notes of writes
-
--- one that is noted on a shard is above, and the shard was touched
-noted_above : (n upto : ℕ) (ws : List (ℕ × ℕ)) → is_noted n upto ws ≡ true → is_above upto ws ≡ true
-noted_above n upto [] h = absurd (both_ways false refl h)
-noted_above n upto (w ∷ ws) h = at (nat_lt upto w.1) refl (noted_above n upto ws)
-  where
-    none : (b : Bool) → (b && false) ≡ false
-    none true = refl
-    none false = refl
-
-    at : (c : Bool) → nat_lt upto w.1 ≡ c → (is_noted n upto ws ≡ true → is_above upto ws ≡ true) → is_above upto (w ∷ ws) ≡ true
-    at true e rest = ap (λ b. b || is_above upto ws) e
-    at false e rest = ap (λ b. b || is_above upto ws) e ∙ rest (sym (ap (λ b. ((w.0 == n) && b) || is_noted n upto ws) e ∙ ap (λ b. b || is_noted n upto ws) (none (w.0 == n))) ∙ h)
-
-noted_touched : (n upto : ℕ) (ts ws : List (ℕ × ℕ)) → AreTouched ts ws → is_noted n upto ws ≡ true → is_some (lookup (◌==◌ n) ts) ≡ true
-noted_touched n upto ts [] a h = absurd (both_ways false refl h)
-noted_touched n upto ts (w ∷ ws) a h = at (w.0 == n) refl (noted_touched n upto ts ws a.1)
-  where
-    at : (b : Bool) → (w.0 == n) ≡ b → (is_noted n upto ws ≡ true → is_some (lookup (◌==◌ n) ts) ≡ true) → is_some (lookup (◌==◌ n) ts) ≡ true
-    at true e rest = ap (λ k. is_some (lookup (◌==◌ k) ts)) (sym (eqb-true w.0 n e)) ∙ a.0
-    at false e rest = rest (sym (ap (λ b. (b && nat_lt upto w.1) || is_noted n upto ws) e) ∙ h)
 
 -- ---- one turn
 
@@ -171,27 +147,6 @@ module _ (w : ℕ) (p : SessionState) (nth upto : ℕ) where
 
 -- ---- the place then
 
--- its name, its birth and what it touched
-pub record IsSame (p m : SessionState) : Type 0 where
-  pub tx : m.tx ≡ p.tx
-  pub birth : m.birth ≡ p.birth
-  pub touched : m.touched ≡ p.touched
-
-same_begun : (nth upto : ℕ) (p m : SessionState) → IsSame p m → IsSame p (back_begun nth upto m)
-same_begun nth upto p m h = by (nth == suc m.nth)
-  where
-    by : (b : Bool) → IsSame p (cond b (record (numbered nth m) { is_whole = is_whole_now m && stands_for_back nth upto m.backs; backs = (nth, upto) ∷ m.backs }) m)
-    by true = record { tx = h.tx; birth = h.birth; touched = h.touched }
-    by false = h
-
-pub same_below : (nth upto n : ℕ) (p : SessionState) → IsSame p (back_below nth upto n p)
-same_below nth upto zero p = record { tx = refl; birth = refl; touched = refl }
-same_below nth upto (suc n) p = by (is_noted n upto p.written) (same_below nth upto n p)
-  where
-    by : (b : Bool) → IsSame p (back_below nth upto n p) → IsSame p (cond b (place_back n nth upto (back_below nth upto n p) (Ok Rolled)) (back_below nth upto n p))
-    by true h = let k = same_begun nth upto p (back_below nth upto n p) h in record { tx = k.tx; birth = k.birth; touched = k.touched }
-    by false h = h
-
 module _ {M S G : Type 0} (sh : Shards M S G) (w : Walker M S G) (p : SessionState) (active : IsActive sh w p) where
   notes_touched : AreTouched p.touched p.written
   notes_touched = at active.goes
@@ -247,9 +202,6 @@ module _ {M S G : Type 0} (sh : Shards M S G) (w v : Walker M S G) (asked : Poin
       abbrev m : SessionState
       m = back_below (suc p.nth) upto f.shard p
 
-      its : IsSame p m
-      its = same_below (suc p.nth) upto f.shard p
-
       all : AllByRecursion (IsPlain w.number) (f.rolls ++ f.rest)
       all = subst (AllByRecursion (IsPlain w.number)) f.turns_are plain
 
@@ -270,7 +222,7 @@ module _ {M S G : Type 0} (sh : Shards M S G) (w v : Walker M S G) (asked : Poin
 
       -- the place is that of the parts
       stays : q ≡ m → is_active q birth ≡ Active p.tx birth q.nth (touched_in p.touched)
-      stays is = stays_so q.nth (ap (λ z. z.tx) is ∙ its.tx) (ap (λ z. z.touched) is ∙ its.touched) refl
+      stays is = stays_so q.nth (ap (λ z. z.tx) is ∙ (same_at p upto f.shard).tx) (ap (λ z. z.touched) is ∙ (same_at p upto f.shard).touched) refl
 
     failed : (e : BackError) → BackFailed (length sh.locks.items) p (suc p.nth) upto e ts q → Told (Err e)
     failed (left.Aborted cause) f =
@@ -278,8 +230,8 @@ module _ {M S G : Type 0} (sh : Shards M S G) (w v : Walker M S G) (asked : Poin
         let e = left.Aborted cause in
         let here = subst (AllByRecursion (IsPlain w.number)) k.2 (rest_plain e f) in
         let one = roll_made w.number (m e f) (suc p.nth) upto f.shard (Dead cause) k.0 refl here.0 k.3 in
-        let tx = (its e f).tx in
-        let touched = (its e f).touched in (
+        let tx = (same_at p upto f.shard).tx in
+        let touched = (same_at p upto f.shard).touched in (
           made_in f.rolls ++ (f.shard, one.entry) ∷ [],
           made_in k.1,
           f.shard,

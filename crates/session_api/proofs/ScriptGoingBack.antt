@@ -17,6 +17,7 @@ use Rattle.session_ops.specs.declared.rolling.BackError.{BackError}
 use Rattle.session_ops.specs.declared.rolling.BackError.TheVariants as left
 use Rattle.session_ops.specs.WentBack.{GoingBack, RollTold, BackTold as TurnsTold, back_below, has_died}
 use Rattle.session_ops.specs.Undone.{IsBack, LeftBy}
+use Rattle.session_ops.proofs.Laws.{same_at}
 use Rattle.script_lang.specs.Savepoints.{Savepoints, back_to}
 use Rattle.script_runs.specs.declared.ends.TryEnd.{TryEnd}
 use Rattle.script_runs.specs.Seen.{Idle, Active, Going, going_back_to}
@@ -36,7 +37,6 @@ use Rattle.session_api.proofs.Standings.{read_active, of_this}
 use Rattle.session_api.proofs.Taking.{HoldsOn, found_down, held_after}
 use Rattle.session_api.proofs.GoingBack.{back_down, back_worn}
 use Rattle.session_api.proofs.Backing.{backs_tell}
-use Rattle.session_api.proofs.Backing.{same_below}
 use Rattle.session_api.proofs.ScriptSaving.{GoesBy, goes_by}
 
 -- ---- the place after a going back
@@ -54,8 +54,8 @@ failed_birth count m q nth upto n (left.Down k) ts (same, (t, is, roll, place)) 
 failed_birth count m q nth upto n (left.Worn k at) ts (same, (t, is, roll, place)) = ap (λ z. z.birth) place
 
 back_birth : (count : ℕ) (p q : SessionState) (upto : ℕ) (r : Result Unit BackError) (ts : List Turn) → TurnsTold count p (suc p.nth) upto r ts q → q.birth ≡ p.birth
-back_birth count p q upto (Ok a) ts told = ap (λ z. z.birth) told.1 ∙ (same_below (suc p.nth) upto count p).birth
-back_birth count p q upto (Err e) ts told = failed_birth count (back_below (suc p.nth) upto told.shard p) q (suc p.nth) upto told.shard e told.rest told.failed ∙ (same_below (suc p.nth) upto told.shard p).birth
+back_birth count p q upto (Ok a) ts told = ap (λ z. z.birth) told.1 ∙ (same_at p upto count).birth
+back_birth count p q upto (Err e) ts told = failed_birth count (back_below (suc p.nth) upto told.shard p) q (suc p.nth) upto told.shard e told.rest told.failed ∙ (same_at p upto told.shard).birth
 
 -- and how it stands
 stands_back : (q : SessionState) (birth : Birth) (upto : ℕ) (r : Result Unit BackError) → q.birth ≡ Some birth → standing_of (progress_back q upto r) ≡ unless_dead q birth (has_died r)

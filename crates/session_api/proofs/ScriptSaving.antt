@@ -12,6 +12,7 @@ use Rattle.law_base.proofs.Changed.{none_some}
 use Rattle.law_base.proofs.Lists.{all_append}
 use Rattle.law_base.proofs.Options.{some_inj}
 use Rattle.script_lang.specs.Savepoints.{Savepoints, AreNumbered, no_savepoints, keep, upto_of, back_to}
+use Rattle.script_lang.proofs.Laws.{numbered_push_as, numbered_as}
 use Rattle.script_runs.specs.Seen.{Active, Going, going_saved}
 use Rattle.session_api.specs.declared.progress.Progress.{Progress}
 use Rattle.session_api.specs.declared.progress.Progress.TheVariants as progress
@@ -20,24 +21,6 @@ use Rattle.session_api.specs.Savepoints.{AllStand, StandsFor, Saved, leads_of, L
 use Rattle.session_api.specs.Standing.{Holds, HoldsSaves, standing_of}
 use Rattle.session_api.proofs.Saving.{all_with}
 use Rattle.session_api.proofs.Standings.{read_active}
-
--- ---- numbers of savepoints
-
-numbered_from : (low lo : ℕ) (ss : List (ℕ × ℕ)) (hi : ℕ) → low ≤ lo → AreNumbered lo ss hi → AreNumbered low ss hi
-numbered_from low lo [] hi l h = omega arith
-numbered_from low lo (s ∷ ss) hi l h = (omega (arith, h.0), h.1)
-
-numbered_push : (lo : ℕ) (ss : List (ℕ × ℕ)) (hi upto : ℕ) → AreNumbered lo ss hi → AreNumbered lo (ss ++ (suc hi, upto) ∷ []) (suc hi)
-numbered_push lo [] hi upto h = (omega arith, omega arith)
-numbered_push lo (s ∷ ss) hi upto h = (h.0, numbered_push s.0 ss hi upto h.1)
-
-numbered_fewer : (i lo : ℕ) (ss : List (ℕ × ℕ)) (hi : ℕ) → AreNumbered lo ss hi → AreNumbered lo (filter (λ (s : ℕ × ℕ). nat_le s.0 i) ss) hi
-numbered_fewer i lo [] hi h = h
-numbered_fewer i lo (s ∷ ss) hi h = at (numbered_fewer i s.0 ss hi h.1) (nat_le s.0 i)
-  where
-    at : AreNumbered s.0 (filter (λ (s : ℕ × ℕ). nat_le s.0 i) ss) hi → (b : Bool) → AreNumbered lo (cond b (s ∷ filter (λ (s : ℕ × ℕ). nat_le s.0 i) ss) (filter (λ (s : ℕ × ℕ). nat_le s.0 i) ss)) hi
-    at more true = (h.0, more)
-    at more false = numbered_from lo s.0 (filter (λ (s : ℕ × ℕ). nat_le s.0 i) ss) hi (omega (arith, h.0)) more
 
 -- ---- where there is something to go back over
 
@@ -188,7 +171,7 @@ module _ {M S G : Type 0} (sh : Shards M S G) (w : Walker M S G) (s : Progress) 
         holds = h.holds;
         saved = h.saved;
         leads = subst (Saved s) (sym (leads_more script.standing (suc script.kept) upto)) (saved_with s (leads_of script.standing) upto stands h.leads);
-        numbered = numbered_push 0 script.standing script.kept upto h.numbered;
+        numbered = numbered_push_as script.standing (keep upto script).standing script.kept (suc script.kept) upto refl refl h.numbered;
         rise = subst LeadRising (sym (leads_more script.standing (suc script.kept) upto)) (rises_with s (leads_of script.standing) upto acts h.leads h.rise);
       })
 
@@ -218,6 +201,6 @@ module _ {M S G : Type 0} (sh after : Shards M S G) (w v : Walker M S G) (s t : 
         holds = holds;
         saved = saved;
         leads = saved_no_further t number upto 0 script.standing script.kept stands h.numbered h.rise (subst (λ x. Saved t (saves_gone x upto (leads_of script.standing))) k.is leads);
-        numbered = numbered_fewer number 0 script.standing script.kept h.numbered;
+        numbered = numbered_as number script.kept script.standing (back_to number script).standing refl h.numbered;
         rise = rising_up_to number script.standing h.rise;
       })

@@ -24,7 +24,7 @@ use Rattle.law_base.proofs.Lists.{all_mono}
 use Rattle.session_ops.specs.Standing.{IsActive}
 use Rattle.session_ops.specs.declared.rolling.BackError.{BackError}
 use Rattle.session_ops.specs.declared.rolling.BackError.TheVariants.{Aborted, Down, Worn}
-use Rattle.session_ops.specs.WentBack.{MayRoll, IsRoll, RollTold, Rolling, RollIf, PastBy, place_back, back_below, RollsBelow, no_shard, passed_by, rolled_on, BackFailed, BackTold, GoingBack}
+use Rattle.session_ops.specs.WentBack.{MayRoll, IsRoll, RollTold, Rolling, RollIf, PastBy, place_back, back_below, RollsBelow, no_shard, passed_by, rolled_on, GoingBack}
 use Rattle.session_ops.specs.Undone.{IsBack, IsUndone, LeftBy}
 use Rattle.session_ops.proofs.BackNotes.{none_left, noted_touched, noted_above, kept_below, kept_all, kept_noted, kept_more, kept_early, early_none, none_above_early}
 
@@ -40,15 +40,12 @@ found_within n count (t ∷ ts) h k = at (n == t.0) refl (found_within n count t
     at true e rest = let same = eqb-true n t.0 e in let l = h.0 in omega arith
     at false e rest = rest (sym (ap (λ b. is_some (cond b (Some t.1) (lookup (◌==◌ n) ts))) e) ∙ k)
 
-module _ (p : SessionState) (upto : ℕ) (stands : stands_for_back (suc p.nth) upto p.backs ≡ true) where
+module _ (p : SessionState) (upto : ℕ) where
   abbrev nth : ℕ
   nth = suc p.nth
 
   abbrev at_shard : ℕ → SessionState
   at_shard n = back_below nth upto n p
-
-  low : upto < nth
-  low = ltb-true upto (suc p.nth) (and_parts (nat_lt upto (suc p.nth)) _ stands).0
 
   -- ---- the place
 
@@ -92,117 +89,121 @@ module _ (p : SessionState) (upto : ℕ) (stands : stands_for_back (suc p.nth) u
       by true h = let k = begun_same (at_shard n) h in record { tx = k.tx; birth = k.birth; touched = k.touched; phase = k.phase }
       by false h = h
 
-  -- where some shard below n had its part
-  pub record Went (n : ℕ) (b : SessionState) : Type 0 where
-    pub last : ℕ
-    pub before : last < n
-    pub noted : is_noted last upto p.written ≡ true
-    pub nth_is : b.nth ≡ nth
-    pub back : b.back ≡ Some (last, upto)
-    pub backs : b.backs ≡ (nth, upto) ∷ p.backs
-    pub whole : b.is_whole ≡ is_whole_now p
+  module _ (stands : stands_for_back (suc p.nth) upto p.backs ≡ true) where
+    low : upto < nth
+    low = ltb-true upto (suc p.nth) (and_parts (nat_lt upto (suc p.nth)) _ stands).0
 
-  whole_so : (is_whole_now p && stands_for_back nth upto p.backs) ≡ is_whole_now p
-  whole_so = ap (λ b. is_whole_now p && b) stands ∙ and_yes (is_whole_now p)
-    where
-      and_yes : (b : Bool) → (b && true) ≡ b
-      and_yes true = refl
-      and_yes false = refl
+    -- where some shard below n had its part
+    pub record Went (n : ℕ) (b : SessionState) : Type 0 where
+      pub last : ℕ
+      pub before : last < n
+      pub noted : is_noted last upto p.written ≡ true
+      pub nth_is : b.nth ≡ nth
+      pub back : b.back ≡ Some (last, upto)
+      pub backs : b.backs ≡ (nth, upto) ∷ p.backs
+      pub whole : b.is_whole ≡ is_whole_now p
 
-  went_first : (n : ℕ) → is_noted n upto p.written ≡ true → Went (suc n) (place_back n nth upto p (Ok Rolled))
-  went_first n e = subst (λ (b : SessionState). Went (suc n) (record b { back = Some (n, upto); written = notes_left n upto b.written })) (sym begun)
-      (record { last = n; before = (omega arith); noted = e; nth_is = refl; back = refl; backs = refl; whole = whole_so })
-    where
-      begun : back_begun nth upto p ≡ record (numbered nth p) { is_whole = is_whole_now p && stands_for_back nth upto p.backs; backs = (nth, upto) ∷ p.backs }
-      begun = ap (λ b. cond b (record (numbered nth p) { is_whole = is_whole_now p && stands_for_back nth upto p.backs; backs = (nth, upto) ∷ p.backs }) p) (eq-eqb nth nth refl)
+    whole_so : (is_whole_now p && stands_for_back nth upto p.backs) ≡ is_whole_now p
+    whole_so = ap (λ b. is_whole_now p && b) stands ∙ and_yes (is_whole_now p)
+      where
+        and_yes : (b : Bool) → (b && true) ≡ b
+        and_yes true = refl
+        and_yes false = refl
 
-  went_more : (n : ℕ) (b : SessionState) → is_noted n upto p.written ≡ true → Went n b → Went (suc n) (place_back n nth upto b (Ok Rolled))
-  went_more n b e h = subst (λ (c : SessionState). Went (suc n) (record c { back = Some (n, upto); written = notes_left n upto c.written })) (sym begun)
-      (record { last = n; before = (omega arith); noted = e; nth_is = h.nth_is; back = refl; backs = h.backs; whole = h.whole })
-    where
-      begun : back_begun nth upto b ≡ b
-      begun = ap (λ x. cond x (record (numbered nth b) { is_whole = is_whole_now b && stands_for_back nth upto b.backs; backs = (nth, upto) ∷ b.backs }) b) (ne_eqb nth (suc b.nth) (λ e. let k = h.nth_is in absurd (omega arith)))
+    went_first : (n : ℕ) → is_noted n upto p.written ≡ true → Went (suc n) (place_back n nth upto p (Ok Rolled))
+    went_first n e = subst (λ (b : SessionState). Went (suc n) (record b { back = Some (n, upto); written = notes_left n upto b.written })) (sym begun)
+        (record { last = n; before = (omega arith); noted = e; nth_is = refl; back = refl; backs = refl; whole = whole_so })
+      where
+        begun : back_begun nth upto p ≡ record (numbered nth p) { is_whole = is_whole_now p && stands_for_back nth upto p.backs; backs = (nth, upto) ∷ p.backs }
+        begun = ap (λ b. cond b (record (numbered nth p) { is_whole = is_whole_now p && stands_for_back nth upto p.backs; backs = (nth, upto) ∷ p.backs }) p) (eq-eqb nth nth refl)
 
-  went_later : (n : ℕ) (b : SessionState) → Went n b → Went (suc n) b
-  went_later n b h = record { last = h.last; before = (let l = h.before in omega arith); noted = h.noted; nth_is = h.nth_is; back = h.back; backs = h.backs; whole = h.whole }
+    went_more : (n : ℕ) (b : SessionState) → is_noted n upto p.written ≡ true → Went n b → Went (suc n) (place_back n nth upto b (Ok Rolled))
+    went_more n b e h = subst (λ (c : SessionState). Went (suc n) (record c { back = Some (n, upto); written = notes_left n upto c.written })) (sym begun)
+        (record { last = n; before = (omega arith); noted = e; nth_is = h.nth_is; back = refl; backs = h.backs; whole = h.whole })
+      where
+        begun : back_begun nth upto b ≡ b
+        begun = ap (λ x. cond x (record (numbered nth b) { is_whole = is_whole_now b && stands_for_back nth upto b.backs; backs = (nth, upto) ∷ b.backs }) b) (ne_eqb nth (suc b.nth) (λ e. let k = h.nth_is in absurd (omega arith)))
 
-  pub went_at : (n : ℕ) → (at_shard n ≡ p) ⊎ Went n (at_shard n)
-  went_at zero = inl refl
-  went_at (suc n) = by (is_noted n upto p.written) refl (went_at n)
-    where
-      by : (x : Bool) → is_noted n upto p.written ≡ x → (at_shard n ≡ p) ⊎ Went n (at_shard n) → (cond x (place_back n nth upto (at_shard n) (Ok Rolled)) (at_shard n) ≡ p) ⊎ Went (suc n) (cond x (place_back n nth upto (at_shard n) (Ok Rolled)) (at_shard n))
-      by true e (inl same) = inr (subst (λ (b : SessionState). Went (suc n) (place_back n nth upto b (Ok Rolled))) (sym same) (went_first n e))
-      by true e (inr h) = inr (went_more n (at_shard n) e h)
-      by false e (inl same) = inl same
-      by false e (inr h) = inr (went_later n (at_shard n) h)
+    went_later : (n : ℕ) (b : SessionState) → Went n b → Went (suc n) b
+    went_later n b h = record { last = h.last; before = (let l = h.before in omega arith); noted = h.noted; nth_is = h.nth_is; back = h.back; backs = h.backs; whole = h.whole }
 
-  -- ---- the next part
+    pub went_at : (n : ℕ) → (at_shard n ≡ p) ⊎ Went n (at_shard n)
+    went_at zero = inl refl
+    went_at (suc n) = by (is_noted n upto p.written) refl (went_at n)
+      where
+        by : (x : Bool) → is_noted n upto p.written ≡ x → (at_shard n ≡ p) ⊎ Went n (at_shard n) → (cond x (place_back n nth upto (at_shard n) (Ok Rolled)) (at_shard n) ≡ p) ⊎ Went (suc n) (cond x (place_back n nth upto (at_shard n) (Ok Rolled)) (at_shard n))
+        by true e (inl same) = inr (subst (λ (b : SessionState). Went (suc n) (place_back n nth upto b (Ok Rolled))) (sym same) (went_first n e))
+        by true e (inr h) = inr (went_more n (at_shard n) e h)
+        by false e (inl same) = inl same
+        by false e (inr h) = inr (went_later n (at_shard n) h)
 
-  pub may_roll_at : (n : ℕ) → AreTouched p.touched p.written → is_noted n upto (at_shard n).written ≡ true → MayRoll (at_shard n) n nth upto
-  may_roll_at n touched noted =
-      let some = some_of (lookup (◌==◌ n) p.touched) (noted_touched n upto p.touched p.written touched (sym (noted_at n) ∙ noted)) in
-      record { number = number (went_at n); stands = back_stands (went_at n); seen = some.0; touched = ap (lookup (◌==◌ n)) (same_at n).touched ∙ some.1 }
-    where
-      number : (at_shard n ≡ p) ⊎ Went n (at_shard n) → ((nth ≡ suc (at_shard n).nth) × (upto < nth)) ⊎ ((nth ≡ (at_shard n).nth) × (goes_on_back (at_shard n).back n upto ≡ true))
-      number (inl same) = inl (ap (λ (b : SessionState). suc b.nth) (sym same), low)
-      number (inr h) = inr (sym h.nth_is, ap (λ o. goes_on_back o n upto) h.back ∙ and_from (nat_lt h.last n) (upto == upto) (lt-ltb h.last n h.before) (eq-eqb upto upto refl))
+    -- ---- the next part
 
-      back_stands : (at_shard n ≡ p) ⊎ Went n (at_shard n) → nth ≡ suc (at_shard n).nth → stands_for_back nth upto (at_shard n).backs ≡ true
-      back_stands (inl same) e = ap (λ (b : SessionState). stands_for_back nth upto b.backs) same ∙ stands
-      back_stands (inr h) e = let k = h.nth_is in absurd (omega arith)
+    pub may_roll_at : (n : ℕ) → AreTouched p.touched p.written → is_noted n upto (at_shard n).written ≡ true → MayRoll (at_shard n) n nth upto
+    may_roll_at n touched noted =
+        let some = some_of (lookup (◌==◌ n) p.touched) (noted_touched n upto p.touched p.written touched (sym (noted_at n) ∙ noted)) in
+        record { number = number (went_at n); stands = back_stands (went_at n); seen = some.0; touched = ap (lookup (◌==◌ n)) (same_at n).touched ∙ some.1 }
+      where
+        number : (at_shard n ≡ p) ⊎ Went n (at_shard n) → ((nth ≡ suc (at_shard n).nth) × (upto < nth)) ⊎ ((nth ≡ (at_shard n).nth) × (goes_on_back (at_shard n).back n upto ≡ true))
+        number (inl same) = inl (ap (λ (b : SessionState). suc b.nth) (sym same), low)
+        number (inr h) = inr (sym h.nth_is, ap (λ o. goes_on_back o n upto) h.back ∙ and_from (nat_lt h.last n) (upto == upto) (lt-ltb h.last n h.before) (eq-eqb upto upto refl))
 
-  pub stands_at : (n : ℕ) → stands_for_back (suc (at_shard n).nth) upto (at_shard n).backs ≡ true
-  stands_at n = by (went_at n)
-    where
-      all : list_all (λ b. nat_le upto b.1 || nat_le b.0 upto) p.backs ≡ true
-      all = (and_parts (nat_lt upto (suc p.nth)) _ stands).1
+        back_stands : (at_shard n ≡ p) ⊎ Went n (at_shard n) → nth ≡ suc (at_shard n).nth → stands_for_back nth upto (at_shard n).backs ≡ true
+        back_stands (inl same) e = ap (λ (b : SessionState). stands_for_back nth upto b.backs) same ∙ stands
+        back_stands (inr h) e = let k = h.nth_is in absurd (omega arith)
 
-      by : (at_shard n ≡ p) ⊎ Went n (at_shard n) → stands_for_back (suc (at_shard n).nth) upto (at_shard n).backs ≡ true
-      by (inl same) = ap (λ (b : SessionState). stands_for_back (suc b.nth) upto b.backs) same ∙ stands
-      by (inr h) =
-          ap (λ k. stands_for_back (suc k) upto (at_shard n).backs) h.nth_is ∙ ap (stands_for_back (suc nth) upto) h.backs
-          ∙ and_from (nat_lt upto (suc nth)) (list_all (λ b. nat_le upto b.1 || nat_le b.0 upto) ((nth, upto) ∷ p.backs)) (let l = low in lt-ltb upto (suc nth) (omega arith))
-          (and_from (nat_le upto upto || nat_le nth upto) (list_all (λ b. nat_le upto b.1 || nat_le b.0 upto) p.backs) (ap (λ b. b || nat_le nth upto) (le-leb upto upto (omega arith))) all)
+    pub stands_at : (n : ℕ) → stands_for_back (suc (at_shard n).nth) upto (at_shard n).backs ≡ true
+    stands_at n = by (went_at n)
+      where
+        all : list_all (λ b. nat_le upto b.1 || nat_le b.0 upto) p.backs ≡ true
+        all = (and_parts (nat_lt upto (suc p.nth)) _ stands).1
 
-  -- ---- all of it
+        by : (at_shard n ≡ p) ⊎ Went n (at_shard n) → stands_for_back (suc (at_shard n).nth) upto (at_shard n).backs ≡ true
+        by (inl same) = ap (λ (b : SessionState). stands_for_back (suc b.nth) upto b.backs) same ∙ stands
+        by (inr h) =
+            ap (λ k. stands_for_back (suc k) upto (at_shard n).backs) h.nth_is ∙ ap (stands_for_back (suc nth) upto) h.backs
+            ∙ and_from (nat_lt upto (suc nth)) (list_all (λ b. nat_le upto b.1 || nat_le b.0 upto) ((nth, upto) ∷ p.backs)) (let l = low in lt-ltb upto (suc nth) (omega arith))
+            (and_from (nat_le upto upto || nat_le nth upto) (list_all (λ b. nat_le upto b.1 || nat_le b.0 upto) p.backs) (ap (λ b. b || nat_le nth upto) (le-leb upto upto (omega arith))) all)
 
-  pub is_back : (count : ℕ) → AllByRecursion (λ w. w.0 < count) p.written → IsBack p upto (at_shard count)
-  is_back count within = by (is_above upto p.written) refl (went_at count)
-    where
-      early : (at_shard count).written ≡ filter (λ w. nat_le w.1 upto) p.written
-      early = written_at count ∙ kept_early count upto p.written within
+    -- ---- all of it
 
-      none : is_above upto (at_shard count).written ≡ false
-      none = ap (is_above upto) early ∙ early_none upto p.written
+    pub is_back : (count : ℕ) → AllByRecursion (λ w. w.0 < count) p.written → IsBack p upto (at_shard count)
+    is_back count within = by (is_above upto p.written) refl (went_at count)
+      where
+        early : (at_shard count).written ≡ filter (λ w. nat_le w.1 upto) p.written
+        early = written_at count ∙ kept_early count upto p.written within
 
-      -- none is noted on any shard
-      by : (b : Bool) → is_above upto p.written ≡ b → (at_shard count ≡ p) ⊎ Went count (at_shard count) → IsBack p upto (at_shard count)
-      by true e (inl same) = absurd (both_ways (is_above upto (at_shard count).written) none (ap (λ (x : SessionState). is_above upto x.written) same ∙ e))
-      by true e (inr h) = record {
-        tx = (same_at count).tx;
-        birth = (same_at count).birth;
-        touched = (same_at count).touched;
-        phase = (same_at count).phase;
-        nth = h.nth_is ∙ sym (ap (λ x. cond x nth p.nth) e);
-        backs = h.backs ∙ sym (ap (λ x. cond x ((nth, upto) ∷ p.backs) p.backs) e);
-        written = early;
-        whole = ap (λ b. b && is_back_whole (at_shard count).back (at_shard count).written) h.whole ∙ ap (λ o. is_whole_now p && is_back_whole o (at_shard count).written) h.back ∙ ap (λ b. is_whole_now p && not b) none ∙ and_yes (is_whole_now p);
-      }
-        where
-          and_yes : (b : Bool) → (b && true) ≡ b
-          and_yes true = refl
-          and_yes false = refl
-      by false e (inl same) = subst (IsBack p upto) (sym same) (record {
-        tx = refl;
-        birth = refl;
-        touched = refl;
-        phase = refl;
-        nth = sym (ap (λ x. cond x nth p.nth) e);
-        backs = sym (ap (λ x. cond x ((nth, upto) ∷ p.backs) p.backs) e);
-        written = sym (none_above_early upto p.written e);
-        whole = refl;
-      })
-      by false e (inr h) = absurd (both_ways (is_above upto p.written) e (noted_above h.last upto p.written h.noted))
+        none : is_above upto (at_shard count).written ≡ false
+        none = ap (is_above upto) early ∙ early_none upto p.written
+
+        -- none is noted on any shard
+        by : (b : Bool) → is_above upto p.written ≡ b → (at_shard count ≡ p) ⊎ Went count (at_shard count) → IsBack p upto (at_shard count)
+        by true e (inl same) = absurd (both_ways (is_above upto (at_shard count).written) none (ap (λ (x : SessionState). is_above upto x.written) same ∙ e))
+        by true e (inr h) = record {
+          tx = (same_at count).tx;
+          birth = (same_at count).birth;
+          touched = (same_at count).touched;
+          phase = (same_at count).phase;
+          nth = h.nth_is ∙ sym (ap (λ x. cond x nth p.nth) e);
+          backs = h.backs ∙ sym (ap (λ x. cond x ((nth, upto) ∷ p.backs) p.backs) e);
+          written = early;
+          whole = ap (λ b. b && is_back_whole (at_shard count).back (at_shard count).written) h.whole ∙ ap (λ o. is_whole_now p && is_back_whole o (at_shard count).written) h.back ∙ ap (λ b. is_whole_now p && not b) none ∙ and_yes (is_whole_now p);
+        }
+          where
+            and_yes : (b : Bool) → (b && true) ≡ b
+            and_yes true = refl
+            and_yes false = refl
+        by false e (inl same) = subst (IsBack p upto) (sym same) (record {
+          tx = refl;
+          birth = refl;
+          touched = refl;
+          phase = refl;
+          nth = sym (ap (λ x. cond x nth p.nth) e);
+          backs = sym (ap (λ x. cond x ((nth, upto) ∷ p.backs) p.backs) e);
+          written = sym (none_above_early upto p.written e);
+          whole = refl;
+        })
+        by false e (inr h) = absurd (both_ways (is_above upto p.written) e (noted_above h.last upto p.written h.noted))
 
 -- ---- turns, and what they leave
 
@@ -221,7 +222,7 @@ module _ {M S G : Type 0} (sh : Shards M S G) (w : Walker M S G) (p : SessionSta
     -- a part of the place so far is one of p
     is_part : (n k : ℕ) (r : Result Outcome StepError) (t : Turn) → IsRoll (back_below (suc p.nth) upto n p) (suc p.nth) upto k r t → IsRoll p (suc p.nth) upto k r t
     is_part n k r t h =
-        let same = same_at p upto stands n in
+        let same = same_at p upto n in
         record {
           seen = h.seen;
           touched = sym (ap (lookup (◌==◌ k)) same.touched) ∙ h.touched;
@@ -234,7 +235,7 @@ module _ {M S G : Type 0} (sh : Shards M S G) (w : Walker M S G) (p : SessionSta
     more_so_far n u v m q a number s told = at (is_noted n upto m.written) refl told
       where
         noted : is_noted n upto m.written ≡ is_noted n upto p.written
-        noted = ap (λ (x : SessionState). is_noted n upto x.written) s.place ∙ noted_at p upto stands n
+        noted = ap (λ (x : SessionState). is_noted n upto x.written) s.place ∙ noted_at p upto n
 
         at : (b : Bool) → is_noted n upto m.written ≡ b → RollIf b (length sh.locks.items) u m (suc p.nth) upto n (Ok a) v q → SoFar (suc n) v q
         at true e h =
@@ -258,7 +259,7 @@ module _ {M S G : Type 0} (sh : Shards M S G) (w : Walker M S G) (p : SessionSta
     back_fails n u v m q e below number s told = at (is_noted n upto m.written) refl told
       where
         noted : is_noted n upto m.written ≡ is_noted n upto p.written
-        noted = ap (λ (x : SessionState). is_noted n upto x.written) s.place ∙ noted_at p upto stands n
+        noted = ap (λ (x : SessionState). is_noted n upto x.written) s.place ∙ noted_at p upto n
 
         at : (b : Bool) → is_noted n upto m.written ≡ b → RollIf {A = Unit {0}} b (length sh.locks.items) u m (suc p.nth) upto n (Err e) v q
             → GoingBack {A = Unit {0}} (length sh.locks.items) w.number w.clock w.passes.items p upto (Err e) v.clock v.passes.items q
