@@ -4,7 +4,7 @@ use Rattle.std.specs.Prelude.{slice_get}
 use Rattle.std.specs.List.{AllByRecursion}
 use Rattle.std.proofs.lemmas.List.{length_push}
 use Rattle.clv_base.specs.declared.logs.LogRecord.{LogRecord}
-use Rattle.clv_base.specs.declared.logs.LogRecord.TheVariants.{Update, Clr, Prepare, Commit, Abort, End, Restart, Add, Unadd}
+use Rattle.clv_base.specs.declared.logs.LogRecord.TheVariants.{Update, Clr, Prepare, Commit, Abort, End, Restart, Add, Unadd, Forgotten, Check}
 use Rattle.clv_base.specs.OneShard.{update_of}
 use Rattle.clv_base.specs.Logs.{StandingUpdate, without_newest, standing_after, standing_from, standing}
 use Rattle.law_base.proofs.Names.{Falls, all_without, falls_weaker, falls_without}
@@ -22,6 +22,8 @@ falls_after n (End tx) ws falls = falls_weaker n (suc n) ws (omega arith) falls
 falls_after n (Restart run epoch) ws falls = falls_weaker n (suc n) ws (omega arith) falls
 falls_after n (Add tx key by) ws falls = (omega arith, falls)
 falls_after n (Unadd tx undo_next key by) ws falls = falls_weaker n (suc n) (without_newest tx ws) (omega arith) (falls_without tx n ws falls)
+falls_after n Forgotten ws falls = falls_weaker n (suc n) ws (omega arith) falls
+falls_after n (Check run' epoch' upto base) ws falls = falls_weaker n (suc n) ws (omega arith) falls
 
 falls_from : (n : ℕ) (rs : List LogRecord) (ws : List StandingUpdate) → Falls n ws → Falls (n + length rs) (standing_from n rs ws)
 falls_from n [] ws falls = falls_weaker n (n + 0) ws (omega arith) falls
@@ -46,6 +48,8 @@ in_after all n (End tx) ws at a = a
 in_after all n (Restart run epoch) ws at a = a
 in_after all n (Add tx key by) ws at a = (at, a)
 in_after all n (Unadd tx undo_next key by) ws at a = all_without (IsIn all) tx ws a
+in_after all n Forgotten ws at a = a
+in_after all n (Check run' epoch' upto base) ws at a = a
 
 in_from : (rs front all : List LogRecord) (n : ℕ) (ws : List StandingUpdate) → n ≡ length front → all ≡ front ++ rs → AllByRecursion (IsIn all) ws → AllByRecursion (IsIn all) (standing_from n rs ws)
 in_from [] front all n ws at is a = a

@@ -20,9 +20,12 @@ fn is_barred(run: u32, found: &LogRecord) -> bool
     ensures { result ≡ bars_restart run found.now }
 {
     match found {
-        LogRecord::Restart { run: other, epoch } => {
-            run < *other || (*other == run && EPOCHS_END <= *epoch)
-        }
+        LogRecord::Restart { run: other, epoch }
+        | LogRecord::Check {
+            run: other,
+            epoch,
+            ..
+        } => { run < *other || (*other == run && EPOCHS_END <= *epoch) }
         _ => false,
     }
 }
@@ -39,12 +42,17 @@ fn first_barred(run: u32, log: &[LogRecord]) -> Option<u64>
     None
 }
 
-// The greater of an epoch and that of a RESTART of this run.
+// The greater of an epoch and that of a RESTART of this run, or of a checkpoint of it.
 fn later(run: u32, so_far: u64, found: &LogRecord) -> u64
     ensures { (rest : List RecordIs) → greatest_epoch run so_far (found.now ∷ rest) ≡ greatest_epoch run result rest }
 {
     match found {
-        LogRecord::Restart { run: other, epoch } if *other == run => so_far.max(*epoch),
+        LogRecord::Restart { run: other, epoch }
+        | LogRecord::Check {
+            run: other,
+            epoch,
+            ..
+        } if *other == run => so_far.max(*epoch),
         _ => so_far,
     }
 }

@@ -27,7 +27,7 @@ use Rattle.session_api.specs.Grounds.{WasDown}
 use Rattle.cluster_runs.specs.PromisedSessions.{Went, NotBegun, Begun, SessionsWent}
 use Rattle.cluster_runs.specs.Histories.{entries}
 use Rattle.command_line.specs.declared.status.Status.{Status}
-use Rattle.command_line.specs.declared.status.Status.TheVariants.{Fine, Usage, Script, ReadFault, WriteFault, DiskFault, NotLog, Memory, Worn, Exists, Apart}
+use Rattle.command_line.specs.declared.status.Status.TheVariants.{Fine, Usage, Script, ReadFault, WriteFault, DiskFault, NotLog, Memory, Worn, Exists, Apart, WrongTransaction, WrongMap, Unsettled}
 use Rattle.command_line.specs.Running.{End, IsOk, status_by}
 use Rattle.cluster_runs.specs.Ends.{walked_by, IsClosedRun}
 use Rattle.cluster_runs.specs.Statuses.{StatusTold, FlushesTold}
@@ -64,6 +64,9 @@ module _ (ends : SessionsHaveEnded) (splits : List ℕ) (before now : ℕ → Op
   all_ended shards (Worn at) told = tt
   all_ended shards (Exists shard len) told = tt
   all_ended shards (Apart tx) told = tt
+  all_ended shards (WrongTransaction place) told = tt
+  all_ended shards (WrongMap key) told = tt
+  all_ended shards (Unsettled count) told = tt
 
 -- what stopped a session has its grounds
 module _ {M S G : Type 0} (shards : ℕ) (failed : ℕ → Bool) (w : Walker M S G)

@@ -1,11 +1,11 @@
 -- What an opening may add to a log leaves what it stands for.
-use Rattle.std.proofs.Common.{◌≡◌, refl, ap, ◌∙◌, Bool, true, false, not, ◌||◌, ◌&&◌, List, [], ◌∷◌, ◌++◌}
+use Rattle.std.proofs.Common.{◌≡◌, refl, ap, ◌∙◌, Bool, true, false, not, ◌||◌, List, [], ◌∷◌, ◌++◌}
 use Rattle.std.specs.List.{AllByRecursion, list_all}
 use Rattle.std.proofs.lemmas.Bool.{and_parts, not-true}
 use Rattle.std.proofs.lemmas.List.Folds.{list_any-append}
 use Rattle.clv_base.specs.declared.names.TxId.{TxId}
 use Rattle.clv_base.specs.declared.logs.LogRecord.{LogRecord}
-use Rattle.clv_base.specs.declared.logs.LogRecord.TheVariants.{Update, Clr, Prepare, Commit, Abort, End, Restart, Add, Unadd}
+use Rattle.clv_base.specs.declared.logs.LogRecord.TheVariants.{Update, Clr, Prepare, Commit, Abort, End, Restart, Add, Unadd, Forgotten, Check}
 use Rattle.clv_base.specs.Maps.{KeyMap}
 use Rattle.clv_base.specs.Logs.{committed_in, is_commit_of, fold_updates, committed_somewhere, stands_from}
 use Rattle.cluster_runs.specs.Disks.{is_undo}
@@ -29,6 +29,8 @@ spares keep (r ∷ more) all = let p = and_parts (is_undo keep r) (list_all (is_
     one (Commit tx ps) u = absurd cc
     one (End tx) u = absurd cc
     one (Add tx key by) u = absurd cc
+    one Forgotten u = absurd cc
+    one (Check run' epoch' upto base) u = absurd cc
 
 -- none of them is a COMMIT
 commits_none : (keep : TxId → Bool) (t : TxId) (more : List LogRecord) → AllByRecursion (Spares keep) more → committed_in more t ≡ false

@@ -6,7 +6,7 @@ use Rattle.cluster_turns.specs.Dates.{latest}
 use Rattle.script_lang.specs.Bodies.{Body}
 use Rattle.cluster_runs.specs.PromisedSessions.{Went, Begun}
 use Rattle.command_line.specs.declared.status.Status.{Status}
-use Rattle.command_line.specs.declared.status.Status.TheVariants.{Fine, Usage, Script, ReadFault, WriteFault, DiskFault, NotLog, Memory, Worn, Exists, Apart}
+use Rattle.command_line.specs.declared.status.Status.TheVariants.{Fine, Usage, Script, ReadFault, WriteFault, DiskFault, NotLog, Memory, Worn, Exists, Apart, WrongTransaction, WrongMap, Unsettled}
 
 -- the counts of the first disks stand
 abbrev pub CountsStand : ℕ → (ℕ → ℕ) → (ℕ → ℕ) → Type 0
@@ -39,6 +39,9 @@ StatusTold shards counts counts_now script h went WriteFault = ⊥
 StatusTold shards counts counts_now script h went (NotLog shard at) = ⊥
 StatusTold shards counts counts_now script h went (Exists shard len) = ⊥
 StatusTold shards counts counts_now script h went (Apart tx) = ⊥
+StatusTold shards counts counts_now script h went (WrongTransaction place) = ⊥
+StatusTold shards counts counts_now script h went (WrongMap key) = ⊥
+StatusTold shards counts counts_now script h went (Unsettled count) = ⊥
 
 -- the same of disks alone, whatever the sessions were
 abbrev pub DisksTold : ℕ → (ℕ → ℕ) → (ℕ → ℕ) → Status → Type 0
@@ -53,6 +56,9 @@ DisksTold shards counts counts_now WriteFault = ⊥
 DisksTold shards counts counts_now (NotLog shard at) = ⊥
 DisksTold shards counts counts_now (Exists shard len) = ⊥
 DisksTold shards counts counts_now (Apart tx) = ⊥
+DisksTold shards counts counts_now (WrongTransaction place) = ⊥
+DisksTold shards counts counts_now (WrongMap key) = ⊥
+DisksTold shards counts counts_now (Unsettled count) = ⊥
 
 -- which shards' flushes failed: a disk's fault is of the lowest one, and at any other status none did
 abbrev pub FlushesTold : ℕ → (ℕ → Bool) → Status → Type 0

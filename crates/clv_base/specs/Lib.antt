@@ -8,6 +8,7 @@ pub mod Backs
 pub mod Shards
 pub mod Logs
 pub mod LogRules
+pub mod Checkpoints
 pub mod FileRules
 pub mod Modes
 pub mod Locks

@@ -4,7 +4,7 @@ use Rattle.std.specs.List.{filter, common_prefix_len}
 use Rattle.clv_base.specs.declared.names.TxId.{TxId}
 use Rattle.clv_base.specs.declared.names.Birth.{Birth}
 use Rattle.clv_base.specs.declared.logs.LogRecord.{LogRecord}
-use Rattle.clv_base.specs.declared.logs.LogRecord.TheVariants.{Commit, Abort, Restart}
+use Rattle.clv_base.specs.declared.logs.LogRecord.TheVariants.{Commit, Abort, Restart, Check}
 use Rattle.clv_base.specs.declared.events.Event.TheVariants.{Restart as RestartEvent}
 use Rattle.clv_base.specs.declared.events.Outcome.{Outcome}
 use Rattle.clv_base.specs.declared.events.Outcome.TheVariants.{Up, Nothing}
@@ -143,6 +143,7 @@ state_after shard run epoch log last journal =
 abbrev pub greatest_run : List LogRecord → ℕ
 greatest_run [] = 0
 greatest_run (Restart run epoch ∷ rs) = max run (greatest_run rs)
+greatest_run (Check run epoch upto base ∷ rs) = max run (greatest_run rs)
 greatest_run (_ ∷ rs) = greatest_run rs
 
 abbrev pub run_after : List (List LogRecord) → ℕ
@@ -159,6 +160,7 @@ opened shard run log = state_after shard run 0 (log_after_restart shard log run 
 abbrev pub greatest_epoch : ℕ → ℕ → List LogRecord → ℕ
 greatest_epoch run own [] = own
 greatest_epoch run own (Restart r e ∷ rs) = greatest_epoch run (cond (r == run) (max own e) own) rs
+greatest_epoch run own (Check r e upto base ∷ rs) = greatest_epoch run (cond (r == run) (max own e) own) rs
 greatest_epoch run own (_ ∷ rs) = greatest_epoch run own rs
 
 abbrev pub next_epoch : Shard → List LogRecord → ℕ
@@ -167,6 +169,7 @@ next_epoch s log = suc (greatest_epoch s.run s.local.epoch log)
 -- the first record of a log by which a live restart refuses it: a RESTART of a greater run, or of this run with an epoch of 2^63 or more
 abbrev pub bars_restart : ℕ → LogRecord → Bool
 bars_restart run (Restart r e) = nat_lt run r || ((r == run) && nat_le (2 ^ 63) e)
+bars_restart run (Check r e upto base) = nat_lt run r || ((r == run) && nat_le (2 ^ 63) e)
 bars_restart run _ = false
 
 abbrev pub first_barred : ℕ → List LogRecord → Option ℕ

@@ -16,6 +16,7 @@ pub mod names;
 pub mod ops;
 pub mod parts;
 mod shard_lists;
+pub mod shard_log;
 pub mod splits;
 pub mod state;
 pub mod texts;

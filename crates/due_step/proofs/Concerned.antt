@@ -3,7 +3,7 @@ use Rattle.std.proofs.Common.{◌≡◌, refl, sym, ◌∙◌, ⊎_elim, Bool, t
 use Rattle.std.proofs.lemmas.Bool.{both_ways, or_cases}
 use Rattle.clv_base.specs.declared.names.TxId.{TxId}
 use Rattle.clv_base.specs.declared.logs.LogRecord.{LogRecord}
-use Rattle.clv_base.specs.declared.logs.LogRecord.TheVariants.{Update, Clr, Prepare, Commit, Abort, End, Restart, Add, Unadd}
+use Rattle.clv_base.specs.declared.logs.LogRecord.TheVariants.{Update, Clr, Prepare, Commit, Abort, End, Restart, Add, Unadd, Forgotten, Check}
 use Rattle.clv_base.specs.Orders.{tx_same, tx_in}
 use Rattle.clv_base.proofs.SameNames.{or_left, or_right, tx_flip}
 use Rattle.protocol_laws.specs.UndoLaws.{is_pair}
@@ -44,6 +44,8 @@ concerned pairs (End tx ∷ rs) x e = concerned pairs rs x e
 concerned pairs (Restart run epoch ∷ rs) x e = concerned pairs rs x e
 concerned pairs (Add tx k by ∷ rs) x e = concerned pairs rs x e
 concerned pairs (Unadd tx u k by ∷ rs) x e = ⊎_elim (λ h. or_left (tx_same tx x) _ h) (λ h. or_right (tx_same tx x) _ (concerned pairs rs x h)) (or_cases (tx_same tx x) (tx_in x (landed_txs pairs rs)) e)
+concerned pairs (Forgotten ∷ rs) x e = concerned pairs rs x e
+concerned pairs (Check run' epoch' upto base ∷ rs) x e = concerned pairs rs x e
 
 pub landed_covers : LandedCovers
 landed_covers s n txs more h cover put t due =

@@ -9,7 +9,7 @@ use Rattle.std.specs.List.{list_all}
 use Rattle.std.proofs.lemmas.Bool.{and_parts, ltb-true}
 use Rattle.clv_base.specs.declared.names.TxId.{TxId}
 use Rattle.clv_base.specs.declared.logs.LogRecord.{LogRecord}
-use Rattle.clv_base.specs.declared.logs.LogRecord.TheVariants.{Update, Clr, Prepare, Commit, Abort, End, Restart, Add, Unadd}
+use Rattle.clv_base.specs.declared.logs.LogRecord.TheVariants.{Update, Clr, Prepare, Commit, Abort, End, Restart, Add, Unadd, Forgotten, Check}
 use Rattle.clv_base.specs.declared.messages.Message.TheVariants.{Done}
 use Rattle.clv_base.specs.declared.events.Event.{Event}
 use Rattle.clv_base.specs.declared.events.Event.TheVariants.{Deliver}
@@ -142,6 +142,8 @@ parts_below splits shard (End tx ∷ rs) t ps a e = parts_below splits shard rs 
 parts_below splits shard (Restart run epoch ∷ rs) t ps a e = parts_below splits shard rs t ps a e
 parts_below splits shard (Add tx k by ∷ rs) t ps a e = parts_below splits shard rs t ps (and_parts _ (list_all (passes_file_rules splits shard) rs) a).1 e
 parts_below splits shard (Unadd tx u k by ∷ rs) t ps a e = parts_below splits shard rs t ps (and_parts _ (list_all (passes_file_rules splits shard) rs) a).1 e
+parts_below splits shard (Forgotten ∷ rs) t ps a e = parts_below splits shard rs t ps a e
+parts_below splits shard (Check run' epoch' upto base ∷ rs) t ps a e = parts_below splits shard rs t ps (and_parts _ (list_all (passes_file_rules splits shard) rs) a).1 e
 
 pub part_below : {splits : List ℕ} {before after : List (List LogRecord)} {h : History} → LegalFrom splits before h after → (choice : ℕ → Bool) (n m : ℕ) (tx : TxId) (parts : List ℕ)
     → n < shard_count splits → commit_parts (log_of (logs_left splits before h after choice) n) tx ≡ Some parts → nat_in m parts ≡ true → m < shard_count splits

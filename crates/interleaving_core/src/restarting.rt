@@ -27,12 +27,14 @@ use std::mem::replace;
 // Stamps end below it.
 const STAMPS: u64 = 1 << 48;
 
-// The greater of an epoch and that of a RESTART of run 1.
+// The greater of an epoch and that of a RESTART of run 1, which a checkpoint counts as.
 fn later(so_far: u64, found: &LogRecord) -> u64
     ensures { (rest : List RecordIs) → greatest_epoch 1 so_far (found.now ∷ rest) ≡ greatest_epoch 1 result rest }
 {
     match found {
-        LogRecord::Restart { run: 1, epoch } => so_far.max(*epoch),
+        LogRecord::Restart { run: 1, epoch } | LogRecord::Check { run: 1, epoch, .. } => {
+            so_far.max(*epoch)
+        }
         _ => so_far,
     }
 }

@@ -5,7 +5,7 @@ use Rattle.std.proofs.lemmas.Bool.{both_ways, cond-true, or_cases, ltb-true, lt-
 use Rattle.std.proofs.lemmas.List.Folds.{list_any-append}
 use Rattle.clv_base.specs.declared.names.TxId.{TxId}
 use Rattle.clv_base.specs.declared.logs.LogRecord.{LogRecord}
-use Rattle.clv_base.specs.declared.logs.LogRecord.TheVariants.{Commit, Update, Clr, Prepare, Abort, End, Restart, Add, Unadd}
+use Rattle.clv_base.specs.declared.logs.LogRecord.TheVariants.{Commit, Update, Clr, Prepare, Abort, End, Restart, Add, Unadd, Forgotten, Check}
 use Rattle.clv_base.specs.Logs.{committed_in, is_commit_of, place_from, commit_lsn, is_below, commit_parts}
 use Rattle.clv_base.specs.Orders.{tx_same}
 use Rattle.clv_base.specs.OneShard.{closing}
@@ -137,6 +137,8 @@ parts_keep (End tx ∷ rs) more t ps e = parts_keep rs more t ps e
 parts_keep (Restart run epoch ∷ rs) more t ps e = parts_keep rs more t ps e
 parts_keep (Add tx k by ∷ rs) more t ps e = parts_keep rs more t ps e
 parts_keep (Unadd tx u k by ∷ rs) more t ps e = parts_keep rs more t ps e
+parts_keep (Forgotten ∷ rs) more t ps e = parts_keep rs more t ps e
+parts_keep (Check run' epoch' upto base ∷ rs) more t ps e = parts_keep rs more t ps e
 
 pub durable_further : (log : List LogRecord) (d e : ℕ) (tx : TxId) → d ≤ e → commit_durable log d tx ≡ true → commit_durable log e tx ≡ true
 durable_further log d e tx le h = let m = durable_parts log d tx h in let l = m.2 in durable_from log e tx m.0 m.1 (omega arith)

@@ -7,7 +7,7 @@ use Rattle.std.proofs.Math.Bool.{or-false}
 use Rattle.clv_base.specs.declared.values.Value.{Value as ValueType}
 use Rattle.clv_base.specs.declared.names.TxId.{TxId}
 use Rattle.clv_base.specs.declared.logs.LogRecord.{LogRecord}
-use Rattle.clv_base.specs.declared.logs.LogRecord.TheVariants.{Update, Clr, Prepare, Commit, Abort, End, Restart, Add, Unadd}
+use Rattle.clv_base.specs.declared.logs.LogRecord.TheVariants.{Update, Clr, Prepare, Commit, Abort, End, Restart, Add, Unadd, Forgotten, Check}
 use Rattle.clv_base.specs.Orders.{tx_same, tx_in, tx_insert}
 use Rattle.clv_base.specs.Logs.{is_commit_of, is_abort_of, committed_in, aborted_in, standing, standing_after, doubt_by, in_doubt_from, in_doubt, is_winner}
 use Rattle.clv_base.proofs.SameNames.{insert_keeps, insert_has}
@@ -41,6 +41,8 @@ no_doubt_abort t log shard (End tx ∷ rs) so_far = no_doubt_abort t log shard r
 no_doubt_abort t log shard (Restart run epoch ∷ rs) so_far = no_doubt_abort t log shard rs so_far
 no_doubt_abort t log shard (Add tx k by ∷ rs) so_far = no_doubt_abort t log shard rs so_far
 no_doubt_abort t log shard (Unadd tx u k by ∷ rs) so_far = no_doubt_abort t log shard rs so_far
+no_doubt_abort t log shard (Forgotten ∷ rs) so_far = no_doubt_abort t log shard rs so_far
+no_doubt_abort t log shard (Check run' epoch' upto base ∷ rs) so_far = no_doubt_abort t log shard rs so_far
 
 no_doubt_clr : (t : TxId) (u : Option ℕ) (k : ℕ) (a : Option ValueType) (log : List LogRecord) (shard : ℕ) (rs : List LogRecord) (so_far : List TxId) → in_doubt_from log shard (rs ++ Clr t u k a ∷ []) so_far ≡ in_doubt_from log shard rs so_far
 no_doubt_clr t u k a log shard [] so_far = refl
@@ -53,6 +55,8 @@ no_doubt_clr t u k a log shard (End tx ∷ rs) so_far = no_doubt_clr t u k a log
 no_doubt_clr t u k a log shard (Restart run epoch ∷ rs) so_far = no_doubt_clr t u k a log shard rs so_far
 no_doubt_clr t u k a log shard (Add tx j by ∷ rs) so_far = no_doubt_clr t u k a log shard rs so_far
 no_doubt_clr t u k a log shard (Unadd tx v j by ∷ rs) so_far = no_doubt_clr t u k a log shard rs so_far
+no_doubt_clr t u k a log shard (Forgotten ∷ rs) so_far = no_doubt_clr t u k a log shard rs so_far
+no_doubt_clr t u k a log shard (Check run' epoch' upto base ∷ rs) so_far = no_doubt_clr t u k a log shard rs so_far
 
 no_doubt_unadd : (t : TxId) (u : Option ℕ) (k a : ℕ) (log : List LogRecord) (shard : ℕ) (rs : List LogRecord) (so_far : List TxId) → in_doubt_from log shard (rs ++ Unadd t u k a ∷ []) so_far ≡ in_doubt_from log shard rs so_far
 no_doubt_unadd t u k a log shard [] so_far = refl
@@ -65,6 +69,8 @@ no_doubt_unadd t u k a log shard (End tx ∷ rs) so_far = no_doubt_unadd t u k a
 no_doubt_unadd t u k a log shard (Restart run epoch ∷ rs) so_far = no_doubt_unadd t u k a log shard rs so_far
 no_doubt_unadd t u k a log shard (Add tx j by ∷ rs) so_far = no_doubt_unadd t u k a log shard rs so_far
 no_doubt_unadd t u k a log shard (Unadd tx v j by ∷ rs) so_far = no_doubt_unadd t u k a log shard rs so_far
+no_doubt_unadd t u k a log shard (Forgotten ∷ rs) so_far = no_doubt_unadd t u k a log shard rs so_far
+no_doubt_unadd t u k a log shard (Check run' epoch' upto base ∷ rs) so_far = no_doubt_unadd t u k a log shard rs so_far
 
 no_doubt_restart : (run epoch : ℕ) (log : List LogRecord) (shard : ℕ) (rs : List LogRecord) (so_far : List TxId) → in_doubt_from log shard (rs ++ Restart run epoch ∷ []) so_far ≡ in_doubt_from log shard rs so_far
 no_doubt_restart run epoch log shard [] so_far = refl
@@ -77,6 +83,8 @@ no_doubt_restart run epoch log shard (End tx ∷ rs) so_far = no_doubt_restart r
 no_doubt_restart run epoch log shard (Restart r e ∷ rs) so_far = no_doubt_restart run epoch log shard rs so_far
 no_doubt_restart run epoch log shard (Add tx k by ∷ rs) so_far = no_doubt_restart run epoch log shard rs so_far
 no_doubt_restart run epoch log shard (Unadd tx u k by ∷ rs) so_far = no_doubt_restart run epoch log shard rs so_far
+no_doubt_restart run epoch log shard (Forgotten ∷ rs) so_far = no_doubt_restart run epoch log shard rs so_far
+no_doubt_restart run epoch log shard (Check run' epoch' upto base ∷ rs) so_far = no_doubt_restart run epoch log shard rs so_far
 
 -- whom an ABORT aborts, and who is aborted by none
 abbrev pub is_it : TxId → TxId → Bool
@@ -114,6 +122,8 @@ stays_in log shard (End tx ∷ rs) so_far u i = stays_in log shard rs so_far u i
 stays_in log shard (Restart run epoch ∷ rs) so_far u i = stays_in log shard rs so_far u i
 stays_in log shard (Add tx k by ∷ rs) so_far u i = stays_in log shard rs so_far u i
 stays_in log shard (Unadd tx v k by ∷ rs) so_far u i = stays_in log shard rs so_far u i
+stays_in log shard (Forgotten ∷ rs) so_far u i = stays_in log shard rs so_far u i
+stays_in log shard (Check run' epoch' upto base ∷ rs) so_far u i = stays_in log shard rs so_far u i
 
 all_alike : (f g : TxId → Bool) (xs : List TxId) → ((x : TxId) → f x ≡ g x) → list_all f xs ≡ list_all g xs
 all_alike f g [] h = refl
@@ -181,6 +191,8 @@ doubts_from g log r shard (End tx ∷ rs) so_far u h = doubts_from g log r shard
 doubts_from g log r shard (Restart run epoch ∷ rs) so_far u h = doubts_from g log r shard rs so_far u h
 doubts_from g log r shard (Add tx k by ∷ rs) so_far u h = doubts_from g log r shard rs so_far u h
 doubts_from g log r shard (Unadd tx v k by ∷ rs) so_far u h = doubts_from g log r shard rs so_far u h
+doubts_from g log r shard (Forgotten ∷ rs) so_far u h = doubts_from g log r shard rs so_far u h
+doubts_from g log r shard (Check run' epoch' upto base ∷ rs) so_far u h = doubts_from g log r shard rs so_far u h
 
 pub doubts_more : (g : TxId → Bool) (log : List LogRecord) (r : LogRecord) (shard : ℕ) → Unlike g r → Spared g (in_doubt shard log) → in_doubt shard (log ++ r ∷ []) ≡ in_doubt shard log
 doubts_more g log r shard u h = u.no_doubt (log ++ r ∷ []) shard log [] ∙ doubts_from g log r shard log [] u h

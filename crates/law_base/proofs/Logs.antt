@@ -8,7 +8,7 @@ use Rattle.clv_base.specs.Logs.{is_setting, record_size, fitting, committed_in, 
 use Rattle.std.specs.Prelude.{slice_get, ⊤, is_none}
 use Rattle.std.proofs.Math.Seq.{get_or-append_seam}
 use Rattle.std.proofs.lemmas.Option.{slice_get_read}
-use Rattle.clv_base.specs.declared.logs.LogRecord.TheVariants.{Clr, Abort, Restart, Prepare, Update, Commit, End, Add, Unadd}
+use Rattle.clv_base.specs.declared.logs.LogRecord.TheVariants.{Clr, Abort, Restart, Prepare, Update, Commit, End, Add, Unadd, Forgotten, Check}
 use Rattle.clv_base.specs.declared.names.TxId.{TxId}
 use Rattle.clv_base.specs.LogRules.{log_of, all_logs_from, disorder, may_follow, disorder_from, last_restart}
 use Rattle.clv_base.specs.Maps.{KeyMap, map_get}
@@ -163,6 +163,7 @@ place_is n test (r ∷ rs) = at (test r) (place_is (suc n) test rs)
 pub last_restart_push : (log : List LogRecord) (run epoch : ℕ) → last_restart (log ++ Restart run epoch ∷ []) ≡ Some (run, epoch)
 last_restart_push [] run epoch = refl
 last_restart_push (Restart r e ∷ rs) run epoch = rw (last_restart_push rs run epoch) refl
+last_restart_push (Check r e upto base ∷ rs) run epoch = rw (last_restart_push rs run epoch) refl
 last_restart_push (_ ∷ rs) run epoch = last_restart_push rs run epoch
 
 pub each_spelled : (rs : List LogRecord) (i : ℕ) (d : LogRecord) → list_all has_spelling rs ≡ true → i < length rs → has_spelling (get_or rs i d) ≡ true
@@ -243,6 +244,8 @@ fold_spared keep n (Add tx q by ∷ more) ws m a = absurd a.0
 fold_spared keep n (Prepare tx home ps ∷ more) ws m a = absurd a.0
 fold_spared keep n (Commit tx ps ∷ more) ws m a = absurd a.0
 fold_spared keep n (End tx ∷ more) ws m a = absurd a.0
+fold_spared keep n (Forgotten ∷ more) ws m a = absurd a.0
+fold_spared keep n (Check run' epoch' upto base ∷ more) ws m a = absurd a.0
 
 -- undo records of others leave the fold
 pub same_fold : (f k : TxId → Bool) → ((t : TxId) → f t ≡ k t) → (log more : List LogRecord) (m : KeyMap) → AllByRecursion (Spares k) more → fold_updates f (log ++ more) m ≡ fold_updates k log m
@@ -261,6 +264,8 @@ spares_undo keep (Add tx q by) a = a
 spares_undo keep (Prepare tx home ps) a = a
 spares_undo keep (Commit tx ps) a = a
 spares_undo keep (End tx) a = a
+spares_undo keep Forgotten a = a
+spares_undo keep (Check run' epoch' upto base) a = a
 
 pub aborts_spare : (keep : TxId → Bool) (ts : List TxId) → AllByRecursion (Spares keep) (map (λ t. Abort t) ts)
 aborts_spare keep [] = tt
@@ -331,6 +336,8 @@ standing_all log n (Add tx k by ∷ rs) ws h all =
     standing_all log (suc n) rs (record { lsn = n; tx = tx; key = k; change = Adds by } ∷ ws) (λ t q e. h t q (or_right (tx_same t tx && (q == k)) _ e))
     (h tx k (or_left _ _ (and_from _ _ (tx_self tx) (eq-eqb k k refl))), all)
 standing_all log n (Unadd tx u k by ∷ rs) ws h all = standing_all log (suc n) rs (without_newest tx ws) h (all_without _ tx ws all)
+standing_all log n (Forgotten ∷ rs) ws h all = standing_all log (suc n) rs ws h all
+standing_all log n (Check run' epoch' upto base ∷ rs) ws h all = standing_all log (suc n) rs ws h all
 
 abbrev pub has_setting : List LogRecord → TxId → ℕ → Bool
 has_setting log t q = list_any (is_setting_at t q) log
@@ -349,6 +356,8 @@ settings_all log n (End tx ∷ rs) ws h all = settings_all log (suc n) rs ws h a
 settings_all log n (Restart run epoch ∷ rs) ws h all = settings_all log (suc n) rs ws h all
 settings_all log n (Add tx k by ∷ rs) ws h all = settings_all log (suc n) rs (record { lsn = n; tx = tx; key = k; change = Adds by } ∷ ws) h ((λ e. absurd (both_ways false refl e)), all)
 settings_all log n (Unadd tx u k by ∷ rs) ws h all = settings_all log (suc n) rs (without_newest tx ws) h (all_without _ tx ws all)
+settings_all log n (Forgotten ∷ rs) ws h all = settings_all log (suc n) rs ws h all
+settings_all log n (Check run' epoch' upto base ∷ rs) ws h all = settings_all log (suc n) rs ws h all
 
 pub standing_updates : (log : List LogRecord) → AllByRecursion (λ w. has_update log w.tx w.key ≡ true) (standing log)
 standing_updates log = standing_all log 0 log [] (λ t q e. e) tt

@@ -39,13 +39,13 @@ list_self same h [] = refl
 list_self same h (x ∷ xs) = and_from _ _ (h x) (list_self same h xs)
 
 -- values that are the same, and such that may be none
-value_true : (a b : ValueType) → same_value a b ≡ true → a ≡ b
+pub value_true : (a b : ValueType) → same_value a b ≡ true → a ≡ b
 value_true (Num a) (Num b) e = ap Num (eqb-true a b e)
 value_true (Bytes a) (Bytes b) e = ap Bytes (list_true (◌==◌) eqb-true a b e)
 value_true (Num a) (Bytes b) e = absurd (both_ways false refl e)
 value_true (Bytes a) (Num b) e = absurd (both_ways false refl e)
 
-value_self : (a : ValueType) → same_value a a ≡ true
+pub value_self : (a : ValueType) → same_value a a ≡ true
 value_self (Num a) = eq-eqb a a refl
 value_self (Bytes a) = list_self (◌==◌) (λ x. eq-eqb x x refl) a
 

@@ -1,7 +1,7 @@
 -- What a restart finds: the greatest epoch of a run in a log, and a log for each shard.
 use Rattle.std.proofs.Common.{◌≡◌, ℕ, ◌≤◌, Bool, true, false, List, [], ◌∷◌, ◌==◌, cond, max, arith, refl, zero, suc, length, ap}
 use Rattle.clv_base.specs.declared.logs.LogRecord.{LogRecord}
-use Rattle.clv_base.specs.declared.logs.LogRecord.TheVariants.{Update, Clr, Prepare, Commit, Abort, End, Restart, Add, Unadd}
+use Rattle.clv_base.specs.declared.logs.LogRecord.TheVariants.{Update, Clr, Prepare, Commit, Abort, End, Restart, Add, Unadd, Forgotten, Check}
 use Rattle.clv_base.specs.Restarts.{greatest_epoch}
 use Rattle.clv_base.specs.State.{Shard}
 use Rattle.clv_base.specs.Journals.{logs_left_from}
@@ -21,6 +21,12 @@ epoch_own run own (Abort tx ∷ rs) = epoch_own run own rs
 epoch_own run own (End tx ∷ rs) = epoch_own run own rs
 epoch_own run own (Add tx k by ∷ rs) = epoch_own run own rs
 epoch_own run own (Unadd tx u k by ∷ rs) = epoch_own run own rs
+epoch_own run own (Forgotten ∷ rs) = epoch_own run own rs
+epoch_own run own (Check run' epoch' upto base ∷ rs) = at (run' == run) (epoch_own run (cond (run' == run) (max own epoch') own) rs)
+  where
+    at : (b : Bool) → cond b (max own epoch') own ≤ greatest_epoch run (cond (run' == run) (max own epoch') own) rs → own ≤ greatest_epoch run (cond (run' == run) (max own epoch') own) rs
+    at true l = omega (arith, l)
+    at false l = l
 
 pub left_length : (finals : ℕ → Shard) (choice : ℕ → Bool) (n k : ℕ) → length (logs_left_from finals choice n k) ≡ k
 left_length finals choice n zero = refl

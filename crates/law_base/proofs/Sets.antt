@@ -11,7 +11,7 @@ use Rattle.std.proofs.lemmas.List.Kept.{IsStrictlySortedBy-filter}
 use Rattle.std.proofs.lemmas.Map.Lookups.{btree_set_from_contains}
 use Rattle.clv_base.specs.declared.names.TxId.{TxId}
 use Rattle.clv_base.specs.declared.logs.LogRecord.{LogRecord}
-use Rattle.clv_base.specs.declared.logs.LogRecord.TheVariants.{Update, Clr, Prepare, Commit, Abort, End, Restart, Add, Unadd}
+use Rattle.clv_base.specs.declared.logs.LogRecord.TheVariants.{Update, Clr, Prepare, Commit, Abort, End, Restart, Add, Unadd, Forgotten, Check}
 use Rattle.clv_base.specs.Orders.{tx_cmp, tx_same, tx_in, tx_insert, tx_union}
 use Rattle.clv_base.specs.Logs.{StandingUpdate, writers, without_newest, standing, is_winner, doubt_by, in_doubt_from, in_doubt}
 use Rattle.clv_base.specs.Facts.{predecessors_of}
@@ -77,6 +77,8 @@ doubts_from log shard (End tx ∷ rs) ts h = doubts_from log shard rs ts h
 doubts_from log shard (Restart run epoch ∷ rs) ts h = doubts_from log shard rs ts h
 doubts_from log shard (Add tx k by ∷ rs) ts h = doubts_from log shard rs ts h
 doubts_from log shard (Unadd tx u k by ∷ rs) ts h = doubts_from log shard rs ts h
+doubts_from log shard (Forgotten ∷ rs) ts h = doubts_from log shard rs ts h
+doubts_from log shard (Check run' epoch' upto base ∷ rs) ts h = doubts_from log shard rs ts h
 
 pub doubts_rise : (shard : ℕ) (log : List LogRecord) → Rise (in_doubt shard log)
 doubts_rise shard log = doubts_from log shard log [] nothing_rises

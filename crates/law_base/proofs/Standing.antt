@@ -6,7 +6,7 @@ use Rattle.std.proofs.lemmas.Option.{none-some, same_Some}
 use Rattle.clv_base.specs.declared.values.Value.{Value as ValueType}
 use Rattle.clv_base.specs.declared.names.TxId.{TxId}
 use Rattle.clv_base.specs.declared.logs.LogRecord.{LogRecord}
-use Rattle.clv_base.specs.declared.logs.LogRecord.TheVariants.{Update, Clr, Prepare, Commit, Abort, End, Restart, Add, Unadd}
+use Rattle.clv_base.specs.declared.logs.LogRecord.TheVariants.{Update, Clr, Prepare, Commit, Abort, End, Restart, Add, Unadd, Forgotten, Check}
 use Rattle.clv_base.specs.Orders.{tx_same}
 use Rattle.clv_base.specs.Logs.{StandingUpdate, standing, standing_from, standing_after, without_newest, newest_of, is_update_of, is_undo_of, wrote_in, has_standing, last_place_from, undone_lsn}
 use Rattle.clv_base.proofs.SameNames.{or_left, or_right, tx_self, tx_true}
@@ -50,6 +50,8 @@ wrote_all log n (Commit tx ps ∷ rs) ws h all = wrote_all log (suc n) rs ws h a
 wrote_all log n (Abort tx ∷ rs) ws h all = wrote_all log (suc n) rs ws h all
 wrote_all log n (End tx ∷ rs) ws h all = wrote_all log (suc n) rs ws h all
 wrote_all log n (Restart run epoch ∷ rs) ws h all = wrote_all log (suc n) rs ws h all
+wrote_all log n (Forgotten ∷ rs) ws h all = wrote_all log (suc n) rs ws h all
+wrote_all log n (Check run' epoch' upto base ∷ rs) ws h all = wrote_all log (suc n) rs ws h all
 
 pub all_wrote : (log : List LogRecord) → AllByRecursion (λ w. wrote_in log w.tx ≡ true) (standing log)
 all_wrote log = wrote_all log 0 log [] (λ t e. e) tt
@@ -85,7 +87,7 @@ pub falls_length : (n : ℕ) (ws : List StandingUpdate) → Falls n ws → lengt
 falls_length n [] f = omega arith
 falls_length n (w ∷ ws) f = let l : w.lsn < n = f.0 in let m : length ws ≤ w.lsn = falls_length w.lsn ws f.1 in omega arith
 
-falls_after : (n : ℕ) (r : LogRecord) (ws : List StandingUpdate) → Falls n ws → Falls (suc n) (standing_after n r ws)
+pub falls_after : (n : ℕ) (r : LogRecord) (ws : List StandingUpdate) → Falls n ws → Falls (suc n) (standing_after n r ws)
 falls_after n (Update tx k b a) ws f = (omega arith, f)
 falls_after n (Add tx k by) ws f = (omega arith, f)
 falls_after n (Clr tx u k a) ws f = falls_weaker n (suc n) (without_newest tx ws) (omega arith) (falls_without tx n ws f)
@@ -95,6 +97,8 @@ falls_after n (Commit tx ps) ws f = falls_weaker n (suc n) ws (omega arith) f
 falls_after n (Abort tx) ws f = falls_weaker n (suc n) ws (omega arith) f
 falls_after n (End tx) ws f = falls_weaker n (suc n) ws (omega arith) f
 falls_after n (Restart run epoch) ws f = falls_weaker n (suc n) ws (omega arith) f
+falls_after n Forgotten ws f = falls_weaker n (suc n) ws (omega arith) f
+falls_after n (Check run' epoch' upto base) ws f = falls_weaker n (suc n) ws (omega arith) f
 
 falls_from : (n : ℕ) (rs : List LogRecord) (ws : List StandingUpdate) → Falls n ws → Falls (n + length rs) (standing_from n rs ws)
 falls_from n [] ws f = subst (λ k. Falls k ws) (omega arith) f
@@ -143,6 +147,8 @@ after_still n (Commit tx ps) ws t e f = refl
 after_still n (Abort tx) ws t e f = refl
 after_still n (End tx) ws t e f = refl
 after_still n (Restart run epoch) ws t e f = refl
+after_still n Forgotten ws t e f = refl
+after_still n (Check run' epoch' upto base) ws t e f = refl
 
 from_still : (n : ℕ) (rs : List LogRecord) (ws : List StandingUpdate) (t : TxId) → list_any (is_update_of t) rs ≡ false → list_any (is_undo_of t) rs ≡ false → has_write (standing_from n rs ws) t ≡ has_write ws t
 from_still n [] ws t e f = refl
@@ -168,6 +174,8 @@ after_fewer n (Commit tx ps) ws t e h = h
 after_fewer n (Abort tx) ws t e h = h
 after_fewer n (End tx) ws t e h = h
 after_fewer n (Restart run epoch) ws t e h = h
+after_fewer n Forgotten ws t e h = h
+after_fewer n (Check run' epoch' upto base) ws t e h = h
 
 from_fewer : (n : ℕ) (rs : List LogRecord) (ws : List StandingUpdate) (t : TxId) → list_any (is_update_of t) rs ≡ false → has_write (standing_from n rs ws) t ≡ true → has_write ws t ≡ true
 from_fewer n [] ws t e h = h
@@ -192,6 +200,8 @@ from_whole n (Commit tx ps ∷ rs) ws t f = from_whole (suc n) rs ws t f
 from_whole n (Abort tx ∷ rs) ws t f = from_whole (suc n) rs ws t f
 from_whole n (End tx ∷ rs) ws t f = from_whole (suc n) rs ws t f
 from_whole n (Restart run epoch ∷ rs) ws t f = from_whole (suc n) rs ws t f
+from_whole n (Forgotten ∷ rs) ws t f = from_whole (suc n) rs ws t f
+from_whole n (Check run' epoch' upto base ∷ rs) ws t f = from_whole (suc n) rs ws t f
 
 pub all_of_it_stands : (log : List LogRecord) (t : TxId) → list_any (is_undo_of t) log ≡ false → has_standing log t ≡ wrote_in log t
 all_of_it_stands log t f = from_whole 0 log [] t f

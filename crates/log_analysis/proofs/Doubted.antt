@@ -3,7 +3,7 @@ use Rattle.std.proofs.Common.{◌≡◌, ℕ, Bool, true, false, cond, not, ◌&
 use Rattle.std.specs.List.{filter, list_all}
 use Rattle.clv_base.specs.declared.names.TxId.{TxId}
 use Rattle.clv_base.specs.declared.logs.LogRecord.{LogRecord}
-use Rattle.clv_base.specs.declared.logs.LogRecord.TheVariants.{Update, Clr, Prepare, Commit, Abort, End, Restart, Add, Unadd}
+use Rattle.clv_base.specs.declared.logs.LogRecord.TheVariants.{Update, Clr, Prepare, Commit, Abort, End, Restart, Add, Unadd, Forgotten, Check}
 use Rattle.clv_base.specs.Orders.{Table, tx_in, tx_insert}
 use Rattle.clv_base.specs.Logs.{committed_in, aborted_in, prepare_of, doubt_by, in_doubt_from, in_doubt, is_winner, writers, standing}
 use Rattle.clv_base.specs.LogRules.{listed_in}
@@ -46,6 +46,8 @@ module _ (m : Table TxFacts) (log : List LogRecord) (knows : Knows m log) where
   doubted_is shard (Restart run epoch ∷ rs) so_far = doubted_is shard rs so_far
   doubted_is shard (Add tx key by ∷ rs) so_far = doubted_is shard rs so_far
   doubted_is shard (Unadd tx undo_next key by ∷ rs) so_far = doubted_is shard rs so_far
+  doubted_is shard (Forgotten ∷ rs) so_far = doubted_is shard rs so_far
+  doubted_is shard (Check run' epoch' upto base ∷ rs) so_far = doubted_is shard rs so_far
 
   pub in_doubt_is : (shard : ℕ) → doubted_from m shard log [] ≡ in_doubt shard log
   in_doubt_is shard = doubted_is shard log []

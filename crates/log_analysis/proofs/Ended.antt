@@ -2,7 +2,7 @@
 use Rattle.std.proofs.Common.{◌≡◌, ℕ, cond, not, ◌&&◌, List, [], ◌∷◌, refl, ap, ◌∙◌}
 use Rattle.clv_base.specs.declared.names.TxId.{TxId}
 use Rattle.clv_base.specs.declared.logs.LogRecord.{LogRecord}
-use Rattle.clv_base.specs.declared.logs.LogRecord.TheVariants.{Update, Clr, Prepare, Commit, Abort, End, Restart, Add, Unadd}
+use Rattle.clv_base.specs.declared.logs.LogRecord.TheVariants.{Update, Clr, Prepare, Commit, Abort, End, Restart, Add, Unadd, Forgotten, Check}
 use Rattle.clv_base.specs.Orders.{Table, tx_put}
 use Rattle.clv_base.specs.Logs.{ended_in}
 use Rattle.clv_base.specs.LogRules.{some_parts}
@@ -31,6 +31,8 @@ module _ (m : Table TxFacts) (log : List LogRecord) (knows : Knows m log) where
   commits_are (Restart run epoch ∷ rs) = commits_are rs
   commits_are (Add tx key by ∷ rs) = commits_are rs
   commits_are (Unadd tx undo_next key by ∷ rs) = commits_are rs
+  commits_are (Forgotten ∷ rs) = commits_are rs
+  commits_are (Check run' epoch' upto base ∷ rs) = commits_are rs
 
   pub unended_are : commits_by m log ≡ unended_in log log
   unended_are = commits_are log

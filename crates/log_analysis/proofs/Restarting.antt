@@ -5,7 +5,7 @@ use Rattle.std.proofs.lemmas.Bool.{cases_Bool, both_ways, or_cases}
 use Rattle.std.proofs.lemmas.List.Folds.{list_any-append, list_all-append}
 use Rattle.clv_base.specs.declared.names.TxId.{TxId}
 use Rattle.clv_base.specs.declared.logs.LogRecord.{LogRecord}
-use Rattle.clv_base.specs.declared.logs.LogRecord.TheVariants.{Update, Clr, Prepare, Commit, Abort, End, Restart, Add, Unadd}
+use Rattle.clv_base.specs.declared.logs.LogRecord.TheVariants.{Update, Clr, Prepare, Commit, Abort, End, Restart, Add, Unadd, Forgotten, Check}
 use Rattle.clv_base.specs.Orders.{Table, tx_same, tx_in, tx_insert, tx_put}
 use Rattle.clv_base.specs.declared.changes.Change.{Change}
 use Rattle.clv_base.specs.declared.changes.Change.TheVariants.{Sets, Adds}
@@ -30,6 +30,8 @@ is_restarts (End tx) = false
 is_restarts (Restart run epoch) = true
 is_restarts (Add tx key by) = false
 is_restarts (Unadd tx undo_next key by) = true
+is_restarts Forgotten = false
+is_restarts (Check run' epoch' upto base) = false
 
 abbrev AreRestarts : List LogRecord → Type 0
 AreRestarts rest = list_all is_restarts rest ≡ true
@@ -49,6 +51,8 @@ no_commit t (End tx) kind = refl
 no_commit t (Restart run epoch) kind = refl
 no_commit t (Add tx key by) kind = refl
 no_commit t (Unadd tx undo_next key by) kind = refl
+no_commit t Forgotten kind = refl
+no_commit t (Check run' epoch' upto base) kind = refl
 
 no_end : (t : TxId) (r : LogRecord) → is_restarts r ≡ true → is_end_of t r ≡ false
 no_end t (End tx) kind = absurd cc
@@ -60,6 +64,8 @@ no_end t (Abort tx) kind = refl
 no_end t (Restart run epoch) kind = refl
 no_end t (Add tx key by) kind = refl
 no_end t (Unadd tx undo_next key by) kind = refl
+no_end t Forgotten kind = refl
+no_end t (Check run' epoch' upto base) kind = refl
 
 -- ---- behind a log
 
@@ -77,6 +83,8 @@ prepare_none (Update tx key before after ∷ rs) t kinds = absurd cc
 prepare_none (Commit tx parts ∷ rs) t kinds = absurd cc
 prepare_none (End tx ∷ rs) t kinds = absurd cc
 prepare_none (Add tx key by ∷ rs) t kinds = absurd cc
+prepare_none (Forgotten ∷ rs) t kinds = absurd cc
+prepare_none (Check run' epoch' upto base ∷ rs) t kinds = absurd cc
 prepare_none (_ ∷ rs) t kinds = prepare_none rs t kinds
 
 prepare_same : (log rest : List LogRecord) (t : TxId) → AreRestarts rest → prepare_of (log ++ rest) t ≡ prepare_of log t
@@ -93,6 +101,8 @@ unended_none log (Update tx key before after ∷ rs) kinds = absurd cc
 unended_none log (Commit tx parts ∷ rs) kinds = absurd cc
 unended_none log (End tx ∷ rs) kinds = absurd cc
 unended_none log (Add tx key by ∷ rs) kinds = absurd cc
+unended_none log (Forgotten ∷ rs) kinds = absurd cc
+unended_none log (Check run' epoch' upto base ∷ rs) kinds = absurd cc
 unended_none log (_ ∷ rs) kinds = unended_none log rs kinds
 
 unended_before : (log rs rest : List LogRecord) → AreRestarts rest → unended_in log (rs ++ rest) ≡ unended_in log rs
@@ -156,6 +166,8 @@ module _ (shard : ℕ) (log rest : List LogRecord) (kinds : AreRestarts rest) wh
   doubted_same (Restart run epoch ∷ rs) so_far spared = doubted_same rs so_far spared
   doubted_same (Add tx key by ∷ rs) so_far spared = doubted_same rs so_far spared
   doubted_same (Unadd tx undo_next key by ∷ rs) so_far spared = doubted_same rs so_far spared
+  doubted_same (Forgotten ∷ rs) so_far spared = doubted_same rs so_far spared
+  doubted_same (Check run' epoch' upto base ∷ rs) so_far spared = doubted_same rs so_far spared
 
 -- a restart's own records doubt nobody
 doubted_none : (log : List LogRecord) (shard : ℕ) (rest : List LogRecord) (so_far : List TxId) → AreRestarts rest → in_doubt_from log shard rest so_far ≡ so_far
@@ -165,6 +177,8 @@ doubted_none log shard (Update tx key before after ∷ rs) so_far kinds = absurd
 doubted_none log shard (Commit tx parts ∷ rs) so_far kinds = absurd cc
 doubted_none log shard (End tx ∷ rs) so_far kinds = absurd cc
 doubted_none log shard (Add tx key by ∷ rs) so_far kinds = absurd cc
+doubted_none log shard (Forgotten ∷ rs) so_far kinds = absurd cc
+doubted_none log shard (Check run' epoch' upto base ∷ rs) so_far kinds = absurd cc
 doubted_none log shard (_ ∷ rs) so_far kinds = doubted_none log shard rs so_far kinds
 
 doubted_before : (log : List LogRecord) (shard : ℕ) (rs rest : List LogRecord) (so_far : List TxId) → AreRestarts rest → in_doubt_from log shard (rs ++ rest) so_far ≡ in_doubt_from log shard rs so_far

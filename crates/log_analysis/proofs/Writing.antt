@@ -2,7 +2,7 @@
 use Rattle.std.proofs.Common.{◌≡◌, ℕ, Bool, true, false, cond, ◌&&◌, ◌||◌, List, [], ◌∷◌, nat_lt, refl, sym, ap, ◌∙◌}
 use Rattle.clv_base.specs.declared.names.TxId.{TxId}
 use Rattle.clv_base.specs.declared.logs.LogRecord.{LogRecord}
-use Rattle.clv_base.specs.declared.logs.LogRecord.TheVariants.{Update, Clr, Prepare, Commit, Abort, End, Restart, Add, Unadd}
+use Rattle.clv_base.specs.declared.logs.LogRecord.TheVariants.{Update, Clr, Prepare, Commit, Abort, End, Restart, Add, Unadd, Forgotten, Check}
 use Rattle.clv_base.specs.Orders.{tx_same, tx_in, tx_insert}
 use Rattle.clv_base.specs.Logs.{StandingUpdate, is_update_of, wrote_in, has_standing, standing, writers}
 use Rattle.clv_base.proofs.SameNames.{tx_true}
@@ -35,6 +35,8 @@ module _ (count : TxId → ℕ) where
   with_rises (Restart run epoch) txs s = s
   with_rises (Add tx key by) txs s = both (λ b. Rises (cond b (tx_insert tx txs) txs)) (nat_lt 0 (count tx)) (λ _. insert_rises tx txs s) (λ _. s)
   with_rises (Unadd tx undo_next key by) txs s = s
+  with_rises Forgotten txs s = s
+  with_rises (Check run' epoch' upto base) txs s = s
 
   by_rises : (rs : List LogRecord) (txs : List TxId) → Rises txs → Rises (writers_by count rs txs)
   by_rises [] txs s = s
@@ -64,6 +66,8 @@ module _ (count : TxId → ℕ) where
   in_with (Abort tx) txs t = sym (or_false (tx_in t txs))
   in_with (End tx) txs t = sym (or_false (tx_in t txs))
   in_with (Restart run epoch) txs t = sym (or_false (tx_in t txs))
+  in_with Forgotten txs t = sym (or_false (tx_in t txs))
+  in_with (Check run' epoch' upto base) txs t = sym (or_false (tx_in t txs))
 
   either : (a b c p : Bool) → (a || (b && p)) || (c && p) ≡ a || ((b || c) && p)
   either true b c p = refl

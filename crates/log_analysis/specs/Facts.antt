@@ -3,7 +3,7 @@ use Rattle.std.specs.Prelude.{◌≡◌, ℕ, ◌+◌, ◌-◌, true, false, Lis
 use Rattle.std.specs.List.{filter}
 use Rattle.clv_base.specs.declared.names.TxId.{TxId}
 use Rattle.clv_base.specs.declared.logs.LogRecord.{LogRecord}
-use Rattle.clv_base.specs.declared.logs.LogRecord.TheVariants.{Update, Clr, Prepare, Commit, Abort, End, Restart, Add, Unadd}
+use Rattle.clv_base.specs.declared.logs.LogRecord.TheVariants.{Update, Clr, Prepare, Commit, Abort, End, Restart, Add, Unadd, Forgotten, Check}
 use Rattle.clv_base.specs.Logs.{is_update_of, place_from, standing, prepare_lsn, commit_lsn, aborted_in, ended_in}
 use Rattle.clv_base.specs.Orders.{Table, tx_same, tx_get}
 pub use Rattle.log_analysis.specs.declared.facts.TxFacts.{TxFacts}
@@ -69,3 +69,5 @@ facts_with n (End tx) f = record f { is_ended = true }
 facts_with n (Restart run epoch) f = f
 facts_with n (Add tx key by) f = facts_with_write n f
 facts_with n (Unadd tx undo_next key by) f = record f { standing = f.standing - 1 }
+facts_with n Forgotten f = f
+facts_with n (Check run' epoch' upto base) f = f

@@ -40,7 +40,7 @@ pub(crate) fn owner(r: &LogRecord) -> Option<TxId>
         | LogRecord::End { tx }
         | LogRecord::Add { tx, .. }
         | LogRecord::Unadd { tx, .. } => Some(*tx),
-        LogRecord::Restart { .. } => None,
+        LogRecord::Restart { .. } | LogRecord::Forgotten | LogRecord::Check { .. } => None,
     }
 }
 
@@ -84,7 +84,7 @@ impl TxFacts {
             LogRecord::Commit { .. } => facts.commit = first_of(lsn, self.commit),
             LogRecord::Abort { .. } => facts.is_aborted = true,
             LogRecord::End { .. } => facts.is_ended = true,
-            LogRecord::Restart { .. } => {}
+            LogRecord::Restart { .. } | LogRecord::Forgotten | LogRecord::Check { .. } => {}
         }
         Ok(facts)
     }

@@ -5,7 +5,7 @@ use Rattle.std.proofs.lemmas.Bool.Decides.{nat_tests}
 use Rattle.std.proofs.lemmas.List.Folds.{length-flat_map-take}
 use Rattle.std.specs.List.{list_all}
 use Rattle.clv_base.specs.declared.logs.LogRecord.{LogRecord}
-use Rattle.clv_base.specs.declared.logs.LogRecord.TheVariants.{Update, Clr, Prepare, Commit, Abort, End, Restart, Add, Unadd}
+use Rattle.clv_base.specs.declared.logs.LogRecord.TheVariants.{Update, Clr, Prepare, Commit, Abort, End, Restart, Add, Unadd, Forgotten, Check}
 use Rattle.clv_base.specs.Logs.{optional_size, record_size, fitting}
 use Rattle.clv_base.specs.declared.values.Value.{Value as ValueType}
 use Rattle.clv_base.specs.FileRules.{tx_has_spelling, is_64_bits, is_undo_next, is_value, has_spelling}
@@ -36,6 +36,8 @@ is_small (End tx) h = omega arith
 is_small (Restart run epoch) h = omega arith
 is_small (Add tx key by) h = omega arith
 is_small (Unadd tx undo_next key by) h = omega arith
+is_small Forgotten h = omega arith
+is_small (Check run' epoch' upto base) h = omega arith
 
 -- those that fit are together no longer than the room
 pub they_fit : LengthIsSize → (room : ℕ) (rs : List LogRecord) → list_all has_spelling rs ≡ true → length (spellings (take (fitting room rs) rs)) ≤ room

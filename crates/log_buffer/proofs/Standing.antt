@@ -4,7 +4,7 @@ use Rattle.std.proofs.lemmas.Bool.{cond-true, both_ways}
 use Rattle.std.specs.List.{list_any, filter}
 use Rattle.clv_base.specs.declared.names.TxId.{TxId}
 use Rattle.clv_base.specs.declared.logs.LogRecord.{LogRecord}
-use Rattle.clv_base.specs.declared.logs.LogRecord.TheVariants.{Update, Clr, Prepare, Commit, Abort, End, Restart, Add, Unadd}
+use Rattle.clv_base.specs.declared.logs.LogRecord.TheVariants.{Update, Clr, Prepare, Commit, Abort, End, Restart, Add, Unadd, Forgotten, Check}
 use Rattle.clv_base.specs.Orders.{tx_same}
 use Rattle.clv_base.specs.Logs.{StandingUpdate, is_undo_of, last_place_from, undone_lsn, has_standing, without_newest, standing_after, standing_from, standing, newest_of}
 use Rattle.clv_base.specs.Undo.{newest_lsn}
@@ -58,6 +58,8 @@ lsns-after t n (End tx) ws = refl
 lsns-after t n (Restart run epoch) ws = refl
 lsns-after t n (Add tx key by) ws = refl
 lsns-after t n (Unadd tx undo_next key by) ws = lsns-without t tx ws
+lsns-after t n Forgotten ws = refl
+lsns-after t n (Check run' epoch' upto base) ws = refl
 
 lsns-standing : (t : TxId) (n : ℕ) (log : List LogRecord) (ws : List StandingUpdate) → lsns t (standing_from n log ws) ≡ places_from t n (map link_of log) (lsns t ws)
 lsns-standing t n [] ws = refl
@@ -114,6 +116,8 @@ undo_of t (End tx) = refl
 undo_of t (Restart run epoch) = refl
 undo_of t (Add tx key by) = refl
 undo_of t (Unadd tx undo_next key by) = refl
+undo_of t Forgotten = refl
+undo_of t (Check run' epoch' upto base) = refl
 
 undone_from : (t : TxId) (n : ℕ) (so_far : Option ℕ) (log : List LogRecord) → last_undo_from t n so_far (map link_of log) ≡ last_place_from n so_far (is_undo_of t) log
 undone_from t n so_far [] = refl

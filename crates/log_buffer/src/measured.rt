@@ -63,6 +63,7 @@ impl Measured for LogRecord {
             LogRecord::Restart { .. } => 13,
             LogRecord::Add { .. } => 33,
             LogRecord::Unadd { .. } => 41,
+            LogRecord::Forgotten | LogRecord::Check { .. } => 1,
         }
     }
 

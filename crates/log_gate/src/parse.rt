@@ -9,6 +9,7 @@ use crate::error::ParseError;
 use crate::header::Header;
 use byteorder::{ByteOrder, LittleEndian};
 use clv_base::logs::LogRecord;
+use clv_base::values::Value;
 use log_records::{DecodeError, decode};
 use std::alloc::Global;
 
@@ -50,6 +51,12 @@ fn are_below(parts: &[u32], shards: u32) -> bool
     parts.iter().all(|part| *part < shards)
 }
 
+fn have_keys(header: &Header, pairs: &[(u64, Value)]) -> bool
+    ensures { result ≡ list_all (λ pair. in_span header.now.splits header.now.shard pair.0) pairs.now }
+{
+    pairs.iter().all(|pair| has_key(header, pair.0))
+}
+
 // Whether the record may stand on the shard: its home and parts are shards, and its key is one of the shard's.
 fn passes(header: &Header, found: &LogRecord) -> bool
     ensures { result ≡ passes_file_rules header.now.splits header.now.shard found.now }
@@ -61,6 +68,7 @@ fn passes(header: &Header, found: &LogRecord) -> bool
         LogRecord::Unadd { key, .. } => has_key(header, *key),
         LogRecord::Prepare { home, .. } => *home < header.splits.shards(),
         LogRecord::Commit { parts, .. } => are_below(parts.as_slice(), header.splits.shards()),
+        LogRecord::Check { base, .. } => have_keys(header, base.as_slice()),
         _ => true,
     }
 }

@@ -3,7 +3,7 @@ use Rattle.std.proofs.Common.{◌≡◌, ℕ, zero, suc, ◌^◌, ◌<◌, true,
 use Rattle.std.specs.List.{list_all}
 use Rattle.std.proofs.lemmas.Bool.{ltb-true, leb-true}
 use Rattle.clv_base.specs.declared.logs.LogRecord.{LogRecord}
-use Rattle.clv_base.specs.declared.logs.LogRecord.TheVariants.{Update, Clr, Prepare, Commit, Abort, End, Restart, Add, Unadd}
+use Rattle.clv_base.specs.declared.logs.LogRecord.TheVariants.{Update, Clr, Prepare, Commit, Abort, End, Restart, Add, Unadd, Forgotten, Check}
 use Rattle.clv_base.specs.FileRules.{tx_has_spelling, has_spelling, is_value, is_undo_next, is_64_bits, is_32_bits, txs_rise, numbers_rise}
 use Rattle.log_records.specs.Reading.{◌>>=◌, number_at, transaction_at, optional_at, undo_next_at, several_at, update_at, clr_at, prepare_at, commit_at, abort_at, end_at, restart_at, add_at, unadd_at, fields_at, record_at, if_in_bounds}
 use Rattle.log_records.specs.Spelling.{number, transaction, optional, undo_next, several, kind, fields, spelling}
@@ -207,6 +207,8 @@ fields_again (Unadd tx next key by) rest fits =
     let lt' : by < 256 ^ 8 = ltb-true by (2 ^ 64) p.1 in
     let regrouped : (transaction tx ++ (undo_next next ++ (number 8 key ++ number 8 by))) ++ rest ≡ transaction tx ++ (undo_next next ++ (number 8 key ++ (number 8 by ++ rest))) = simp append_assoc in
     ap unadd_at regrouped ∙ rw (transaction_again tx (undo_next next ++ (number 8 key ++ (number 8 by ++ rest))) t.0, undo_next_again next (number 8 key ++ (number 8 by ++ rest)) t.1, number_again 8 key (number 8 by ++ rest) lt, number_again 8 by rest lt') refl
+fields_again Forgotten rest fits = absurd cc
+fields_again (Check run' epoch' upto base) rest fits = absurd cc
 
 -- what is read at the front is spelled there, and is in bounds
 pub record_takes : (bytes : List ℕ) (x : LogRecord × List ℕ) → IsBytes bytes → record_at bytes ≡ Some x → (has_spelling x.0 ≡ true) × Takes bytes (spelling x.0) x.1

@@ -1,3 +1,5 @@
 pub mod Spelling
 pub mod Reading
 pub mod Laws
+pub mod FileSpelling
+pub mod FileReading

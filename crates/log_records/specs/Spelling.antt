@@ -4,7 +4,7 @@ use Rattle.std.specs.List.{flat_map}
 use Rattle.byteorder.specs.Endian.{little_bytes}
 use Rattle.clv_base.specs.declared.names.TxId.{TxId}
 use Rattle.clv_base.specs.declared.logs.LogRecord.{LogRecord}
-use Rattle.clv_base.specs.declared.logs.LogRecord.TheVariants.{Update, Clr, Prepare, Commit, Abort, End, Restart, Add, Unadd}
+use Rattle.clv_base.specs.declared.logs.LogRecord.TheVariants.{Update, Clr, Prepare, Commit, Abort, End, Restart, Add, Unadd, Forgotten, Check}
 use Rattle.clv_base.specs.declared.values.Value.{Value}
 use Rattle.clv_base.specs.declared.values.Value.TheVariants.{Num, Bytes}
 use Rattle.clv_base.specs.FileRules.{has_spelling}
@@ -43,6 +43,8 @@ kind (End tx) = 6
 kind (Restart run epoch) = 7
 kind (Add tx key by) = 8
 kind (Unadd tx next key by) = 9
+kind Forgotten = 0
+kind (Check run' epoch' upto base) = 0
 
 -- its fields
 unfoldable pub fields : LogRecord → List ℕ
@@ -55,6 +57,8 @@ fields (End tx) = transaction tx
 fields (Restart run epoch) = number 4 run ++ number 8 epoch
 fields (Add tx key by) = transaction tx ++ (number 8 key ++ number 8 by)
 fields (Unadd tx next key by) = transaction tx ++ (undo_next next ++ (number 8 key ++ number 8 by))
+fields Forgotten = []
+fields (Check run' epoch' upto base) = []
 
 -- the spelling of a record
 abbrev pub spelling : LogRecord → List ℕ

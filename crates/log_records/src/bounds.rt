@@ -150,6 +150,7 @@ pub fn has_spelling(r: &LogRecord) -> bool
             key,
             by,
         } => unadd_fits(*tx, *undo_next, *key, *by),
+        LogRecord::Forgotten | LogRecord::Check { .. } => false,
     }
 }
 
@@ -179,5 +180,6 @@ pub fn record_size(r: &LogRecord) -> usize
         LogRecord::Restart { .. } => 13,
         LogRecord::Add { .. } => 33,
         LogRecord::Unadd { .. } => 41,
+        LogRecord::Forgotten | LogRecord::Check { .. } => 1,
     }
 }

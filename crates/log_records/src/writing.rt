@@ -156,6 +156,7 @@ fn put_record(out: &mut Vec<u8>, r: &LogRecord)
             key,
             by,
         } => put_unadd(out, *tx, *undo_next, *key, *by),
+        LogRecord::Forgotten | LogRecord::Check { .. } => {}
     }
 }
 

@@ -2,7 +2,7 @@
 use Rattle.std.proofs.Common.{◌≡◌, Bool, true, false, cond, ◌||◌, List, [], ◌∷◌, refl, sym, ap, ◌∙◌}
 use Rattle.clv_base.specs.declared.names.TxId.{TxId}
 use Rattle.clv_base.specs.declared.logs.LogRecord.{LogRecord}
-use Rattle.clv_base.specs.declared.logs.LogRecord.TheVariants.{Update, Clr, Prepare, Commit, Abort, End, Restart, Add, Unadd}
+use Rattle.clv_base.specs.declared.logs.LogRecord.TheVariants.{Update, Clr, Prepare, Commit, Abort, End, Restart, Add, Unadd, Forgotten, Check}
 use Rattle.clv_base.specs.Orders.{tx_same, tx_in, tx_insert, tx_union}
 use Rattle.clv_base.specs.Logs.{is_commit_of, committed_in, committed_somewhere}
 use Rattle.clv_base.specs.LogRules.{committed_of, committed_of_all}
@@ -56,6 +56,8 @@ in_with t (End tx) txs = refl
 in_with t (Restart run epoch) txs = refl
 in_with t (Add tx key by) txs = refl
 in_with t (Unadd tx undo_next key by) txs = refl
+in_with t Forgotten txs = refl
+in_with t (Check run' epoch' upto base) txs = refl
 
 or_swap : (a b c : Bool) → a || (b || c) ≡ (b || a) || c
 or_swap true true c = refl
@@ -83,6 +85,8 @@ with_rises (End tx) txs s = s
 with_rises (Restart run epoch) txs s = s
 with_rises (Add tx key by) txs s = s
 with_rises (Unadd tx undo_next key by) txs s = s
+with_rises Forgotten txs s = s
+with_rises (Check run' epoch' upto base) txs s = s
 
 commits_rise : (log : List LogRecord) (txs : List TxId) → Rises txs → Rises (with_commits log txs)
 commits_rise [] txs s = s

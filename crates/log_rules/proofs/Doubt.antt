@@ -4,7 +4,7 @@ use Rattle.std.specs.List.{list_any, list_all}
 use Rattle.std.proofs.lemmas.Bool.{both_ways, or_cases, or_parts, or_right, false_from_ne_true, not_from_false}
 use Rattle.clv_base.specs.declared.names.TxId.{TxId}
 use Rattle.clv_base.specs.declared.logs.LogRecord.{LogRecord}
-use Rattle.clv_base.specs.declared.logs.LogRecord.TheVariants.{Update, Clr, Prepare, Commit, Abort, End, Restart, Add, Unadd}
+use Rattle.clv_base.specs.declared.logs.LogRecord.TheVariants.{Update, Clr, Prepare, Commit, Abort, End, Restart, Add, Unadd, Forgotten, Check}
 use Rattle.clv_base.specs.Orders.{tx_same, tx_in, tx_insert}
 use Rattle.clv_base.specs.Logs.{StandingUpdate, is_prepare_of, committed_in, prepared_in, aborted_in, prepare_of, standing, newest_of, doubt_by, in_doubt_from, in_doubt, is_winner}
 use Rattle.clv_base.specs.LogRules.{listed_in}
@@ -154,6 +154,12 @@ module _ (shard : ℕ) (log : List LogRecord) (s : Sound log) where
       subst (λ l. AllDoubted l (in_doubt_from log shard rs so_far)) (append_assoc seen (r ∷ []) rs) (all_doubted (seen ++ r ∷ []) rs so_far ready earlier (doubted_other seen r so_far (λ t. refl) all))
   all_doubted seen (Unadd tx undo_next key by ∷ rs) so_far ready earlier all =
       let r : LogRecord = Unadd tx undo_next key by in
+      subst (λ l. AllDoubted l (in_doubt_from log shard rs so_far)) (append_assoc seen (r ∷ []) rs) (all_doubted (seen ++ r ∷ []) rs so_far ready earlier (doubted_other seen r so_far (λ t. refl) all))
+  all_doubted seen (Forgotten ∷ rs) so_far ready earlier all =
+      let r : LogRecord = Forgotten in
+      subst (λ l. AllDoubted l (in_doubt_from log shard rs so_far)) (append_assoc seen (r ∷ []) rs) (all_doubted (seen ++ r ∷ []) rs so_far ready earlier (doubted_other seen r so_far (λ t. refl) all))
+  all_doubted seen (Check run' epoch' upto base ∷ rs) so_far ready earlier all =
+      let r : LogRecord = Check run' epoch' upto base in
       subst (λ l. AllDoubted l (in_doubt_from log shard rs so_far)) (append_assoc seen (r ∷ []) rs) (all_doubted (seen ++ r ∷ []) rs so_far ready earlier (doubted_other seen r so_far (λ t. refl) all))
 
   -- ---- nobody bars a RESTART exactly where all writers are winners

@@ -7,7 +7,7 @@ use Rattle.clv_base.specs.declared.names.TxId.{TxId}
 use Rattle.clv_base.specs.declared.changes.Change.{Change}
 use Rattle.clv_base.specs.declared.changes.Change.TheVariants.{Sets, Adds}
 use Rattle.clv_base.specs.declared.logs.LogRecord.{LogRecord}
-use Rattle.clv_base.specs.declared.logs.LogRecord.TheVariants.{Update, Clr, Prepare, Commit, Abort, End, Restart, Add, Unadd}
+use Rattle.clv_base.specs.declared.logs.LogRecord.TheVariants.{Update, Clr, Prepare, Commit, Abort, End, Restart, Add, Unadd, Forgotten, Check}
 use Rattle.clv_base.specs.Orders.{tx_same, tx_in, nat_in}
 use Rattle.clv_base.specs.Logs.{StandingUpdate, is_setting, is_prepare_of, is_commit_of, wrote_in, has_standing, committed_in, prepared_in, aborted_in, ended_in, prepare_of, commit_parts, standing, newest_of, without_newest, value_in}
 use Rattle.clv_base.specs.Values.{same_optional_value}
@@ -328,3 +328,5 @@ module _ (shard : ℕ) (x : Index) (records : List LogRecord) (n : ℕ) (s : Sou
   fits_is (End tx) = end_is tx
   fits_is (Add tx key by) = adding_is shard x (take n records) s i tx key by
   fits_is (Unadd tx undo_next key by) = unadd_is shard x (take n records) s i tx undo_next key by
+  fits_is Forgotten = refl
+  fits_is (Check run' epoch' upto base) = refl

@@ -7,7 +7,7 @@ use Rattle.clv_base.specs.declared.names.TxId.{TxId}
 use Rattle.clv_base.specs.declared.changes.Change.{Change}
 use Rattle.clv_base.specs.declared.changes.Change.TheVariants.{Sets, Adds as Adding}
 use Rattle.clv_base.specs.declared.logs.LogRecord.{LogRecord}
-use Rattle.clv_base.specs.declared.logs.LogRecord.TheVariants.{Update, Clr, Prepare, Commit, Abort, End, Restart, Add, Unadd}
+use Rattle.clv_base.specs.declared.logs.LogRecord.TheVariants.{Update, Clr, Prepare, Commit, Abort, End, Restart, Add, Unadd, Forgotten, Check}
 use Rattle.clv_base.specs.Orders.{tx_same, tx_in}
 use Rattle.clv_base.specs.OneShard.{update_of}
 use Rattle.clv_base.specs.Logs.{StandingUpdate, changed, unchanged, is_setting, is_commit_of, is_prepare_of, is_abort_of, committed_in, prepared_in, aborted_in, standing, newest_of, without_newest}
@@ -512,6 +512,8 @@ grows_between shard x y z log (Prepare tx home listed) s i at may above a knows 
 grows_between shard x y z log (Commit tx parts) s i at may above a knows = after_commit shard x y log s i tx parts z a knows
 grows_between shard x y z log (Abort tx) s i at may above a knows = after_abort shard x y log s i tx may z a knows
 grows_between shard x y z log (End tx) s i at may above a knows = after_end shard x y log s i tx z a knows
+grows_between shard x y z log Forgotten s i at may above a knows = absurd cc
+grows_between shard x y z log (Check run' epoch' upto base) s i at may above a knows = absurd cc
 
 same_facts : (x z : Index) (n : ℕ) (r : LogRecord) → Places x z n r → z.facts ≡ x.facts
 same_facts x z n (Restart run epoch) a = a.facts
@@ -523,6 +525,8 @@ same_facts x z n (Abort tx) a = a.keeps.facts
 same_facts x z n (End tx) a = a.keeps.facts
 same_facts x z n (Add tx key by) a = a.keeps.facts
 same_facts x z n (Unadd tx undo_next key by) a = a.keeps.facts
+same_facts x z n Forgotten a = a.keeps.facts
+same_facts x z n (Check run' epoch' upto base) a = a.keeps.facts
 
 same_records : (x z : Index) (n : ℕ) (r : LogRecord) → Places x z n r → z.writes.records ≡ x.writes.records
 same_records x z n (Restart run epoch) a = ap (λ w. w.records) a.writes
@@ -534,6 +538,8 @@ same_records x z n (Abort tx) a = ap (λ w. w.records) a.writes
 same_records x z n (End tx) a = ap (λ w. w.records) a.writes
 same_records x z n (Add tx key by) a = a.records
 same_records x z n (Unadd tx undo_next key by) a = a.records
+same_records x z n Forgotten a = ap (λ w. w.records) a.writes
+same_records x z n (Check run' epoch' upto base) a = ap (λ w. w.records) a.writes
 
 pub keeps_records : (x y : Index) (n : ℕ) (r : LogRecord) → Adds x y n r → y.writes.records ≡ x.writes.records
 keeps_records x y n r a = ap (λ v. v.writes.records) a.rest ∙ same_records x a.between n r a.places

@@ -7,7 +7,7 @@ use Rattle.clv_base.specs.declared.names.TxId.{TxId}
 use Rattle.clv_base.specs.declared.changes.Change.{Change}
 use Rattle.clv_base.specs.declared.changes.Change.TheVariants.{Sets, Adds}
 use Rattle.clv_base.specs.declared.logs.LogRecord.{LogRecord}
-use Rattle.clv_base.specs.declared.logs.LogRecord.TheVariants.{Update, Clr, Prepare, Commit, Abort, End, Restart, Add, Unadd}
+use Rattle.clv_base.specs.declared.logs.LogRecord.TheVariants.{Update, Clr, Prepare, Commit, Abort, End, Restart, Add, Unadd, Forgotten, Check}
 use Rattle.clv_base.specs.Orders.{tx_same, tx_in}
 use Rattle.clv_base.specs.Logs.{StandingUpdate, is_setting, is_commit_of, is_prepare_of, is_abort_of, committed_in, prepared_in, aborted_in, prepare_of, standing, standing_after, newest_of, without_newest, value_in}
 use Rattle.clv_base.specs.LogRules.{before_restart, listed_in, may_cover, may_undo, may_follow}
@@ -199,6 +199,8 @@ module _ (shard : ℕ) (log : List LogRecord) (s : Sound log) where
   chain_after (Abort tx) may = s.chain
   chain_after (End tx) may = s.chain
   chain_after (Restart run epoch) may = s.chain
+  chain_after Forgotten may = s.chain
+  chain_after (Check run' epoch' upto base) may = s.chain
 
   -- who may be written over is closed
   covered : (r : LogRecord) (tx t : TxId) → tx_same tx t ≡ false → tx_same tx t || ((prepared_in log t || committed_in log t) && not (aborted_in log t)) ≡ true → closed_in (log ++ r ∷ []) t ≡ true
@@ -231,6 +233,8 @@ module _ (shard : ℕ) (log : List LogRecord) (s : Sound log) where
   covers_after (Abort tx) may = covers_more log (Abort tx) (standing log) s.covers
   covers_after (End tx) may = covers_more log (End tx) (standing log) s.covers
   covers_after (Restart run epoch) may = covers_more log (Restart run epoch) (standing log) s.covers
+  covers_after Forgotten may = covers_more log Forgotten (standing log) s.covers
+  covers_after (Check run' epoch' upto base) may = covers_more log (Check run' epoch' upto base) (standing log) s.covers
 
   -- ---- below the writes of a PREPARE
 
@@ -265,6 +269,8 @@ module _ (shard : ℕ) (log : List LogRecord) (s : Sound log) where
   below_other (Abort tx) may t prepared unaborted = below_still (Abort tx) t prepared unaborted
   below_other (End tx) may t prepared unaborted = below_still (End tx) t prepared unaborted
   below_other (Restart run epoch) may t prepared unaborted = below_still (Restart run epoch) t prepared unaborted
+  below_other Forgotten may t prepared unaborted = below_still Forgotten t prepared unaborted
+  below_other (Check run' epoch' upto base) may t prepared unaborted = below_still (Check run' epoch' upto base) t prepared unaborted
 
   -- of the one that the record prepares
   below_now : (r : LogRecord) → may_follow shard log r ≡ true → (t : TxId) → is_prepare_of t r ≡ true → all_pass (may_lie (log ++ r ∷ []) t) t (standing_after (length log) r (standing log)) ≡ true
@@ -308,6 +314,8 @@ module _ (shard : ℕ) (log : List LogRecord) (s : Sound log) where
   fates_after (Restart run epoch) may t e = fates_other (Restart run epoch) (λ t. refl) (λ t. refl) t e
   fates_after (Add tx key by) may t e = fates_other (Add tx key by) (λ t. refl) (λ t. refl) t e
   fates_after (Unadd tx undo_next key by) may t e = fates_other (Unadd tx undo_next key by) (λ t. refl) (λ t. refl) t e
+  fates_after Forgotten may t e = fates_other Forgotten (λ t. refl) (λ t. refl) t e
+  fates_after (Check run' epoch' upto base) may t e = fates_other (Check run' epoch' upto base) (λ t. refl) (λ t. refl) t e
 
   -- where the record is no PREPARE and its writes stand
   stands_other : (r : LogRecord) → ((t : TxId) → is_prepare_of t r ≡ false) → (t : TxId) → prepared_in (log ++ r ∷ []) t ≡ true → aborted_in (log ++ r ∷ []) t ≡ false → is_some (newest_of t (standing log)) ≡ true
@@ -348,6 +356,8 @@ module _ (shard : ℕ) (log : List LogRecord) (s : Sound log) where
   stands_after (Abort tx) may t prepared unaborted = stands_other (Abort tx) (λ t. refl) t prepared unaborted
   stands_after (End tx) may t prepared unaborted = stands_other (End tx) (λ t. refl) t prepared unaborted
   stands_after (Restart run epoch) may t prepared unaborted = stands_other (Restart run epoch) (λ t. refl) t prepared unaborted
+  stands_after Forgotten may t prepared unaborted = stands_other Forgotten (λ t. refl) t prepared unaborted
+  stands_after (Check run' epoch' upto base) may t prepared unaborted = stands_other (Check run' epoch' upto base) (λ t. refl) t prepared unaborted
 
   once_new : (r : LogRecord) → may_follow shard log r ≡ true → EachPrepare (λ t home listed. prepare_of (log ++ r ∷ []) t ≡ Some (home, listed)) (r ∷ [])
   once_new (Prepare tx home listed) may =

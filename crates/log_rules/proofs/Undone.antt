@@ -4,7 +4,7 @@ use Rattle.std.proofs.lemmas.Bool.Decides.{nat_tests}
 use Rattle.std.specs.List.{list_all}
 use Rattle.clv_base.specs.declared.names.TxId.{TxId}
 use Rattle.clv_base.specs.declared.logs.LogRecord.{LogRecord}
-use Rattle.clv_base.specs.declared.logs.LogRecord.TheVariants.{Update, Clr, Prepare, Commit, Abort, End, Restart, Add, Unadd}
+use Rattle.clv_base.specs.declared.logs.LogRecord.TheVariants.{Update, Clr, Prepare, Commit, Abort, End, Restart, Add, Unadd, Forgotten, Check}
 use Rattle.clv_base.specs.Orders.{tx_same}
 use Rattle.clv_base.specs.Logs.{is_record_of, is_update_of, is_undo_of, is_prepare_of, is_commit_of, is_abort_of, is_end_of, has_standing, committed_in, prepared_in, aborted_in, ended_in, standing}
 use Rattle.clv_base.specs.LogRules.{is_undone_in}
@@ -58,6 +58,8 @@ kinds tx (End t) = own_other (tx_same tx t) ∙ fourth (tx_same tx t)
     fourth true = refl
     fourth false = refl
 kinds tx (Restart run epoch) = refl
+kinds tx Forgotten = refl
+kinds tx (Check run' epoch' upto base) = refl
 
 not_either : (a b : Bool) → not a && not b ≡ not (a || b)
 not_either true b = refl

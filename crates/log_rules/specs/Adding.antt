@@ -2,7 +2,7 @@
 use Rattle.std.specs.Prelude.{◌≡◌, ℕ, Bool, true, false, not, ◌&&◌, ◌||◌, ◌==◌, List, [], ◌∷◌, ◌++◌, length, Some, is_some, if◌then◌else◌}
 use Rattle.clv_base.specs.declared.names.TxId.{TxId}
 use Rattle.clv_base.specs.declared.logs.LogRecord.{LogRecord}
-use Rattle.clv_base.specs.declared.logs.LogRecord.TheVariants.{Update, Clr, Prepare, Commit, Abort, End, Restart, Add, Unadd}
+use Rattle.clv_base.specs.declared.logs.LogRecord.TheVariants.{Update, Clr, Prepare, Commit, Abort, End, Restart, Add, Unadd, Forgotten, Check}
 use Rattle.clv_base.specs.declared.changes.Change.{Change}
 use Rattle.clv_base.specs.declared.changes.Change.TheVariants as changes
 use Rattle.clv_base.specs.Orders.{tx_same, tx_in}
@@ -93,6 +93,8 @@ Places old new n (Abort tx) = AddsAbort old new tx
 Places old new n (End tx) = AddsEnd old new
 Places old new n (Add tx key by) = AddsWrite old new n tx key (changes.Adds by)
 Places old new n (Unadd tx undo_next key by) = AddsUndo old new tx
+Places old new n Forgotten = AddsEnd old new
+Places old new n (Check run' epoch' upto base) = AddsEnd old new
 
 -- after a record: first all beside the facts, and then these
 pub record Adds (old new : Index) (n : ℕ) (r : LogRecord) : Type 0 where

@@ -4,7 +4,7 @@ use Rattle.std.specs.List.{list_all}
 use Rattle.clv_base.specs.declared.values.Value.{Value as ValueType}
 use Rattle.clv_base.specs.declared.names.TxId.{TxId}
 use Rattle.clv_base.specs.declared.logs.LogRecord.{LogRecord}
-use Rattle.clv_base.specs.declared.logs.LogRecord.TheVariants.{Update, Clr, Prepare, Commit, Abort, End, Restart, Add, Unadd}
+use Rattle.clv_base.specs.declared.logs.LogRecord.TheVariants.{Update, Clr, Prepare, Commit, Abort, End, Restart, Add, Unadd, Forgotten, Check}
 use Rattle.clv_base.specs.declared.changes.Change.{Change}
 use Rattle.clv_base.specs.declared.changes.Change.TheVariants.{Sets, Adds}
 use Rattle.clv_base.specs.Orders.{tx_same, tx_in, nat_in}
@@ -190,3 +190,5 @@ fits x records lsn (Abort tx) = abort_fits x tx
 fits x records lsn (End tx) = end_fits x records tx
 fits x records lsn (Add tx key by) = add_fits x tx key
 fits x records lsn (Unadd tx undo_next key by) = unadd_fits x tx undo_next key by
+fits x records lsn Forgotten = false
+fits x records lsn (Check run' epoch' upto base) = false

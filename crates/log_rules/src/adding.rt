@@ -122,7 +122,7 @@ impl<'a> Index<'a> {
             } => self.add_prepare(*tx, *home, predecessors.as_slice())?,
             LogRecord::Commit { tx, .. } => self.add_commit(lsn, *tx),
             LogRecord::Abort { tx } => self.add_abort(alloc, *tx)?,
-            LogRecord::End { .. } => {}
+            LogRecord::End { .. } | LogRecord::Forgotten | LogRecord::Check { .. } => {}
         }
         Ok(())
     }

@@ -401,6 +401,7 @@ impl<'a> Index<'a> {
                 by,
             } => self.takes_unadd(*tx, *undo_next, *key, *by),
             LogRecord::End { tx } => self.takes_end(records, *tx),
+            LogRecord::Forgotten | LogRecord::Check { .. } => false,
         })
     }
 }

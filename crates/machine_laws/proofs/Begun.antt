@@ -4,7 +4,7 @@ use Rattle.std.specs.List.{list_all}
 use Rattle.std.proofs.lemmas.Bool.{and_parts, and_from, cond_both, lt-ltb}
 use Rattle.clv_base.specs.declared.names.TxId.{TxId}
 use Rattle.clv_base.specs.declared.logs.LogRecord.{LogRecord}
-use Rattle.clv_base.specs.declared.logs.LogRecord.TheVariants.{Update, Clr, Prepare, Commit, Abort, End, Restart, Add, Unadd}
+use Rattle.clv_base.specs.declared.logs.LogRecord.TheVariants.{Update, Clr, Prepare, Commit, Abort, End, Restart, Add, Unadd, Forgotten, Check}
 use Rattle.clv_base.specs.Orders.{Table, tx_same, tx_insert, tx_put}
 use Rattle.clv_base.specs.FileRules.{has_spelling, tx_has_spelling, txs_rise, numbers_rise}
 use Rattle.clv_base.specs.Logs.{in_doubt_from, in_doubt, doubt_by, prepare_of, ended_in}
@@ -45,6 +45,8 @@ doubtful_named log shard (End tx ∷ rs) so_far h n = doubtful_named log shard r
 doubtful_named log shard (Restart run epoch ∷ rs) so_far h n = doubtful_named log shard rs so_far (rest_of (Restart run epoch) rs h) n
 doubtful_named log shard (Add tx k by ∷ rs) so_far h n = doubtful_named log shard rs so_far (rest_of (Add tx k by) rs h) n
 doubtful_named log shard (Unadd tx u k by ∷ rs) so_far h n = doubtful_named log shard rs so_far (rest_of (Unadd tx u k by) rs h) n
+doubtful_named log shard (Forgotten ∷ rs) so_far h n = doubtful_named log shard rs so_far (rest_of Forgotten rs h) n
+doubtful_named log shard (Check run' epoch' upto base ∷ rs) so_far h n = doubtful_named log shard rs so_far (rest_of (Check run' epoch' upto base) rs h) n
 
 home_fits : (log : List LogRecord) (t : TxId) → list_all has_spelling log ≡ true → nat_lt (home_by (prepare_of log t)) 16 ≡ true
 home_fits [] t h = refl
@@ -58,6 +60,8 @@ home_fits (End tx ∷ rs) t h = home_fits rs t (rest_of (End tx) rs h)
 home_fits (Restart run epoch ∷ rs) t h = home_fits rs t (rest_of (Restart run epoch) rs h)
 home_fits (Add tx k by ∷ rs) t h = home_fits rs t (rest_of (Add tx k by) rs h)
 home_fits (Unadd tx u k by ∷ rs) t h = home_fits rs t (rest_of (Unadd tx u k by) rs h)
+home_fits (Forgotten ∷ rs) t h = home_fits rs t (rest_of Forgotten rs h)
+home_fits (Check run' epoch' upto base ∷ rs) t h = home_fits rs t (rest_of (Check run' epoch' upto base) rs h)
 
 voters_fit : (log : List LogRecord) (txs : List TxId) → list_all has_spelling log ≡ true → Named txs → list_all voter_fits (restored_voters (homes_of log txs)) ≡ true
 voters_fit log [] h n = refl
@@ -89,6 +93,8 @@ unended_fits log (End tx ∷ rs) h = unended_fits log rs (rest_of (End tx) rs h)
 unended_fits log (Restart run epoch ∷ rs) h = unended_fits log rs (rest_of (Restart run epoch) rs h)
 unended_fits log (Add tx k by ∷ rs) h = unended_fits log rs (rest_of (Add tx k by) rs h)
 unended_fits log (Unadd tx u k by ∷ rs) h = unended_fits log rs (rest_of (Unadd tx u k by) rs h)
+unended_fits log (Forgotten ∷ rs) h = unended_fits log rs (rest_of Forgotten rs h)
+unended_fits log (Check run' epoch' upto base ∷ rs) h = unended_fits log rs (rest_of (Check run' epoch' upto base) rs h)
 
 requests_fit : (rows : Table (List ℕ)) → list_all parts_fit rows ≡ true → list_all request_fits (restored_requests rows) ≡ true
 unfolding parts_fit

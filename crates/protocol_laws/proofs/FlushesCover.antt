@@ -6,7 +6,7 @@ use Rattle.clv_base.specs.declared.names.TxId.{TxId}
 use Rattle.clv_base.specs.declared.causes.Vote.{Vote}
 use Rattle.clv_base.specs.declared.causes.Vote.TheVariants.{Yes, Read}
 use Rattle.clv_base.specs.declared.logs.LogRecord.{LogRecord}
-use Rattle.clv_base.specs.declared.logs.LogRecord.TheVariants.{Update, Clr, Prepare, Commit, Abort, End, Restart, Add, Unadd}
+use Rattle.clv_base.specs.declared.logs.LogRecord.TheVariants.{Update, Clr, Prepare, Commit, Abort, End, Restart, Add, Unadd, Forgotten, Check}
 use Rattle.clv_base.specs.declared.parts.PartState.{PartState}
 use Rattle.clv_base.specs.declared.parts.PartState.TheVariants.{Unknown, Active, Closed, Gone}
 use Rattle.clv_base.specs.declared.state.Voter.{Voter}
@@ -105,6 +105,8 @@ commit_in pairs (End tx ∷ rs) p e = commit_in pairs rs p e
 commit_in pairs (Restart run epoch ∷ rs) p e = commit_in pairs rs p e
 commit_in pairs (Add tx k by ∷ rs) p e = commit_in pairs rs p e
 commit_in pairs (Unadd tx u k by ∷ rs) p e = or_right (tx_same tx p) _ (commit_in pairs rs p e)
+commit_in pairs (Forgotten ∷ rs) p e = commit_in pairs rs p e
+commit_in pairs (Check run' epoch' upto base ∷ rs) p e = commit_in pairs rs p e
 
 prepare_in : (pairs : List (TxId × TxId)) (rs : List LogRecord) (p : TxId) → prepared_in rs p ≡ true → tx_in p (landed_txs pairs rs) ≡ true
 prepare_in pairs [] p e = absurd (both_ways false refl e)
@@ -117,6 +119,8 @@ prepare_in pairs (End tx ∷ rs) p e = prepare_in pairs rs p e
 prepare_in pairs (Restart run epoch ∷ rs) p e = prepare_in pairs rs p e
 prepare_in pairs (Add tx k by ∷ rs) p e = prepare_in pairs rs p e
 prepare_in pairs (Unadd tx u k by ∷ rs) p e = or_right (tx_same tx p) _ (prepare_in pairs rs p e)
+prepare_in pairs (Forgotten ∷ rs) p e = prepare_in pairs rs p e
+prepare_in pairs (Check run' epoch' upto base ∷ rs) p e = prepare_in pairs rs p e
 
 undo_in : (pairs : List (TxId × TxId)) (rs : List LogRecord) (p : TxId) → undone_in rs p ≡ true → tx_in p (landed_txs pairs rs) ≡ true
 undo_in pairs [] p e = absurd (both_ways false refl e)
@@ -129,6 +133,8 @@ undo_in pairs (End tx ∷ rs) p e = undo_in pairs rs p e
 undo_in pairs (Restart run epoch ∷ rs) p e = undo_in pairs rs p e
 undo_in pairs (Add tx k by ∷ rs) p e = undo_in pairs rs p e
 undo_in pairs (Unadd tx u k by ∷ rs) p e = ⊎_elim (λ h. or_left _ _ (tx_flip p tx h)) (λ h. or_right (tx_same tx p) _ (undo_in pairs rs p h)) (or_cases (tx_same p tx) (undone_in rs p) e)
+undo_in pairs (Forgotten ∷ rs) p e = undo_in pairs rs p e
+undo_in pairs (Check run' epoch' upto base ∷ rs) p e = undo_in pairs rs p e
 
 follower_in : (pairs : List (TxId × TxId)) (rs : List LogRecord) (x p : TxId) → committed_in rs p ≡ true → is_pair pairs x p ≡ true → tx_in x (landed_txs pairs rs) ≡ true
 follower_in pairs [] x p e h = absurd (both_ways false refl e)
@@ -146,6 +152,8 @@ follower_in pairs (End tx ∷ rs) x p e h = follower_in pairs rs x p e h
 follower_in pairs (Restart run epoch ∷ rs) x p e h = follower_in pairs rs x p e h
 follower_in pairs (Add tx k by ∷ rs) x p e h = follower_in pairs rs x p e h
 follower_in pairs (Unadd tx u k by ∷ rs) x p e h = or_right (tx_same tx x) _ (follower_in pairs rs x p e h)
+follower_in pairs (Forgotten ∷ rs) x p e h = follower_in pairs rs x p e h
+follower_in pairs (Check run' epoch' upto base ∷ rs) x p e h = follower_in pairs rs x p e h
 
 -- ---- tests that stay
 

@@ -8,7 +8,7 @@ use Rattle.std.proofs.lemmas.Bool.{both_ways, and_parts, or_cases, not-true, con
 use Rattle.clv_base.specs.declared.values.Value.{Value as ValueType}
 use Rattle.clv_base.specs.declared.names.TxId.{TxId}
 use Rattle.clv_base.specs.declared.logs.LogRecord.{LogRecord}
-use Rattle.clv_base.specs.declared.logs.LogRecord.TheVariants.{Update, Clr, Prepare, Commit, Abort, End, Restart, Add, Unadd}
+use Rattle.clv_base.specs.declared.logs.LogRecord.TheVariants.{Update, Clr, Prepare, Commit, Abort, End, Restart, Add, Unadd, Forgotten, Check}
 use Rattle.clv_base.specs.declared.modes.Anchor.{Anchor}
 use Rattle.clv_base.specs.declared.modes.Anchor.TheVariants.{Low, At}
 use Rattle.clv_base.specs.declared.modes.Holder.{Holder}
@@ -59,6 +59,8 @@ open_from log shard (End tx ∷ rs) so_far h u i = open_from log shard rs so_far
 open_from log shard (Restart run epoch ∷ rs) so_far h u i = open_from log shard rs so_far h u i
 open_from log shard (Add tx k by ∷ rs) so_far h u i = open_from log shard rs so_far h u i
 open_from log shard (Unadd tx v k by ∷ rs) so_far h u i = open_from log shard rs so_far h u i
+open_from log shard (Forgotten ∷ rs) so_far h u i = open_from log shard rs so_far h u i
+open_from log shard (Check run' epoch' upto base ∷ rs) so_far h u i = open_from log shard rs so_far h u i
 
 doubt_open : (shard : ℕ) (log : List LogRecord) (u : TxId) → tx_in u (in_doubt shard log) ≡ true → committed_in log u ≡ false
 doubt_open shard log u i = open_from log shard log [] (λ v e. absurd (both_ways false refl e)) u i

@@ -4,14 +4,15 @@ use Rattle.std.proofs.Common.{◌≡◌, ℕ, zero, suc, ◌+◌, ◌-◌, ◌�
 use Rattle.std.specs.Prelude.{max, nat_le}
 use Rattle.std.proofs.lemmas.Bool.{both_ways, leb-true, le-leb, cond-true, and_parts, and_from, or_cases, or_left, or_right}
 use Rattle.clv_base.specs.declared.logs.LogRecord.{LogRecord}
-use Rattle.clv_base.specs.declared.logs.LogRecord.TheVariants.{Update, Clr, Prepare, Commit, Abort, End, Restart, Add, Unadd}
+use Rattle.clv_base.specs.declared.logs.LogRecord.TheVariants.{Update, Clr, Prepare, Commit, Abort, End, Restart, Add, Unadd, Forgotten, Check}
 use Rattle.clv_base.specs.Orders.{tx_same}
-use Rattle.clv_base.specs.Values.{same_list, same_optional_value}
-use Rattle.clv_base.specs.LogRules.{same_option, same_record}
+use Rattle.clv_base.specs.declared.values.Value.{Value}
+use Rattle.clv_base.specs.Values.{same_list, same_value, same_optional_value}
+use Rattle.clv_base.specs.LogRules.{same_option, same_pair, same_record}
 use Rattle.clv_base.specs.State.{Shard}
 use Rattle.clv_base.specs.Restarts.{undo_records, restart_records, log_after_restart, greatest_epoch, next_epoch, log_left, FailedRestarts, untouched, failed_first, Restarts, restarts_up, log_up_to_epoch, is_log_up_to, agrees_up_to, misfit}
 use Rattle.clv_base.proofs.SameNames.{tx_true, tx_self}
-use Rattle.law_base.proofs.Options.{option_true, option_self, optional_value_true, optional_value_self, list_true, list_self}
+use Rattle.law_base.proofs.Options.{option_true, option_self, value_true, value_self, optional_value_true, optional_value_self, list_true, list_self}
 use Rattle.protocol_laws.specs.RestartLaws.{RestartsLeadToOne, RestartsReach, MisfitIsExact}
 use Rattle.protocol_laws.proofs.RestartsLeadToOneLog.UndoRecordByRecord.{Stepped, stepped, after_restart, greatest_more}
 
@@ -149,6 +150,12 @@ restarts_reach s found epoch le = reach_by s (epoch - next_epoch s found) epoch 
 
 -- ---- a test of logs
 
+pair_true : (p q : ℕ × Value) → same_pair p q ≡ true → p ≡ q
+pair_true (k, v) (j, u) e = let a = and_parts (k == j) (same_value v u) e in let f = eqb-true k j a.0 in let g = value_true v u a.1 in cc
+
+pair_self : (p : ℕ × Value) → same_pair p p ≡ true
+pair_self p = and_from _ _ (eq-eqb p.0 p.0 refl) (value_self p.1)
+
 pub record_true : (a b : LogRecord) → same_record a b ≡ true → a ≡ b
 record_true (Update tx k b a) (Update ux j c d) e =
     let p = and_parts (tx_same tx ux && (k == j) && same_optional_value b c) (same_optional_value a d) e in
@@ -181,6 +188,12 @@ record_true (Unadd tx u k by) (Unadd ux v j more) e =
     let q = and_parts (tx_same tx ux && same_option u v) (k == j) p.0 in
     let r = and_parts (tx_same tx ux) (same_option u v) q.0 in
     let f = tx_true tx ux r.0 in let g = option_true u v r.1 in let h = eqb-true k j q.1 in let i = eqb-true by more p.1 in cc
+record_true Forgotten Forgotten e = refl
+record_true (Check run epoch upto base) (Check r e' n pairs) e =
+    let p = and_parts ((run == r) && (epoch == e') && (upto == n)) (same_list same_pair base pairs) e in
+    let q = and_parts ((run == r) && (epoch == e')) (upto == n) p.0 in
+    let s = and_parts (run == r) (epoch == e') q.0 in
+    let f = eqb-true run r s.0 in let g = eqb-true epoch e' s.1 in let h = eqb-true upto n q.1 in let i = list_true same_pair pair_true base pairs p.1 in cc
 record_true _ _ e = absurd (both_ways false refl e)
 
 pub record_self : (a : LogRecord) → same_record a a ≡ true
@@ -193,6 +206,8 @@ record_self (End tx) = tx_self tx
 record_self (Restart run epoch) = and_from _ _ (eq-eqb run run refl) (eq-eqb epoch epoch refl)
 record_self (Add tx k by) = and_from _ _ (and_from _ _ (tx_self tx) (eq-eqb k k refl)) (eq-eqb by by refl)
 record_self (Unadd tx u k by) = and_from _ _ (and_from _ _ (and_from _ _ (tx_self tx) (option_self u)) (eq-eqb k k refl)) (eq-eqb by by refl)
+record_self Forgotten = refl
+record_self (Check run epoch upto base) = and_from _ _ (and_from _ _ (and_from _ _ (eq-eqb run run refl) (eq-eqb epoch epoch refl)) (eq-eqb upto upto refl)) (list_self same_pair pair_self base)
 
 -- ---- misfits
 

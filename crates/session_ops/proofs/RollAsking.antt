@@ -1,5 +1,5 @@
 -- What the answer of one turn of a going back makes of a session.
-use Rattle.std.proofs.Common.{◌≡◌, ◌≢◌, ◌⊎◌, ◌∙◌, refl, sym, ap, subst, ℕ, suc, ◌≤◌, ◌<◌, ◌^◌, ◌==◌, nat_lt, Bool, true, false, cond, not, ◌&&◌, List, [], ◌∷◌, Option, Some, None, Result, Ok, Err, arith, inl, inr, eq-eqb, ltb-true}
+use Rattle.std.proofs.Common.{◌≡◌, ◌≢◌, ◌⊎◌, ◌∙◌, refl, sym, ap, subst, ℕ, suc, ◌≤◌, ◌<◌, ◌^◌, ◌==◌, nat_lt, Bool, true, false, cond, ◌&&◌, List, [], ◌∷◌, Option, Some, None, Result, Ok, Err, arith, inl, inr, eq-eqb, ltb-true}
 use Rattle.std.specs.Prelude.{is_some, IfOk}
 use Rattle.std.specs.Map.{lookup}
 use Rattle.std.proofs.lemmas.Bool.{both_ways, and_from, ne_eqb, lt-ltb}
@@ -19,7 +19,7 @@ use Rattle.clv_base.specs.State.{Shard}
 use Rattle.clv_base.specs.Undo.{stage_of}
 use Rattle.clv_base.specs.Backs.{standing_numbers, count_after, stands_for_back}
 use Rattle.clv_base.specs.Events.{Quiet, Reply, QuietBeforeWorn, QuietAfterWorn, Does, happen, happen_up, roll_by_stage, roll_event, stamped, next_stamp, step}
-use Rattle.clv_base.specs.Sessions.{SessionState, Ended, is_touching, is_whole_now, numbered, goes_on_back, back_for, went_back, back_in_session, session_after}
+use Rattle.clv_base.specs.Sessions.{SessionState, is_touching, is_whole_now, numbered, goes_on_back, back_for, went_back, back_in_session, session_after}
 use Rattle.clv_base.proofs.SameNames.{tx_self}
 use Rattle.journal_laws.specs.Offers.{may_make}
 use Rattle.machine_calls.specs.declared.machine.StepError.{StepError}
@@ -33,8 +33,8 @@ use Rattle.cluster_turns.specs.Births.{AllSeeFree}
 use Rattle.cluster_turns.specs.Unborn.{UnbornAt, UnbornUnless}
 use Rattle.cluster_turns.specs.Walkers.{IsWalker, IsSameWalker, kept}
 use Rattle.cluster_turns.proofs.Laws.{states_tell_may_make, touched_are_last, dies_going_back}
-use Rattle.session_ops.specs.Standing.{IsOld, IsReady, HasBirth, IsActive, IsGoneAt}
-use Rattle.session_ops.specs.WentBack.{MayRoll, RollAsked, IsRoll, StandsBack, place_back, is_back_outcome}
+use Rattle.session_ops.specs.Standing.{IsOld, IsReady, HasBirth, IsActive}
+use Rattle.session_ops.specs.WentBack.{MayRoll, RollAsked, StandsBack, place_back, is_back_outcome}
 use Rattle.law_base.proofs.Names.{birth_same}
 use Rattle.law_base.proofs.Options.{option_self}
 use Rattle.law_base.proofs.Shards.{is_done, outcome_in}

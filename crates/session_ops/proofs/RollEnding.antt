@@ -1,6 +1,6 @@
 -- A shard's part of a going back, and the drops after it.
-use Rattle.std.proofs.Common.{◌≡◌, ◌∙◌, refl, sym, ap, subst, ℕ, ◌<◌, ◌≤◌, ◌-◌, ◌^◌, ◌==◌, Bool, true, false, List, [], ◌∷◌, ◌++◌, length, Option, Some, Result, Ok, Err, arith, inl}
-use Rattle.std.specs.Prelude.{IfOk, IsOk}
+use Rattle.std.proofs.Common.{◌≡◌, ◌∙◌, refl, sym, subst, ℕ, ◌<◌, ◌≤◌, ◌-◌, ◌^◌, ◌==◌, true, false, List, [], ◌∷◌, length, Some, Result, Ok, Err, inl}
+use Rattle.std.specs.Prelude.{IfOk}
 use Rattle.std.specs.Map.{lookup}
 use Rattle.std.proofs.lemmas.Bool.{both_ways}
 use Rattle.clv_base.specs.declared.names.TxId.{TxId}
@@ -11,14 +11,14 @@ use Rattle.machine_calls.specs.declared.machine.StepError.{StepError}
 use Rattle.machine_calls.specs.declared.machine.StepError.TheVariants.{Memory, Worn as IsWorn}
 use Rattle.cluster_turns.specs.declared.shards.Shards.{Shards}
 use Rattle.cluster_turns.specs.declared.shards.Walker.{Walker}
-use Rattle.cluster_turns.specs.CallTurns.{Turn, Took}
+use Rattle.cluster_turns.specs.CallTurns.{Took}
 use Rattle.cluster_turns.specs.Epochs.{ReachedAt, PastAt}
-use Rattle.cluster_turns.proofs.Laws.{turns_follow, down_is_past, past_stays, worn_is_last}
+use Rattle.cluster_turns.proofs.Laws.{turns_follow, down_is_past, worn_is_last}
 use Rattle.session_ops.specs.declared.rolling.BackError.{BackError}
 use Rattle.session_ops.specs.Standing.{IsActive}
 use Rattle.session_ops.specs.Decided.{Leaving, LeavesIf}
 use Rattle.session_ops.specs.Parts.{StandsUnless}
-use Rattle.session_ops.specs.WentBack.{RollAsked, IsRoll, Rolling, PastBy, StandsBack, RollIf, back_as, has_died, is_back_outcome, place_back}
+use Rattle.session_ops.specs.WentBack.{RollAsked, Rolling, PastBy, StandsBack, back_as, has_died, is_back_outcome, place_back}
 use Rattle.session_ops.proofs.Deciding.{left_ended}
 
 module _ {M S G : Type 0} (sh : Shards M S G) (w u v : Walker M S G) (n nth upto : ℕ) (p m q : SessionState) where

@@ -1,5 +1,5 @@
 -- What a going back leaves: one that is done, and one that is left undone.
-use Rattle.std.specs.Prelude.{◌≡◌, ◌⊎◌, ⊤, ℕ, suc, ◌<◌, ◌≤◌, ◌^◌, ◌-◌, ◌==◌, nat_le, true, cond, List, ◌∷◌, length, Option, Some, Result, Ok, Err}
+use Rattle.std.specs.Prelude.{◌≡◌, ◌⊎◌, ⊤, ℕ, suc, ◌<◌, ◌≤◌, ◌^◌, ◌-◌, ◌==◌, nat_le, true, cond, ◌∷◌, length, Some, Result, Ok, Err}
 use Rattle.std.specs.List.{filter}
 use Rattle.std.specs.Map.{lookup}
 use Rattle.clv_base.specs.Backs.{stands_for_back}
@@ -10,8 +10,6 @@ use Rattle.cluster_turns.specs.Notes.{is_above}
 use Rattle.cluster_turns.specs.Epochs.{PastAt}
 use Rattle.session_ops.specs.declared.rolling.BackError.{BackError}
 use Rattle.session_ops.specs.declared.rolling.BackError.TheVariants.{Aborted, Down, Worn}
-use Rattle.session_ops.specs.Standing.{IsActive}
-use Rattle.session_ops.specs.WentBack.{back_below}
 
 -- p, gone back to where it was after its operations numbered up to upto: no write of a later one stands. It took a number where one did
 pub record IsBack (p : SessionState) (upto : ℕ) (q : SessionState) : Type 0 where

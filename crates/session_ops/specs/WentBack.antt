@@ -1,9 +1,7 @@
 -- What a going back tells, shard after shard.
-use Rattle.std.specs.Prelude.{◌≡◌, ◌⊎◌, ⊤, ℕ, zero, suc, ◌<◌, ◌≤◌, ◌-◌, ◌^◌, ◌==◌, Bool, true, false, cond, List, [], ◌∷◌, ◌++◌, length, Option, Some, Result, Ok, Err, OnOk}
+use Rattle.std.specs.Prelude.{◌≡◌, ◌⊎◌, ⊤, ℕ, zero, suc, ◌<◌, ◌≤◌, ◌-◌, ◌^◌, ◌==◌, Bool, true, false, cond, List, [], ◌∷◌, ◌++◌, Option, Some, Result, Ok, Err, OnOk}
 use Rattle.std.specs.List.{AllByRecursion}
 use Rattle.std.specs.Map.{lookup}
-use Rattle.clv_base.specs.declared.causes.AbortCause.{AbortCause}
-use Rattle.clv_base.specs.declared.events.Event.{Event}
 use Rattle.clv_base.specs.declared.events.Event.TheVariants.{RollTo}
 use Rattle.clv_base.specs.declared.events.Outcome.{Outcome}
 use Rattle.clv_base.specs.declared.events.Outcome.TheVariants.{Rolled, Dead, Down as DownOut}
@@ -24,7 +22,6 @@ use Rattle.session_ops.specs.declared.rolling.BackError.TheVariants.{Aborted, Do
 use Rattle.session_ops.specs.Standing.{IsActive, IsOver, IsGoneAt}
 use Rattle.session_ops.specs.Dropped.{Drops}
 use Rattle.session_ops.specs.Decided.{DropsOthers}
-use Rattle.session_ops.specs.Parts.{StandsUnless}
 
 -- ---- one turn
 

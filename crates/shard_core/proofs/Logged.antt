@@ -6,7 +6,7 @@ use Rattle.clv_base.specs.declared.names.TxId.{TxId}
 use Rattle.clv_base.specs.declared.causes.Vote.{Vote}
 use Rattle.clv_base.specs.declared.causes.Vote.TheVariants.{Yes, Read, No}
 use Rattle.clv_base.specs.declared.logs.LogRecord.{LogRecord}
-use Rattle.clv_base.specs.declared.logs.LogRecord.TheVariants.{Update, Clr, Prepare, Commit as CommitRecord, Abort, End as EndRecord, Restart, Add, Unadd}
+use Rattle.clv_base.specs.declared.logs.LogRecord.TheVariants.{Update, Clr, Prepare, Commit as CommitRecord, Abort, End as EndRecord, Restart, Add, Unadd, Forgotten, Check}
 use Rattle.clv_base.specs.declared.changes.Change.{Change}
 use Rattle.clv_base.specs.declared.changes.Change.TheVariants.{Sets, Adds}
 use Rattle.clv_base.specs.declared.state.Voter.{Voter}
@@ -106,6 +106,8 @@ weaker keys more h (EndRecord tx) e = tt
 weaker keys more h (Restart run epoch) e = tt
 weaker keys more h (Add tx k by) e = tt
 weaker keys more h (Unadd tx u k by) e = h tx e
+weaker keys more h Forgotten e = tt
+weaker keys more h (Check run' epoch' upto base) e = tt
 
 -- with more that are known
 pub logged_known : (keys more : List TxId) → ((x : TxId) → tx_in x keys ≡ true → tx_in x more ≡ true) → (rs : List LogRecord) → All keys rs → All more rs
@@ -139,6 +141,8 @@ concern_known keys pairs h (r ∷ rs) a x e = ⊎_elim (λ i. one r a.0 i) (λ i
     one (Restart run epoch) u i = absurd (both_ways false refl i)
     one (Add tx k by) u i = absurd (both_ways false refl i)
     one (Unadd tx u k by) v i = subst (λ z. tx_in z keys ≡ true) (tx_true tx x i) v
+    one Forgotten u i = absurd (both_ways false refl i)
+    one (Check run' epoch' upto base) u i = absurd (both_ways false refl i)
 
 -- whom the records below a front concern are known
 pub landed_known : (keys : List TxId) (pairs : List (TxId × TxId)) (log : List LogRecord) (d n : ℕ) → ((x p : TxId) → is_pair pairs x p ≡ true → tx_in x keys ≡ true) → All keys (drop d log)

@@ -2,11 +2,11 @@
 
 ghost use Rattle.std.specs.Prelude.{◌≡◌, IfOk};
 
-use clv_base::lists::TxList;
+use clv_base::lists::{Pairs, TxList};
 use clv_base::logs::LogRecord;
 use clv_base::names::TxId;
 use clv_base::parts::ShardList;
-use clv_base::values::copy_of;
+use clv_base::values::{Value, copy_of};
 use std::alloc::{AllocError, Global};
 
 fn copy_txs(alloc: Global, list: &[TxId]) -> Result<Vec<TxId>, AllocError>
@@ -17,6 +17,16 @@ fn copy_txs(alloc: Global, list: &[TxId]) -> Result<Vec<TxId>, AllocError>
         txs.push(*tx)?;
     }
     Ok(txs)
+}
+
+fn copy_pairs(alloc: Global, list: &[(u64, Value)]) -> Result<Vec<(u64, Value)>, AllocError>
+    ensures { IfOk result (λ v. v.items ≡ list.now) }
+{
+    let mut pairs = Vec::with_capacity(alloc, list.len())?;
+    for pair in list {
+        pairs.push((pair.0, pair.1.copy()))?;
+    }
+    Ok(pairs)
 }
 
 fn copy_shards(list: &ShardList) -> ShardList
@@ -89,6 +99,18 @@ fn copy_record(alloc: Global, found: &LogRecord) -> Result<LogRecord, AllocError
             undo_next: *undo_next,
             key: *key,
             by: *by,
+        },
+        LogRecord::Forgotten => LogRecord::Forgotten,
+        LogRecord::Check {
+            run,
+            epoch,
+            upto,
+            base,
+        } => LogRecord::Check {
+            run: *run,
+            epoch: *epoch,
+            upto: *upto,
+            base: Pairs::new(copy_pairs(alloc, base.as_slice())?),
         },
     })
 }

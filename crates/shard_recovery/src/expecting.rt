@@ -10,12 +10,17 @@ use log_buffer::LogBuffer;
 use ordered_store::BlockStore;
 use std::alloc::{AllocError, Global};
 
-/// The greater of an epoch and that of a RESTART of this run.
+/// The greater of an epoch and that of a RESTART of this run, or of a checkpoint of it.
 fn later(run: u32, so_far: u64, found: &LogRecord) -> u64
     ensures { (rest : List Rec) → greatest_epoch run so_far (found.now ∷ rest) ≡ greatest_epoch run result rest }
 {
     match found {
-        LogRecord::Restart { run: other, epoch } if *other == run => so_far.max(*epoch),
+        LogRecord::Restart { run: other, epoch }
+        | LogRecord::Check {
+            run: other,
+            epoch,
+            ..
+        } if *other == run => so_far.max(*epoch),
         _ => so_far,
     }
 }

@@ -2,12 +2,12 @@
 ghost use Rattle.std.specs.Prelude.{◌≡◌, ◌==◌};
 ghost use Rattle.clv_base.specs.Orders.{tx_same};
 ghost use Rattle.clv_base.specs.Values.{same_list};
-ghost use Rattle.clv_base.specs.LogRules.{same_record as same};
+ghost use Rattle.clv_base.specs.LogRules.{same_pair, same_record as same};
 
 use clv_base::lists::TxList;
 use clv_base::logs::LogRecord;
 use clv_base::parts::ShardList;
-use clv_base::values::are_same;
+use clv_base::values::{Value, are_same};
 
 fn same_transactions(a: &TxList, b: &TxList) -> bool
     ensures { result ≡ same_list tx_same a.now b.now }
@@ -19,6 +19,12 @@ fn same_shards(a: &ShardList, b: &ShardList) -> bool
     ensures { result ≡ same_list (λ x y. x == y) a.now b.now }
 {
     a.as_slice() == b.as_slice()
+}
+
+fn same_pairs(a: &[(u64, Value)], b: &[(u64, Value)]) -> bool
+    ensures { result ≡ same_list same_pair a.now b.now }
+{
+    a == b
 }
 
 /// Whether two records are the same.
@@ -104,6 +110,24 @@ pub(crate) fn same_record(a: &LogRecord, b: &LogRecord) -> bool
                 by: much,
             },
         ) => tx == other && undo_next == next && key == at && by == much,
+        (LogRecord::Forgotten, LogRecord::Forgotten) => true,
+        (
+            LogRecord::Check {
+                run,
+                epoch,
+                upto,
+                base,
+            },
+            LogRecord::Check {
+                run: other,
+                epoch: at,
+                upto: place,
+                base: pairs,
+            },
+        ) => run == other
+            && epoch == at
+            && upto == place
+            && same_pairs(base.as_slice(), pairs.as_slice()),
         _ => false,
     }
 }

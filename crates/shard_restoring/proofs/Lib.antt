@@ -6,3 +6,4 @@ mod Listed
 mod Settling
 mod Kept
 mod Whole
+mod Noting

@@ -10,7 +10,7 @@ use Rattle.std.specs.declared.cmp.Ordering.TheVariants.{Less, Equal, Greater}
 use Rattle.std.specs.Ordering.{is_eq, is_lt, ordering_then}
 use Rattle.clv_base.specs.declared.names.TxId.{TxId}
 use Rattle.clv_base.specs.declared.logs.LogRecord.{LogRecord}
-use Rattle.clv_base.specs.declared.logs.LogRecord.TheVariants.{Update, Clr, Prepare, Commit, Abort, End, Restart, Add, Unadd}
+use Rattle.clv_base.specs.declared.logs.LogRecord.TheVariants.{Update, Clr, Prepare, Commit, Abort, End, Restart, Add, Unadd, Forgotten, Check}
 use Rattle.clv_base.specs.Orders.{tx_cmp, tx_same, tx_insert, pair_cmp}
 use Rattle.clv_base.specs.Logs.{committed_in, prepare_of}
 use Rattle.clv_base.specs.Facts.{predecessors_of}
@@ -59,6 +59,8 @@ listed_at (End tx ∷ rs) t h = listed_at rs t (and_parts (has_spelling (End tx)
 listed_at (Restart run epoch ∷ rs) t h = listed_at rs t (and_parts (has_spelling (Restart run epoch)) (list_all has_spelling rs) h).1
 listed_at (Add tx k by ∷ rs) t h = listed_at rs t (and_parts (has_spelling (Add tx k by)) (list_all has_spelling rs) h).1
 listed_at (Unadd tx u k by ∷ rs) t h = listed_at rs t (and_parts (has_spelling (Unadd tx u k by)) (list_all has_spelling rs) h).1
+listed_at (Forgotten ∷ rs) t h = listed_at rs t (and_parts (has_spelling Forgotten) (list_all has_spelling rs) h).1
+listed_at (Check run' epoch' upto base ∷ rs) t h = listed_at rs t (and_parts (has_spelling (Check run' epoch' upto base)) (list_all has_spelling rs) h).1
 
 -- ---- they rise
 

@@ -10,7 +10,7 @@ use Rattle.std.specs.declared.cmp.Ordering.TheVariants.{Less, Equal, Greater}
 use Rattle.clv_base.specs.declared.names.TxId.{TxId}
 use Rattle.clv_base.specs.declared.causes.AbortCause.{AbortCause}
 use Rattle.clv_base.specs.declared.logs.LogRecord.{LogRecord}
-use Rattle.clv_base.specs.declared.logs.LogRecord.TheVariants.{Update, Clr, Prepare, Commit, Abort, End, Restart, Add, Unadd}
+use Rattle.clv_base.specs.declared.logs.LogRecord.TheVariants.{Update, Clr, Prepare, Commit, Abort, End, Restart, Add, Unadd, Forgotten, Check}
 use Rattle.clv_base.specs.declared.parts.PartFacts.{PartFacts}
 use Rattle.clv_base.specs.declared.state.Request.{Request}
 use Rattle.clv_base.specs.declared.state.RequestState.{RequestState}
@@ -113,3 +113,5 @@ unended_are_named log (End tx ∷ rs) h = unended_are_named log rs (rest_of (End
 unended_are_named log (Restart run epoch ∷ rs) h = unended_are_named log rs (rest_of (Restart run epoch) rs h)
 unended_are_named log (Add tx k by ∷ rs) h = unended_are_named log rs (rest_of (Add tx k by) rs h)
 unended_are_named log (Unadd tx u k by ∷ rs) h = unended_are_named log rs (rest_of (Unadd tx u k by) rs h)
+unended_are_named log (Forgotten ∷ rs) h = unended_are_named log rs (rest_of Forgotten rs h)
+unended_are_named log (Check run' epoch' upto base ∷ rs) h = unended_are_named log rs (rest_of (Check run' epoch' upto base) rs h)

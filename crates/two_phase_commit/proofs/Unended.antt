@@ -7,7 +7,7 @@ use Rattle.std.specs.declared.cmp.Ordering.TheVariants.{Less, Equal, Greater}
 use Rattle.std.specs.Ordering.{match_ordering}
 use Rattle.clv_base.specs.declared.names.TxId.{TxId}
 use Rattle.clv_base.specs.declared.logs.LogRecord.{LogRecord}
-use Rattle.clv_base.specs.declared.logs.LogRecord.TheVariants.{Update, Clr, Prepare, Commit, Abort, End, Restart, Add, Unadd}
+use Rattle.clv_base.specs.declared.logs.LogRecord.TheVariants.{Update, Clr, Prepare, Commit, Abort, End, Restart, Add, Unadd, Forgotten, Check}
 use Rattle.clv_base.specs.Orders.{Table, tx_cmp, tx_put, tx_insert}
 use Rattle.clv_base.specs.Logs.{ended_in}
 use Rattle.clv_base.specs.Restarts.{unended_with, unended_in}
@@ -47,3 +47,5 @@ unended_rise log (End tx ∷ rs) = unended_rise log rs
 unended_rise log (Restart run epoch ∷ rs) = unended_rise log rs
 unended_rise log (Add tx b by ∷ rs) = unended_rise log rs
 unended_rise log (Unadd tx b c by ∷ rs) = unended_rise log rs
+unended_rise log (Forgotten ∷ rs) = unended_rise log rs
+unended_rise log (Check run' epoch' upto base ∷ rs) = unended_rise log rs

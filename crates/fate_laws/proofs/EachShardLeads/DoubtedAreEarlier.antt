@@ -4,7 +4,7 @@ use Rattle.std.specs.List.{AllByRecursion}
 use Rattle.std.proofs.lemmas.Bool.{both_ways, or_cases}
 use Rattle.clv_base.specs.declared.names.TxId.{TxId}
 use Rattle.clv_base.specs.declared.logs.LogRecord.{LogRecord}
-use Rattle.clv_base.specs.declared.logs.LogRecord.TheVariants.{Update, Clr, Prepare, Commit, Abort, End, Restart, Add, Unadd}
+use Rattle.clv_base.specs.declared.logs.LogRecord.TheVariants.{Update, Clr, Prepare, Commit, Abort, End, Restart, Add, Unadd, Forgotten, Check}
 use Rattle.clv_base.specs.declared.events.Entry.{Entry}
 use Rattle.clv_base.specs.Orders.{tx_same, tx_in}
 use Rattle.clv_base.specs.Logs.{in_doubt, standing}
@@ -41,6 +41,8 @@ ordered_is doubt (End tx ∷ rs) t e = ordered_is doubt rs t e
 ordered_is doubt (Restart run epoch ∷ rs) t e = ordered_is doubt rs t e
 ordered_is doubt (Add tx k by ∷ rs) t e = ordered_is doubt rs t e
 ordered_is doubt (Unadd tx u k by ∷ rs) t e = ordered_is doubt rs t e
+ordered_is doubt (Forgotten ∷ rs) t e = ordered_is doubt rs t e
+ordered_is doubt (Check run' epoch' upto base ∷ rs) t e = ordered_is doubt rs t e
 
 module _ (splits : List ℕ) (before : List (List LogRecord)) (n : ℕ) (m : may_open splits before ≡ true) (l : n < length before) where
   pub deeds_are_old : AllByRecursion (λ d. IsOld (run_after before) (doer d)) (map (λ x. Did x) (found_items n (log_of before n)))

@@ -4,7 +4,7 @@ use Rattle.std.specs.List.{list_any}
 use Rattle.std.proofs.lemmas.Bool.{both_ways, false_from_ne_true, not-true, or_cases, and_from}
 use Rattle.clv_base.specs.declared.names.TxId.{TxId}
 use Rattle.clv_base.specs.declared.logs.LogRecord.{LogRecord}
-use Rattle.clv_base.specs.declared.logs.LogRecord.TheVariants.{Update, Clr, Prepare as PrepareRecord, Commit, Abort, End, Restart as RestartRecord, Add, Unadd}
+use Rattle.clv_base.specs.declared.logs.LogRecord.TheVariants.{Update, Clr, Prepare as PrepareRecord, Commit, Abort, End, Restart as RestartRecord, Add, Unadd, Forgotten, Check}
 use Rattle.clv_base.specs.declared.messages.Message.{Message}
 use Rattle.clv_base.specs.declared.messages.Message.TheVariants.{Prepare, Decide}
 use Rattle.clv_base.specs.declared.state.Taken.{Taken as DecisionTaken}
@@ -126,6 +126,8 @@ home_from A Q O n t (End u) p e = absurd (both_ways false refl e)
 home_from A Q O n t (RestartRecord rn ep) p e = absurd (both_ways false refl e)
 home_from A Q O n t (Add u k by) p e = absurd (both_ways false refl e)
 home_from A Q O n t (Unadd u k b by) p e = absurd (both_ways false refl e)
+home_from A Q O n t Forgotten p e = absurd (both_ways false refl e)
+home_from A Q O n t (Check run' epoch' upto base) p e = absurd (both_ways false refl e)
 
 -- a write of who is committed stands there, or it made its request there
 pub committed_stands : (A : TxId → Type 0) (Q : TxId → ℕ → Type 0) (O : TxId → Type 0) (n : ℕ) (log : List LogRecord) (t : TxId) → AllFrom A Q O n log → Follows n [] log → committed_in log t ≡ true → (has_standing log t ≡ true) ⊎ OwnRequest Q O n t

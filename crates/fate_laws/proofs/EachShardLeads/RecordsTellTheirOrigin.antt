@@ -4,7 +4,7 @@ use Rattle.std.specs.List.{AllByRecursion, list_any}
 use Rattle.std.proofs.lemmas.Bool.{both_ways, or_cases}
 use Rattle.clv_base.specs.declared.names.TxId.{TxId}
 use Rattle.clv_base.specs.declared.logs.LogRecord.{LogRecord}
-use Rattle.clv_base.specs.declared.logs.LogRecord.TheVariants.{Update, Clr, Prepare, Commit, Abort, End, Restart, Add, Unadd}
+use Rattle.clv_base.specs.declared.logs.LogRecord.TheVariants.{Update, Clr, Prepare, Commit, Abort, End, Restart, Add, Unadd, Forgotten, Check}
 use Rattle.clv_base.specs.Logs.{is_update_of, is_commit_of, is_prepare_of, is_abort_of, wrote_in, committed_in, prepared_in, aborted_in}
 use Rattle.clv_base.proofs.SameNames.{tx_true}
 use Rattle.fate_laws.proofs.Origins.DueKeepsOrigins.{SomeRequest, AllFrom, RecordFrom, CommitFrom, own_some}
@@ -27,6 +27,8 @@ module _ (A : TxId → Type 0) (Q : TxId → ℕ → Type 0) (O : TxId → Type 
   one_wrote (Restart r ep) p e = none e
   one_wrote (Add u k by) p e = subst A (sym (tx_true t u e)) p
   one_wrote (Unadd u k b by) p e = none e
+  one_wrote Forgotten p e = none e
+  one_wrote (Check run' epoch' upto base) p e = none e
 
   one_aborted : (r : LogRecord) → RecordFrom A Q O n r → is_abort_of t r ≡ true → A t
   one_aborted (Abort u) p e = subst A (sym (tx_true t u e)) p
@@ -38,6 +40,8 @@ module _ (A : TxId → Type 0) (Q : TxId → ℕ → Type 0) (O : TxId → Type 
   one_aborted (Restart r ep) p e = none e
   one_aborted (Add u k by) p e = none e
   one_aborted (Unadd u k b by) p e = none e
+  one_aborted Forgotten p e = none e
+  one_aborted (Check run' epoch' upto base) p e = none e
 
   one_prepared : (r : LogRecord) → RecordFrom A Q O n r → is_prepare_of t r ≡ true → A t × SomeRequest Q O t
   one_prepared (Prepare u h ps) p e = let q : A u × SomeRequest Q O u = (p.0, own_some Q O h u p.1) in subst (λ v. A v × SomeRequest Q O v) (sym (tx_true t u e)) q
@@ -49,6 +53,8 @@ module _ (A : TxId → Type 0) (Q : TxId → ℕ → Type 0) (O : TxId → Type 
   one_prepared (Restart r ep) p e = none e
   one_prepared (Add u k by) p e = none e
   one_prepared (Unadd u k b by) p e = none e
+  one_prepared Forgotten p e = none e
+  one_prepared (Check run' epoch' upto base) p e = none e
 
   some_commit : (u : TxId) (ps : List ℕ) → CommitFrom Q O n u ps → SomeRequest Q O u
   some_commit u [] c = c
@@ -64,6 +70,8 @@ module _ (A : TxId → Type 0) (Q : TxId → ℕ → Type 0) (O : TxId → Type 
   one_committed (Restart r ep) p e = none e
   one_committed (Add u k by) p e = none e
   one_committed (Unadd u k b by) p e = none e
+  one_committed Forgotten p e = none e
+  one_committed (Check run' epoch' upto base) p e = none e
 
   -- who wrote or is undone was answered here; who is prepared or committed asked; and a PREPARE is of one that was answered here
   pub wrote_from : wrote_in log t ≡ true → A t

@@ -11,7 +11,7 @@ use Rattle.clv_base.specs.declared.causes.AbortCause.{AbortCause}
 use Rattle.clv_base.specs.declared.causes.Vote.{Vote}
 use Rattle.clv_base.specs.declared.causes.Vote.TheVariants.{Yes, Read, No}
 use Rattle.clv_base.specs.declared.logs.LogRecord.{LogRecord}
-use Rattle.clv_base.specs.declared.logs.LogRecord.TheVariants.{Update, Clr, Prepare as PrepareRecord, Commit, Abort, End, Restart as RestartRecord, Add, Unadd}
+use Rattle.clv_base.specs.declared.logs.LogRecord.TheVariants.{Update, Clr, Prepare as PrepareRecord, Commit, Abort, End, Restart as RestartRecord, Add, Unadd, Forgotten, Check}
 use Rattle.clv_base.specs.declared.state.Held.{Held}
 use Rattle.clv_base.specs.declared.state.Voter.{Voter}
 use Rattle.clv_base.specs.declared.state.Request.{Request}
@@ -162,6 +162,8 @@ doubts log shard (End tx ∷ rs) sf t i = doubts log shard rs sf t i
 doubts log shard (RestartRecord run epoch ∷ rs) sf t i = doubts log shard rs sf t i
 doubts log shard (Add tx b by ∷ rs) sf t i = doubts log shard rs sf t i
 doubts log shard (Unadd tx b c by ∷ rs) sf t i = doubts log shard rs sf t i
+doubts log shard (Forgotten ∷ rs) sf t i = doubts log shard rs sf t i
+doubts log shard (Check run' epoch' upto base ∷ rs) sf t i = doubts log shard rs sf t i
 
 restored_rows : (log : List LogRecord) (doubt : List TxId) → ((t : TxId) → tx_in t doubt ≡ true → prepared_in log t ≡ true) → Rows log (restored_parts doubt)
 restored_rows log [] k = tt

@@ -9,7 +9,7 @@ use Rattle.clv_base.specs.declared.ops.Op.{Op}
 use Rattle.clv_base.specs.declared.ops.Answer.{Answer}
 use Rattle.clv_base.specs.declared.causes.Vote.TheVariants.{Read}
 use Rattle.clv_base.specs.declared.logs.LogRecord.{LogRecord}
-use Rattle.clv_base.specs.declared.logs.LogRecord.TheVariants.{Update, Clr, Prepare, Commit, Abort, End, Restart as RestartRecord, Add, Unadd}
+use Rattle.clv_base.specs.declared.logs.LogRecord.TheVariants.{Update, Clr, Prepare, Commit, Abort, End, Restart as RestartRecord, Add, Unadd, Forgotten, Check}
 use Rattle.clv_base.specs.declared.messages.Message.TheVariants.{Decide}
 use Rattle.clv_base.specs.declared.state.Held.{Held}
 use Rattle.clv_base.specs.declared.state.Stage.TheVariants.{Active, Closed}
@@ -461,6 +461,8 @@ all_tied (End tx ∷ rs) = (tt, all_tied rs)
 all_tied (RestartRecord run epoch ∷ rs) = (tt, all_tied rs)
 all_tied (Add tx key by ∷ rs) = (tt, all_tied rs)
 all_tied (Unadd tx u key by ∷ rs) = (tt, all_tied rs)
+all_tied (Forgotten ∷ rs) = (tt, all_tied rs)
+all_tied (Check run' epoch' upto base ∷ rs) = (tt, all_tied rs)
 
 log_ahead : (splits : List ℕ) (before : List (List LogRecord)) (n : ℕ) → may_open splits before ≡ true → n < length before → Ahead [] (log_of before n)
 log_ahead splits before n m l = follows_ahead n [] (log_of before n) (log_follows splits before n m l)

@@ -5,7 +5,7 @@ use Rattle.std.specs.List.{filter, list_all}
 use Rattle.std.proofs.lemmas.Bool.{both_ways, and_parts, or_cases, or_left, or_right, not-true, false_from_ne_true, or_parts}
 use Rattle.clv_base.specs.declared.names.TxId.{TxId}
 use Rattle.clv_base.specs.declared.logs.LogRecord.{LogRecord}
-use Rattle.clv_base.specs.declared.logs.LogRecord.TheVariants.{Update, Clr, Prepare, Commit, Abort, End, Restart, Add, Unadd}
+use Rattle.clv_base.specs.declared.logs.LogRecord.TheVariants.{Update, Clr, Prepare, Commit, Abort, End, Restart, Add, Unadd, Forgotten, Check}
 use Rattle.clv_base.specs.declared.changes.Change.{Change}
 use Rattle.clv_base.specs.declared.changes.Change.TheVariants.{Sets, Adds}
 use Rattle.clv_base.specs.Orders.{tx_same, tx_in, tx_insert}
@@ -31,6 +31,8 @@ Fronts front (End tx) = ⊤
 Fronts front (Restart run epoch) = ⊤
 Fronts front (Add tx key by) = ⊤
 Fronts front (Unadd tx next key by) = ⊤
+Fronts front Forgotten = ⊤
+Fronts front (Check run' epoch' upto base) = ⊤
 
 abbrev pub Ahead : List LogRecord → List LogRecord → Type 0
 Ahead front [] = ⊤
@@ -108,6 +110,8 @@ follows_fronts shard front (End tx) m = tt
 follows_fronts shard front (Restart run epoch) m = tt
 follows_fronts shard front (Add tx key by) m = tt
 follows_fronts shard front (Unadd tx next key by) m = tt
+follows_fronts shard front Forgotten m = tt
+follows_fronts shard front (Check run' epoch' upto base) m = tt
 
 pub follows_ahead : (shard : ℕ) (front rs : List LogRecord) → Follows shard front rs → Ahead front rs
 follows_ahead shard front [] f = tt
@@ -143,6 +147,8 @@ was_doubted log shard front (End tx ∷ rs) sf q a p i = was_doubted log shard (
 was_doubted log shard front (Restart run epoch ∷ rs) sf q a p i = was_doubted log shard (front ++ Restart run epoch ∷ []) rs sf q a.1 (more_prepared front (Restart run epoch) q p) i
 was_doubted log shard front (Add tx k by ∷ rs) sf q a p i = was_doubted log shard (front ++ Add tx k by ∷ []) rs sf q a.1 (more_prepared front (Add tx k by) q p) i
 was_doubted log shard front (Unadd tx u k by ∷ rs) sf q a p i = was_doubted log shard (front ++ Unadd tx u k by ∷ []) rs sf q a.1 (more_prepared front (Unadd tx u k by) q p) i
+was_doubted log shard front (Forgotten ∷ rs) sf q a p i = was_doubted log shard (front ++ Forgotten ∷ []) rs sf q a.1 (more_prepared front Forgotten q p) i
+was_doubted log shard front (Check run' epoch' upto base ∷ rs) sf q a p i = was_doubted log shard (front ++ Check run' epoch' upto base ∷ []) rs sf q a.1 (more_prepared front (Check run' epoch' upto base) q p) i
 
 -- why a prepared one that isn't committed is not in doubt: it was aborted, or this is its home, or it lists one that is neither
 abbrev pub Why : List LogRecord → ℕ → List TxId → TxId → ℕ × List TxId → Type 0
@@ -214,6 +220,8 @@ behind log shard front (Restart run epoch ∷ rs) sf t p e a u h n c =
     behind log shard (front ++ Restart run epoch ∷ []) rs sf t p (append_assoc front (Restart run epoch ∷ []) rs ∙ e) a.1 (still_unprepared front (Restart run epoch) t u refl) h n c
 behind log shard front (Add tx k by ∷ rs) sf t p e a u h n c = behind log shard (front ++ Add tx k by ∷ []) rs sf t p (append_assoc front (Add tx k by ∷ []) rs ∙ e) a.1 (still_unprepared front (Add tx k by) t u refl) h n c
 behind log shard front (Unadd tx v k by ∷ rs) sf t p e a u h n c = behind log shard (front ++ Unadd tx v k by ∷ []) rs sf t p (append_assoc front (Unadd tx v k by ∷ []) rs ∙ e) a.1 (still_unprepared front (Unadd tx v k by) t u refl) h n c
+behind log shard front (Forgotten ∷ rs) sf t p e a u h n c = behind log shard (front ++ Forgotten ∷ []) rs sf t p (append_assoc front (Forgotten ∷ []) rs ∙ e) a.1 (still_unprepared front Forgotten t u refl) h n c
+behind log shard front (Check run' epoch' upto base ∷ rs) sf t p e a u h n c = behind log shard (front ++ Check run' epoch' upto base ∷ []) rs sf t p (append_assoc front (Check run' epoch' upto base ∷ []) rs ∙ e) a.1 (still_unprepared front (Check run' epoch' upto base) t u refl) h n c
 
 -- in a whole log
 pub not_in_doubt : (shard : ℕ) (log : List LogRecord) (t : TxId) (p : ℕ × List TxId) → Ahead [] log → prepare_of log t ≡ Some p → tx_in t (in_doubt shard log) ≡ false → committed_in log t ≡ false → Why log shard (in_doubt shard log) t p
@@ -239,6 +247,8 @@ listed_front log front (End tx ∷ rs) t q p e a h i = listed_front log (front +
 listed_front log front (Restart run epoch ∷ rs) t q p e a h i = listed_front log (front ++ Restart run epoch ∷ []) rs t q p (append_assoc front (Restart run epoch ∷ []) rs ∙ e) a.1 h i
 listed_front log front (Add tx k by ∷ rs) t q p e a h i = listed_front log (front ++ Add tx k by ∷ []) rs t q p (append_assoc front (Add tx k by ∷ []) rs ∙ e) a.1 h i
 listed_front log front (Unadd tx v k by ∷ rs) t q p e a h i = listed_front log (front ++ Unadd tx v k by ∷ []) rs t q p (append_assoc front (Unadd tx v k by ∷ []) rs ∙ e) a.1 h i
+listed_front log front (Forgotten ∷ rs) t q p e a h i = listed_front log (front ++ Forgotten ∷ []) rs t q p (append_assoc front (Forgotten ∷ []) rs ∙ e) a.1 h i
+listed_front log front (Check run' epoch' upto base ∷ rs) t q p e a h i = listed_front log (front ++ Check run' epoch' upto base ∷ []) rs t q p (append_assoc front (Check run' epoch' upto base ∷ []) rs ∙ e) a.1 h i
 
 -- who is in doubt has its home elsewhere
 abroad : (log : List LogRecord) (shard : ℕ) (front rs : List LogRecord) (sf : List TxId) (t : TxId) (p : ℕ × List TxId) → Ahead front rs → prepared_in front t ≡ false → prepare_of rs t ≡ Some p → tx_in t sf ≡ false
@@ -273,6 +283,8 @@ abroad log shard front (End tx ∷ rs) sf t p a u h n i z = abroad log shard (fr
 abroad log shard front (Restart run epoch ∷ rs) sf t p a u h n i z = abroad log shard (front ++ Restart run epoch ∷ []) rs sf t p a.1 (still_unprepared front (Restart run epoch) t u refl) h n i z
 abroad log shard front (Add tx k by ∷ rs) sf t p a u h n i z = abroad log shard (front ++ Add tx k by ∷ []) rs sf t p a.1 (still_unprepared front (Add tx k by) t u refl) h n i z
 abroad log shard front (Unadd tx v k by ∷ rs) sf t p a u h n i z = abroad log shard (front ++ Unadd tx v k by ∷ []) rs sf t p a.1 (still_unprepared front (Unadd tx v k by) t u refl) h n i z
+abroad log shard front (Forgotten ∷ rs) sf t p a u h n i z = abroad log shard (front ++ Forgotten ∷ []) rs sf t p a.1 (still_unprepared front Forgotten t u refl) h n i z
+abroad log shard front (Check run' epoch' upto base ∷ rs) sf t p a u h n i z = abroad log shard (front ++ Check run' epoch' upto base ∷ []) rs sf t p a.1 (still_unprepared front (Check run' epoch' upto base) t u refl) h n i z
 
 pub home_elsewhere : (shard : ℕ) (log : List LogRecord) (t : TxId) (p : ℕ × List TxId) → Ahead [] log → prepare_of log t ≡ Some p → tx_in t (in_doubt shard log) ≡ true → p.0 ≡ shard → ⊥
 home_elsewhere shard log t p a h i z = abroad log shard [] log [] t p a refl h refl i z

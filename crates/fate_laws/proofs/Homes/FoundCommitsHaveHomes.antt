@@ -4,7 +4,7 @@ use Rattle.std.specs.List.{list_any, list_all}
 use Rattle.std.proofs.lemmas.Bool.{both_ways, and_parts, or_cases}
 use Rattle.clv_base.specs.declared.names.TxId.{TxId}
 use Rattle.clv_base.specs.declared.logs.LogRecord.{LogRecord}
-use Rattle.clv_base.specs.declared.logs.LogRecord.TheVariants.{Update, Clr, Prepare, Commit, Abort, End, Restart, Add, Unadd}
+use Rattle.clv_base.specs.declared.logs.LogRecord.TheVariants.{Update, Clr, Prepare, Commit, Abort, End, Restart, Add, Unadd, Forgotten, Check}
 use Rattle.clv_base.specs.Orders.{tx_same, tx_in, tx_insert, tx_union, nat_in}
 use Rattle.clv_base.specs.Logs.{is_record_of, committed_in, has_standing, is_prepare_of, is_commit_of, prepared_in, is_update_of, is_undo_of}
 use Rattle.clv_base.specs.LogRules.{log_of, all_logs_from, any_log_from, part_agrees, agrees_at, is_home_of, committed_of, committed_of_all, first_apart, apart, is_undone_in}
@@ -27,6 +27,8 @@ in_committed (End tx ∷ rs) t c = in_committed rs t c
 in_committed (Restart run epoch ∷ rs) t c = in_committed rs t c
 in_committed (Add tx a by ∷ rs) t c = in_committed rs t c
 in_committed (Unadd tx a b by ∷ rs) t c = in_committed rs t c
+in_committed (Forgotten ∷ rs) t c = in_committed rs t c
+in_committed (Check run' epoch' upto base ∷ rs) t c = in_committed rs t c
 
 union_left : (xs ys : List TxId) (t : TxId) → tx_in t xs ≡ true → tx_in t (tx_union xs ys) ≡ true
 union_left [] ys t i = absurd (both_ways false refl i)

@@ -3,7 +3,7 @@ use Rattle.std.proofs.Common.{◌≡◌, ◌⊎◌, inl, inr, ⊎_elim, refl, su
 use Rattle.std.proofs.lemmas.Bool.{or_left, or_right}
 use Rattle.clv_base.specs.declared.names.TxId.{TxId}
 use Rattle.clv_base.specs.declared.logs.LogRecord.{LogRecord}
-use Rattle.clv_base.specs.declared.logs.LogRecord.TheVariants.{Update, Clr, Prepare, Commit, Abort, End, Restart, Add, Unadd}
+use Rattle.clv_base.specs.declared.logs.LogRecord.TheVariants.{Update, Clr, Prepare, Commit, Abort, End, Restart, Add, Unadd, Forgotten, Check}
 use Rattle.clv_base.specs.declared.state.Request.{Request}
 use Rattle.clv_base.specs.Orders.{Table, tx_same, tx_get, tx_put}
 use Rattle.clv_base.specs.Logs.{committed_in, ended_in}
@@ -36,6 +36,8 @@ unended_committed log (End tx ∷ rs) u qs g = unended_committed log rs u qs g
 unended_committed log (Restart run epoch ∷ rs) u qs g = unended_committed log rs u qs g
 unended_committed log (Add tx b by ∷ rs) u qs g = unended_committed log rs u qs g
 unended_committed log (Unadd tx b c by ∷ rs) u qs g = unended_committed log rs u qs g
+unended_committed log (Forgotten ∷ rs) u qs g = unended_committed log rs u qs g
+unended_committed log (Check run' epoch' upto base ∷ rs) u qs g = unended_committed log rs u qs g
 
 -- a restored request is of a COMMIT of the log
 pub restored_committed : (rows : Table (List ℕ)) (u : TxId) (q : Request) → tx_get u (restored_requests rows) ≡ Some q → (ps : List ℕ) × (tx_get u rows ≡ Some ps)

@@ -10,7 +10,7 @@ use Rattle.clv_base.specs.declared.ops.Op.{Op}
 use Rattle.clv_base.specs.declared.ops.Answer.{Answer}
 use Rattle.clv_base.specs.declared.causes.AbortCause.{AbortCause}
 use Rattle.clv_base.specs.declared.logs.LogRecord.{LogRecord}
-use Rattle.clv_base.specs.declared.logs.LogRecord.TheVariants.{Update, Clr, Prepare, Commit, Abort, End, Restart, Add, Unadd}
+use Rattle.clv_base.specs.declared.logs.LogRecord.TheVariants.{Update, Clr, Prepare, Commit, Abort, End, Restart, Add, Unadd, Forgotten, Check}
 use Rattle.clv_base.specs.Orders.{tx_same}
 use Rattle.clv_base.specs.declared.changes.Change.{Change}
 use Rattle.clv_base.specs.declared.changes.Change.TheVariants.{Sets, Adds}
@@ -58,6 +58,8 @@ prepare_new (End u ∷ rs) tx home ps t p e = prepare_new rs tx home ps t p e
 prepare_new (Restart run epoch ∷ rs) tx home ps t p e = prepare_new rs tx home ps t p e
 prepare_new (Add u key by ∷ rs) tx home ps t p e = prepare_new rs tx home ps t p e
 prepare_new (Unadd u next key by ∷ rs) tx home ps t p e = prepare_new rs tx home ps t p e
+prepare_new (Forgotten ∷ rs) tx home ps t p e = prepare_new rs tx home ps t p e
+prepare_new (Check run' epoch' upto base ∷ rs) tx home ps t p e = prepare_new rs tx home ps t p e
 
 -- ---- a log with no PREPAREs but another's
 

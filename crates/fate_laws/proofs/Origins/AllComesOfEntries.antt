@@ -6,7 +6,7 @@ use Rattle.clv_base.specs.declared.names.Birth.{Birth}
 use Rattle.clv_base.specs.declared.ops.Op.{Op}
 use Rattle.clv_base.specs.declared.ops.Answer.{Answer}
 use Rattle.clv_base.specs.declared.logs.LogRecord.{LogRecord}
-use Rattle.clv_base.specs.declared.logs.LogRecord.TheVariants.{Update, Clr, Prepare as PrepareRecord, Commit, Abort, End, Restart as RestartRecord, Add, Unadd}
+use Rattle.clv_base.specs.declared.logs.LogRecord.TheVariants.{Update, Clr, Prepare as PrepareRecord, Commit, Abort, End, Restart as RestartRecord, Add, Unadd, Forgotten, Check}
 use Rattle.clv_base.specs.declared.messages.Message.TheVariants.{Prepare}
 use Rattle.clv_base.specs.declared.state.Stage.TheVariants.{Active, Closed}
 use Rattle.clv_base.specs.declared.state.Held.{Held}
@@ -109,6 +109,8 @@ prepared_from A Q O n (End u ∷ rs) t a e = prepared_from A Q O n rs t a.1 e
 prepared_from A Q O n (RestartRecord r ep ∷ rs) t a e = prepared_from A Q O n rs t a.1 e
 prepared_from A Q O n (Add u key by ∷ rs) t a e = prepared_from A Q O n rs t a.1 e
 prepared_from A Q O n (Unadd u next key by ∷ rs) t a e = prepared_from A Q O n rs t a.1 e
+prepared_from A Q O n (Forgotten ∷ rs) t a e = prepared_from A Q O n rs t a.1 e
+prepared_from A Q O n (Check run' epoch' upto base ∷ rs) t a e = prepared_from A Q O n rs t a.1 e
 
 commit_some : (Q : TxId → ℕ → Type 0) (O : TxId → Type 0) (n : ℕ) (t : TxId) (ps : List ℕ) → CommitFrom Q O n t ps → SomeRequest Q O t
 commit_some Q O n t [] c = c
@@ -125,6 +127,8 @@ committed_from A Q O n (End u ∷ rs) t a e = committed_from A Q O n rs t a.1 e
 committed_from A Q O n (RestartRecord r ep ∷ rs) t a e = committed_from A Q O n rs t a.1 e
 committed_from A Q O n (Add u key by ∷ rs) t a e = committed_from A Q O n rs t a.1 e
 committed_from A Q O n (Unadd u next key by ∷ rs) t a e = committed_from A Q O n rs t a.1 e
+committed_from A Q O n (Forgotten ∷ rs) t a e = committed_from A Q O n rs t a.1 e
+committed_from A Q O n (Check run' epoch' upto base ∷ rs) t a e = committed_from A Q O n rs t a.1 e
 
 -- ---- the laws
 

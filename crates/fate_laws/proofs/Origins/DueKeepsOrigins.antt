@@ -6,7 +6,7 @@ use Rattle.std.proofs.lemmas.Bool.{both_ways, or_cases, eq-eqb}
 use Rattle.clv_base.specs.declared.names.TxId.{TxId}
 use Rattle.clv_base.specs.declared.names.Birth.{Birth}
 use Rattle.clv_base.specs.declared.logs.LogRecord.{LogRecord}
-use Rattle.clv_base.specs.declared.logs.LogRecord.TheVariants.{Update, Clr, Prepare as PrepareRecord, Commit, Abort, End, Restart as RestartRecord, Add, Unadd}
+use Rattle.clv_base.specs.declared.logs.LogRecord.TheVariants.{Update, Clr, Prepare as PrepareRecord, Commit, Abort, End, Restart as RestartRecord, Add, Unadd, Forgotten, Check}
 use Rattle.clv_base.specs.declared.changes.Change.{Change}
 use Rattle.clv_base.specs.declared.changes.Change.TheVariants.{Sets, Adds}
 use Rattle.clv_base.specs.declared.causes.Vote.{Vote}
@@ -94,6 +94,8 @@ RecordFrom A Q O n (End tx) = OwnRequest Q O n tx
 RecordFrom A Q O n (RestartRecord run epoch) = ⊤
 RecordFrom A Q O n (Add tx key by) = A tx
 RecordFrom A Q O n (Unadd tx next key by) = A tx
+RecordFrom A Q O n Forgotten = ⊤
+RecordFrom A Q O n (Check run' epoch' upto base) = ⊤
 
 -- a request that is coordinated here was taken here, and an undecided one in this run
 abbrev pub StateFrom : (TxId → ℕ → Type 0) → ℕ → TxId → RequestState → Type 0
@@ -178,6 +180,8 @@ standing_all A Q O n i (End tx ∷ rs) ws a b = standing_all A Q O n (suc i) rs 
 standing_all A Q O n i (RestartRecord run epoch ∷ rs) ws a b = standing_all A Q O n (suc i) rs ws a.1 b
 standing_all A Q O n i (Add tx key by ∷ rs) ws a b = standing_all A Q O n (suc i) rs _ a.1 (a.0, b)
 standing_all A Q O n i (Unadd tx next key by ∷ rs) ws a b = standing_all A Q O n (suc i) rs _ a.1 (without_all A tx ws b)
+standing_all A Q O n i (Forgotten ∷ rs) ws a b = standing_all A Q O n (suc i) rs ws a.1 b
+standing_all A Q O n i (Check run' epoch' upto base ∷ rs) ws a b = standing_all A Q O n (suc i) rs ws a.1 b
 
 pub clrs_all : (A : TxId → Type 0) (Q : TxId → ℕ → Type 0) (O : TxId → Type 0) (n : ℕ) (gone : StandingUpdate → Bool) (ws : List StandingUpdate) → AllByRecursion (λ w. A w.tx) ws → AllFrom A Q O n (clrs_by gone ws)
 clrs_all A Q O n gone [] a = tt
@@ -199,6 +203,8 @@ wrote_all A Q O n (End u ∷ rs) t a e = wrote_all A Q O n rs t a.1 e
 wrote_all A Q O n (RestartRecord run epoch ∷ rs) t a e = wrote_all A Q O n rs t a.1 e
 wrote_all A Q O n (Add u key by ∷ rs) t a e = ⊎_elim (λ s. subst A (sym (tx_true t u s)) a.0) (λ s. wrote_all A Q O n rs t a.1 s) (or_cases (tx_same t u) (wrote_in rs t) e)
 wrote_all A Q O n (Unadd u next key by ∷ rs) t a e = wrote_all A Q O n rs t a.1 e
+wrote_all A Q O n (Forgotten ∷ rs) t a e = wrote_all A Q O n rs t a.1 e
+wrote_all A Q O n (Check run' epoch' upto base ∷ rs) t a e = wrote_all A Q O n rs t a.1 e
 
 pub aborts_all : (A : TxId → Type 0) (Q : TxId → ℕ → Type 0) (O : TxId → Type 0) (n : ℕ) (log : List LogRecord) (set : List TxId) → AllFrom A Q O n log → AllFrom A Q O n (aborts_of log set)
 aborts_all A Q O n log [] a = tt

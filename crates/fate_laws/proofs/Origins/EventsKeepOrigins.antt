@@ -9,7 +9,7 @@ use Rattle.clv_base.specs.declared.ops.Op.{Op}
 use Rattle.clv_base.specs.declared.ops.Answer.{Answer}
 use Rattle.clv_base.specs.declared.causes.AbortCause.{AbortCause}
 use Rattle.clv_base.specs.declared.logs.LogRecord.{LogRecord}
-use Rattle.clv_base.specs.declared.logs.LogRecord.TheVariants.{Update, Clr, Prepare as PrepareRecord, Commit, Abort, End, Restart as RestartRecord, Add, Unadd}
+use Rattle.clv_base.specs.declared.logs.LogRecord.TheVariants.{Update, Clr, Prepare as PrepareRecord, Commit, Abort, End, Restart as RestartRecord, Add, Unadd, Forgotten, Check}
 use Rattle.clv_base.specs.declared.messages.Message.{Message}
 use Rattle.clv_base.specs.declared.messages.Message.TheVariants.{Prepare, Vote as VoteMessage, Decide, Done, Ask}
 use Rattle.clv_base.specs.declared.state.Stage.{Stage}
@@ -340,6 +340,8 @@ doubts_from A Q O n log shard (End tx ∷ rs) sf a k = doubts_from A Q O n log s
 doubts_from A Q O n log shard (RestartRecord run epoch ∷ rs) sf a k = doubts_from A Q O n log shard rs sf a.1 k
 doubts_from A Q O n log shard (Add tx key by ∷ rs) sf a k = doubts_from A Q O n log shard rs sf a.1 k
 doubts_from A Q O n log shard (Unadd tx next key by ∷ rs) sf a k = doubts_from A Q O n log shard rs sf a.1 k
+doubts_from A Q O n log shard (Forgotten ∷ rs) sf a k = doubts_from A Q O n log shard rs sf a.1 k
+doubts_from A Q O n log shard (Check run' epoch' upto base ∷ rs) sf a k = doubts_from A Q O n log shard rs sf a.1 k
 
 map_rows : {X : Type 0} {Y : Type 0} (P : X → Type 0) (S : Y → Type 0) (f : X → Y) (xs : List X) → ((x : X) → P x → S (f x)) → AllByRecursion P xs → AllByRecursion S (map f xs)
 map_rows P S f [] k a = tt
@@ -369,6 +371,8 @@ unended_all A Q O n log (End tx ∷ rs) a = unended_all A Q O n log rs a.1
 unended_all A Q O n log (RestartRecord run epoch ∷ rs) a = unended_all A Q O n log rs a.1
 unended_all A Q O n log (Add tx key by ∷ rs) a = unended_all A Q O n log rs a.1
 unended_all A Q O n log (Unadd tx next key by ∷ rs) a = unended_all A Q O n log rs a.1
+unended_all A Q O n log (Forgotten ∷ rs) a = unended_all A Q O n log rs a.1
+unended_all A Q O n log (Check run' epoch' upto base ∷ rs) a = unended_all A Q O n log rs a.1
 
 in_writers : (A : TxId → Type 0) (ws : List StandingUpdate) → AllByRecursion (λ w. A w.tx) ws → (t : TxId) → tx_in t (writers ws) ≡ true → A t
 in_writers A [] a t i = absurd (both_ways false refl i)
@@ -482,6 +486,8 @@ from_more n ep D D' A A' Q Q' O K s d a q p = record {
     records (RestartRecord run epoch) x = tt
     records (Add tx key by) x = a tx x
     records (Unadd tx next key by) x = a tx x
+    records Forgotten x = tt
+    records (Check run' epoch' upto base) x = tt
 
     states : (t : TxId) (st : RequestState) → StateFrom Q n t st → StateFrom Q' n t st
     states t Undecided x = q t n x

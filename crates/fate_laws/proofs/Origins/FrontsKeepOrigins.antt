@@ -8,7 +8,7 @@ use Rattle.clv_base.specs.declared.names.Birth.{Birth}
 use Rattle.clv_base.specs.declared.ops.Op.{Op}
 use Rattle.clv_base.specs.declared.ops.Answer.{Answer}
 use Rattle.clv_base.specs.declared.logs.LogRecord.{LogRecord}
-use Rattle.clv_base.specs.declared.logs.LogRecord.TheVariants.{Update, Clr, Prepare as PrepareRecord, Commit, Abort, End, Restart as RestartRecord, Add, Unadd}
+use Rattle.clv_base.specs.declared.logs.LogRecord.TheVariants.{Update, Clr, Prepare as PrepareRecord, Commit, Abort, End, Restart as RestartRecord, Add, Unadd, Forgotten, Check}
 use Rattle.clv_base.specs.declared.messages.Message.{Message}
 use Rattle.clv_base.specs.declared.messages.Message.TheVariants.{Prepare, Vote as VoteMessage, Decide, Done, Ask}
 use Rattle.clv_base.specs.declared.events.Event.{Event}
@@ -369,6 +369,8 @@ old_record n run shard D Q (End tx) l f = inr (omega (arith, l, f))
 old_record n run shard D Q (RestartRecord r epoch) l f = tt
 old_record n run shard D Q (Add tx key by) l f = inr (omega (arith, l, f))
 old_record n run shard D Q (Unadd tx next key by) l f = inr (omega (arith, l, f))
+old_record n run shard D Q Forgotten l f = tt
+old_record n run shard D Q (Check run' epoch' upto base) l f = tt
 
 old_log : (splits : List ℕ) (before : List (List LogRecord)) (n : ℕ) → may_open splits before ≡ true → n < length before → AllFrom (DidOrOld (run_after before) [] n) (Requested []) (IsOld (run_after before)) n (log_of before n)
 old_log splits before n m l =

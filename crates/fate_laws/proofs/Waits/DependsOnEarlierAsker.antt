@@ -6,7 +6,7 @@ use Rattle.clv_base.specs.declared.names.Birth.{Birth}
 use Rattle.clv_base.specs.declared.ops.Op.{Op}
 use Rattle.clv_base.specs.declared.ops.Answer.{Answer}
 use Rattle.clv_base.specs.declared.logs.LogRecord.{LogRecord}
-use Rattle.clv_base.specs.declared.logs.LogRecord.TheVariants.{Update, Clr, Prepare, Commit, Abort, End, Restart as RestartRecord, Add, Unadd}
+use Rattle.clv_base.specs.declared.logs.LogRecord.TheVariants.{Update, Clr, Prepare, Commit, Abort, End, Restart as RestartRecord, Add, Unadd, Forgotten, Check}
 use Rattle.clv_base.specs.declared.state.Stage.{Stage}
 use Rattle.clv_base.specs.declared.state.Stage.TheVariants.{Active, Closed}
 use Rattle.clv_base.specs.declared.state.Held.{Held}
@@ -158,6 +158,8 @@ old_lists n run (End tx) l f = tt
 old_lists n run (RestartRecord own epoch) l f = tt
 old_lists n run (Add tx key by) l f = tt
 old_lists n run (Unadd tx u key by) l f = tt
+old_lists n run Forgotten l f = tt
+old_lists n run (Check run' epoch' upto base) l f = tt
 
 tied_opens : (splits : List ℕ) (before : List (List LogRecord)) (n : ℕ) → may_open splits before ≡ true → n < length before → Tied (Earlier splits before []) (start_of before n)
 tied_opens splits before n m l =

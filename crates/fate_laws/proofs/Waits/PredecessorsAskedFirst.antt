@@ -11,7 +11,7 @@ use Rattle.clv_base.specs.declared.causes.AbortCause.{AbortCause}
 use Rattle.clv_base.specs.declared.causes.Vote.{Vote}
 use Rattle.clv_base.specs.declared.causes.Vote.TheVariants.{Yes, Read, No}
 use Rattle.clv_base.specs.declared.logs.LogRecord.{LogRecord}
-use Rattle.clv_base.specs.declared.logs.LogRecord.TheVariants.{Update, Clr, Prepare, Commit, Abort, End, Restart as RestartRecord, Add, Unadd}
+use Rattle.clv_base.specs.declared.logs.LogRecord.TheVariants.{Update, Clr, Prepare, Commit, Abort, End, Restart as RestartRecord, Add, Unadd, Forgotten, Check}
 use Rattle.clv_base.specs.declared.modes.Anchor.TheVariants.{At}
 use Rattle.clv_base.specs.declared.modes.Part.TheVariants.{X}
 use Rattle.clv_base.specs.declared.state.Stage.{Stage}
@@ -70,6 +70,8 @@ ListsAre E (End tx) = Unit {0}
 ListsAre E (RestartRecord run epoch) = Unit {0}
 ListsAre E (Add tx key by) = Unit {0}
 ListsAre E (Unadd tx next key by) = Unit {0}
+ListsAre E Forgotten = Unit {0}
+ListsAre E (Check run' epoch' upto base) = Unit {0}
 
 pub record Tied (E : TxId → TxId → Type 0) (s : Shard) : Type 0 where
   pub rows : Rows (LockOf s.local.parts) s.local.locks
@@ -332,6 +334,8 @@ prepare_listed E t (End tx ∷ rs) q a e = prepare_listed E t rs q a.1 e
 prepare_listed E t (RestartRecord run epoch ∷ rs) q a e = prepare_listed E t rs q a.1 e
 prepare_listed E t (Add tx key by ∷ rs) q a e = prepare_listed E t rs q a.1 e
 prepare_listed E t (Unadd tx u key by ∷ rs) q a e = prepare_listed E t rs q a.1 e
+prepare_listed E t (Forgotten ∷ rs) q a e = prepare_listed E t rs q a.1 e
+prepare_listed E t (Check run' epoch' upto base ∷ rs) q a e = prepare_listed E t rs q a.1 e
 
 abbrev Ties : (TxId → TxId → Type 0) → List (TxId × TxId) → Type 0
 Ties E ps = AllByRecursion (λ (q : TxId × TxId). E q.0 q.1) ps
@@ -412,6 +416,8 @@ lists_mono E F k (End tx) a = tt
 lists_mono E F k (RestartRecord run epoch) a = tt
 lists_mono E F k (Add tx key by) a = tt
 lists_mono E F k (Unadd tx next key by) a = tt
+lists_mono E F k Forgotten a = tt
+lists_mono E F k (Check run' epoch' upto base) a = tt
 
 pub tied_mono : (E F : TxId → TxId → Type 0) (s : Shard) → ((t p : TxId) → E t p → F t p) → Tied E s → Tied F s
 tied_mono E F s k a = record { rows = a.rows; pairs = λ t p e. k t p (a.pairs t p e); listed = all_mono (ListsAre E) (ListsAre F) (lists_mono E F k) s.local.log a.listed }

@@ -4,7 +4,7 @@ use Rattle.std.proofs.lemmas.Bool.{and_parts, or_cases, or_from, false_from_ne_t
 use Rattle.std.proofs.lemmas.List.{take_all}
 use Rattle.clv_base.specs.declared.names.TxId.{TxId}
 use Rattle.clv_base.specs.declared.logs.LogRecord.{LogRecord}
-use Rattle.clv_base.specs.declared.logs.LogRecord.TheVariants.{Update, Clr, Prepare, Commit, Abort, End, Restart, Add, Unadd}
+use Rattle.clv_base.specs.declared.logs.LogRecord.TheVariants.{Update, Clr, Prepare, Commit, Abort, End, Restart, Add, Unadd, Forgotten, Check}
 use Rattle.clv_base.specs.Orders.{tx_same}
 use Rattle.clv_base.specs.Logs.{is_update_of, wrote_in, has_standing, committed_in, committed_somewhere}
 use Rattle.clv_base.specs.LogRules.{log_of, last_restart, above_restarts, in_last_run, may_write, may_follow, disorder}
@@ -57,6 +57,17 @@ above_last run epoch (Abort tx ∷ rs) p a e = above_last run epoch rs p a e
 above_last run epoch (End tx ∷ rs) p a e = above_last run epoch rs p a e
 above_last run epoch (Add tx k by ∷ rs) p a e = above_last run epoch rs p a e
 above_last run epoch (Unadd tx u k by ∷ rs) p a e = above_last run epoch rs p a e
+above_last run epoch (Forgotten ∷ rs) p a e = above_last run epoch rs p a e
+above_last run epoch (Check r k upto base ∷ rs) p a e =
+    let x = and_parts (nat_lt r run || ((r == run) && nat_lt k epoch)) (above_restarts run epoch rs) a in
+    at (last_restart rs) refl e x.0 (above_last run epoch rs p x.1)
+  where
+    own : (nat_lt r run || ((r == run) && nat_lt k epoch)) ≡ true → r ≤ run
+    own c = ⊎_elim (λ f. let l = ltb-true r run f in omega (arith, l)) (λ f. let q = eqb-true r run (and_parts (r == run) (nat_lt k epoch) f).0 in omega (arith, q)) (or_cases (nat_lt r run) ((r == run) && nat_lt k epoch) c)
+
+    at : (o : Option (ℕ × ℕ)) → last_restart rs ≡ o → elim o [ Some q ↦ Some q | None ↦ Some (r, k) ] ≡ Some p → (nat_lt r run || ((r == run) && nat_lt k epoch)) ≡ true → (last_restart rs ≡ Some p → p.0 ≤ run) → p.0 ≤ run
+    at None f g c h = subst (λ (z : ℕ × ℕ). z.0 ≤ run) (some_same (r, k) p g) (own c)
+    at (Some q) f g c h = h (f ∙ g)
 
 plainly_next : (run : ℕ) (log : List LogRecord) (r : LogRecord) → Plainly r → LastFrom run log → LastFrom run (log ++ r ∷ [])
 plainly_next run log r p k = (k.0, last_push log r p ∙ k.1, k.2)
@@ -74,6 +85,8 @@ last_next shard run log (Abort tx) k m = plainly_next run log (Abort tx) tt k
 last_next shard run log (End tx) k m = plainly_next run log (End tx) tt k
 last_next shard run log (Add tx x by) k m = plainly_next run log (Add tx x by) tt k
 last_next shard run log (Unadd tx x y by) k m = plainly_next run log (Unadd tx x y by) tt k
+last_next shard run log Forgotten k m = plainly_next run log Forgotten tt k
+last_next shard run log (Check run' epoch' upto base) k m = absurd cc
 
 no_own : (run : ℕ) (log : List LogRecord) (tx t : TxId) → t.run < run → LastFrom run log → may_write log tx ≡ true → tx_same t tx ≡ false
 no_own run log tx t l k m =

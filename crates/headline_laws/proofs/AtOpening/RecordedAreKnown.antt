@@ -4,7 +4,7 @@ use Rattle.std.specs.List.{list_all}
 use Rattle.std.proofs.lemmas.Bool.{both_ways, and_parts, and_from, or_left, not-true}
 use Rattle.clv_base.specs.declared.names.TxId.{TxId}
 use Rattle.clv_base.specs.declared.logs.LogRecord.{LogRecord}
-use Rattle.clv_base.specs.declared.logs.LogRecord.TheVariants.{Update, Clr, Prepare, Commit, Abort, End, Restart, Add, Unadd}
+use Rattle.clv_base.specs.declared.logs.LogRecord.TheVariants.{Update, Clr, Prepare, Commit, Abort, End, Restart, Add, Unadd, Forgotten, Check}
 use Rattle.clv_base.specs.Orders.{tx_same, tx_in, tx_insert}
 use Rattle.clv_base.specs.Logs.{committed_in, aborted_in, prepare_of, commit_parts, doubt_by, in_doubt_from, in_doubt}
 use Rattle.clv_base.specs.LogRules.{log_of, home_is, agrees_at, is_undone_in}
@@ -53,6 +53,8 @@ doubted log shard (End tx ∷ rs) sf t p e h c a l = doubted log shard rs sf t p
 doubted log shard (Restart run epoch ∷ rs) sf t p e h c a l = doubted log shard rs sf t p e h c a l
 doubted log shard (Add tx x by ∷ rs) sf t p e h c a l = doubted log shard rs sf t p e h c a l
 doubted log shard (Unadd tx x y by ∷ rs) sf t p e h c a l = doubted log shard rs sf t p e h c a l
+doubted log shard (Forgotten ∷ rs) sf t p e h c a l = doubted log shard rs sf t p e h c a l
+doubted log shard (Check run' epoch' upto base ∷ rs) sf t p e h c a l = doubted log shard rs sf t p e h c a l
 
 -- a part of another home that isn't committed is in doubt
 part_doubted : (t : TxId) (h n : ℕ) (log : List LogRecord) (o : Option (ℕ × List TxId)) → prepare_of log t ≡ o → (n == h) ≡ false → committed_in log t ≡ false

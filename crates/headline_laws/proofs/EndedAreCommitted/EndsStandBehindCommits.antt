@@ -13,7 +13,7 @@ use Rattle.clv_base.specs.declared.causes.AbortCause.{AbortCause}
 use Rattle.clv_base.specs.declared.events.Event.{Event}
 use Rattle.clv_base.specs.declared.events.Outcome.{Outcome}
 use Rattle.clv_base.specs.declared.logs.LogRecord.{LogRecord}
-use Rattle.clv_base.specs.declared.logs.LogRecord.TheVariants.{Update, Clr, Prepare, Commit, Abort, End, Restart, Add, Unadd}
+use Rattle.clv_base.specs.declared.logs.LogRecord.TheVariants.{Update, Clr, Prepare, Commit, Abort, End, Restart, Add, Unadd, Forgotten, Check}
 use Rattle.clv_base.specs.Orders.{tx_same, nat_in}
 use Rattle.clv_base.specs.declared.changes.Change.{Change}
 use Rattle.clv_base.specs.declared.changes.Change.TheVariants.{Sets, Adds}
@@ -51,6 +51,8 @@ parts_there (End tx ∷ rs) t e = parts_there rs t e
 parts_there (Restart run epoch ∷ rs) t e = parts_there rs t e
 parts_there (Add tx k by ∷ rs) t e = parts_there rs t e
 parts_there (Unadd tx u k by ∷ rs) t e = parts_there rs t e
+parts_there (Forgotten ∷ rs) t e = parts_there rs t e
+parts_there (Check run' epoch' upto base ∷ rs) t e = parts_there rs t e
 
 -- whose COMMIT stands in the front of a log has the same parts there
 pub parts_back : (log more : List LogRecord) (t : TxId) (ps : List ℕ) → committed_in log t ≡ true → commit_parts (log ++ more) t ≡ Some ps → commit_parts log t ≡ Some ps

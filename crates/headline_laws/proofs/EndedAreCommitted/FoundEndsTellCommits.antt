@@ -5,7 +5,7 @@ use Rattle.std.proofs.lemmas.Bool.{both_ways, and_parts, not-true, or_cases}
 use Rattle.std.proofs.lemmas.List.{take_all}
 use Rattle.clv_base.specs.declared.names.TxId.{TxId}
 use Rattle.clv_base.specs.declared.logs.LogRecord.{LogRecord}
-use Rattle.clv_base.specs.declared.logs.LogRecord.TheVariants.{Update, Clr, Prepare, Commit, Abort, End, Restart, Add, Unadd}
+use Rattle.clv_base.specs.declared.logs.LogRecord.TheVariants.{Update, Clr, Prepare, Commit, Abort, End, Restart, Add, Unadd, Forgotten, Check}
 use Rattle.clv_base.specs.Orders.{nat_in}
 use Rattle.clv_base.specs.Logs.{is_prepare_of, is_commit_of, is_end_of, committed_in, ended_in, aborted_in, prepare_of, commit_parts}
 use Rattle.clv_base.specs.LogRules.{may_follow, commit_by_prepare, log_of, home_is, agrees_at, listed_in}
@@ -80,6 +80,8 @@ home_step shard log (End u) h m = home_plain shard log (End u) (λ t. refl) (λ 
 home_step shard log (Restart run epoch) h m = home_plain shard log (Restart run epoch) (λ t. refl) (λ t. refl) h
 home_step shard log (Add u k by) h m = home_plain shard log (Add u k by) (λ t. refl) (λ t. refl) h
 home_step shard log (Unadd u n k by) h m = home_plain shard log (Unadd u n k by) (λ t. refl) (λ t. refl) h
+home_step shard log Forgotten h m = home_plain shard log Forgotten (λ t. refl) (λ t. refl) h
+home_step shard log (Check run' epoch' upto base) h m = home_plain shard log (Check run' epoch' upto base) (λ t. refl) (λ t. refl) h
 
 home_first : (shard : ℕ) → AtHome shard []
 home_first shard t p q qs e c = absurd (none_some p e)

@@ -3,7 +3,7 @@ use Rattle.std.proofs.Common.{◌≡◌, refl, sym, subst, ◌∙◌, ℕ, true,
 use Rattle.std.proofs.lemmas.Bool.{both_ways}
 use Rattle.clv_base.specs.declared.names.TxId.{TxId}
 use Rattle.clv_base.specs.declared.logs.LogRecord.{LogRecord}
-use Rattle.clv_base.specs.declared.logs.LogRecord.TheVariants.{Update, Clr, Prepare, Commit, Abort, End, Restart, Add, Unadd}
+use Rattle.clv_base.specs.declared.logs.LogRecord.TheVariants.{Update, Clr, Prepare, Commit, Abort, End, Restart, Add, Unadd, Forgotten, Check}
 use Rattle.clv_base.specs.Orders.{tx_same, tx_get, tx_put, nat_in}
 use Rattle.clv_base.specs.Logs.{ended_in, commit_parts}
 use Rattle.clv_base.specs.Restarts.{unended_with, unended_in}
@@ -52,3 +52,5 @@ unended log (End tx ∷ rs) t qs g = unended log rs t qs g
 unended log (Restart run epoch ∷ rs) t qs g = unended log rs t qs g
 unended log (Add tx k by ∷ rs) t qs g = unended log rs t qs g
 unended log (Unadd tx u k by ∷ rs) t qs g = unended log rs t qs g
+unended log (Forgotten ∷ rs) t qs g = unended log rs t qs g
+unended log (Check run' epoch' upto base ∷ rs) t qs g = unended log rs t qs g

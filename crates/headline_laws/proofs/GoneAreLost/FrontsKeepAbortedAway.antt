@@ -3,7 +3,7 @@ use Rattle.std.proofs.Common.{◌≡◌, inl, inr, ⊎_elim, refl, sym, subst, �
 use Rattle.std.proofs.lemmas.Bool.{both_ways, or_cases}
 use Rattle.clv_base.specs.declared.names.TxId.{TxId}
 use Rattle.clv_base.specs.declared.logs.LogRecord.{LogRecord}
-use Rattle.clv_base.specs.declared.logs.LogRecord.TheVariants.{Update, Clr, Prepare, Commit, Abort, End, Restart, Add, Unadd}
+use Rattle.clv_base.specs.declared.logs.LogRecord.TheVariants.{Update, Clr, Prepare, Commit, Abort, End, Restart, Add, Unadd, Forgotten, Check}
 use Rattle.clv_base.specs.Shards.{shard_count}
 use Rattle.clv_base.specs.LogRules.{log_of}
 use Rattle.clv_base.specs.Orders.{tx_same}
@@ -39,6 +39,8 @@ aborts_from A Q O n (End u ∷ rs) t a h = aborts_from A Q O n rs t a.1 h
 aborts_from A Q O n (Restart run epoch ∷ rs) t a h = aborts_from A Q O n rs t a.1 h
 aborts_from A Q O n (Add u x by ∷ rs) t a h = aborts_from A Q O n rs t a.1 h
 aborts_from A Q O n (Unadd u x y by ∷ rs) t a h = aborts_from A Q O n rs t a.1 h
+aborts_from A Q O n (Forgotten ∷ rs) t a h = aborts_from A Q O n rs t a.1 h
+aborts_from A Q O n (Check run' epoch' upto base ∷ rs) t a h = aborts_from A Q O n rs t a.1 h
 
 met_of : (before : List (List LogRecord)) (pre : History) (n : ℕ) (t : TxId) → DidOrOld (run_after before) pre n t → Met before pre pre n t
 met_of before pre n t (inl d) = inr d

@@ -5,7 +5,7 @@ use Rattle.std.specs.List.{list_any, list_all}
 use Rattle.std.proofs.lemmas.Bool.{both_ways, false_from_ne_true, not-true, and_parts, and_from, or_cases, or_left, or_right, or_from}
 use Rattle.clv_base.specs.declared.names.TxId.{TxId}
 use Rattle.clv_base.specs.declared.logs.LogRecord.{LogRecord}
-use Rattle.clv_base.specs.declared.logs.LogRecord.TheVariants.{Update, Clr, Prepare, Commit, Abort, End, Restart, Add, Unadd}
+use Rattle.clv_base.specs.declared.logs.LogRecord.TheVariants.{Update, Clr, Prepare, Commit, Abort, End, Restart, Add, Unadd, Forgotten, Check}
 use Rattle.clv_base.specs.Orders.{tx_same}
 use Rattle.clv_base.specs.Logs.{is_update_of, is_undo_of, is_commit_of, is_prepare_of, is_abort_of, is_end_of, is_record_of, has_standing, committed_in, prepared_in, aborted_in, ended_in, prepare_of}
 use Rattle.clv_base.specs.LogRules.{may_follow, home_is, is_undone_in}
@@ -70,6 +70,8 @@ one_plain t (End tx) = mark (tx_same t tx)
     mark true = refl
     mark false = refl
 one_plain t (Restart run epoch) = refl
+one_plain t Forgotten = refl
+one_plain t (Check run' epoch' upto base) = refl
 
 all_plain : (t : TxId) (log : List LogRecord) → list_all (is_plain_of t) log ≡ not (list_any (is_mark_of t) log)
 all_plain t [] = refl

@@ -4,7 +4,7 @@ use Rattle.std.specs.List.{list_all}
 use Rattle.std.proofs.lemmas.Bool.{both_ways, and_parts, and_from, or_left, or_right, eq-eqb, not_from_false}
 use Rattle.clv_base.specs.declared.names.TxId.{TxId}
 use Rattle.clv_base.specs.declared.logs.LogRecord.{LogRecord}
-use Rattle.clv_base.specs.declared.logs.LogRecord.TheVariants.{Update, Clr, Prepare, Commit, Abort, End, Restart, Add, Unadd}
+use Rattle.clv_base.specs.declared.logs.LogRecord.TheVariants.{Update, Clr, Prepare, Commit, Abort, End, Restart, Add, Unadd, Forgotten, Check}
 use Rattle.clv_base.specs.Orders.{tx_same, tx_in, nat_in}
 use Rattle.clv_base.specs.Logs.{committed_in, aborted_in, ended_in, prepare_of, commit_parts}
 use Rattle.clv_base.specs.LogRules.{log_of, any_log_from, home_is, is_undone_in, part_agrees, agrees_at, is_home_of, committed_of, committed_of_all, first_apart, apart}
@@ -124,6 +124,8 @@ by_own (End tx ∷ rs) t i = by_own rs t i
 by_own (Restart run epoch ∷ rs) t i = by_own rs t i
 by_own (Add tx a by ∷ rs) t i = by_own rs t i
 by_own (Unadd tx a b by ∷ rs) t i = by_own rs t i
+by_own (Forgotten ∷ rs) t i = by_own rs t i
+by_own (Check run' epoch' upto base ∷ rs) t i = by_own rs t i
 
 some_log : (logs : List (List LogRecord)) (t : TxId) → tx_in t (committed_of_all logs) ≡ true → (n : ℕ) × (n < length logs) × (committed_in (log_of logs n) t ≡ true)
 some_log [] t i = absurd (both_ways false refl i)

@@ -4,7 +4,7 @@ use Rattle.std.specs.List.{list_all}
 use Rattle.std.proofs.lemmas.Bool.{both_ways, and_parts, ltb-true, cond-false}
 use Rattle.clv_base.specs.declared.names.TxId.{TxId}
 use Rattle.clv_base.specs.declared.logs.LogRecord.{LogRecord}
-use Rattle.clv_base.specs.declared.logs.LogRecord.TheVariants.{Update, Clr, Prepare, Commit, Abort, End, Restart, Add, Unadd}
+use Rattle.clv_base.specs.declared.logs.LogRecord.TheVariants.{Update, Clr, Prepare, Commit, Abort, End, Restart, Add, Unadd, Forgotten, Check}
 use Rattle.clv_base.specs.Orders.{tx_in, tx_insert}
 use Rattle.clv_base.specs.Logs.{in_doubt, in_doubt_from, doubt_by, committed_in, aborted_in}
 use Rattle.clv_base.specs.LogRules.{log_of, disorder, all_logs_from, apart}
@@ -31,6 +31,8 @@ no_doubt log (End tx ∷ rs) sf e = no_doubt log rs sf (and_parts (passes_file_r
 no_doubt log (Restart run epoch ∷ rs) sf e = no_doubt log rs sf (and_parts (passes_file_rules [] 0 (Restart run epoch)) (list_all (passes_file_rules [] 0) rs) e).1
 no_doubt log (Add tx key by ∷ rs) sf e = no_doubt log rs sf (and_parts (passes_file_rules [] 0 (Add tx key by)) (list_all (passes_file_rules [] 0) rs) e).1
 no_doubt log (Unadd tx next key by ∷ rs) sf e = no_doubt log rs sf (and_parts (passes_file_rules [] 0 (Unadd tx next key by)) (list_all (passes_file_rules [] 0) rs) e).1
+no_doubt log (Forgotten ∷ rs) sf e = no_doubt log rs sf (and_parts (passes_file_rules [] 0 Forgotten) (list_all (passes_file_rules [] 0) rs) e).1
+no_doubt log (Check run' epoch' upto base ∷ rs) sf e = no_doubt log rs sf (and_parts (passes_file_rules [] 0 (Check run' epoch' upto base)) (list_all (passes_file_rules [] 0) rs) e).1
 
 -- the one log that may be opened leaves nothing in doubt
 pub none_in_doubt : (log : List LogRecord) → may_open [] (log ∷ []) ≡ true → in_doubt 0 log ≡ []

@@ -6,7 +6,7 @@ use Rattle.clv_base.specs.declared.changes.Change.{Change}
 use Rattle.clv_base.specs.declared.changes.Change.TheVariants.{Sets, Adds}
 use Rattle.clv_base.specs.declared.names.TxId.{TxId}
 use Rattle.clv_base.specs.declared.logs.LogRecord.{LogRecord}
-use Rattle.clv_base.specs.declared.logs.LogRecord.TheVariants.{Update, Clr, Prepare, Commit, Abort, End, Restart, Add, Unadd}
+use Rattle.clv_base.specs.declared.logs.LogRecord.TheVariants.{Update, Clr, Prepare, Commit, Abort, End, Restart, Add, Unadd, Forgotten, Check}
 use Rattle.clv_base.specs.Maps.{KeyMap, map_get, plus}
 use Rattle.clv_base.specs.Logs.{StandingUpdate, standing_from, standing, with_change, fold_writes, fold_updates, stands_from, stands, committed_somewhere}
 use Rattle.clv_base.specs.LogRules.{log_of, all_logs_from}
@@ -55,6 +55,8 @@ within_from splits i n (Commit tx ps ∷ rs) ws p a = within_from splits i (suc 
 within_from splits i n (Abort tx ∷ rs) ws p a = within_from splits i (suc n) rs ws p a
 within_from splits i n (End tx ∷ rs) ws p a = within_from splits i (suc n) rs ws p a
 within_from splits i n (Restart run epoch ∷ rs) ws p a = within_from splits i (suc n) rs ws p a
+within_from splits i n (Forgotten ∷ rs) ws p a = within_from splits i (suc n) rs ws p a
+within_from splits i n (Check run' epoch' upto base ∷ rs) ws p a = within_from splits i (suc n) rs ws (and_parts _ _ p).1 a
 
 -- so it leaves the keys that aren't its shard's
 change_away : (key k : ℕ) (c : Change) (m : KeyMap) → (k == key) ≡ false → map_get k (with_change key c m) ≡ map_get k m

@@ -4,7 +4,7 @@ use Rattle.std.specs.List.{list_all}
 use Rattle.std.proofs.lemmas.Bool.{both_ways, and_parts, not-true, or_left, or_right}
 use Rattle.clv_base.specs.declared.names.TxId.{TxId}
 use Rattle.clv_base.specs.declared.logs.LogRecord.{LogRecord}
-use Rattle.clv_base.specs.declared.logs.LogRecord.TheVariants.{Update, Clr, Prepare, Commit, Abort, End, Restart, Add, Unadd}
+use Rattle.clv_base.specs.declared.logs.LogRecord.TheVariants.{Update, Clr, Prepare, Commit, Abort, End, Restart, Add, Unadd, Forgotten, Check}
 use Rattle.clv_base.specs.Orders.{tx_same, tx_in, tx_insert}
 use Rattle.clv_base.specs.Logs.{committed_in, aborted_in, prepared_in, doubt_by, in_doubt_from, in_doubt, is_prepare_of}
 use Rattle.clv_base.proofs.SameNames.{tx_self, in_insert}
@@ -43,6 +43,8 @@ doubts_undecided log shard (End tx ∷ rs) sf t i = doubts_undecided log shard r
 doubts_undecided log shard (Restart run epoch ∷ rs) sf t i = doubts_undecided log shard rs sf t i
 doubts_undecided log shard (Add tx k by ∷ rs) sf t i = doubts_undecided log shard rs sf t i
 doubts_undecided log shard (Unadd tx u k by ∷ rs) sf t i = doubts_undecided log shard rs sf t i
+doubts_undecided log shard (Forgotten ∷ rs) sf t i = doubts_undecided log shard rs sf t i
+doubts_undecided log shard (Check run' epoch' upto base ∷ rs) sf t i = doubts_undecided log shard rs sf t i
 
 pub doubt_undecided : (shard : ℕ) (log : List LogRecord) (t : TxId) → tx_in t (in_doubt shard log) ≡ true → Undecided log log t
 doubt_undecided shard log t i = ⊎_elim (λ j. absurd (both_ways false refl j)) (λ u. u) (doubts_undecided log shard log [] t i)

@@ -11,7 +11,7 @@ use Rattle.clv_base.specs.declared.ops.Op.{Op}
 use Rattle.clv_base.specs.declared.ops.Op.TheVariants as ops
 use Rattle.clv_base.specs.declared.ops.Op.TheVariants.{Get, Put, Del, Scan}
 use Rattle.clv_base.specs.declared.logs.LogRecord.{LogRecord}
-use Rattle.clv_base.specs.declared.logs.LogRecord.TheVariants.{Update, Clr, Prepare, Commit, Abort, End, Restart, Add, Unadd}
+use Rattle.clv_base.specs.declared.logs.LogRecord.TheVariants.{Update, Clr, Prepare, Commit, Abort, End, Restart, Add, Unadd, Forgotten, Check}
 use Rattle.clv_base.specs.declared.changes.Change.{Change}
 use Rattle.clv_base.specs.declared.changes.Change.TheVariants.{Sets, Adds}
 use Rattle.clv_base.specs.declared.modes.Decision.{Decision}
@@ -77,6 +77,8 @@ standing_lie splits n k (End tx ∷ rs) ws p a = standing_lie splits n (suc k) r
 standing_lie splits n k (Restart run epoch ∷ rs) ws p a = standing_lie splits n (suc k) rs ws p.1 a
 standing_lie splits n k (Add tx key by ∷ rs) ws p a = standing_lie splits n (suc k) rs _ p.1 (p.0, a)
 standing_lie splits n k (Unadd tx u key by ∷ rs) ws p a = standing_lie splits n (suc k) rs _ p.1 (without_lie splits n tx ws a)
+standing_lie splits n k (Forgotten ∷ rs) ws p a = standing_lie splits n (suc k) rs ws p.1 a
+standing_lie splits n k (Check run' epoch' upto base ∷ rs) ws p a = standing_lie splits n (suc k) rs ws p.1 a
 
 aborts_pass : (splits : List ℕ) (n : ℕ) (ts : List TxId) → Passes splits n (map (λ t. Abort t) ts)
 aborts_pass splits n [] = tt

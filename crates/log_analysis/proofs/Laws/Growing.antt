@@ -5,7 +5,7 @@ use Rattle.std.proofs.lemmas.Bool.Decides.{nat_tests}
 use Rattle.std.specs.List.{list_any, filter}
 use Rattle.clv_base.specs.declared.names.TxId.{TxId}
 use Rattle.clv_base.specs.declared.logs.LogRecord.{LogRecord}
-use Rattle.clv_base.specs.declared.logs.LogRecord.TheVariants.{Update, Clr, Prepare, Commit, Abort, End, Restart, Add, Unadd}
+use Rattle.clv_base.specs.declared.logs.LogRecord.TheVariants.{Update, Clr, Prepare, Commit, Abort, End, Restart, Add, Unadd, Forgotten, Check}
 use Rattle.clv_base.specs.declared.changes.Change.TheVariants.{Sets, Adds}
 use Rattle.clv_base.specs.Orders.{Table, tx_same}
 use Rattle.clv_base.specs.Logs.{StandingUpdate, is_update_of, is_undo_of, is_prepare_of, is_commit_of, is_abort_of, is_end_of, is_record_of, place_from, standing, standing_after, without_newest}
@@ -78,6 +78,8 @@ count_after n (End tx) t ws = refl
 count_after n (Restart run epoch) t ws = refl
 count_after n (Add tx key by) t ws = count_written t (record { lsn = n; tx = tx; key = key; change = Adds by }) ws
 count_after n (Unadd tx undo_next key by) t ws = count_undone t tx ws
+count_after n Forgotten t ws = refl
+count_after n (Check run' epoch' upto base) t ws = refl
 
 pub count_push : (log : List LogRecord) (r : LogRecord) (t : TxId)
     → standing_count (log ++ r ∷ []) t ≡ cond (is_update_of t r) (standing_count log t + 1) (cond (is_undo_of t r) (standing_count log t - 1) (standing_count log t))
@@ -126,6 +128,8 @@ by_kind n (End tx) t f = elim (tx_same t tx) as (λ b. ◌≡◌ {A = TxFacts} (
 by_kind n (Restart run epoch) t f = refl
 by_kind n (Add tx key by) t f = elim (tx_same t tx) as (λ b. ◌≡◌ {A = TxFacts} (record f { first_update = cond b (first_place n f.first_update) f.first_update; standing = cond b (f.standing + 1) f.standing }) (cond b (facts_with n (Add tx key by) f) f)) [ true ↦ refl | false ↦ refl ]
 by_kind n (Unadd tx undo_next key by) t f = elim (tx_same t tx) as (λ b. ◌≡◌ {A = TxFacts} (record f { standing = cond b (f.standing - 1) f.standing }) (cond b (facts_with n (Unadd tx undo_next key by) f) f)) [ true ↦ refl | false ↦ refl ]
+by_kind n Forgotten t f = refl
+by_kind n (Check run' epoch' upto base) t f = refl
 
 pub facts_push : (log : List LogRecord) (r : LogRecord) (t : TxId) → facts_of (log ++ r ∷ []) t ≡ cond (is_record_of t r) (facts_with (length log) r (facts_of log t)) (facts_of log t)
 facts_push log r t = pushed log r t ∙ by_kind (length log) r t (facts_of log t)

@@ -3,7 +3,7 @@ use Rattle.std.proofs.Common.{◌≡◌, ℕ, zero, suc, ◌+◌, ◌<◌, List,
 use Rattle.std.specs.List.{AllByRecursion}
 use Rattle.std.proofs.lemmas.List.{get_or-map, length-map}
 use Rattle.clv_base.specs.declared.logs.LogRecord.{LogRecord}
-use Rattle.clv_base.specs.declared.logs.LogRecord.TheVariants.{Update, Clr, Prepare, Commit, Abort, End, Restart, Add, Unadd}
+use Rattle.clv_base.specs.declared.logs.LogRecord.TheVariants.{Update, Clr, Prepare, Commit, Abort, End, Restart, Add, Unadd, Forgotten, Check}
 use Rattle.clv_base.specs.Logs.{StandingUpdate, standing, standing_from, standing_after}
 use Rattle.clv_base.specs.OneShard.{update_of}
 use Rattle.law_base.proofs.Lists.{elem_at}
@@ -26,6 +26,8 @@ all_in log n (r ∷ rs) ws k all = all_in log (suc n) rs (standing_after n r ws)
     here (Abort tx) is = all
     here (End tx) is = all
     here (Restart run epoch) is = all
+    here Forgotten is = all
+    here (Check run' epoch' upto base) is = all
 
 all_stand_in : (log : List LogRecord) → AllByRecursion (StandsIn log) (standing log)
 all_stand_in log = all_in log 0 log [] (λ i d l. ap (λ j. get_or log j d) (omega arith)) tt

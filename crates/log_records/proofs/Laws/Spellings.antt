@@ -8,7 +8,7 @@ use Rattle.clv_base.specs.declared.names.TxId.{TxId}
 use Rattle.clv_base.specs.declared.values.Value.{Value}
 use Rattle.clv_base.specs.declared.values.Value.TheVariants.{Num, Bytes}
 use Rattle.clv_base.specs.declared.logs.LogRecord.{LogRecord}
-use Rattle.clv_base.specs.declared.logs.LogRecord.TheVariants.{Update, Clr, Prepare, Commit, Abort, End, Restart, Add, Unadd}
+use Rattle.clv_base.specs.declared.logs.LogRecord.TheVariants.{Update, Clr, Prepare, Commit, Abort, End, Restart, Add, Unadd, Forgotten, Check}
 use Rattle.clv_base.specs.Logs.{optional_size, record_size}
 use Rattle.log_records.specs.declared.error.DecodeError.{DecodeError}
 use Rattle.log_records.specs.declared.error.DecodeError.TheVariants as errors
@@ -64,6 +64,8 @@ length-spelling (Add tx key by) =
 length-spelling (Unadd tx next key by) =
     omega (arith, length-append (transaction tx) (undo_next next ++ (number 8 key ++ number 8 by)), length-append (undo_next next) (number 8 key ++ number 8 by), length-append (number 8 key) (number 8 by), length-transaction tx, length-number 8 key, length-undo_next next, length-number 8 by)
 length-spelling (Restart run epoch) = omega (arith, length-append (number 4 run) (number 8 epoch), length-number 4 run, length-number 8 epoch)
+length-spelling Forgotten = refl
+length-spelling (Check run' epoch' upto base) = refl
 
 -- what begins with a spelling is read so
 pub begins_read : (r : LogRecord) (behind bytes : List ℕ) → BeginsWith r behind bytes → record_at bytes ≡ Some (r, behind)

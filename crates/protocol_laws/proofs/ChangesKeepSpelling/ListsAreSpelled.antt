@@ -13,7 +13,7 @@ use Rattle.clv_base.specs.Values.{fits_value}
 use Rattle.clv_base.specs.declared.values.Value.{Value as ValueType}
 use Rattle.clv_base.specs.declared.names.TxId.{TxId}
 use Rattle.clv_base.specs.declared.logs.LogRecord.{LogRecord}
-use Rattle.clv_base.specs.declared.logs.LogRecord.TheVariants.{Update, Clr, Prepare, Commit, Abort, End, Restart, Add, Unadd}
+use Rattle.clv_base.specs.declared.logs.LogRecord.TheVariants.{Update, Clr, Prepare, Commit, Abort, End, Restart, Add, Unadd, Forgotten, Check}
 use Rattle.clv_base.specs.declared.modes.Found.{Found}
 use Rattle.clv_base.specs.declared.modes.Found.TheVariants.{Live, Ghost, Absent}
 use Rattle.clv_base.specs.Orders.{tx_cmp, tx_same, tx_in, tx_insert}
@@ -107,6 +107,8 @@ listed_named (End tx ∷ rs) t h = listed_named rs t (and_parts (has_spelling (E
 listed_named (Restart run epoch ∷ rs) t h = listed_named rs t (and_parts (has_spelling (Restart run epoch)) (list_all has_spelling rs) h).1
 listed_named (Add tx k by ∷ rs) t h = listed_named rs t (and_parts (has_spelling (Add tx k by)) (list_all has_spelling rs) h).1
 listed_named (Unadd tx u k by ∷ rs) t h = listed_named rs t (and_parts (has_spelling (Unadd tx u k by)) (list_all has_spelling rs) h).1
+listed_named (Forgotten ∷ rs) t h = listed_named rs t (and_parts (has_spelling Forgotten) (list_all has_spelling rs) h).1
+listed_named (Check run' epoch' upto base ∷ rs) t h = listed_named rs t (and_parts (has_spelling (Check run' epoch' upto base)) (list_all has_spelling rs) h).1
 
 ties_named : (t : TxId) (qs : List TxId) → Named qs → Seconds (map (λ q. (t, q)) qs)
 ties_named t [] n = tt

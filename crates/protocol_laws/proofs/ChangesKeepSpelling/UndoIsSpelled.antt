@@ -9,7 +9,7 @@ use Rattle.std.specs.declared.cmp.Ordering.TheVariants.{Less, Equal, Greater}
 use Rattle.std.specs.Ordering.{match_ordering}
 use Rattle.clv_base.specs.declared.names.TxId.{TxId}
 use Rattle.clv_base.specs.declared.logs.LogRecord.{LogRecord}
-use Rattle.clv_base.specs.declared.logs.LogRecord.TheVariants.{Update, Clr, Prepare, Commit, Abort, End, Restart, Add, Unadd}
+use Rattle.clv_base.specs.declared.logs.LogRecord.TheVariants.{Update, Clr, Prepare, Commit, Abort, End, Restart, Add, Unadd, Forgotten, Check}
 use Rattle.clv_base.specs.Orders.{tx_cmp, tx_same, tx_insert}
 use Rattle.clv_base.specs.declared.values.Value.{Value as ValueType}
 use Rattle.clv_base.specs.declared.values.Value.TheVariants.{Num, Bytes}
@@ -89,6 +89,8 @@ fit_after n (Add tx key by) ws h f =
     let txs = and_parts _ _ numbers.0 in
     ((omega arith, txs.0, txs.1, numbers.1), fit_more n ws f)
 fit_after n (Unadd tx undo_next key by) ws h f = fit_more n (without_newest tx ws) (fit_without n tx ws f)
+fit_after n Forgotten ws h f = fit_more n ws f
+fit_after n (Check run' epoch' upto base) ws h f = fit_more n ws f
 
 fit_from : (n : ℕ) (rs : List LogRecord) (ws : List StandingUpdate) → list_all has_spelling rs ≡ true → AreFit n ws → AreFit (n + length rs) (standing_from n rs ws)
 fit_from n [] ws h f = subst (λ (m : ℕ). AreFit m ws) (omega arith) f

@@ -4,7 +4,7 @@ use Rattle.std.specs.List.{AllByRecursion, filter, list_any}
 use Rattle.std.proofs.lemmas.Bool.{both_ways, or_cases, or_parts, cond-false, false_from_ne_true}
 use Rattle.clv_base.specs.declared.names.TxId.{TxId}
 use Rattle.clv_base.specs.declared.logs.LogRecord.{LogRecord}
-use Rattle.clv_base.specs.declared.logs.LogRecord.TheVariants.{Update, Clr, Prepare, Commit, Abort, End, Restart, Add, Unadd}
+use Rattle.clv_base.specs.declared.logs.LogRecord.TheVariants.{Update, Clr, Prepare, Commit, Abort, End, Restart, Add, Unadd, Forgotten, Check}
 use Rattle.clv_base.specs.declared.changes.Change.TheVariants.{Sets, Adds}
 use Rattle.clv_base.specs.Orders.{tx_same, nat_in}
 use Rattle.clv_base.specs.Logs.{StandingUpdate, standing, standing_from, without_newest, is_undo_of, wrote_in, has_standing, last_place_from, undone_lsn}
@@ -39,6 +39,8 @@ stands_from x n (Commit tx parts ∷ rs) ws w u = stands_from x (suc n) rs ws w 
 stands_from x n (Abort tx ∷ rs) ws w u = stands_from x (suc n) rs ws w u
 stands_from x n (End tx ∷ rs) ws w u = stands_from x (suc n) rs ws w u
 stands_from x n (Restart run epoch ∷ rs) ws w u = stands_from x (suc n) rs ws w u
+stands_from x n (Forgotten ∷ rs) ws w u = stands_from x (suc n) rs ws w u
+stands_from x n (Check run' epoch' upto base ∷ rs) ws w u = stands_from x (suc n) rs ws w u
 
 pub stands_more : (log more : List LogRecord) (x : TxId) → wrote_in more x ≡ false → undone_in more x ≡ false → has_standing (log ++ more) x ≡ has_standing log x
 stands_more log more x w u = ap (λ ws. has_write ws x) (standing_append 0 log more []) ∙ stands_from x _ more (standing log) w u
@@ -71,6 +73,8 @@ falling_from n (Commit tx parts ∷ rs) ws f = falling_from (suc n) rs ws (falls
 falling_from n (Abort tx ∷ rs) ws f = falling_from (suc n) rs ws (falls_weaker n (suc n) ws (omega arith) f)
 falling_from n (End tx ∷ rs) ws f = falling_from (suc n) rs ws (falls_weaker n (suc n) ws (omega arith) f)
 falling_from n (Restart run epoch ∷ rs) ws f = falling_from (suc n) rs ws (falls_weaker n (suc n) ws (omega arith) f)
+falling_from n (Forgotten ∷ rs) ws f = falling_from (suc n) rs ws (falls_weaker n (suc n) ws (omega arith) f)
+falling_from n (Check run' epoch' upto base ∷ rs) ws f = falling_from (suc n) rs ws (falls_weaker n (suc n) ws (omega arith) f)
 
 all_below : (n : ℕ) (ws : List StandingUpdate) → Falls n ws → AllByRecursion (λ w. w.lsn < n) ws
 all_below n [] f = tt

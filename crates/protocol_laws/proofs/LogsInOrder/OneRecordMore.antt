@@ -6,7 +6,7 @@ use Rattle.std.proofs.lemmas.List.Folds.{list_any-append}
 use Rattle.std.proofs.lemmas.Option.{none-some}
 use Rattle.clv_base.specs.declared.names.TxId.{TxId}
 use Rattle.clv_base.specs.declared.logs.LogRecord.{LogRecord}
-use Rattle.clv_base.specs.declared.logs.LogRecord.TheVariants.{Update, Clr, Prepare, Commit, Abort, End, Restart, Add, Unadd}
+use Rattle.clv_base.specs.declared.logs.LogRecord.TheVariants.{Update, Clr, Prepare, Commit, Abort, End, Restart, Add, Unadd, Forgotten, Check}
 use Rattle.clv_base.specs.Orders.{tx_same}
 use Rattle.clv_base.specs.Logs.{own_tx, is_commit_of, is_prepare_of, committed_in, prepared_in, prepare_of, commit_parts}
 use Rattle.clv_base.proofs.SameNames.{or_left, or_right, tx_true}
@@ -61,6 +61,8 @@ prepared_there (End tx ∷ rs) t p e = prepared_there rs t p e
 prepared_there (Restart run epoch ∷ rs) t p e = prepared_there rs t p e
 prepared_there (Add tx key by ∷ rs) t p e = prepared_there rs t p e
 prepared_there (Unadd tx next key by ∷ rs) t p e = prepared_there rs t p e
+prepared_there (Forgotten ∷ rs) t p e = prepared_there rs t p e
+prepared_there (Check run' epoch' upto base ∷ rs) t p e = prepared_there rs t p e
 
 pub committed_there : (rs : List LogRecord) (t : TxId) (p : List ℕ) → commit_parts rs t ≡ Some p → committed_in rs t ≡ true
 committed_there [] t p e = absurd (none-some p e)
@@ -73,3 +75,5 @@ committed_there (End tx ∷ rs) t p e = committed_there rs t p e
 committed_there (Restart run epoch ∷ rs) t p e = committed_there rs t p e
 committed_there (Add tx key by ∷ rs) t p e = committed_there rs t p e
 committed_there (Unadd tx next key by ∷ rs) t p e = committed_there rs t p e
+committed_there (Forgotten ∷ rs) t p e = committed_there rs t p e
+committed_there (Check run' epoch' upto base ∷ rs) t p e = committed_there rs t p e

@@ -4,7 +4,7 @@ use Rattle.std.specs.List.{AllByRecursion, list_any}
 use Rattle.std.proofs.lemmas.Bool.{both_ways, or_cases}
 use Rattle.clv_base.specs.declared.names.TxId.{TxId}
 use Rattle.clv_base.specs.declared.logs.LogRecord.{LogRecord}
-use Rattle.clv_base.specs.declared.logs.LogRecord.TheVariants.{Update, Clr, Prepare, Commit, Abort, End, Restart, Add, Unadd}
+use Rattle.clv_base.specs.declared.logs.LogRecord.TheVariants.{Update, Clr, Prepare, Commit, Abort, End, Restart, Add, Unadd, Forgotten, Check}
 use Rattle.clv_base.specs.Orders.{tx_same}
 use Rattle.clv_base.specs.declared.changes.Change.TheVariants.{Sets, Adds}
 use Rattle.clv_base.specs.Logs.{StandingUpdate, own_tx, is_commit_of, is_prepare_of, prepare_of, commit_parts, standing, standing_from, without_newest, newest_of}
@@ -39,6 +39,8 @@ greatest_grows (Abort tx ∷ rs) r = greatest_grows rs r
 greatest_grows (End tx ∷ rs) r = greatest_grows rs r
 greatest_grows (Add tx key by ∷ rs) r = greatest_grows rs r
 greatest_grows (Unadd tx next key by ∷ rs) r = greatest_grows rs r
+greatest_grows (Forgotten ∷ rs) r = greatest_grows rs r
+greatest_grows (Check run' epoch' upto base ∷ rs) r = let k = greatest_grows rs r in omega (arith, k)
 
 -- the last RESTART's run is no later
 data LastFits (n : ℕ) : Option (ℕ × ℕ) → Type 0 where
@@ -60,6 +62,8 @@ last_fits (Abort tx ∷ rs) = last_fits rs
 last_fits (End tx ∷ rs) = last_fits rs
 last_fits (Add tx key by ∷ rs) = last_fits rs
 last_fits (Unadd tx next key by ∷ rs) = last_fits rs
+last_fits (Forgotten ∷ rs) = last_fits rs
+last_fits (Check run' epoch' upto base ∷ rs) = last_case run' epoch' (greatest_run rs) (last_restart rs) (last_fits rs)
 
 in_last_case : (n : ℕ) (tx : TxId) (o : Option (ℕ × ℕ)) → LastFits n o → elim o [ Some p ↦ tx.run == p.0 | None ↦ false ] ≡ true → tx.run ≤ n
 in_last_case n tx None l e = absurd (both_ways false refl e)
@@ -85,6 +89,8 @@ writes_fit n i (End tx ∷ rs) ws a b = writes_fit n (suc i) rs ws a.1 b
 writes_fit n i (Restart run epoch ∷ rs) ws a b = writes_fit n (suc i) rs ws a.1 b
 writes_fit n i (Add tx key by ∷ rs) ws a b = writes_fit n (suc i) rs (record { lsn = i; tx = tx; key = key; change = Adds by } ∷ ws) a.1 (a.0, b)
 writes_fit n i (Unadd tx next key by ∷ rs) ws a b = writes_fit n (suc i) rs (without_newest tx ws) a.1 (all_without _ tx ws b)
+writes_fit n i (Forgotten ∷ rs) ws a b = writes_fit n (suc i) rs ws a.1 b
+writes_fit n i (Check run' epoch' upto base ∷ rs) ws a b = writes_fit n (suc i) rs ws a.1 b
 
 same_fits : (n : ℕ) (tx u : TxId) → tx_same tx u ≡ true → u.run ≤ n → tx.run ≤ n
 same_fits n tx u e f = subst (λ z. z.run ≤ n) (sym (tx_true tx u e)) f
@@ -130,6 +136,8 @@ follow_fits shard log (Restart run epoch) a m = tt
 follow_fits shard log (Add tx key by) a m = in_last_fits log tx (front _ _ (front _ _ (front _ _ (front _ _ (front _ _ (front _ _ m))))))
 follow_fits shard log (Unadd tx next key by) a m =
     compensated_fits (greatest_run log) tx next key (λ w. unadds w by (standing log) w.change) (standing log) (newest_of tx (standing log)) refl (writes_fit (greatest_run log) 0 log [] a tt) (last _ _ m)
+follow_fits shard log Forgotten a m = tt
+follow_fits shard log (Check run' epoch' upto base) a m = tt
 
 pub runs_step : (shard : ℕ) (log : List LogRecord) (r : LogRecord) → AllByRecursion (RunFits (greatest_run log)) log → may_follow shard log r ≡ true → AllByRecursion (RunFits (greatest_run (log ++ r ∷ []))) (log ++ r ∷ [])
 runs_step shard log r a m =

@@ -6,7 +6,7 @@ use Rattle.std.proofs.lemmas.Option.{same_Some}
 use Rattle.clv_base.specs.declared.values.Value.{Value as ValueType}
 use Rattle.clv_base.specs.declared.names.TxId.{TxId}
 use Rattle.clv_base.specs.declared.logs.LogRecord.{LogRecord}
-use Rattle.clv_base.specs.declared.logs.LogRecord.TheVariants.{Update, Clr, Prepare, Commit, Abort, End, Restart, Add, Unadd}
+use Rattle.clv_base.specs.declared.logs.LogRecord.TheVariants.{Update, Clr, Prepare, Commit, Abort, End, Restart, Add, Unadd, Forgotten, Check}
 use Rattle.clv_base.specs.Orders.{tx_same}
 use Rattle.clv_base.specs.declared.changes.Change.{Change}
 use Rattle.clv_base.specs.declared.changes.Change.TheVariants.{Sets, Adds}
@@ -234,6 +234,8 @@ writes_step shard log (Unadd tx next key by) m k =
       low = all_without _ tx (standing log) q.low;
       lie = lie_without _ tx (standing log) q.lie;
     }
+writes_step shard log Forgotten m k = quiet log Forgotten (standing log) (λ t. refl) k
+writes_step shard log (Check run' epoch' upto base) m k = quiet log (Check run' epoch' upto base) (standing log) (λ t. refl) k
 
 -- ---- those of these alone
 

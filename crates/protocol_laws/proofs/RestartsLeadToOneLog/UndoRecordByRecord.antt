@@ -6,7 +6,7 @@ use Rattle.std.proofs.lemmas.Bool.{both_ways, not-true, or_parts, cond-true, con
 use Rattle.std.proofs.Math.Bool.{or-false}
 use Rattle.clv_base.specs.declared.names.TxId.{TxId}
 use Rattle.clv_base.specs.declared.logs.LogRecord.{LogRecord}
-use Rattle.clv_base.specs.declared.logs.LogRecord.TheVariants.{Update, Clr, Prepare, Commit, Abort, End, Restart, Add, Unadd}
+use Rattle.clv_base.specs.declared.logs.LogRecord.TheVariants.{Update, Clr, Prepare, Commit, Abort, End, Restart, Add, Unadd, Forgotten, Check}
 use Rattle.clv_base.specs.declared.changes.Change.{Change}
 use Rattle.clv_base.specs.declared.changes.Change.TheVariants.{Sets, Adds}
 use Rattle.clv_base.specs.Orders.{tx_same, tx_in}
@@ -188,6 +188,8 @@ greatest_more run own (End tx ∷ rs) r = greatest_more run own rs r
 greatest_more run own (Restart q e ∷ rs) r = greatest_more run (cond (q == run) (max own e) own) rs r
 greatest_more run own (Add tx k by ∷ rs) r = greatest_more run own rs r
 greatest_more run own (Unadd tx v k by ∷ rs) r = greatest_more run own rs r
+greatest_more run own (Forgotten ∷ rs) r = greatest_more run own rs r
+greatest_more run own (Check run' epoch' upto base ∷ rs) r = greatest_more run (cond (run' == run) (max own epoch') own) rs r
 
 -- ---- one step
 

@@ -4,7 +4,7 @@ use Rattle.std.specs.List.{filter, list_any}
 use Rattle.std.proofs.lemmas.Bool.{both_ways, cond-false, false_from_ne_true}
 use Rattle.clv_base.specs.declared.names.TxId.{TxId}
 use Rattle.clv_base.specs.declared.logs.LogRecord.{LogRecord}
-use Rattle.clv_base.specs.declared.logs.LogRecord.TheVariants.{Update, Clr, Prepare, Commit, Abort, End, Restart, Add, Unadd}
+use Rattle.clv_base.specs.declared.logs.LogRecord.TheVariants.{Update, Clr, Prepare, Commit, Abort, End, Restart, Add, Unadd, Forgotten, Check}
 use Rattle.clv_base.specs.Orders.{tx_same}
 use Rattle.clv_base.specs.Maps.{KeyMap, map_get}
 use Rattle.clv_base.specs.Logs.{StandingUpdate, standing, standing_from, committed_in, is_commit_of}
@@ -121,6 +121,8 @@ same_after cut before (r ∷ rs) n ws h t =
     one (Restart run epoch) o = refl
     one (Add tx key by) o = cond-false (committed_in cut tx) _ (filter (of_kept (committed_in cut)) ws) (h tx o)
     one (Unadd tx undo_next key by) o = without_other (committed_in cut) tx ws (h tx o)
+    one Forgotten o = refl
+    one (Check run' epoch' upto base) o = refl
 
 pub standing_cut : (c : ℕ) (log : List LogRecord) → Tidy [] log → filter (of_kept (committed_in (take c log))) (standing log) ≡ filter (of_kept (committed_in (take c log))) (standing (take c log))
 standing_cut c log t =

@@ -6,7 +6,7 @@ use Rattle.std.proofs.lemmas.Bool.{both_ways, and_parts, and_from, not-true}
 use Rattle.std.proofs.lemmas.List.{take-append-drop}
 use Rattle.clv_base.specs.declared.names.TxId.{TxId}
 use Rattle.clv_base.specs.declared.logs.LogRecord.{LogRecord}
-use Rattle.clv_base.specs.declared.logs.LogRecord.TheVariants.{Update, Clr, Prepare, Commit, Abort, End, Restart, Add, Unadd}
+use Rattle.clv_base.specs.declared.logs.LogRecord.TheVariants.{Update, Clr, Prepare, Commit, Abort, End, Restart, Add, Unadd, Forgotten, Check}
 use Rattle.clv_base.specs.Orders.{tx_same, tx_in, tx_insert}
 use Rattle.clv_base.specs.Logs.{committed_in, aborted_in, prepared_in, prepare_of, place_from, is_commit_of, is_prepare_of, doubt_by, in_doubt_from, in_doubt, is_winner}
 use Rattle.clv_base.specs.LogRules.{listed_in}
@@ -75,6 +75,8 @@ doubts_are log shard before (End tx ∷ rs) sf t e s i = doubts_are log shard (b
 doubts_are log shard before (Restart run epoch ∷ rs) sf t e s i = doubts_are log shard (before ++ Restart run epoch ∷ []) rs sf t (append_assoc before (Restart run epoch ∷ []) rs ∙ e) s.1 i
 doubts_are log shard before (Add tx k by ∷ rs) sf t e s i = doubts_are log shard (before ++ Add tx k by ∷ []) rs sf t (append_assoc before (Add tx k by ∷ []) rs ∙ e) s.1 i
 doubts_are log shard before (Unadd tx u k by ∷ rs) sf t e s i = doubts_are log shard (before ++ Unadd tx u k by ∷ []) rs sf t (append_assoc before (Unadd tx u k by ∷ []) rs ∙ e) s.1 i
+doubts_are log shard before (Forgotten ∷ rs) sf t e s i = doubts_are log shard (before ++ Forgotten ∷ []) rs sf t (append_assoc before (Forgotten ∷ []) rs ∙ e) s.1 i
+doubts_are log shard before (Check run' epoch' upto base ∷ rs) sf t e s i = doubts_are log shard (before ++ Check run' epoch' upto base ∷ []) rs sf t (append_assoc before (Check run' epoch' upto base ∷ []) rs ∙ e) s.1 i
 
 pub doubted : (shard : ℕ) (log : List LogRecord) (t : TxId) → Sealed [] log → tx_in t (in_doubt shard log) ≡ true → Doubted log (in_doubt shard log) t
 unfolding Result

@@ -7,7 +7,7 @@ use Rattle.clv_base.specs.declared.changes.Change.TheVariants.{Sets, Adds}
 use Rattle.clv_base.specs.OneShard.{update_of}
 use Rattle.clv_base.specs.declared.names.TxId.{TxId}
 use Rattle.clv_base.specs.declared.logs.LogRecord.{LogRecord}
-use Rattle.clv_base.specs.declared.logs.LogRecord.TheVariants.{Update, Clr, Prepare, Commit, Abort, End, Restart, Add, Unadd}
+use Rattle.clv_base.specs.declared.logs.LogRecord.TheVariants.{Update, Clr, Prepare, Commit, Abort, End, Restart, Add, Unadd, Forgotten, Check}
 use Rattle.clv_base.specs.declared.state.Stage.TheVariants.{Active}
 use Rattle.clv_base.specs.declared.state.Held.{Held}
 use Rattle.clv_base.specs.Orders.{Table, tx_same, tx_in}
@@ -54,6 +54,8 @@ prepare_here (End tx ∷ rs) rest t home ps e = prepare_here rs rest t home ps e
 prepare_here (Restart run epoch ∷ rs) rest t home ps e = prepare_here rs rest t home ps e
 prepare_here (Add tx q by ∷ rs) rest t home ps e = prepare_here rs rest t home ps e
 prepare_here (Unadd tx u q by ∷ rs) rest t home ps e = prepare_here rs rest t home ps e
+prepare_here (Forgotten ∷ rs) rest t home ps e = prepare_here rs rest t home ps e
+prepare_here (Check run' epoch' upto base ∷ rs) rest t home ps e = prepare_here rs rest t home ps e
 
 -- ---- more records
 
@@ -81,6 +83,8 @@ prepare_keeps (End tx ∷ rs) more t e = prepare_keeps rs more t e
 prepare_keeps (Restart run epoch ∷ rs) more t e = prepare_keeps rs more t e
 prepare_keeps (Add tx k by ∷ rs) more t e = prepare_keeps rs more t e
 prepare_keeps (Unadd tx u k by ∷ rs) more t e = prepare_keeps rs more t e
+prepare_keeps (Forgotten ∷ rs) more t e = prepare_keeps rs more t e
+prepare_keeps (Check run' epoch' upto base ∷ rs) more t e = prepare_keeps rs more t e
 
 abbrev pub by_prepare : Option (ℕ × List TxId) → List TxId
 by_prepare o = elim o [ Some p ↦ p.1 | None ↦ [] ]

@@ -5,7 +5,7 @@ use Rattle.std.proofs.lemmas.Bool.{both_ways, or_cases, and_parts, and_from, not
 use Rattle.std.proofs.lemmas.List.Folds.{list_any-append}
 use Rattle.clv_base.specs.declared.names.TxId.{TxId}
 use Rattle.clv_base.specs.declared.logs.LogRecord.{LogRecord}
-use Rattle.clv_base.specs.declared.logs.LogRecord.TheVariants.{Update, Clr, Prepare, Commit, Abort, End, Restart, Add, Unadd}
+use Rattle.clv_base.specs.declared.logs.LogRecord.TheVariants.{Update, Clr, Prepare, Commit, Abort, End, Restart, Add, Unadd, Forgotten, Check}
 use Rattle.clv_base.specs.declared.state.Stage.TheVariants.{Active, Closed}
 use Rattle.clv_base.specs.declared.state.Held.{Held}
 use Rattle.clv_base.specs.Orders.{Table, tx_same, tx_in, nat_in}
@@ -92,6 +92,8 @@ prepare_some (End tx ∷ rs) t e = prepare_some rs t e
 prepare_some (Restart run epoch ∷ rs) t e = prepare_some rs t e
 prepare_some (Add tx k by ∷ rs) t e = prepare_some rs t e
 prepare_some (Unadd tx u k by ∷ rs) t e = prepare_some rs t e
+prepare_some (Forgotten ∷ rs) t e = prepare_some rs t e
+prepare_some (Check run' epoch' upto base ∷ rs) t e = prepare_some rs t e
 
 pub prepare_same : (log more : List LogRecord) (t : TxId) → prepared_in more t ≡ false → prepare_of (log ++ more) t ≡ prepare_of log t
 prepare_same [] more t e = prepare_none more t e
@@ -104,6 +106,8 @@ prepare_same (End tx ∷ rs) more t e = prepare_same rs more t e
 prepare_same (Restart run epoch ∷ rs) more t e = prepare_same rs more t e
 prepare_same (Add tx k by ∷ rs) more t e = prepare_same rs more t e
 prepare_same (Unadd tx u k by ∷ rs) more t e = prepare_same rs more t e
+prepare_same (Forgotten ∷ rs) more t e = prepare_same rs more t e
+prepare_same (Check run' epoch' upto base ∷ rs) more t e = prepare_same rs more t e
 
 pub listed_same : (log more : List LogRecord) (t : TxId) → prepared_in more t ≡ false → listed_in (log ++ more) t ≡ listed_in log t
 listed_same log more t e = ap by_prepare (prepare_same log more t e)

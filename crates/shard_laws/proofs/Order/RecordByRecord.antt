@@ -6,7 +6,7 @@ use Rattle.std.proofs.lemmas.List.{take-append-drop}
 use Rattle.std.proofs.Math.Bool.{or-false}
 use Rattle.clv_base.specs.declared.names.TxId.{TxId}
 use Rattle.clv_base.specs.declared.logs.LogRecord.{LogRecord}
-use Rattle.clv_base.specs.declared.logs.LogRecord.TheVariants.{Update, Clr, Prepare, Commit, Abort, End, Restart, Add, Unadd}
+use Rattle.clv_base.specs.declared.logs.LogRecord.TheVariants.{Update, Clr, Prepare, Commit, Abort, End, Restart, Add, Unadd, Forgotten, Check}
 use Rattle.clv_base.specs.Logs.{wrote_in}
 use Rattle.clv_base.specs.LogRules.{may_follow, disorder_from, last_restart, before_restart, above_restarts}
 use Rattle.clv_base.specs.Restarts.{greatest_run, greatest_epoch}
@@ -52,6 +52,7 @@ follows_take shard n before log f = follows_front shard before (take n log) (dro
 -- no RESTART
 abbrev pub Plainly : LogRecord → Type 0
 Plainly (Restart run epoch) = ⊥
+Plainly (Check run epoch upto base) = ⊥
 Plainly _ = ⊤
 
 abbrev or_last : Option (ℕ × ℕ) → ℕ → ℕ → Option (ℕ × ℕ)
@@ -76,6 +77,10 @@ last_push [] (Add tx k by) p = refl
 last_push (Add tx k by ∷ rs) r p = last_push rs r p
 last_push [] (Unadd tx u k by) p = refl
 last_push (Unadd tx u k by ∷ rs) r p = last_push rs r p
+last_push [] Forgotten p = refl
+last_push [] (Check run' epoch' upto base) p = absurd p
+last_push (Forgotten ∷ rs) r p = last_push rs r p
+last_push (Check run' epoch' upto base ∷ rs) r p = ap (λ o. or_last o run' epoch') (last_push rs r p)
 
 pub before_push : (sf log : List LogRecord) (r : LogRecord) → Plainly r → before_restart sf (log ++ r ∷ []) ≡ before_restart sf log
 before_push sf [] (Update tx k b a) p = refl
@@ -96,11 +101,16 @@ before_push sf [] (Add tx k by) p = refl
 before_push sf (Add tx k by ∷ rs) r p = before_push (sf ++ Add tx k by ∷ []) rs r p
 before_push sf [] (Unadd tx u k by) p = refl
 before_push sf (Unadd tx u k by ∷ rs) r p = before_push (sf ++ Unadd tx u k by ∷ []) rs r p
+before_push sf [] Forgotten p = refl
+before_push sf [] (Check run' epoch' upto base) p = absurd p
+before_push sf (Forgotten ∷ rs) r p = before_push (sf ++ Forgotten ∷ []) rs r p
+before_push sf (Check run' epoch' upto base ∷ rs) r p = ap (λ l. sf ++ l) (before_push (Check run' epoch' upto base ∷ []) rs r p)
 
 -- the records behind the last RESTART
 abbrev since_restart : List LogRecord → List LogRecord → List LogRecord
 since_restart so_far [] = so_far
 since_restart so_far (Restart run epoch ∷ rs) = since_restart [] rs
+since_restart so_far (Check run epoch upto base ∷ rs) = since_restart [] rs
 since_restart so_far (r ∷ rs) = since_restart (so_far ++ r ∷ []) rs
 
 -- who wrote, wrote before or since the last RESTART
@@ -123,6 +133,8 @@ same_before t xs ys (Abort tx ∷ zs) e = same_before t (xs ++ Abort tx ∷ []) 
 same_before t xs ys (End tx ∷ zs) e = same_before t (xs ++ End tx ∷ []) (ys ++ End tx ∷ []) zs (wrote_append xs (End tx ∷ []) t ∙ ap (λ z. z || false) e ∙ sym (wrote_append ys (End tx ∷ []) t))
 same_before t xs ys (Add tx k by ∷ zs) e = same_before t (xs ++ Add tx k by ∷ []) (ys ++ Add tx k by ∷ []) zs (wrote_append xs (Add tx k by ∷ []) t ∙ ap (λ z. z || wrote_in (Add tx k by ∷ []) t) e ∙ sym (wrote_append ys (Add tx k by ∷ []) t))
 same_before t xs ys (Unadd tx u k by ∷ zs) e = same_before t (xs ++ Unadd tx u k by ∷ []) (ys ++ Unadd tx u k by ∷ []) zs (wrote_append xs (Unadd tx u k by ∷ []) t ∙ ap (λ z. z || false) e ∙ sym (wrote_append ys (Unadd tx u k by ∷ []) t))
+same_before t xs ys (Forgotten ∷ zs) e = same_before t (xs ++ Forgotten ∷ []) (ys ++ Forgotten ∷ []) zs (wrote_append xs (Forgotten ∷ []) t ∙ ap (λ z. z || false) e ∙ sym (wrote_append ys (Forgotten ∷ []) t))
+same_before t xs ys (Check run' epoch' upto base ∷ zs) e = wrote_append xs (before_restart (Check run' epoch' upto base ∷ []) zs) t ∙ ap (λ b. b || wrote_in (before_restart (Check run' epoch' upto base ∷ []) zs) t) e ∙ sym (wrote_append ys (before_restart (Check run' epoch' upto base ∷ []) zs) t)
 
 wrote_split : (t : TxId) (sf rs : List LogRecord) → (wrote_in sf t || wrote_in rs t) ≡ (wrote_in (before_restart sf rs) t || wrote_in (since_restart sf rs) t)
 wrote_split t sf [] = or-false (wrote_in sf t)
@@ -135,6 +147,8 @@ wrote_split t sf (Abort tx ∷ rs) = one_more t sf rs (Abort tx) ∙ wrote_split
 wrote_split t sf (End tx ∷ rs) = one_more t sf rs (End tx) ∙ wrote_split t (sf ++ End tx ∷ []) rs
 wrote_split t sf (Add tx k by ∷ rs) = one_more t sf rs (Add tx k by) ∙ wrote_split t (sf ++ Add tx k by ∷ []) rs
 wrote_split t sf (Unadd tx u k by ∷ rs) = one_more t sf rs (Unadd tx u k by) ∙ wrote_split t (sf ++ Unadd tx u k by ∷ []) rs
+wrote_split t sf (Forgotten ∷ rs) = one_more t sf rs Forgotten ∙ wrote_split t (sf ++ Forgotten ∷ []) rs
+wrote_split t sf (Check run' epoch' upto base ∷ rs) = ap (λ b. wrote_in sf t || b) (wrote_split t [] rs ∙ ap (λ b. b || wrote_in (since_restart [] rs) t) (same_before t [] (Check run' epoch' upto base ∷ []) rs refl)) ∙ sym (ap (λ b. b || wrote_in (since_restart [] rs) t) (wrote_append sf (before_restart (Check run' epoch' upto base ∷ []) rs) t) ∙ or_three (wrote_in sf t) _ _)
 
 pub unwritten_before : (log : List LogRecord) (t : TxId) → wrote_in log t ≡ false → wrote_in (before_restart [] log) t ≡ false
 unwritten_before log t e = or_false_left _ _ (sym (wrote_split t [] log) ∙ e)
@@ -152,6 +166,8 @@ greatest_push (Abort tx ∷ rs) r n l m = greatest_push rs r n l m
 greatest_push (End tx ∷ rs) r n l m = greatest_push rs r n l m
 greatest_push (Add tx k by ∷ rs) r n l m = greatest_push rs r n l m
 greatest_push (Unadd tx u k by ∷ rs) r n l m = greatest_push rs r n l m
+greatest_push (Forgotten ∷ rs) r n l m = greatest_push rs r n l m
+greatest_push (Check run' epoch' upto base ∷ rs) r n l m = let k = greatest_push rs r n (omega (arith, l)) m in omega (arith, k, l)
 
 pub greatest_plain : (log : List LogRecord) (r : LogRecord) (n : ℕ) → Plainly r → greatest_run log ≤ n → greatest_run (log ++ r ∷ []) ≤ n
 greatest_plain log r n p l = greatest_push log r n l (at r p)
@@ -166,6 +182,8 @@ greatest_plain log r n p l = greatest_push log r n l (at r p)
     at (Restart run epoch) p = absurd p
     at (Add tx k by) p = omega arith
     at (Unadd tx u k by) p = omega arith
+    at Forgotten p = omega arith
+    at (Check run' epoch' upto base) p = absurd p
 
 pub greatest_front : (xs ys : List LogRecord) (n : ℕ) → greatest_run (xs ++ ys) ≤ n → greatest_run xs ≤ n
 greatest_front [] ys n l = omega arith
@@ -178,6 +196,8 @@ greatest_front (Abort tx ∷ rs) ys n l = greatest_front rs ys n l
 greatest_front (End tx ∷ rs) ys n l = greatest_front rs ys n l
 greatest_front (Add tx k by ∷ rs) ys n l = greatest_front rs ys n l
 greatest_front (Unadd tx u k by ∷ rs) ys n l = greatest_front rs ys n l
+greatest_front (Forgotten ∷ rs) ys n l = greatest_front rs ys n l
+greatest_front (Check run' epoch' upto base ∷ rs) ys n l = let k = greatest_front rs ys n (omega (arith, l)) in omega (arith, k, l)
 
 pub greatest_both : (xs ys : List LogRecord) (n : ℕ) → greatest_run xs ≤ n → greatest_run ys ≤ n → greatest_run (xs ++ ys) ≤ n
 greatest_both [] ys n l m = m
@@ -190,6 +210,8 @@ greatest_both (Abort tx ∷ rs) ys n l m = greatest_both rs ys n l m
 greatest_both (End tx ∷ rs) ys n l m = greatest_both rs ys n l m
 greatest_both (Add tx k by ∷ rs) ys n l m = greatest_both rs ys n l m
 greatest_both (Unadd tx u k by ∷ rs) ys n l m = greatest_both rs ys n l m
+greatest_both (Forgotten ∷ rs) ys n l m = greatest_both rs ys n l m
+greatest_both (Check run' epoch' upto base ∷ rs) ys n l m = let k = greatest_both rs ys n (omega (arith, l)) m in omega (arith, k, l)
 
 -- a later run is above, and so is a later epoch of the same run
 pub above_later : (run epoch : ℕ) (log : List LogRecord) → greatest_run log < run → above_restarts run epoch log ≡ true
@@ -203,6 +225,8 @@ above_later run epoch (Abort tx ∷ rs) l = above_later run epoch rs l
 above_later run epoch (End tx ∷ rs) l = above_later run epoch rs l
 above_later run epoch (Add tx k by ∷ rs) l = above_later run epoch rs l
 above_later run epoch (Unadd tx u k by ∷ rs) l = above_later run epoch rs l
+above_later run epoch (Forgotten ∷ rs) l = above_later run epoch rs l
+above_later run epoch (Check run' epoch' upto base ∷ rs) l = and_from _ _ (or_left _ _ (lt-ltb run' run (omega (arith, l)))) (above_later run epoch rs (omega (arith, l)))
 
 pub above_next : (run own epoch : ℕ) (log : List LogRecord) → greatest_run log ≤ run → greatest_epoch run own log < epoch → above_restarts run epoch log ≡ true
 above_next run own epoch [] l m = refl
@@ -223,6 +247,16 @@ above_next run own epoch (Abort tx ∷ rs) l m = above_next run own epoch rs l m
 above_next run own epoch (End tx ∷ rs) l m = above_next run own epoch rs l m
 above_next run own epoch (Add tx k by ∷ rs) l m = above_next run own epoch rs l m
 above_next run own epoch (Unadd tx u k by ∷ rs) l m = above_next run own epoch rs l m
+above_next run own epoch (Forgotten ∷ rs) l m = above_next run own epoch rs l m
+above_next run own epoch (Check run' epoch' upto base ∷ rs) l m = and_from _ _ (at (nat_lt run' run) refl) (above_next run (cond (run' == run) (max own epoch') own) epoch rs (omega (arith, l)) m)
+  where
+    at : (b : Bool) → nat_lt run' run ≡ b → (b || ((run' == run) && nat_lt epoch' epoch)) ≡ true
+    at true f = refl
+    at false f =
+        let same : run' ≡ run = omega (arith, l, ltb-false run' run f) in
+        let own_less = epoch_own run (cond (run' == run) (max own epoch') own) rs in
+        let big : epoch' ≤ cond (run' == run) (max own epoch') own = subst (λ b. epoch' ≤ cond b (max own epoch') own) (sym (eq-eqb run' run same)) (omega arith) in
+        and_from _ _ (eq-eqb run' run same) (lt-ltb epoch' epoch (omega (arith, big, own_less, m)))
 
 pub above_push : (run epoch : ℕ) (log : List LogRecord) (r : LogRecord) → Plainly r → above_restarts run epoch (log ++ r ∷ []) ≡ above_restarts run epoch log
 above_push run epoch [] (Update tx k b a) p = refl
@@ -243,6 +277,10 @@ above_push run epoch [] (Add tx k by) p = refl
 above_push run epoch (Add tx k by ∷ rs) q p = above_push run epoch rs q p
 above_push run epoch [] (Unadd tx u k by) p = refl
 above_push run epoch (Unadd tx u k by ∷ rs) q p = above_push run epoch rs q p
+above_push run epoch [] Forgotten p = refl
+above_push run epoch [] (Check run' epoch' upto base) p = absurd p
+above_push run epoch (Forgotten ∷ rs) q p = above_push run epoch rs q p
+above_push run epoch (Check run' epoch' upto base ∷ rs) q p = ap (λ b. (nat_lt run' run || ((run' == run) && nat_lt epoch' epoch)) && b) (above_push run epoch rs q p)
 
 -- ---- what holds of each front of a log in order
 

@@ -4,7 +4,7 @@ use Rattle.std.proofs.lemmas.Bool.{cond-true, cond-false, or_from}
 use Rattle.std.proofs.lemmas.List.Folds.{list_any-append}
 use Rattle.clv_base.specs.declared.names.TxId.{TxId}
 use Rattle.clv_base.specs.declared.logs.LogRecord.{LogRecord}
-use Rattle.clv_base.specs.declared.logs.LogRecord.TheVariants.{Update, Clr, Prepare, Commit, Abort, End, Restart, Add, Unadd}
+use Rattle.clv_base.specs.declared.logs.LogRecord.TheVariants.{Update, Clr, Prepare, Commit, Abort, End, Restart, Add, Unadd, Forgotten, Check}
 use Rattle.clv_base.specs.declared.state.Request.{Request}
 use Rattle.clv_base.specs.declared.state.RequestState.TheVariants.{Undecided, Committed}
 use Rattle.clv_base.specs.Orders.{Table, tx_same, tx_get}
@@ -35,6 +35,8 @@ parts_new (End tx ∷ rs) t ps e = parts_new rs t ps e
 parts_new (Restart run epoch ∷ rs) t ps e = parts_new rs t ps e
 parts_new (Add tx k by ∷ rs) t ps e = parts_new rs t ps e
 parts_new (Unadd tx u k by ∷ rs) t ps e = parts_new rs t ps e
+parts_new (Forgotten ∷ rs) t ps e = parts_new rs t ps e
+parts_new (Check run' epoch' upto base ∷ rs) t ps e = parts_new rs t ps e
 
 pub unended_more : (log more : List LogRecord) (t : TxId) → ended_in log t ≡ false → ended_in more t ≡ false → ended_in (log ++ more) t ≡ false
 unended_more log more t e f = list_any-append (is_end_of t) log more ∙ or_from _ _ e f

@@ -4,7 +4,7 @@ use Rattle.std.specs.List.{AllByRecursion, list_any}
 use Rattle.std.proofs.lemmas.Bool.{cases_Bool, both_ways, or_cases, and_parts, and_from, not-true, lt-ltb}
 use Rattle.clv_base.specs.declared.names.TxId.{TxId}
 use Rattle.clv_base.specs.declared.logs.LogRecord.{LogRecord}
-use Rattle.clv_base.specs.declared.logs.LogRecord.TheVariants.{Update, Clr, Prepare, Commit, Abort, End, Restart, Add, Unadd}
+use Rattle.clv_base.specs.declared.logs.LogRecord.TheVariants.{Update, Clr, Prepare, Commit, Abort, End, Restart, Add, Unadd, Forgotten, Check}
 use Rattle.clv_base.specs.Orders.{tx_same, tx_in}
 use Rattle.clv_base.specs.Logs.{StandingUpdate, standing, standing_from, standing_after, has_standing, wrote_in, committed_in, prepared_in, aborted_in, is_undo_of, is_prepare_of, is_abort_of, writers}
 use Rattle.clv_base.specs.LogRules.{may_follow, may_undo, last_restart, in_last_run, before_restart, has_new_standing}
@@ -38,6 +38,8 @@ has_on n (End tx) ws t o e = e
 has_on n (Restart run epoch) ws t o e = e
 has_on n (Add tx k by) ws t o e = or_right (tx_same t tx) _ e
 has_on n (Unadd tx u k by) ws t o e = without_other t tx ws o ∙ e
+has_on n Forgotten ws t o e = e
+has_on n (Check run' epoch' upto base) ws t o e = e
 
 on_all : (n : ℕ) (rs : List LogRecord) (ws : List StandingUpdate) (t : TxId) → list_any (is_undo_of t) rs ≡ false → has_write ws t ≡ true → has_write (standing_from n rs ws) t ≡ true
 on_all n [] ws t o e = e
@@ -69,6 +71,12 @@ before_at sf (Abort tx ∷ rs) = one_off sf (Abort tx) rs (before_at (sf ++ Abor
 before_at sf (End tx ∷ rs) = one_off sf (End tx) rs (before_at (sf ++ End tx ∷ []) rs)
 before_at sf (Add tx k by ∷ rs) = one_off sf (Add tx k by) rs (before_at (sf ++ Add tx k by ∷ []) rs)
 before_at sf (Unadd tx u k by ∷ rs) = one_off sf (Unadd tx u k by) rs (before_at (sf ++ Unadd tx u k by ∷ []) rs)
+before_at sf (Forgotten ∷ rs) = one_off sf Forgotten rs (before_at (sf ++ Forgotten ∷ []) rs)
+before_at sf (Check run' epoch' upto base ∷ rs) =
+    inl (⊎_elim
+    (λ l. let a = length-append sf (before_restart (Check run' epoch' upto base ∷ []) rs) in omega (arith, a, l))
+    (λ e. let a = length-append sf (before_restart (Check run' epoch' upto base ∷ []) rs) in let b = ap length e in omega (arith, a, b))
+    (before_at (Check run' epoch' upto base ∷ []) rs))
 
 pub before_less : (log : List LogRecord) → is_some (last_restart log) ≡ true → length (before_restart [] log) < length log
 before_less [] s = absurd (both_ways false refl s)
@@ -85,6 +93,8 @@ restart_before sf (Abort tx ∷ rs) run epoch = restart_before (sf ++ Abort tx �
 restart_before sf (End tx ∷ rs) run epoch = restart_before (sf ++ End tx ∷ []) rs run epoch ∙ append_assoc sf (End tx ∷ []) rs
 restart_before sf (Add tx k by ∷ rs) run epoch = restart_before (sf ++ Add tx k by ∷ []) rs run epoch ∙ append_assoc sf (Add tx k by ∷ []) rs
 restart_before sf (Unadd tx u k by ∷ rs) run epoch = restart_before (sf ++ Unadd tx u k by ∷ []) rs run epoch ∙ append_assoc sf (Unadd tx u k by ∷ []) rs
+restart_before sf (Forgotten ∷ rs) run epoch = restart_before (sf ++ Forgotten ∷ []) rs run epoch ∙ append_assoc sf (Forgotten ∷ []) rs
+restart_before sf (Check run' epoch' upto base ∷ rs) run epoch = ap (λ l. sf ++ l) (restart_before (Check run' epoch' upto base ∷ []) rs run epoch)
 
 -- a write lies behind it, or its transaction wrote before it
 abbrev Placed : List LogRecord → StandingUpdate → Type 0
@@ -115,6 +125,8 @@ placed_step shard log (Abort tx) m all = plain_placed log (Abort tx) tt all
 placed_step shard log (End tx) m all = plain_placed log (End tx) tt all
 placed_step shard log (Add tx k by) m all = plain_placed log (Add tx k by) tt (inl (new_placed log tx (front _ _ (front _ _ (front _ _ (front _ _ (front _ _ (front _ _ m))))))), all)
 placed_step shard log (Unadd tx u k by) m all = plain_placed log (Unadd tx u k by) tt (all_without _ tx (standing log) all)
+placed_step shard log Forgotten m all = plain_placed log Forgotten tt all
+placed_step shard log (Check run' epoch' upto base) m all = absurd cc
 
 new_in : (before : List LogRecord) (t : TxId) (ws : List StandingUpdate) → wrote_in before t ≡ false → AllByRecursion (Placed before) ws → has_write ws t ≡ true → list_any (λ w. tx_same t w.tx && nat_lt (length before) w.lsn) ws ≡ true
 new_in before t [] n all e = e

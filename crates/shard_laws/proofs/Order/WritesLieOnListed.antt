@@ -4,7 +4,7 @@ use Rattle.std.specs.List.{AllByRecursion, list_any, list_all}
 use Rattle.std.proofs.lemmas.Bool.{cases_Bool, both_ways, cond_both, or_cases, and_from, not-true, lt-ltb, false_from_ne_true}
 use Rattle.clv_base.specs.declared.names.TxId.{TxId}
 use Rattle.clv_base.specs.declared.logs.LogRecord.{LogRecord}
-use Rattle.clv_base.specs.declared.logs.LogRecord.TheVariants.{Update, Clr, Prepare, Commit, Abort, End, Restart, Add, Unadd}
+use Rattle.clv_base.specs.declared.logs.LogRecord.TheVariants.{Update, Clr, Prepare, Commit, Abort, End, Restart, Add, Unadd, Forgotten, Check}
 use Rattle.clv_base.specs.Orders.{tx_same, tx_in}
 use Rattle.clv_base.specs.Logs.{StandingUpdate, is_setting, standing, standing_after, without_newest, committed_in, prepared_in, ended_in, wrote_in, commit_parts, is_prepare_of, is_commit_of, is_end_of, is_update_of, in_doubt, is_winner, aborted_in}
 use Rattle.clv_base.specs.LogRules.{listed_in, may_follow, lies_below, has_above, last_restart, some_parts}
@@ -94,6 +94,8 @@ listed_step shard log (Add tx key by) o m l =
     let unprepared : prepared_in log tx ≡ false = not-true _ (last _ _ (front _ _ (front _ _ (front _ _ (front _ _ (front _ _ m)))))) in
     ((λ p. absurd (both_ways _ unprepared (push_same (is_prepare_of tx) log (Add tx key by) refl ∙ p))), more_listed log (Add tx key by) (λ t. refl) (standing log) l)
 listed_step shard log (Unadd tx next key by) o m l = without_listed (log ++ Unadd tx next key by ∷ []) tx (standing log) (more_listed log (Unadd tx next key by) (λ t. refl) (standing log) l)
+listed_step shard log Forgotten o m l = more_listed log Forgotten (λ t. refl) (standing log) l
+listed_step shard log (Check run' epoch' upto base) o m l = more_listed log (Check run' epoch' upto base) (λ t. refl) (standing log) l
 
 pub order_of : (shard : ℕ) (log : List LogRecord) → Follows shard [] log → Order shard log
 order_of shard log f = in_order shard log (to_disorder shard 0 [] log f)
@@ -146,6 +148,8 @@ restart_step shard log (End tx) m old t e = ap is_some (last_push log (End tx) t
 restart_step shard log (Add tx key by) m old t e =
     ap is_some (last_push log (Add tx key by) tt) ∙ in_last_some tx (last_restart log) (front _ _ (front _ _ (front _ _ (front _ _ (front _ _ (front _ _ m))))))
 restart_step shard log (Unadd tx next key by) m old t e = ap is_some (last_push log (Unadd tx next key by) tt) ∙ old t (push_same (is_update_of t) log (Unadd tx next key by) refl ∙ e)
+restart_step shard log Forgotten m old t e = ap is_some (last_push log Forgotten tt) ∙ old t (push_same (is_update_of t) log Forgotten refl ∙ e)
+restart_step shard log (Check run' epoch' upto base) m old t e = absurd cc
 
 pub wrote_restart : (shard : ℕ) (log : List LogRecord) → Follows shard [] log → (t : TxId) → wrote_in log t ≡ true → is_some (last_restart log) ≡ true
 wrote_restart shard log f = through (λ l. (t : TxId) → wrote_in l t ≡ true → is_some (last_restart l) ≡ true) shard [] log tt f (λ t e. absurd (both_ways false refl e)) (λ l r g p m. restart_step shard l r m p)
@@ -240,6 +244,8 @@ commit_step shard log r m old t p c i = push_left (is_commit_of p) log r (at r m
     at (Restart run e) m c i = old t p (was (Restart run e) refl c) (same (Restart run e) refl i)
     at (Add tx k by) m c i = old t p (was (Add tx k by) refl c) (same (Add tx k by) refl i)
     at (Unadd tx u k by) m c i = old t p (was (Unadd tx u k by) refl c) (same (Unadd tx u k by) refl i)
+    at Forgotten m c i = old t p (was Forgotten refl c) (same Forgotten refl i)
+    at (Check run' epoch' upto base) m c i = old t p (was (Check run' epoch' upto base) refl c) (same (Check run' epoch' upto base) refl i)
 
 pub committed_lists : (shard : ℕ) (log : List LogRecord) → Follows shard [] log → (t p : TxId) → committed_in log t ≡ true → tx_in p (listed_in log t) ≡ true → committed_in log p ≡ true
 committed_lists shard log f = through (λ l. (t p : TxId) → committed_in l t ≡ true → tx_in p (listed_in l t) ≡ true → committed_in l p ≡ true) shard [] log tt f (λ t p c i. absurd (both_ways false refl c)) (λ l r g p m. commit_step shard l r m p)

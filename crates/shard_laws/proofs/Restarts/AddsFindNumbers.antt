@@ -8,7 +8,7 @@ use Rattle.clv_base.specs.declared.names.TxId.{TxId}
 use Rattle.clv_base.specs.declared.changes.Change.{Change}
 use Rattle.clv_base.specs.declared.changes.Change.TheVariants.{Sets, Adds}
 use Rattle.clv_base.specs.declared.logs.LogRecord.{LogRecord}
-use Rattle.clv_base.specs.declared.logs.LogRecord.TheVariants.{Update, Clr, Prepare, Commit, Abort, End, Restart, Add, Unadd}
+use Rattle.clv_base.specs.declared.logs.LogRecord.TheVariants.{Update, Clr, Prepare, Commit, Abort, End, Restart, Add, Unadd, Forgotten, Check}
 use Rattle.clv_base.specs.Orders.{tx_same}
 use Rattle.clv_base.specs.Maps.{is_number}
 use Rattle.clv_base.specs.Logs.{StandingUpdate, changed, is_setting, standing, standing_after, without_newest, newest_at, newest_of}
@@ -138,6 +138,8 @@ numbers_step shard log (End tx) f m n = n
 numbers_step shard log (Restart run epoch) f m n = n
 numbers_step shard log (Add tx k by) f m n = (last _ _ (front _ _ m), n)
 numbers_step shard log (Unadd tx next k by) f m n = unadded tx next k by (standing log) (newest_of tx (standing log)) refl (last _ _ m) n
+numbers_step shard log Forgotten f m n = n
+numbers_step shard log (Check run' epoch' upto base) f m n = n
 
 pub find_numbers : (shard : ℕ) (log : List LogRecord) → Follows shard [] log → FindNumbers (standing log)
 find_numbers shard log f = through (λ l. FindNumbers (standing l)) shard [] log tt f tt

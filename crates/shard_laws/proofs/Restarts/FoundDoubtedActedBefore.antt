@@ -9,7 +9,7 @@ use Rattle.clv_base.specs.declared.ops.Answer.TheVariants.{Value, Added}
 use Rattle.clv_base.specs.declared.changes.Change.{Change}
 use Rattle.clv_base.specs.declared.changes.Change.TheVariants.{Sets, Adds}
 use Rattle.clv_base.specs.declared.logs.LogRecord.{LogRecord}
-use Rattle.clv_base.specs.declared.logs.LogRecord.TheVariants.{Update, Clr, Prepare, Commit, Abort, End, Restart, Add, Unadd}
+use Rattle.clv_base.specs.declared.logs.LogRecord.TheVariants.{Update, Clr, Prepare, Commit, Abort, End, Restart, Add, Unadd, Forgotten, Check}
 use Rattle.clv_base.specs.Orders.{tx_same, tx_in}
 use Rattle.clv_base.specs.Maps.{KeyMap, map_get, is_number, op_answer}
 use Rattle.clv_base.specs.Needs.{writes_of}
@@ -58,6 +58,8 @@ tells_step shard log (End tx) m old = old
 tells_step shard log (Restart run epoch) m old = old
 tells_step shard log (Add tx k by) m old = (tt, old)
 tells_step shard log (Unadd tx next k by) m old = all_without Tells tx (standing log) old
+tells_step shard log Forgotten m old = old
+tells_step shard log (Check run' epoch' upto base) m old = old
 
 pub all_tell : (shard : ℕ) (log : List LogRecord) → Follows shard [] log → AllByRecursion Tells (standing log)
 all_tell shard log f = through (λ l. AllByRecursion Tells (standing l)) shard [] log tt f tt (λ l r g p m. subst (AllByRecursion Tells) (sym (standing_append 0 l (r ∷ []) [])) (tells_step shard l r m p))
@@ -305,6 +307,8 @@ order_append doubt (End tx ∷ rs) ys = order_append doubt rs ys
 order_append doubt (Restart run epoch ∷ rs) ys = order_append doubt rs ys
 order_append doubt (Add tx k by ∷ rs) ys = order_append doubt rs ys
 order_append doubt (Unadd tx u k by ∷ rs) ys = order_append doubt rs ys
+order_append doubt (Forgotten ∷ rs) ys = order_append doubt rs ys
+order_append doubt (Check run' epoch' upto base ∷ rs) ys = order_append doubt rs ys
 
 pub order_has : (doubt : TxId → Bool) (log : List LogRecord) (t : TxId) → prepared_in log t ≡ true → doubt t ≡ true → tx_in t (prepared_order doubt log) ≡ true
 order_has doubt [] t p d = absurd (both_ways false refl p)
@@ -321,6 +325,8 @@ order_has doubt (End tx ∷ rs) t p d = order_has doubt rs t p d
 order_has doubt (Restart run epoch ∷ rs) t p d = order_has doubt rs t p d
 order_has doubt (Add tx k by ∷ rs) t p d = order_has doubt rs t p d
 order_has doubt (Unadd tx u k by ∷ rs) t p d = order_has doubt rs t p d
+order_has doubt (Forgotten ∷ rs) t p d = order_has doubt rs t p d
+order_has doubt (Check run' epoch' upto base ∷ rs) t p d = order_has doubt rs t p d
 
 pub order_out : (doubt : TxId → Bool) (log : List LogRecord) (t : TxId) → prepared_in log t ≡ false → tx_in t (prepared_order doubt log) ≡ false
 order_out doubt [] t p = refl
@@ -342,6 +348,8 @@ order_out doubt (End tx ∷ rs) t p = order_out doubt rs t p
 order_out doubt (Restart run epoch ∷ rs) t p = order_out doubt rs t p
 order_out doubt (Add tx k by ∷ rs) t p = order_out doubt rs t p
 order_out doubt (Unadd tx u k by ∷ rs) t p = order_out doubt rs t p
+order_out doubt (Forgotten ∷ rs) t p = order_out doubt rs t p
+order_out doubt (Check run' epoch' upto base ∷ rs) t p = order_out doubt rs t p
 
 -- a record more adds its own transaction where it is a new PREPARE, or none
 data Joins (doubt : TxId → Bool) (log : List LogRecord) : LogRecord → List TxId → Type 0 where
@@ -359,6 +367,8 @@ joins shard doubt log (End tx) m = none (End tx)
 joins shard doubt log (Restart run epoch) m = none (Restart run epoch)
 joins shard doubt log (Add tx k by) m = none (Add tx k by)
 joins shard doubt log (Unadd tx u k by) m = none (Unadd tx u k by)
+joins shard doubt log Forgotten m = none Forgotten
+joins shard doubt log (Check run' epoch' upto base) m = none (Check run' epoch' upto base)
 
 once_step : (doubt : TxId → Bool) (log : List LogRecord) (r : LogRecord) (more : List TxId) → Joins doubt log r more → Once (prepared_order doubt log) → Once (prepared_order doubt log ++ more)
 once_step doubt log _ _ (one tx home ps new) o = once_push (prepared_order doubt log) tx o (order_out doubt log tx new)

@@ -6,7 +6,7 @@ use Rattle.std.proofs.lemmas.Bool.{cases_Bool, both_ways, cond_both, or_cases, a
 use Rattle.std.proofs.lemmas.List.{take-append-drop}
 use Rattle.clv_base.specs.declared.names.TxId.{TxId}
 use Rattle.clv_base.specs.declared.logs.LogRecord.{LogRecord}
-use Rattle.clv_base.specs.declared.logs.LogRecord.TheVariants.{Update, Clr, Prepare, Commit, Abort, End, Restart, Add, Unadd}
+use Rattle.clv_base.specs.declared.logs.LogRecord.TheVariants.{Update, Clr, Prepare, Commit, Abort, End, Restart, Add, Unadd, Forgotten, Check}
 use Rattle.clv_base.specs.declared.state.Stage.TheVariants.{Active, Closed}
 use Rattle.clv_base.specs.declared.state.RequestState.TheVariants.{Undecided, Committed}
 use Rattle.clv_base.specs.Orders.{tx_same, tx_in}
@@ -98,6 +98,8 @@ greatest_plainly (Abort tx ∷ rs) n p = greatest_plainly rs n p.1
 greatest_plainly (End tx ∷ rs) n p = greatest_plainly rs n p.1
 greatest_plainly (Add tx k by ∷ rs) n p = greatest_plainly rs n p.1
 greatest_plainly (Unadd tx u k by ∷ rs) n p = greatest_plainly rs n p.1
+greatest_plainly (Forgotten ∷ rs) n p = greatest_plainly rs n p.1
+greatest_plainly (Check run' epoch' upto base ∷ rs) n p = absurd p.0
 
 all_kept : (f g : TxId → Bool) (ws : List StandingUpdate) → ((t : TxId) → f t ≡ g t) → AllByRecursion (λ w. f w.tx ≡ true) (filter (of_kept g) ws)
 all_kept f g [] e = tt
@@ -217,6 +219,8 @@ one_push (End u ∷ rs) tx parts o e = one_push rs tx parts o e
 one_push (Restart run epoch ∷ rs) tx parts o e = one_push rs tx parts o e
 one_push (Add u k by ∷ rs) tx parts o e = one_push rs tx parts o e
 one_push (Unadd u n k by ∷ rs) tx parts o e = one_push rs tx parts o e
+one_push (Forgotten ∷ rs) tx parts o e = one_push rs tx parts o e
+one_push (Check run' epoch' upto base ∷ rs) tx parts o e = one_push rs tx parts o e
 
 one_other : (log : List LogRecord) (r : LogRecord) → ((t : TxId) → is_commit_of t r ≡ false) → OneCommit log → OneCommit (r ∷ []) → OneCommit (log ++ r ∷ [])
 one_other [] r none o l = l
@@ -229,6 +233,8 @@ one_other (End u ∷ rs) r none o l = one_other rs r none o l
 one_other (Restart run epoch ∷ rs) r none o l = one_other rs r none o l
 one_other (Add u k by ∷ rs) r none o l = one_other rs r none o l
 one_other (Unadd u n k by ∷ rs) r none o l = one_other rs r none o l
+one_other (Forgotten ∷ rs) r none o l = one_other rs r none o l
+one_other (Check run' epoch' upto base ∷ rs) r none o l = one_other rs r none o l
 
 one_step : (shard : ℕ) (log : List LogRecord) (r : LogRecord) → may_follow shard log r ≡ true → OneCommit log → OneCommit (log ++ r ∷ [])
 one_step shard log (Commit tx parts) m o = one_push log tx parts o (not-true _ (last _ _ (front _ _ (front _ _ (front _ _ (front _ _ (front _ _ (front _ _ m))))))))
@@ -240,6 +246,8 @@ one_step shard log (End tx) m o = one_other log (End tx) (λ t. refl) o tt
 one_step shard log (Restart run epoch) m o = one_other log (Restart run epoch) (λ t. refl) o tt
 one_step shard log (Add tx k by) m o = one_other log (Add tx k by) (λ t. refl) o tt
 one_step shard log (Unadd tx u k by) m o = one_other log (Unadd tx u k by) (λ t. refl) o tt
+one_step shard log Forgotten m o = one_other log Forgotten (λ t. refl) o tt
+one_step shard log (Check run' epoch' upto base) m o = absurd cc
 
 pub one_commit : (shard : ℕ) (log : List LogRecord) → Follows shard [] log → OneCommit log
 one_commit shard log f = through OneCommit shard [] log tt f tt (λ l r g p m. one_step shard l r m p)

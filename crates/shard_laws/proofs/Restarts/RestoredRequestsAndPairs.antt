@@ -5,7 +5,7 @@ use Rattle.std.proofs.lemmas.Bool.{both_ways, cond_both, cond-false, or_cases, a
 use Rattle.std.proofs.lemmas.List.Folds.{list_any-append}
 use Rattle.clv_base.specs.declared.names.TxId.{TxId}
 use Rattle.clv_base.specs.declared.logs.LogRecord.{LogRecord}
-use Rattle.clv_base.specs.declared.logs.LogRecord.TheVariants.{Update, Clr, Prepare, Commit, Abort, End, Restart, Add, Unadd}
+use Rattle.clv_base.specs.declared.logs.LogRecord.TheVariants.{Update, Clr, Prepare, Commit, Abort, End, Restart, Add, Unadd, Forgotten, Check}
 use Rattle.clv_base.specs.declared.state.Request.{Request}
 use Rattle.clv_base.specs.declared.state.Voter.{Voter}
 use Rattle.clv_base.specs.Orders.{Table, tx_same, tx_in, tx_get, tx_put}
@@ -46,6 +46,8 @@ unended_none log (End tx ∷ rs) t e = unended_none log rs t e
 unended_none log (Restart run epoch ∷ rs) t e = unended_none log rs t e
 unended_none log (Add tx k by ∷ rs) t e = unended_none log rs t e
 unended_none log (Unadd tx u k by ∷ rs) t e = unended_none log rs t e
+unended_none log (Forgotten ∷ rs) t e = unended_none log rs t e
+unended_none log (Check run' epoch' upto base ∷ rs) t e = unended_none log rs t e
 
 pub voter_is : (log : List LogRecord) (ts : List TxId) (t : TxId) (v : Voter) → tx_get t (restored_voters (homes_of log ts)) ≡ Some v → (tx_in t ts ≡ true) × (v.vote ≡ None)
 voter_is log [] t v e = absurd cc
@@ -142,6 +144,8 @@ unended_parts log (End tx ∷ rs) t ps o e = unended_parts log rs t ps o e
 unended_parts log (Restart run epoch ∷ rs) t ps o e = unended_parts log rs t ps o e
 unended_parts log (Add tx k by ∷ rs) t ps o e = unended_parts log rs t ps o e
 unended_parts log (Unadd tx u k by ∷ rs) t ps o e = unended_parts log rs t ps o e
+unended_parts log (Forgotten ∷ rs) t ps o e = unended_parts log rs t ps o e
+unended_parts log (Check run' epoch' upto base ∷ rs) t ps o e = unended_parts log rs t ps o e
 
 -- ---- whom a restored pair names
 

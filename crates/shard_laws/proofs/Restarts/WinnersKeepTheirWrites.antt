@@ -5,7 +5,7 @@ use Rattle.std.specs.List.{AllByRecursion, filter}
 use Rattle.std.proofs.lemmas.Bool.{both_ways, cond_both, cond-false, or_cases, not-true, false_from_ne_true}
 use Rattle.clv_base.specs.declared.names.TxId.{TxId}
 use Rattle.clv_base.specs.declared.logs.LogRecord.{LogRecord}
-use Rattle.clv_base.specs.declared.logs.LogRecord.TheVariants.{Update, Clr, Prepare, Commit, Abort, End, Restart, Add, Unadd}
+use Rattle.clv_base.specs.declared.logs.LogRecord.TheVariants.{Update, Clr, Prepare, Commit, Abort, End, Restart, Add, Unadd, Forgotten, Check}
 use Rattle.clv_base.specs.declared.changes.Change.{Change}
 use Rattle.clv_base.specs.Orders.{tx_same, tx_in}
 use Rattle.clv_base.specs.declared.changes.Change.TheVariants.{Sets, Adds}
@@ -103,6 +103,8 @@ unmoved_from keep n (Restart run epoch ∷ rs) ws w u = unmoved_from keep (suc n
 unmoved_from keep n (Add tx k by ∷ rs) ws w u =
     unmoved_from keep (suc n) rs (record { lsn = n; tx = tx; key = k; change = Adds by } ∷ ws) (λ t e. w t (or_right (tx_same t tx) _ e)) (λ t e. u t e) ∙ cond-false (keep tx) _ (filter (of_kept keep) ws) (w tx (or_left _ _ (tx_self tx)))
 unmoved_from keep n (Unadd tx x k by ∷ rs) ws w u = unmoved_from keep (suc n) rs (without_newest tx ws) (λ t e. w t e) (λ t e. u t (or_right (tx_same t tx) _ e)) ∙ without_other keep tx ws (u tx (or_left _ _ (tx_self tx)))
+unmoved_from keep n (Forgotten ∷ rs) ws w u = unmoved_from keep (suc n) rs ws w u
+unmoved_from keep n (Check run' epoch' upto base ∷ rs) ws w u = unmoved_from keep (suc n) rs ws w u
 
 harmless_plain : (shard : ℕ) (log rs : List LogRecord) → AllByRecursion (Plain shard log) rs → AllByRecursion (Harmless log) rs
 harmless_plain shard log rs all = all_mono _ _ (λ r p. (p.opens, p.no_commit)) rs all

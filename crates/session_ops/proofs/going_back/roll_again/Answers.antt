@@ -1,5 +1,4 @@
-use Rattle.std.proofs.Common.{◌≡◌, ◌∙◌, ◌+◌, ℕ, suc, sym, ap, subst, refl, arith}
-use Rattle.session_ops.specs.WentBack.{MayRoll, Rolling}
+use Rattle.std.proofs.Common.{◌+◌, arith}
 use Rattle.session_ops.proofs.BackBelow.{again_may, never_again, again_left}
 use Rattle.session_ops.proofs.going_back.roll_again.Goals as goal
 

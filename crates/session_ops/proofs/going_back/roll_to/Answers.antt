@@ -1,4 +1,4 @@
-use Rattle.std.proofs.Common.{◌≡◌, ◌∙◌, ◌+◌, ℕ, suc, true, sym, ap, subst, refl, length, Ok, Err, add-one, arith}
+use Rattle.std.proofs.Common.{◌≡◌, ◌∙◌, true, sym, ap, subst, refl, length, Ok, Err, add-one, arith}
 use Rattle.clv_base.specs.Shards.{shard_count}
 use Rattle.cluster_turns.specs.Notes.{is_noted}
 use Rattle.session_ops.specs.WentBack.{MayRoll, RollIf}

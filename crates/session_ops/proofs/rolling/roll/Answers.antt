@@ -1,5 +1,4 @@
-use Rattle.std.proofs.Common.{◌≡◌, true, sym, ap, subst, refl}
-use Rattle.clv_base.specs.declared.events.Event.{Event}
+use Rattle.std.proofs.Common.{◌≡◌, true, sym, subst, refl}
 use Rattle.journal_laws.specs.Offers.{may_make}
 use Rattle.cluster_turns.specs.Turns.{EventTold}
 use Rattle.cluster_turns.specs.Walkers.{kept, Walked}

@@ -1,7 +1,7 @@
 use Rattle.std.proofs.Common.{◌∙◌, length, sym, ap, subst}
 use Rattle.session_ops.specs.Parts.{StandsUnless}
 use Rattle.session_ops.specs.Decided.{LeavesIf}
-use Rattle.session_ops.specs.WentBack.{Rolling, PastBy, has_died, back_as}
+use Rattle.session_ops.specs.WentBack.{Rolling, PastBy, has_died}
 use Rattle.session_ops.proofs.RollAsking.{place_of}
 use Rattle.session_ops.proofs.RollEnding.{rolls_told, rolls_past, rolls_stand}
 use Rattle.session_ops.proofs.rolling.roll_on.Goals as goal
