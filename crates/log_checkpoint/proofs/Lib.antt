@@ -1,0 +1,6 @@
+pub mod Leaving
+pub mod Keeping
+pub mod Again
+pub mod Restarting
+pub mod GoingOn
+pub mod StayingAlike
