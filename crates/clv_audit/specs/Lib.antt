@@ -1,0 +1,4 @@
+pub mod Right
+pub mod Verdicts
+pub mod Keeping
+pub mod Laws

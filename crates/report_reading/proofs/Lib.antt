@@ -1,0 +1,12 @@
+pub mod Printed
+pub mod Good
+pub mod ReadBack
+pub mod Rows
+pub mod Lasts
+pub mod Numbering
+pub mod Objects
+pub mod Same
+pub mod Whole
+pub mod Reports
+pub mod Places
+pub mod Laws
