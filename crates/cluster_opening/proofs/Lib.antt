@@ -12,3 +12,4 @@ pub mod Unagreed
 pub mod Checked
 pub mod Accepting
 pub mod Laws
+pub mod Reading

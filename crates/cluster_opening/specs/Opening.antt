@@ -28,6 +28,14 @@ Refuses stories (Apart tx) = (splits : List ℕ) × (logs : List (List LogRecord
 Refuses stories (Worn at) = (splits : List ℕ) × (logs : List (List LogRecord)) × LogsOfAll splits logs stories × (apart logs ≡ None) × (run_after logs ≡ 2 ^ 32) × (at ≡ 2 ^ 32)
 Refuses stories Memory = Unit {0}
 
+-- a refusal that isn't for the next run
+abbrev pub IsNotWorn : OpenError → Type 0
+IsNotWorn (Failed shard) = Unit {0}
+IsNotWorn (NotLog shard at) = Unit {0}
+IsNotWorn (Apart tx) = Unit {0}
+IsNotWorn (Worn at) = ⊥
+IsNotWorn Memory = Unit {0}
+
 -- the counts of faults stand
 abbrev pub Stand : (ℕ → ℕ) → (ℕ → ℕ) → Type 0
 Stand before now = (n : ℕ) → now n ≡ before n

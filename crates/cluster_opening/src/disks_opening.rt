@@ -6,7 +6,7 @@ ghost use Rattle.io_model.specs.Disk.{Tells};
 ghost use Rattle.log_analysis.specs.Facts.{KnowAll};
 ghost use Rattle.log_gate.specs.Opening.{IsUnchanged};
 ghost use Rattle.cluster_opening.specs.Logs.{IsFound};
-ghost use Rattle.cluster_opening.specs.Opening.{Refuses, CountsOpen};
+ghost use Rattle.cluster_opening.specs.Opening.{Refuses, CountsOpen, IsNotWorn};
 ghost use Rattle.cluster_opening.specs.Houses.{WentOut, AreGates, IsStopped};
 
 use crate::disks_giving::give_back_all;
@@ -21,7 +21,7 @@ use log_gate::{Header, LogGate};
 use std::alloc::Global;
 
 // The most shards.
-const SHARDS: usize = 16;
+pub(crate) const SHARDS: usize = 16;
 
 /// The logs of all shards, each behind the gate of its disk.
 #[derive(Drop)]
@@ -39,7 +39,7 @@ pub struct Found<D: Disk> {
 }
 
 // Opens disk by disk, and puts the gates, the logs and what these say into what has room for them. After an `Err` the disks of the gates are still out.
-fn open_logs<H: House>(
+pub(crate) fn open_logs<H: House>(
     alloc: Global,
     house: &mut H,
     gates: &mut Vec<LogGate<H::Disk>>,
@@ -56,6 +56,7 @@ fn open_logs<H: House>(
     ensures count { IfOk result (λ h. length logs.new.items ≡ shard_count h.splits) }
     ensures out { IfOk result (λ h. WentOut (shard_count h.splits) (H.faults house.old) (H.faults house.new) (H.is_out house.old) (H.is_out house.new) (H.story house.old) (H.story house.new)) }
     ensures stopped { IfErr result (IsStopped gates.new.items (H.faults house.old) (H.faults house.new) (H.is_out house.new) (H.story house.old) (H.story house.new)) }
+    ensures unworn { IfErr result IsNotWorn }
 {
     let (gate, header, log, said) = match open_one(alloc, house, 0, None) {
         Ok(found) => found,

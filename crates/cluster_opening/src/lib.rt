@@ -4,7 +4,8 @@
 //!
 //! `make_all` writes nothing where a disk has bytes. `open_disks` gives a gate for each shard, over a disk to which nothing was written,
 //! with the log found and what it says of each transaction; or it names the first fault, and puts every disk back unchanged; logs that may be
-//! opened are not refused. It stands on `log_gate` and `log_rules` for the logs, on `machine_calls` for the recovery and on `turn_lock`.
+//! opened are not refused. `read_logs` judges them alike, but for the next run, and gives the logs alone: every disk is back, and unchanged. It stands on
+//! `log_gate` and `log_rules` for the logs, on `machine_calls` for the recovery and on `turn_lock`.
 #![tactic(auto)]
 
 mod all_opening;
@@ -18,6 +19,7 @@ mod giving;
 mod judging;
 mod locking;
 mod logs_making;
+mod logs_reading;
 mod making;
 mod making_error;
 mod opening;
@@ -33,6 +35,7 @@ pub use error::{At, OpenError};
 pub use giving::give_back_locks;
 pub use locking::lock_shard;
 pub use logs_making::make_all;
+pub use logs_reading::read_logs;
 pub use making::make_walkers;
 pub use making_error::MakeError;
 pub use opening::open_shard;

@@ -7,15 +7,16 @@ use Rattle.cluster_opening.specs.Making.{HasBytes}
 use Rattle.cluster_opening.specs.declared.error.OpenError.TheVariants as opening
 use Rattle.cluster_opening.specs.Accepted.{GoodLogsAreNotRefused}
 use Rattle.command_line.specs.declared.commands.Command.{Command}
-use Rattle.command_line.specs.declared.commands.Command.TheVariants.{Make, Run, Show, Load, Serve}
+use Rattle.command_line.specs.declared.commands.Command.TheVariants.{Make, Run, Show, Load, Serve, Audit}
 use Rattle.history_replay.specs.Entries.{Kept}
+use Rattle.report_reading.specs.Faults.{ReportsHaveNoFault}
 use Rattle.script_lang.specs.Laws.{ScriptsAreNotRefused}
 use Rattle.command_line.specs.declared.status.Status.{Status}
-use Rattle.command_line.specs.declared.status.Status.TheVariants.{Fine, Usage, Script, ReadFault, WriteFault, DiskFault, NotLog, Memory, Worn, Exists, Apart}
+use Rattle.command_line.specs.declared.status.Status.TheVariants.{Fine, Usage, Script, ReadFault, WriteFault, DiskFault, NotLog, Memory, Worn, Exists, Apart, WrongTransaction, WrongMap, Unsettled}
 use Rattle.clv_commands.specs.Kinds.{IsOfCommand}
 use Rattle.clv_commands.specs.Causes as causes
-use Rattle.clv_commands.specs.Causes.{BreaksBy, BreaksScript, CountsSourceBy, CountsSinkBy, CountsDisks}
-use Rattle.clv_commands.specs.Completing.{TellsScript, IsAccepted, NoneRose, IsCompleted}
+use Rattle.clv_commands.specs.Causes.{BreaksBy, BreaksScript, BreaksReport, BreaksSource, CountsSourceBy, CountsSinkBy, CountsDisks}
+use Rattle.clv_commands.specs.Completing.{TellsScript, TellsReport, IsAccepted, NoneRose, IsCompleted}
 
 -- a disk without bytes has none
 no_bytes : (story : Option Story) (len : ℕ) → IsSomeAnd story (λ s. reads s ≡ []) → HasBytes len story → ⊥
@@ -24,6 +25,9 @@ no_bytes (Some s) len empty has = has.1 (has.0 ∙ ap length empty)
 
 refused_line : ScriptsAreNotRefused → (left : Option (List ℕ)) (line : ℕ) → TellsScript left → BreaksScript (Script line) left → ⊥
 refused_line law left line (bytes, script, is, told) breaks = law bytes script line told (subst (λ (l : Option (List ℕ)). BreaksScript (Script line) l) is breaks)
+
+faulty_line : ReportsHaveNoFault → (left : Option (List ℕ)) (line : ℕ) → TellsReport left → BreaksReport (Script line) left → ⊥
+faulty_line law left line (bytes, r, is, told) breaks = law bytes r line told (subst (λ (l : Option (List ℕ)). BreaksReport (Script line) l) is breaks)
 
 -- a fault of the source or the sink is told where its count rose
 source_rose : (sessions : ℕ) (history : Option Kept) (count count' : ℕ) → CountsSourceBy (Serve sessions) history count count' ReadFault → Rose count count'
@@ -35,9 +39,9 @@ sink_rose sessions None count count' h = h
 sink_rose sessions (Some kept) count count' h = h
 
 module _
-    (scripts : ScriptsAreNotRefused) (logs : GoodLogsAreNotRefused) (history : Option Kept) (left : Option (List ℕ)) (stories stories' : ℕ → Option Story) (source source' sink sink' : ℕ) (disks disks' : ℕ → ℕ)
+    (scripts : ScriptsAreNotRefused) (reports : ReportsHaveNoFault) (logs : GoodLogsAreNotRefused) (history : Option Kept) (left : Option (List ℕ)) (stories stories' : ℕ → Option Story) (source source' sink sink' : ℕ) (disks disks' : ℕ → ℕ)
     (none : NoneRose source source' sink sink' disks disks') where
-  pub completed : (c : Command) (status : Status) → IsOfCommand c status → causes.HasBytes c status stories stories' → BreaksBy c status history stories → BreaksScript status left
+  pub completed : (c : Command) (status : Status) → IsOfCommand c status → causes.HasBytes c status stories stories' → BreaksBy c status history stories → BreaksSource c status left
       → CountsSourceBy c history source source' status → CountsSinkBy c history sink sink' status → CountsDisks history disks disks' status → IsAccepted c left stories → IsCompleted c status
   completed (Make splits) Fine kind has breaks line_is s k d ok = tt
   completed (Make splits) Usage kind has breaks line_is s k d ok = absurd kind
@@ -50,6 +54,9 @@ module _
   completed (Make splits) (Worn at) kind has breaks line_is s k d ok = absurd kind
   completed (Make splits) (Exists shard len) kind has breaks line_is s k d ok = absurd (no_bytes (stories shard) len (ok shard has.is_shard) has.here)
   completed (Make splits) (Apart tx) kind has breaks line_is s k d ok = absurd kind
+  completed (Make splits) (WrongTransaction place) kind has breaks line_is s k d ok = absurd kind
+  completed (Make splits) (WrongMap key) kind has breaks line_is s k d ok = absurd kind
+  completed (Make splits) (Unsettled count) kind has breaks line_is s k d ok = absurd kind
   completed (Run tries) Fine kind has breaks line_is s k d ok = tt
   completed (Run tries) Usage kind has breaks line_is s k d ok = absurd kind
   completed (Run tries) (Script line) kind has breaks line_is s k d ok = absurd (refused_line scripts left line ok.0 line_is)
@@ -61,6 +68,9 @@ module _
   completed (Run tries) (Worn at) kind has breaks line_is s k d ok = tt
   completed (Run tries) (Exists shard len) kind has breaks line_is s k d ok = absurd kind
   completed (Run tries) (Apart tx) kind has breaks line_is s k d ok = absurd (logs stories (opening.Apart tx) ok.1 breaks)
+  completed (Run tries) (WrongTransaction place) kind has breaks line_is s k d ok = absurd kind
+  completed (Run tries) (WrongMap key) kind has breaks line_is s k d ok = absurd kind
+  completed (Run tries) (Unsettled count) kind has breaks line_is s k d ok = absurd kind
   completed Show Fine kind has breaks line_is s k d ok = tt
   completed Show Usage kind has breaks line_is s k d ok = absurd kind
   completed Show (Script line) kind has breaks line_is s k d ok = absurd kind
@@ -72,6 +82,9 @@ module _
   completed Show (Worn at) kind has breaks line_is s k d ok = tt
   completed Show (Exists shard len) kind has breaks line_is s k d ok = absurd kind
   completed Show (Apart tx) kind has breaks line_is s k d ok = absurd (logs stories (opening.Apart tx) ok breaks)
+  completed Show (WrongTransaction place) kind has breaks line_is s k d ok = absurd kind
+  completed Show (WrongMap key) kind has breaks line_is s k d ok = absurd kind
+  completed Show (Unsettled count) kind has breaks line_is s k d ok = absurd kind
   completed (Load seed sessions accounts transfers) Fine kind has breaks line_is s k d ok = tt
   completed (Load seed sessions accounts transfers) Usage kind has breaks line_is s k d ok = absurd kind
   completed (Load seed sessions accounts transfers) (Script line) kind has breaks line_is s k d ok = absurd kind
@@ -83,6 +96,9 @@ module _
   completed (Load seed sessions accounts transfers) (Worn at) kind has breaks line_is s k d ok = tt
   completed (Load seed sessions accounts transfers) (Exists shard len) kind has breaks line_is s k d ok = absurd kind
   completed (Load seed sessions accounts transfers) (Apart tx) kind has breaks line_is s k d ok = absurd (logs stories (opening.Apart tx) ok breaks)
+  completed (Load seed sessions accounts transfers) (WrongTransaction place) kind has breaks line_is s k d ok = absurd kind
+  completed (Load seed sessions accounts transfers) (WrongMap key) kind has breaks line_is s k d ok = absurd kind
+  completed (Load seed sessions accounts transfers) (Unsettled count) kind has breaks line_is s k d ok = absurd kind
   completed (Serve sessions) Fine kind has breaks line_is s k d ok = tt
   completed (Serve sessions) Usage kind has breaks line_is s k d ok = absurd kind
   completed (Serve sessions) (Script line) kind has breaks line_is s k d ok = absurd kind
@@ -94,3 +110,20 @@ module _
   completed (Serve sessions) (Worn at) kind has breaks line_is s k d ok = tt
   completed (Serve sessions) (Exists shard len) kind has breaks line_is s k d ok = absurd kind
   completed (Serve sessions) (Apart tx) kind has breaks line_is s k d ok = absurd (logs stories (opening.Apart tx) ok breaks)
+  completed (Serve sessions) (WrongTransaction place) kind has breaks line_is s k d ok = absurd kind
+  completed (Serve sessions) (WrongMap key) kind has breaks line_is s k d ok = absurd kind
+  completed (Serve sessions) (Unsettled count) kind has breaks line_is s k d ok = absurd kind
+  completed Audit Fine kind has breaks line_is s k d ok = tt
+  completed Audit Usage kind has breaks line_is s k d ok = absurd kind
+  completed Audit (Script line) kind has breaks line_is s k d ok = absurd (faulty_line reports left line ok.0 line_is)
+  completed Audit ReadFault kind has breaks line_is s k d ok = absurd (none.of_source s)
+  completed Audit WriteFault kind has breaks line_is s k d ok = absurd (none.of_sink k)
+  completed Audit (DiskFault shard) kind has breaks line_is s k d ok = absurd (none.of_disks shard d.0)
+  completed Audit (NotLog shard at) kind has breaks line_is s k d ok = absurd (logs stories (opening.NotLog shard at) ok.1 breaks)
+  completed Audit Memory kind has breaks line_is s k d ok = tt
+  completed Audit (Worn at) kind has breaks line_is s k d ok = absurd kind
+  completed Audit (Exists shard len) kind has breaks line_is s k d ok = absurd kind
+  completed Audit (Apart tx) kind has breaks line_is s k d ok = absurd (logs stories (opening.Apart tx) ok.1 breaks)
+  completed Audit (WrongTransaction place) kind has breaks line_is s k d ok = tt
+  completed Audit (WrongMap key) kind has breaks line_is s k d ok = tt
+  completed Audit (Unsettled count) kind has breaks line_is s k d ok = tt

@@ -19,7 +19,7 @@ use Rattle.cluster_runs.specs.PromisedSessions.{Went}
 use Rattle.script_lang.specs.Bodies.{Body}
 use Rattle.script_runs.specs.declared.threads.Start.{Start}
 use Rattle.command_line.specs.declared.status.Status.{Status}
-use Rattle.command_line.specs.declared.status.Status.TheVariants.{Fine, Usage, Script, ReadFault, WriteFault, DiskFault, NotLog, Memory, Worn, Exists, Apart}
+use Rattle.command_line.specs.declared.status.Status.TheVariants.{Fine, Usage, Script, ReadFault, WriteFault, DiskFault, NotLog, Memory, Worn, Exists, Apart, WrongTransaction, WrongMap, Unsettled}
 use Rattle.clv_commands.specs.Kinds.{IsOfRun, IsOfShow, IsOfShards}
 use Rattle.clv_commands.specs.Disks.{Closes}
 use Rattle.clv_commands.specs.Sinks.{TookPairs}
@@ -63,6 +63,9 @@ module _ (counts counts_now : ℕ → ℕ) (stories : ℕ → Option Story) (kep
   tells (Worn at) (Err text.Failed) told above e = record { runs = tt; shows = tt; logs = tt; script = tt; source = e; disks = stand shards counts counts_now told.2 above }
   tells (Exists shard len) written told above e = absurd told
   tells (Apart tx) written told above e = absurd told
+  tells (WrongTransaction place) written told above e = absurd told
+  tells (WrongMap key) written told above e = absurd told
+  tells (Unsettled count) written told above e = absurd told
 
 pub ended_so : (before now : ℕ → Option Story) (counts counts_now : ℕ → ℕ) (most : Option ℕ) (start : Start) (script : List (List Body)) (kept : Kept) (left : Option (List ℕ)) (faults faults' : ℕ) (running status : Status)
     → RanAll before now counts counts_now most start script kept running → EndsAs running status → faults' ≡ faults → Tells counts counts_now before kept left faults faults' status
@@ -104,3 +107,6 @@ unshown Memory kept pairs faults old other of = (refl, refl)
 unshown (Worn at) kept pairs faults old other of = (refl, tt)
 unshown (Exists shard len) kept pairs faults old other of = absurd of
 unshown (Apart tx) kept pairs faults old other of = absurd of
+unshown (WrongTransaction place) kept pairs faults old other of = absurd of
+unshown (WrongMap key) kept pairs faults old other of = absurd of
+unshown (Unsettled count) kept pairs faults old other of = absurd of

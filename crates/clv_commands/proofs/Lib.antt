@@ -8,3 +8,4 @@ mod Lines
 mod Summing
 pub mod Loaded
 pub mod Completing
+pub mod Audited

@@ -14,7 +14,7 @@ use Rattle.report_text.specs.declared.texts.ReportError.{ReportError}
 use Rattle.report_text.specs.declared.texts.ReportError.TheVariants as text
 use Rattle.command_line.specs.Running.{with_text}
 use Rattle.command_line.specs.declared.status.Status.{Status}
-use Rattle.command_line.specs.declared.status.Status.TheVariants.{Fine, Usage, Script, ReadFault, WriteFault, DiskFault, NotLog, Memory, Worn, Exists, Apart}
+use Rattle.command_line.specs.declared.status.Status.TheVariants.{Fine, Usage, Script, ReadFault, WriteFault, DiskFault, NotLog, Memory, Worn, Exists, Apart, WrongTransaction, WrongMap, Unsettled}
 use Rattle.clv_commands.specs.Kinds.{IsOfServe}
 use Rattle.clv_commands.specs.Causes.{BreaksLogs, CountsServedSource, CountsServedSink, CountsDisks, Stand}
 use Rattle.clv_commands.specs.Statuses.{with_input}
@@ -33,6 +33,9 @@ InputTold counts counts_now before now WriteFault = ⊥
 InputTold counts counts_now before now (NotLog shard at) = ⊥
 InputTold counts counts_now before now (Exists shard len) = ⊥
 InputTold counts counts_now before now (Apart tx) = ⊥
+InputTold counts counts_now before now (WrongTransaction place) = ⊥
+InputTold counts counts_now before now (WrongMap key) = ⊥
+InputTold counts counts_now before now (Unsettled count) = ⊥
 
 module _ (counts counts_now : ℕ → ℕ) (before now shards : ℕ) (above : (n : ℕ) → shards ≤ n → counts_now n ≡ counts n) where
   input_told : (running : Status) (read : Result (Unit {0}) ReadError) → DisksTold shards counts counts_now running → CountsReading before now read → InputTold counts counts_now before now (with_input running read)
@@ -59,6 +62,9 @@ module _ (counts counts_now : ℕ → ℕ) (before now shards : ℕ) (above : (n
   input_told (NotLog shard at) read told counts_so = absurd told
   input_told (Exists shard len) read told counts_so = absurd told
   input_told (Apart tx) read told counts_so = absurd told
+  input_told (WrongTransaction place) read told counts_so = absurd told
+  input_told (WrongMap key) read told counts_so = absurd told
+  input_told (Unsettled count) read told counts_so = absurd told
 
 -- what the status tells by itself
 pub record Serves (counts counts_now : ℕ → ℕ) (stories : ℕ → Option Story) (kept : Kept) (source source' sink sink' : ℕ) (status : Status) : Type 0 where
@@ -91,6 +97,9 @@ module _ (counts counts_now : ℕ → ℕ) (stories : ℕ → Option Story) (kep
   output_told (NotLog shard at) written told causes = absurd told
   output_told (Exists shard len) written told causes = absurd told
   output_told (Apart tx) written told causes = absurd told
+  output_told (WrongTransaction place) written told causes = absurd told
+  output_told (WrongMap key) written told causes = absurd told
+  output_told (Unsettled count) written told causes = absurd told
 
 pub served_so : (before now : ℕ → Option Story) (counts counts_now : ℕ → ℕ) (sessions : ℕ) (left left' taken taken' : Option (List ℕ)) (read : Result (Unit {0}) ReadError) (written : Result (Unit {0}) ReportError) (kept : Kept) (running status : Status) (source source' sink sink' : ℕ)
     → ServedAll before now counts counts_now sessions left left' taken taken' read written kept running → CountsReading source source' read → Causes sink sink' written → status ≡ with_text (with_input running read) written

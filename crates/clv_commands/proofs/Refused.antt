@@ -6,17 +6,18 @@ use Rattle.log_gate.specs.Opening.{IsUnchanged}
 use Rattle.cluster_runs.specs.Begun.{AreUnchanged, before}
 use Rattle.command_line.specs.Commands.{IsCommand}
 use Rattle.command_line.specs.declared.commands.Command.{Command}
-use Rattle.command_line.specs.declared.commands.Command.TheVariants.{Make, Run, Show, Load, Serve}
+use Rattle.command_line.specs.declared.commands.Command.TheVariants.{Make, Run, Show, Load, Serve, Audit}
 use Rattle.command_line.specs.declared.commands.WordsError.{WordsError}
 use Rattle.command_line.specs.declared.commands.WordsError.TheVariants as words
 use Rattle.cluster_opening.specs.Making.{Spares}
 use Rattle.command_line.specs.Refusals.{of_words}
 use Rattle.command_line.specs.declared.status.Status.{Status}
-use Rattle.command_line.specs.declared.status.Status.TheVariants.{Fine, Usage, Script, ReadFault, WriteFault, DiskFault, NotLog, Memory, Worn, Exists, Apart}
+use Rattle.command_line.specs.declared.status.Status.TheVariants.{Fine, Usage, Script, ReadFault, WriteFault, DiskFault, NotLog, Memory, Worn, Exists, Apart, WrongTransaction, WrongMap, Unsettled}
 use Rattle.clv_commands.specs.Kinds.{IsOfCommand}
 use Rattle.history_replay.specs.Entries.{Kept}
 use Rattle.clv_commands.specs.Disks.{ClosedBy}
-use Rattle.clv_commands.specs.Causes.{CountsSource, CountsSink, CountsSourceBy, CountsSinkBy}
+use Rattle.clv_commands.specs.Causes.{BreaksSource, CountsSource, CountsSink, CountsSourceBy, CountsSinkBy}
+use Rattle.clv_commands.specs.Audited.{AuditedBy}
 use Rattle.clv_commands.specs.Reading.{ReadsBy}
 use Rattle.clv_commands.specs.Completing.{IsCompleted}
 use Rattle.clv_commands.specs.Top.{AreNotServe, IsRefusedWords, HasCommand}
@@ -34,6 +35,7 @@ wanting (Run tries) = tt
 wanting Show = tt
 wanting (Load s n a t) = tt
 wanting (Serve n) = tt
+wanting Audit = tt
 
 pub kind : (texts : List (List ℕ)) (e : WordsError) (status : Status) → status ≡ of_words e → (e ≡ words.Usage → (c : Command) → IsCommand texts c → ⊥) → HasCommand texts (λ c. IsOfCommand c status)
 kind texts words.Usage status is none c also = absurd (none refl c also)
@@ -56,6 +58,7 @@ left stories (Run tries) = (λ h. before (unwritten stories))
 left stories Show = (λ h. before (unwritten stories))
 left stories (Load s n a t) = (λ h. before (unwritten stories))
 left stories (Serve n) = (λ h. before (unwritten stories))
+left stories Audit = unwritten stories
 
 pub closed :
     (texts : List (List ℕ)) (e : WordsError) (status : Status) (stories : ℕ → Option Story) → status ≡ of_words e → (e ≡ words.Usage → (c : Command) → IsCommand texts c → ⊥)
@@ -69,15 +72,58 @@ reads_none (Run tries) left = tt
 reads_none Show left = refl
 reads_none (Load s n a t) left = refl
 reads_none (Serve n) left = refl
+reads_none Audit left = tt
 
 pub unread :
     (texts : List (List ℕ)) (e : WordsError) (status : Status) (left : Option (List ℕ)) → status ≡ of_words e → (e ≡ words.Usage → (c : Command) → IsCommand texts c → ⊥) → HasCommand texts (λ c. ReadsBy c None status left left)
 unread texts words.Usage status left is none c also = absurd (none refl c also)
 unread texts words.Memory status left is none c also = subst (λ (s : Status). ReadsBy c None s left left) (sym is) (reads_none c left)
 
+completes_none : (c : Command) → IsCompleted c Memory
+completes_none (Make splits) = tt
+completes_none (Run tries) = tt
+completes_none Show = tt
+completes_none (Load s n a t) = tt
+completes_none (Serve n) = tt
+completes_none Audit = tt
+
+-- no line is at fault
+
+breaks_none : (c : Command) (left : Option (List ℕ)) (e : WordsError) → BreaksSource c (of_words e) left
+breaks_none (Make splits) left words.Usage = tt
+breaks_none (Make splits) left words.Memory = tt
+breaks_none (Run tries) left words.Usage = tt
+breaks_none (Run tries) left words.Memory = tt
+breaks_none Show left words.Usage = tt
+breaks_none Show left words.Memory = tt
+breaks_none (Load s n a t) left words.Usage = tt
+breaks_none (Load s n a t) left words.Memory = tt
+breaks_none (Serve n) left words.Usage = tt
+breaks_none (Serve n) left words.Memory = tt
+breaks_none Audit left words.Usage = tt
+breaks_none Audit left words.Memory = tt
+
+pub unbroken : (texts : List (List ℕ)) (e : WordsError) (status : Status) (left : Option (List ℕ)) → status ≡ of_words e → HasCommand texts (λ c. BreaksSource c status left)
+unbroken texts e status left is c also = subst (λ (s : Status). BreaksSource c s left) (sym is) (breaks_none c left e)
+
+-- there is no verdict
+
+judges_none : (c : Command) (left : Option (List ℕ)) (stories : ℕ → Option Story) (count : ℕ) (taken : Option (List ℕ)) (e : WordsError) → AuditedBy c left stories count count taken taken (of_words e)
+judges_none (Make splits) left stories count taken e = tt
+judges_none (Run tries) left stories count taken e = tt
+judges_none Show left stories count taken e = tt
+judges_none (Load s n a t) left stories count taken e = tt
+judges_none (Serve n) left stories count taken e = tt
+judges_none Audit left stories count taken words.Usage = tt
+judges_none Audit left stories count taken words.Memory = tt
+
+pub unjudged : (texts : List (List ℕ)) (e : WordsError) (status : Status) (left : Option (List ℕ)) (stories : ℕ → Option Story) (count : ℕ) (taken : Option (List ℕ)) → status ≡ of_words e
+    → HasCommand texts (λ c. AuditedBy c left stories count count taken taken status)
+unjudged texts e status left stories count taken is c also = subst (λ (s : Status). AuditedBy c left stories count count taken taken s) (sym is) (judges_none c left stories count taken e)
+
 pub completed_not : (texts : List (List ℕ)) (e : WordsError) (status : Status) → status ≡ of_words e → (e ≡ words.Usage → (c : Command) → IsCommand texts c → ⊥) → HasCommand texts (λ c. IsCompleted c status)
 completed_not texts words.Usage status is none c also = absurd (none refl c also)
-completed_not texts words.Memory status is none c also = subst (λ (s : Status). IsCompleted c s) (sym is) tt
+completed_not texts words.Memory status is none c also = subst (λ (s : Status). IsCompleted c s) (sym is) (completes_none c)
 
 -- no count rises
 
@@ -92,6 +138,8 @@ stands_source (Load s n a t) words.Usage count = refl
 stands_source (Load s n a t) words.Memory count = refl
 stands_source (Serve n) words.Usage count = refl
 stands_source (Serve n) words.Memory count = refl
+stands_source Audit words.Usage count = refl
+stands_source Audit words.Memory count = refl
 
 stands_sink : (c : Command) (e : WordsError) (count : ℕ) → CountsSinkBy c None count count (of_words e)
 stands_sink (Make splits) words.Usage count = refl
@@ -104,6 +152,8 @@ stands_sink (Load s n a t) words.Usage count = refl
 stands_sink (Load s n a t) words.Memory count = refl
 stands_sink (Serve n) words.Usage count = refl
 stands_sink (Serve n) words.Memory count = refl
+stands_sink Audit words.Usage count = refl
+stands_sink Audit words.Memory count = refl
 
 pub source_stands : (texts : List (List ℕ)) (e : WordsError) (status : Status) (count : ℕ) → status ≡ of_words e → HasCommand texts (λ c. CountsSourceBy c None count count status)
 source_stands texts e status count is c also = subst (λ (s : Status). CountsSourceBy c None count count s) (sym is) (stands_source c e count)
@@ -126,6 +176,7 @@ source_but texts (Run tries) history count count' status is h other = h
 source_but texts Show history count count' status is h other = h
 source_but texts (Load s n a t) history count count' status is h other = h
 source_but texts (Serve n) history count count' status is h other = absurd (other n is)
+source_but texts Audit history count count' status is h other = h
 
 pub sink_but : (texts : List (List ℕ)) (c : Command) (history : Option Kept) (count count' : ℕ) (status : Status) → IsCommand texts c → CountsSinkBy c history count count' status → AreNotServe texts → CountsSink history count count' status
 sink_but texts (Make splits) history count count' status is h other = h
@@ -133,6 +184,7 @@ sink_but texts (Run tries) history count count' status is h other = h
 sink_but texts Show history count count' status is h other = h
 sink_but texts (Load s n a t) history count count' status is h other = h
 sink_but texts (Serve n) history count count' status is h other = absurd (other n is)
+sink_but texts Audit history count count' status is h other = h
 
 -- none ends so
 never : (c : Command) → IsOfCommand c Usage → ⊥
@@ -141,6 +193,7 @@ never (Run tries) is = is
 never Show is = is
 never (Load s n a t) is = is
 never (Serve n) is = is
+never Audit is = is
 
 pub taken : (texts : List (List ℕ)) (c : Command) (status : Status) → IsCommand texts c → ((d : Command) → IsCommand texts d → IsOfCommand d status) → IsRefusedWords texts status
 taken texts c Fine is kind = (c, is)
@@ -154,3 +207,6 @@ taken texts c Memory is kind = tt
 taken texts c (Worn at) is kind = (c, is)
 taken texts c (Exists shard len) is kind = (c, is)
 taken texts c (Apart tx) is kind = (c, is)
+taken texts c (WrongTransaction place) is kind = (c, is)
+taken texts c (WrongMap key) is kind = (c, is)
+taken texts c (Unsettled count) is kind = (c, is)

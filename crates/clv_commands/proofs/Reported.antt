@@ -8,7 +8,7 @@ use Rattle.report_text.specs.Sinks.{TakesText, Causes}
 use Rattle.command_line.specs.Running.{with_text}
 use Rattle.command_line.specs.Texts.{writes_report}
 use Rattle.command_line.specs.declared.status.Status.{Status}
-use Rattle.command_line.specs.declared.status.Status.TheVariants.{Fine, Usage, Script, ReadFault, WriteFault, DiskFault, NotLog, Memory, Worn, Exists, Apart}
+use Rattle.command_line.specs.declared.status.Status.TheVariants.{Fine, Usage, Script, ReadFault, WriteFault, DiskFault, NotLog, Memory, Worn, Exists, Apart, WrongTransaction, WrongMap, Unsettled}
 use Rattle.clv_commands.specs.Kinds.{IsOfShards}
 use Rattle.clv_commands.specs.Sinks.{TookReport}
 use Rattle.clv_commands.specs.Causes.{CountsSink}
@@ -33,6 +33,9 @@ reported WriteFault written report before now old new of writes took cause = abs
 reported (NotLog shard at) written report before now old new of writes took cause = absurd of
 reported (Exists shard len) written report before now old new of writes took cause = absurd of
 reported (Apart tx) written report before now old new of writes took cause = absurd of
+reported (WrongTransaction place) written report before now old new of writes took cause = absurd of
+reported (WrongMap key) written report before now old new of writes took cause = absurd of
+reported (Unsettled count) written report before now old new of writes took cause = absurd of
 
 pub reported_so : (running : Status) (written : Result (Unit {0}) ReportError) (kept : Kept) (before now : ℕ) → IsOfShards running → writes_report running ≡ true → Causes before now written → CountsSink (Some kept) before now (with_text running written)
 reported_so Fine (Ok a) kept before now of writes cause = cause
@@ -52,6 +55,9 @@ reported_so WriteFault written kept before now of writes cause = absurd of
 reported_so (NotLog shard at) written kept before now of writes cause = absurd of
 reported_so (Exists shard len) written kept before now of writes cause = absurd of
 reported_so (Apart tx) written kept before now of writes cause = absurd of
+reported_so (WrongTransaction place) written kept before now of writes cause = absurd of
+reported_so (WrongMap key) written kept before now of writes cause = absurd of
+reported_so (Unsettled count) written kept before now of writes cause = absurd of
 
 -- at any other, which is want of memory, it isn't
 pub unreported : (running : Status) (report : List ℕ) (kept : Kept) (faults : ℕ) (old : Option (List ℕ)) → IsOfShards running → writes_report running ≡ false → TookReport report running faults faults old old × CountsSink (Some kept) faults faults running
@@ -66,3 +72,6 @@ unreported WriteFault report kept faults old of writes = absurd of
 unreported (NotLog shard at) report kept faults old of writes = absurd of
 unreported (Exists shard len) report kept faults old of writes = absurd of
 unreported (Apart tx) report kept faults old of writes = absurd of
+unreported (WrongTransaction place) report kept faults old of writes = absurd of
+unreported (WrongMap key) report kept faults old of writes = absurd of
+unreported (Unsettled count) report kept faults old of writes = absurd of

@@ -1,5 +1,5 @@
 -- What the accounts of a workload hold behind it.
-use Rattle.std.proofs.Common.{◌≡◌, refl, sym, ap, subst, ◌∙◌, ◌⊎◌, inl, inr, ⊎_elim, ℕ, zero, suc, ◌≤◌, ◌*◌, Bool, true, false, List, [], ◌∷◌, ◌++◌, map, Option, Some, None, slice_get, arith}
+use Rattle.std.proofs.Common.{◌≡◌, refl, sym, ap, subst, ◌∙◌, ◌⊎◌, inl, inr, ⊎_elim, ℕ, zero, suc, ◌≤◌, Bool, true, false, List, [], ◌∷◌, ◌++◌, map, Option, Some, None, slice_get, arith}
 use Rattle.std.specs.List.{AllByRecursion}
 use Rattle.std.proofs.lemmas.Bool.{both_ways, or_cases}
 use Rattle.clv_base.specs.declared.names.TxId.{TxId}
@@ -19,7 +19,7 @@ use Rattle.history_replay.specs.Replayed.{replayed}
 use Rattle.cluster_runs.specs.Histories.{entries, members_by}
 use Rattle.cluster_runs.specs.Members.{IsOfScript, MembersAreOfScript}
 use Rattle.cluster_runs.specs.Replays.{RunsReplay}
-use Rattle.cluster_runs.specs.Completing.{HasEnded, acknowledged, empty, by_line, given_up, IsAcknowledged, TransactionEnded, SessionEnded}
+use Rattle.cluster_runs.specs.Completing.{HasEnded, acknowledged, empty, by_line, given_up, TransactionEnded}
 use Rattle.script_lang.specs.declared.actions.Ending.TheVariants.{Commit}
 use Rattle.script_lang.specs.declared.actions.Action.{Action}
 use Rattle.script_lang.specs.Bodies.{Body}

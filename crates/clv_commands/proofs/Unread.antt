@@ -1,12 +1,13 @@
--- A script that isn't read.
+-- A script, or a report, that isn't read.
 use Rattle.std.proofs.Common.{◌≡◌, refl, sym, subst, ℕ, ◌<◌, List, length, Option, Some, None, IfSome, Result, Err, Vec, Global}
 use Rattle.io_model.specs.declared.whole.ReadError.{ReadError}
 use Rattle.io_model.specs.declared.whole.ReadError.TheVariants as reading
 use Rattle.script_lang.specs.Grammar.{too_long}
+use Rattle.report_reading.specs.Faults.{too_long as no_report}
 use Rattle.command_line.specs.Refusals.{of_source}
 use Rattle.command_line.specs.declared.status.Status.{Status}
-use Rattle.command_line.specs.declared.status.Status.TheVariants.{Script, Memory}
-use Rattle.clv_commands.specs.Causes.{ScriptFault, CountsSink, CountsDisks}
+use Rattle.command_line.specs.declared.status.Status.TheVariants.{Script}
+use Rattle.clv_commands.specs.Causes.{ScriptFault, ReportFault, CountsSink, CountsDisks}
 use Rattle.clv_commands.specs.Reading.{ReadsScript}
 
 too_many : (left : Option (List ℕ)) → IfSome left (λ bytes. 16777216 < length bytes) → ScriptFault left (Script 0)
@@ -17,6 +18,15 @@ pub unread : (e : ReadError) (status : Status) (left : Option (List ℕ)) → st
 unread reading.Failed status left is long = subst (ScriptFault left) (sym is) tt
 unread reading.TooLong status left is long = subst (ScriptFault left) (sym is) (too_many left (long refl))
 unread reading.Memory status left is long = subst (ScriptFault left) (sym is) tt
+
+no_report_so_long : (left : Option (List ℕ)) → IfSome left (λ bytes. 16777216 < length bytes) → ReportFault left (Script 0)
+no_report_so_long None h = tt
+no_report_so_long (Some bytes) h = no_report h
+
+pub unread_report : (e : ReadError) (status : Status) (left : Option (List ℕ)) → status ≡ of_source e → (◌≡◌ {A = Result (Vec ℕ Global) ReadError} (Err e) (Err reading.TooLong) → IfSome left (λ bytes. 16777216 < length bytes)) → ReportFault left status
+unread_report reading.Failed status left is long = subst (ReportFault left) (sym is) tt
+unread_report reading.TooLong status left is long = subst (ReportFault left) (sym is) (no_report_so_long left (long refl))
+unread_report reading.Memory status left is long = subst (ReportFault left) (sym is) tt
 
 -- no shards are opened then, nothing is written, and no disk is called
 pub record Unopened (left left' : Option (List ℕ)) (faults : ℕ) (counts : ℕ → ℕ) (status : Status) : Type 0 where

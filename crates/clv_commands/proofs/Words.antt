@@ -3,7 +3,7 @@ use Rattle.std.proofs.Common.{◌≡◌, refl, sym, ap, subst, ◌∙◌, ℕ, L
 use Rattle.clap.specs.Words.{Row, Text}
 use Rattle.command_line.specs.Commands.{IsGiven, IsUpTo, Says, IsCommand}
 use Rattle.command_line.specs.declared.commands.Command.{Command}
-use Rattle.command_line.specs.declared.commands.Command.TheVariants.{Make, Run, Show, Load, Serve}
+use Rattle.command_line.specs.declared.commands.Command.TheVariants.{Make, Run, Show, Load, Serve, Audit}
 use Rattle.clv_commands.specs.Top.{HasCommand}
 use Rattle.law_base.proofs.Numbers.{below_differs as less}
 use Rattle.script_lang.proofs.Laws.{number_once}
@@ -57,6 +57,17 @@ says_once name rows (Serve e) (Make a2) p q = absurd (less 109 115 (omega arith)
 says_once name rows (Serve e) (Run b2) p q = absurd (less 114 115 (omega arith) (ap first_letter (sym q.0 ∙ p.0)))
 says_once name rows (Serve e) Show p q = absurd (less 101 104 (omega arith) (ap second_letter (sym p.0 ∙ q)))
 says_once name rows (Serve e) (Load s2 n2 k2 t2) p q = absurd (less 108 115 (omega arith) (ap first_letter (sym q.0 ∙ p.0)))
+says_once name rows Audit Audit p q = refl
+says_once name rows Audit (Make a2) p q = absurd (less 97 109 (omega arith) (ap first_letter (sym p ∙ q.0)))
+says_once name rows Audit (Run b2) p q = absurd (less 97 114 (omega arith) (ap first_letter (sym p ∙ q.0)))
+says_once name rows Audit Show p q = absurd (less 97 115 (omega arith) (ap first_letter (sym p ∙ q)))
+says_once name rows Audit (Load s2 n2 k2 t2) p q = absurd (less 97 108 (omega arith) (ap first_letter (sym p ∙ q.0)))
+says_once name rows Audit (Serve e2) p q = absurd (less 97 115 (omega arith) (ap first_letter (sym p ∙ q.0)))
+says_once name rows (Make a) Audit p q = absurd (less 97 109 (omega arith) (ap first_letter (sym q ∙ p.0)))
+says_once name rows (Run b) Audit p q = absurd (less 97 114 (omega arith) (ap first_letter (sym q ∙ p.0)))
+says_once name rows Show Audit p q = absurd (less 97 115 (omega arith) (ap first_letter (sym q ∙ p)))
+says_once name rows (Load s n k t) Audit p q = absurd (less 97 108 (omega arith) (ap first_letter (sym q ∙ p.0)))
+says_once name rows (Serve e) Audit p q = absurd (less 97 115 (omega arith) (ap first_letter (sym q ∙ p.0)))
 
 abbrev says : Option (Text × List Row) → Command → Type 0
 says None c = ⊥

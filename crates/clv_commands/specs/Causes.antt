@@ -2,16 +2,17 @@
 use Rattle.std.specs.Prelude.{◌≡◌, ℕ, ◌<◌, List, Option, Some, None, IfSome, Result, Ok, Err}
 use Rattle.clv_base.specs.Shards.{shard_count}
 use Rattle.command_line.specs.declared.commands.Command.{Command}
-use Rattle.command_line.specs.declared.commands.Command.TheVariants.{Make, Serve}
+use Rattle.command_line.specs.declared.commands.Command.TheVariants.{Make, Serve, Audit}
 use Rattle.io_model.specs.Story.{Story}
 use Rattle.io_model.specs.Disk.{Rose}
 use Rattle.cluster_opening.specs.Making.{ExistsAt}
 use Rattle.cluster_opening.specs.Opening.{Refuses}
 use Rattle.cluster_opening.specs.declared.error.OpenError.TheVariants as opening
 use Rattle.history_replay.specs.Entries.{Kept}
+use Rattle.report_reading.specs.Faults.{IsFault}
 use Rattle.script_lang.specs.Grammar.{IsRefused}
 use Rattle.command_line.specs.declared.status.Status.{Status}
-use Rattle.command_line.specs.declared.status.Status.TheVariants.{Fine, Script, ReadFault, WriteFault, DiskFault, NotLog, Memory, Worn, Exists, Apart}
+use Rattle.command_line.specs.declared.status.Status.TheVariants.{Fine, Script, ReadFault, WriteFault, DiskFault, NotLog, Memory, Worn, Exists, Apart, WrongTransaction, WrongMap, Unsettled}
 
 -- the shard's disk is the lowest that isn't empty, and no disk was written
 abbrev pub HasBytes : Command → Status → (ℕ → Option Story) → (ℕ → Option Story) → Type 0
@@ -36,16 +37,30 @@ abbrev pub BreaksScript : Status → Option (List ℕ) → Type 0
 BreaksScript (Script line) left = IfSome left (λ bytes. IsRefused bytes line)
 BreaksScript status left = Unit {0}
 
+-- of a report: this line is the first after which none goes on; 0 where there are more than 16,777,216 bytes
+abbrev pub BreaksReport : Status → Option (List ℕ) → Type 0
+BreaksReport (Script line) left = IfSome left (λ bytes. IsFault bytes line)
+BreaksReport status left = Unit {0}
+
+-- `audit` reads a report, and any other command a script
+abbrev pub BreaksSource : Command → Status → Option (List ℕ) → Type 0
+BreaksSource Audit status left = BreaksReport status left
+BreaksSource command status left = BreaksScript status left
+
 -- a read fault is told exactly where the source's count rose
 abbrev pub CountsSource : ℕ → ℕ → Status → Type 0
 CountsSource before now ReadFault = Rose before now
 CountsSource before now status = now ≡ before
 
--- a write fault is told only where the sink's count rose, which stands where all was fine, where memory was wanting, and where no shards were opened
+-- a write fault is told only where the sink's count rose, which stands where all was fine, where memory was wanting, and where no shards were opened; behind a
+-- verdict that isn't fine it may have risen
 abbrev pub CountsSink : Option Kept → ℕ → ℕ → Status → Type 0
 CountsSink history before now WriteFault = Rose before now
 CountsSink history before now Fine = now ≡ before
 CountsSink history before now Memory = now ≡ before
+CountsSink history before now (WrongTransaction place) = Unit {0}
+CountsSink history before now (WrongMap key) = Unit {0}
+CountsSink history before now (Unsettled count) = Unit {0}
 CountsSink None before now status = now ≡ before
 CountsSink history before now status = Unit {0}
 
@@ -82,7 +97,7 @@ CountsDisks history before now (DiskFault shard) = Rose (before shard) (now shar
 CountsDisks (Some kept) before now Memory = Unit {0}
 CountsDisks history before now status = Stand before now
 
--- ---- reading the script
+-- ---- reading the source
 
 -- why a script wasn't read
 abbrev pub ScriptFault : Option (List ℕ) → Status → Type 0
@@ -90,6 +105,13 @@ ScriptFault left (Script line) = IfSome left (λ bytes. IsRefused bytes line)
 ScriptFault left ReadFault = Unit {0}
 ScriptFault left Memory = Unit {0}
 ScriptFault left status = ⊥
+
+-- why a report wasn't read
+abbrev pub ReportFault : Option (List ℕ) → Status → Type 0
+ReportFault left (Script line) = IfSome left (λ bytes. IsFault bytes line)
+ReportFault left ReadFault = Unit {0}
+ReportFault left Memory = Unit {0}
+ReportFault left status = ⊥
 
 abbrev pub CountsScript : {A : Type 0} → ℕ → ℕ → Result A Status → Type 0
 CountsScript before now (Ok script) = now ≡ before

@@ -5,7 +5,7 @@ use Rattle.io_model.specs.Story.{Story}
 use Rattle.io_model.specs.Disk.{Tells}
 use Rattle.cluster_runs.specs.Begun.{AreUnchanged, MayBeLeft}
 use Rattle.command_line.specs.declared.commands.Command.{Command}
-use Rattle.command_line.specs.declared.commands.Command.TheVariants.{Make, Run, Show, Load, Serve}
+use Rattle.command_line.specs.declared.commands.Command.TheVariants.{Make, Run, Show, Load, Serve, Audit}
 use Rattle.cluster_opening.specs.Making.{IsMade, Spares}
 use Rattle.history_replay.specs.Entries.{Kept}
 use Rattle.command_line.specs.declared.status.Status.{Status}
@@ -28,6 +28,7 @@ ClosedBy (Run tries) status history before now = history ≡ None → Closes sta
 ClosedBy Show status history before now = history ≡ None → Closes status before now
 ClosedBy (Load seed sessions accounts transfers) status history before now = history ≡ None → Closes status before now
 ClosedBy (Serve sessions) status history before now = history ≡ None → Closes status before now
+ClosedBy Audit status history before now = AreUnchanged before now
 
 -- where all was fine with `make`, each shard's disk, which was empty, has its header and a closed gate
 abbrev pub Makes : Command → Status → (ℕ → Option Story) → (ℕ → Option Story) → Type 0

@@ -1,8 +1,8 @@
 -- The statuses that each command may end with.
 use Rattle.command_line.specs.declared.commands.Command.{Command}
-use Rattle.command_line.specs.declared.commands.Command.TheVariants.{Make, Run, Show, Load, Serve}
+use Rattle.command_line.specs.declared.commands.Command.TheVariants.{Make, Run, Show, Load, Serve, Audit}
 use Rattle.command_line.specs.declared.status.Status.{Status}
-use Rattle.command_line.specs.declared.status.Status.TheVariants.{Fine, Usage, Script, ReadFault, DiskFault, Memory, Worn, Exists}
+use Rattle.command_line.specs.declared.status.Status.TheVariants.{Fine, Usage, Script, ReadFault, DiskFault, Memory, Worn, Exists, WrongTransaction, WrongMap, Unsettled}
 
 abbrev pub IsOfMake : Status → Type 0
 IsOfMake Fine = Unit {0}
@@ -14,6 +14,9 @@ IsOfMake status = ⊥
 abbrev pub IsOfRun : Status → Type 0
 IsOfRun Usage = ⊥
 IsOfRun (Exists shard len) = ⊥
+IsOfRun (WrongTransaction place) = ⊥
+IsOfRun (WrongMap key) = ⊥
+IsOfRun (Unsettled count) = ⊥
 IsOfRun status = Unit {0}
 
 -- `show` and `load` read no script
@@ -22,6 +25,9 @@ IsOfShow Usage = ⊥
 IsOfShow (Exists shard len) = ⊥
 IsOfShow (Script line) = ⊥
 IsOfShow ReadFault = ⊥
+IsOfShow (WrongTransaction place) = ⊥
+IsOfShow (WrongMap key) = ⊥
+IsOfShow (Unsettled count) = ⊥
 IsOfShow status = Unit {0}
 
 -- `serve` reads lines, which are refused one by one
@@ -29,7 +35,17 @@ abbrev pub IsOfServe : Status → Type 0
 IsOfServe Usage = ⊥
 IsOfServe (Exists shard len) = ⊥
 IsOfServe (Script line) = ⊥
+IsOfServe (WrongTransaction place) = ⊥
+IsOfServe (WrongMap key) = ⊥
+IsOfServe (Unsettled count) = ⊥
 IsOfServe status = Unit {0}
+
+-- `audit` asks for no run
+abbrev pub IsOfAudit : Status → Type 0
+IsOfAudit Usage = ⊥
+IsOfAudit (Exists shard len) = ⊥
+IsOfAudit (Worn at) = ⊥
+IsOfAudit status = Unit {0}
 
 abbrev pub IsOfCommand : Command → Status → Type 0
 IsOfCommand (Make splits) status = IsOfMake status
@@ -37,6 +53,7 @@ IsOfCommand (Run tries) status = IsOfRun status
 IsOfCommand Show status = IsOfShow status
 IsOfCommand (Load seed sessions accounts transfers) status = IsOfShow status
 IsOfCommand (Serve sessions) status = IsOfServe status
+IsOfCommand Audit status = IsOfAudit status
 
 -- the statuses of shards that were opened, before any text is written
 abbrev pub IsOfShards : Status → Type 0

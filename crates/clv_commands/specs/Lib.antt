@@ -8,3 +8,4 @@ pub mod Reading
 pub mod Completing
 pub mod Top
 pub mod Statuses
+pub mod Audited

@@ -3,7 +3,7 @@ use Rattle.std.specs.Prelude.{◌≡◌, ℕ, ◌*◌, List, [], Option, Some, N
 use Rattle.cluster_opening.specs.Logs.{LogsOfAll}
 use Rattle.cluster_runs.specs.Ran.{RanAll}
 use Rattle.command_line.specs.declared.commands.Command.{Command}
-use Rattle.command_line.specs.declared.commands.Command.TheVariants.{Make, Run, Show, Load, Serve}
+use Rattle.command_line.specs.declared.commands.Command.TheVariants.{Make, Run, Show, Load, Serve, Audit}
 use Rattle.io_model.specs.Story.{Story}
 use Rattle.io_model.specs.declared.whole.ReadError.{ReadError}
 use Rattle.live_threads.specs.Lives.{Life}
@@ -50,6 +50,7 @@ PromisedBy Show left before now counts counts_now status kept = HasRun None [] b
 PromisedBy (Load seed sessions accounts transfers) left before now counts counts_now status kept =
     HasLoaded accounts (load seed sessions accounts transfers) before now counts counts_now kept status
 PromisedBy (Make splits) left before now counts counts_now status kept = ⊥
+PromisedBy Audit left before now counts counts_now status kept = ⊥
 PromisedBy (Serve sessions) left before now counts counts_now status kept =
     (splits : List ℕ) × (lives : ℕ → Life) × LogsOfAll splits kept.found before × LivesPromised splits before now counts counts_now sessions lives kept
 
@@ -60,7 +61,7 @@ ServedBy (Serve sessions) left left' taken taken' before now counts counts_now s
     × ServedAll before now counts counts_now sessions left left' taken taken' read written kept running × (status ≡ with_text (with_input running read) written)
 ServedBy command left left' taken taken' before now counts counts_now status kept = Unit {0}
 
--- shards were opened where `run`, `show`, `load` or `serve` was fine but for the sink; `make` opens none
+-- shards were opened where `run`, `show`, `load` or `serve` was fine but for the sink; `make` and `audit` open none
 abbrev pub Opened : Option Kept → Status → Type 0
 Opened (Some kept) status = Unit {0}
 Opened None Fine = ⊥
@@ -73,3 +74,4 @@ OpensByCommand Show status history = Opened history status
 OpensByCommand (Load seed sessions accounts transfers) status history = Opened history status
 OpensByCommand (Serve sessions) status history = Opened history status
 OpensByCommand (Make splits) status history = history ≡ None
+OpensByCommand Audit status history = history ≡ None

@@ -2,7 +2,7 @@
 use Rattle.std.specs.Prelude.{◌≡◌, ◌⊎◌, ℕ, ◌+◌, ◌*◌, List, take, Option, Some}
 use Rattle.clv_base.specs.Logs.{stands}
 use Rattle.command_line.specs.declared.commands.Command.{Command}
-use Rattle.command_line.specs.declared.commands.Command.TheVariants.{Run, Show, Load, Serve}
+use Rattle.command_line.specs.declared.commands.Command.TheVariants.{Run, Show, Load, Serve, Audit}
 use Rattle.io_model.specs.Disk.{Rose}
 use Rattle.history_replay.specs.Entries.{Kept}
 use Rattle.io_model.specs.Streams.{Grows}
@@ -10,7 +10,7 @@ use Rattle.report_text.specs.Loads.{load_text}
 use Rattle.report_text.specs.Report.{report, pairs_text}
 use Rattle.cluster_runs.specs.Histories.{entries}
 use Rattle.command_line.specs.declared.status.Status.{Status}
-use Rattle.command_line.specs.declared.status.Status.TheVariants.{Fine, WriteFault, DiskFault, Worn}
+use Rattle.command_line.specs.declared.status.Status.TheVariants.{Fine, WriteFault, DiskFault, Worn, WrongTransaction, WrongMap, Unsettled}
 
 -- all of the text; or a front of it where the sink failed
 abbrev pub TookText : List ℕ → ℕ → ℕ → Option (List ℕ) → Option (List ℕ) → Type 0
@@ -34,10 +34,20 @@ TookPairs text Fine old new = Grows old new text
 TookPairs text WriteFault old new = (n : ℕ) × Grows old new (take n text)
 TookPairs text status old new = new ≡ old
 
+-- without a verdict nothing is written; with one, what is stands in a clause of its own
+abbrev pub TookVerdict : Status → Option (List ℕ) → Option (List ℕ) → Type 0
+TookVerdict Fine old new = Unit {0}
+TookVerdict WriteFault old new = Unit {0}
+TookVerdict (WrongTransaction place) old new = Unit {0}
+TookVerdict (WrongMap key) old new = Unit {0}
+TookVerdict (Unsettled count) old new = Unit {0}
+TookVerdict status old new = new ≡ old
+
 abbrev pub Took : Command → Status → Option Kept → ℕ → ℕ → Option (List ℕ) → Option (List ℕ) → Type 0
 Took (Run tries) status (Some kept) before now old new = TookReport (report (entries kept)) status before now old new
 Took Show status (Some kept) before now old new = TookPairs (pairs_text (stands kept.found)) status old new
 Took (Load seed sessions accounts transfers) status (Some kept) before now old new = TookPairs (line_of sessions accounts transfers) status old new
 -- what `serve` writes stands in a clause of its own
 Took (Serve sessions) status (Some kept) before now old new = Unit {0}
+Took Audit status history before now old new = TookVerdict status old new
 Took command status history before now old new = new ≡ old

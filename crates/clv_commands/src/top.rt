@@ -4,12 +4,14 @@ ghost use Rattle.std.specs.Prelude.{◌≡◌, ◌<◌, ◌≤◌, ℕ, None, fa
 ghost use Rattle.clv_commands.specs.Kinds.{IsOfCommand};
 ghost use Rattle.clv_commands.specs.Disks.{ClosedBy, Makes};
 ghost use Rattle.clv_commands.specs.Sinks.{Took};
-ghost use Rattle.clv_commands.specs.Causes.{HasBytes, BreaksBy, BreaksScript, CountsSource, CountsSink, CountsSourceBy, CountsSinkBy, CountsDisks};
+ghost use Rattle.clv_commands.specs.Causes.{HasBytes, BreaksBy, BreaksSource, CountsSource, CountsSink, CountsSourceBy, CountsSinkBy, CountsDisks};
 ghost use Rattle.clv_commands.specs.Runs.{PromisedBy, ServedBy, OpensByCommand};
 ghost use Rattle.clv_commands.specs.Reading.{ReadsBy};
+ghost use Rattle.clv_commands.specs.Audited.{AuditedBy};
 ghost use Rattle.clv_commands.specs.Completing.{IsAccepted, NoneRose, IsCompleted};
 ghost use Rattle.clv_commands.specs.Top.{AreRefused, AreNotServe, IsRefusedWords, HasCommand, IsWithinBounds};
 
+use crate::auditing::audit;
 use crate::ended::Ended;
 use crate::loading::{Work, load};
 use crate::making::make_logs;
@@ -19,6 +21,7 @@ use crate::showing::show;
 use cluster_opening::opening_laws::good_logs_are_not_refused;
 use command_line::{Command, Status, command_of};
 use io_model::{House, Pace, Sink, Source};
+use report_reading::statements::reports_have_no_fault;
 use script_lang::statements::scripts_are_not_refused;
 use std::alloc::Global;
 use std::sync::Wait;
@@ -41,6 +44,7 @@ where
     ensures kind { IsOfCommand command result.status }
     ensures promised { IfSome result.history (PromisedBy command (S.left source.old) (H.story house.old) (H.story house.new) (H.faults house.old) (H.faults house.new) result.status) }
     ensures served { IfSome result.history (ServedBy command (S.left source.old) (S.left source.new) (K.taken sink.old) (K.taken sink.new) (H.story house.old) (H.story house.new) (H.faults house.old) (H.faults house.new) result.status) }
+    ensures audited { AuditedBy command (S.left source.old) (H.story house.old) (K.faults sink.old) (K.faults sink.new) (K.taken sink.old) (K.taken sink.new) result.status }
     ensures opened { OpensByCommand command result.status result.history }
     ensures took { Took command result.status result.history (K.faults sink.old) (K.faults sink.new) (K.taken sink.old) (K.taken sink.new) }
     ensures closed { ClosedBy command result.status result.history (H.story house.old) (H.story house.new) }
@@ -48,7 +52,7 @@ where
     ensures read { ReadsBy command result.history result.status (S.left source.old) (S.left source.new) }
     ensures exists { HasBytes command result.status (H.story house.old) (H.story house.new) }
     ensures logs { BreaksBy command result.status result.history (H.story house.old) }
-    ensures script { BreaksScript result.status (S.left source.old) }
+    ensures script { BreaksSource command result.status (S.left source.old) }
     ensures source { CountsSourceBy command result.history (S.faults source.old) (S.faults source.new) result.status }
     ensures sink { CountsSinkBy command result.history (K.faults sink.old) (K.faults sink.new) result.status }
     ensures disks { CountsDisks result.history (H.faults house.old) (H.faults house.new) result.status }
@@ -76,6 +80,10 @@ where
             load(rt, alloc, sink, house, pace, work)
         }
         Command::Serve { sessions } => serve(rt, alloc, source, sink, house, pace, sessions),
+        Command::Audit => Ended {
+            status: audit(alloc, source, sink, house),
+            history: None,
+        },
     }
 }
 
@@ -114,7 +122,11 @@ where
     // all was fine every line of the source was taken, and every reply written.
     ensures served { HasCommand (map (λ w. w.now) words.now) (λ command. IfSome result.history (ServedBy command (S.left source.old) (S.left source.new) (K.taken sink.old) (K.taken sink.new) (H.story house.old) (H.story house.new) (H.faults house.old) (H.faults house.new) result.status)) }
 
-    // Shards were opened where `run`, `show`, `load` or `serve` was fine, and not by `make`.
+    // Of `audit` that came to a verdict: the disks hold logs that agree, and it is the verdict on the bytes of the source by what these stand for. It is told
+    // by the status, and by the line that the sink took, or a front of it where the sink failed.
+    ensures audited { HasCommand (map (λ w. w.now) words.now) (λ command. AuditedBy command (S.left source.old) (H.story house.old) (K.faults sink.old) (K.faults sink.new) (K.taken sink.old) (K.taken sink.new) result.status) }
+
+    // Shards were opened where `run`, `show`, `load` or `serve` was fine, and not by `make` or `audit`.
     ensures opened { HasCommand (map (λ w. w.now) words.now) (λ command. OpensByCommand command result.status result.history) }
 
     // The sink took the whole text where all was fine; a front of it where the sink failed; where a disk failed or stamps were worn, of `run` that was
@@ -122,14 +134,15 @@ where
     ensures took { HasCommand (map (λ w. w.now) words.now) (λ command. Took command result.status result.history (K.faults sink.old) (K.faults sink.new) (K.taken sink.old) (K.taken sink.new)) }
 
     // Where no shards were opened no disk was written, but where one failed or memory was wanting; what is left then is opened again. `make`
-    // writes no disk with bytes. What it makes.
+    // writes no disk with bytes, and `audit` none at all. What `make` makes.
     ensures closed { HasCommand (map (λ w. w.now) words.now) (λ command. ClosedBy command result.status result.history (H.story house.old) (H.story house.new)) }
     ensures made { HasCommand (map (λ w. w.now) words.now) (λ command. Makes command result.status (H.story house.old) (H.story house.new)) }
 
     // Words that are refused do nothing, whatever the status.
     ensures nothing { AreRefused (map (λ w. w.now) words.now) → (result.history ≡ None) × (source.new ≡ source.old) × (sink.new ≡ sink.old) × (house.new ≡ house.old) }
 
-    // `run` read all of the source, and it is a script, but where that was refused, the source failed or memory was wanting. No other command reads, but `serve`.
+    // `run` read all of the source, and it is a script, but where that was refused, the source failed or memory was wanting; so did `audit`, and it is a report.
+    // No other command reads, but `serve`.
     ensures read { HasCommand (map (λ w. w.now) words.now) (λ command. ReadsBy command result.history result.status (S.left source.old) (S.left source.new)) }
 
     // Over disks and a source that tell what the command wants, and where no count of a fault rose, all was done, or stamps, runs or memory were
@@ -140,7 +153,7 @@ where
     // were wanting.
     ensures exists { HasCommand (map (λ w. w.now) words.now) (λ command. HasBytes command result.status (H.story house.old) (H.story house.new)) }
     ensures logs { HasCommand (map (λ w. w.now) words.now) (λ command. BreaksBy command result.status result.history (H.story house.old)) }
-    ensures script { BreaksScript result.status (S.left source.old) }
+    ensures script { HasCommand (map (λ w. w.now) words.now) (λ command. BreaksSource command result.status (S.left source.old)) }
     ensures source { AreNotServe (map (λ w. w.now) words.now) → CountsSource (S.faults source.old) (S.faults source.new) result.status }
     ensures sink { AreNotServe (map (λ w. w.now) words.now) → CountsSink result.history (K.faults sink.old) (K.faults sink.new) result.status }
     ensures served_source { HasCommand (map (λ w. w.now) words.now) (λ command. CountsSourceBy command result.history (S.faults source.old) (S.faults source.new) result.status) }
@@ -151,6 +164,7 @@ where
     ensures back { (n : ℕ) → n < 16 → H.is_out house.new n ≡ false }
 {
     scripts_are_not_refused();
+    reports_have_no_fault();
     good_logs_are_not_refused();
     match command_of(alloc, words) {
         Ok(command) => obey(rt, alloc, command, source, sink, house, pace),

@@ -5,7 +5,7 @@ use Rattle.clap.specs.Words.{Row, Text, all_of, rows_of, matched_of, raw_values}
 use Rattle.clap.specs.declared.parser.matches.Found.{Found}
 use Rattle.clap.proofs.WalkLemmas.{raw_values-rows}
 use Rattle.clv_base.specs.Shards.{are_splits}
-use Rattle.command_line.specs.Commands.{Command, Make, Run, Show, Load, Serve, AreNumbers, listed, Says}
+use Rattle.command_line.specs.Commands.{Command, Make, Run, Show, Load, Serve, Audit, AreNumbers, listed, Says}
 use Rattle.law_base.proofs.Lists.{unequal}
 
 pub all_is : (f : Found) (id : Text) (result : Option (Bor (List (Bor (List ℕ))))) (list : Option (List Text))
@@ -24,3 +24,4 @@ make_not rows words e none (Run tries) says = unequal (codes "make") (codes "run
 make_not rows words e none Show says = unequal (codes "make") (codes "show") (omega arith) says
 make_not rows words e none (Load a b c d) says = unequal (codes "make") (codes "load") (omega arith) says.0
 make_not rows words e none (Serve sessions) says = unequal (codes "make") (codes "serve") (omega arith) says.0
+make_not rows words e none Audit says = unequal (codes "make") (codes "audit") (omega arith) says

@@ -36,9 +36,17 @@ load_app =
 abbrev pub serve_app : App
 serve_app = with_rule (new_app (codes "serve")) (option_rule (codes "sessions") false)
 
+abbrev pub audit_app : App
+audit_app = new_app (codes "audit")
+
 -- the words are those after the program's name, and a subcommand is wanted
 abbrev pub bare_app : App
 bare_app = record { top = record (new_app (codes "clv_shell")).top { no_binary_name = true; subcommand_required = true }; subs = [] }
 
 unfoldable pub the_app : App
-the_app = with_subcommand (with_subcommand (with_subcommand (with_subcommand (with_subcommand bare_app make_app.top) run_app.top) show_app.top) load_app.top) serve_app.top
+the_app =
+    with_subcommand
+    (with_subcommand
+    (with_subcommand (with_subcommand (with_subcommand (with_subcommand bare_app make_app.top) run_app.top) show_app.top) load_app.top)
+    serve_app.top)
+    audit_app.top

@@ -5,7 +5,7 @@ use Rattle.clv_base.specs.Shards.{are_splits}
 use Rattle.script_lang.specs.Grammar.{IsNumber}
 use Rattle.command_line.specs.Apps.{the_app}
 pub use Rattle.command_line.specs.declared.commands.Command.{Command}
-pub use Rattle.command_line.specs.declared.commands.Command.TheVariants.{Make, Run, Show, Load, Serve}
+pub use Rattle.command_line.specs.declared.commands.Command.TheVariants.{Make, Run, Show, Load, Serve, Audit}
 
 -- a value that was given is this number
 abbrev pub IsGiven : Option Text → ℕ → Type 0
@@ -46,6 +46,7 @@ Says name rows (Load seed sessions accounts transfers) =
     × IsGiven (first_of (codes "accounts") rows) accounts × IsGiven (first_of (codes "transfers") rows) transfers
     × (1 ≤ sessions) × (sessions ≤ 64) × (2 ≤ accounts) × (accounts ≤ 10000) × (transfers ≤ 1000)
 Says name rows (Serve sessions) = (name ≡ codes "serve") × AreSessions (first_of (codes "sessions") rows) sessions
+Says name rows Audit = name ≡ codes "audit"
 
 -- `clap` finds no fault in the words, and takes them for a subcommand that is this command
 abbrev pub IsCommand : List Text → Command → Type 0

@@ -6,7 +6,7 @@ use Rattle.report_text.specs.declared.texts.ReportError.TheVariants as text
 use Rattle.script_runs.specs.declared.ends.StopCause.{StopCause}
 use Rattle.script_runs.specs.declared.ends.StopCause.TheVariants as stop
 use Rattle.command_line.specs.declared.status.Status.{Status}
-use Rattle.command_line.specs.declared.status.Status.TheVariants.{Fine, Usage, Script, ReadFault, WriteFault, DiskFault, NotLog, Memory, Worn, Exists, Apart}
+use Rattle.command_line.specs.declared.status.Status.TheVariants.{Fine, Usage, Script, ReadFault, WriteFault, DiskFault, NotLog, Memory, Worn, Exists, Apart, WrongTransaction, WrongMap, Unsettled}
 
 -- how a drain or a session ended
 abbrev pub End : Type 0
@@ -56,6 +56,9 @@ RunningTold down ends WriteFault = ⊥
 RunningTold down ends (NotLog shard at) = ⊥
 RunningTold down ends (Exists shard len) = ⊥
 RunningTold down ends (Apart tx) = ⊥
+RunningTold down ends (WrongTransaction place) = ⊥
+RunningTold down ends (WrongMap key) = ⊥
+RunningTold down ends (Unsettled count) = ⊥
 
 -- the status by the lowest shard that is down and the gravest end
 abbrev pub status_by : Option ℕ → End → Status

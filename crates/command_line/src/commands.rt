@@ -26,6 +26,8 @@ pub enum Command {
     Serve {
         sessions: u64,
     },
+    /// Judges the report of a run.
+    Audit,
 }
 
 /// Why words are no command.

@@ -81,7 +81,8 @@ fn program<'a>(alloc: Global) -> Result<Command<'a>, AllocError>
     let two = with_run(alloc, one)?;
     let three = two.subcommand(Command::new(alloc, "show"))?;
     let four = with_load(alloc, three)?;
-    with_serve(alloc, four)
+    let five = with_serve(alloc, four)?;
+    five.subcommand(Command::new(alloc, "audit"))
 }
 
 // What `clap` makes of the words, where it finds no fault in them.

@@ -155,6 +155,9 @@ fn read(alloc: Global, name: &str, given: &ArgMatches) -> Result<Command, WordsE
             None => Err(WordsError::Usage),
         };
     }
+    if name == "audit" {
+        return Ok(Command::Audit);
+    }
     Err(WordsError::Usage)
 }
 

@@ -14,7 +14,7 @@ pub enum Status {
     Fine,
     /// 2: the words are no command.
     Usage,
-    /// 3: this line of the script is the first outside the grammar at its place; 0 where the script is longer than 16,777,216 bytes.
+    /// 3: this line of the script, or of the report, is the first outside the grammar at its place; 0 where there are more than 16,777,216 bytes.
     Script { line: u64 },
     /// 4: the source failed.
     ReadFault,
@@ -32,6 +32,12 @@ pub enum Status {
     Exists { shard: u32, len: u64 },
     /// 11: the logs disagree on this transaction, the least such.
     Apart { tx: TxId },
+    /// 12: no serial run has this transaction of the report, counted from 1, behind those before it.
+    WrongTransaction { place: u64 },
+    /// 12: the logs stand for something else at this key, the least one, than the report's transactions lead to.
+    WrongMap { key: u64 },
+    /// 13: the report has so many transactions that are unsettled.
+    Unsettled { count: u64 },
 }
 
 fn not_log(alloc: Global, shard: u32, at: At) -> Result<String, AllocError>
@@ -60,6 +66,9 @@ impl Status {
             Status::Worn { .. } => 9,
             Status::Exists { .. } => 10,
             Status::Apart { .. } => 11,
+            Status::WrongTransaction { .. } => 12,
+            Status::WrongMap { .. } => 12,
+            Status::Unsettled { .. } => 13,
         }
     }
 
@@ -70,7 +79,7 @@ impl Status {
         match *self {
             Status::Fine => Ok(String::new(alloc)),
             Status::Usage => format!(in alloc;
-                "usage: clv_shell make [SPLIT].. | run [--tries N] | show | load --seed S --sessions N --accounts A --transfers T | serve [--sessions N]\n"
+                "usage: clv_shell make [SPLIT].. | run [--tries N] | show | load --seed S --sessions N --accounts A --transfers T | serve [--sessions N] | audit\n"
             ),
             Status::Script { line } => format!(in alloc; "script line {line}\n"),
             Status::ReadFault => format!(in alloc; "read fault\n"),
@@ -90,6 +99,9 @@ impl Status {
                 } = tx;
                 format!(in alloc; "transaction {run}.{session}.{serial}: logs apart\n")
             }
+            Status::WrongTransaction { place } => format!(in alloc; "no: transaction {place}\n"),
+            Status::WrongMap { key } => format!(in alloc; "no: key {key}\n"),
+            Status::Unsettled { count } => format!(in alloc; "unsettled {count}\n"),
         }
     }
 

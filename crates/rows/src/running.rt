@@ -15,6 +15,50 @@ const ROWS: &[Row] = &[
         ..ROW
     },
     Row {
+        shows: "an audit of its report",
+        words: &["audit"],
+        script: PUT_REPORT,
+        text: b"yes 1\n",
+        bytes: ONE_PUT,
+        ..ROW
+    },
+    Row {
+        shows: "an audit of another value",
+        words: &["audit"],
+        script: b"{\"ops\":[[\"put\",5,11,null]],\"serial\":1,\"session\":1}\n{\"aborted\":0,\"acknowledged\":1,\"unsettled\":0}\n",
+        status: Status::WrongMap { key: 5 },
+        text: b"no: key 5\n",
+        bytes: ONE_PUT,
+        ..ROW
+    },
+    Row {
+        shows: "an audit of another value before",
+        words: &["audit"],
+        script: b"{\"ops\":[[\"put\",5,10,3]],\"serial\":1,\"session\":1}\n{\"aborted\":0,\"acknowledged\":1,\"unsettled\":0}\n",
+        status: Status::WrongTransaction { place: 1 },
+        text: b"no: transaction 1\n",
+        bytes: ONE_PUT,
+        ..ROW
+    },
+    Row {
+        shows: "an audit of unsettled ones, over a sink that fails",
+        failing: [&[], &[], &[2]],
+        words: &["audit"],
+        script: b"{\"aborted\":0,\"acknowledged\":0,\"unsettled\":7}\n",
+        status: Status::Unsettled { count: 7 },
+        text: b"unset",
+        bytes: ONE_PUT,
+        ..ROW
+    },
+    Row {
+        shows: "an audit of no report",
+        words: &["audit"],
+        script: b"[5,10]\n",
+        status: Status::Script { line: 2 },
+        bytes: ONE_PUT,
+        ..ROW
+    },
+    Row {
         shows: "the pair that was put",
         words: &["show"],
         text: b"[5,10]\n",

@@ -6,6 +6,7 @@ use Rattle.cluster_opening.specs.Logs.{IsGateAt}
 use Rattle.cluster_opening.specs.Houses.{AreGates, IsStopped}
 use Rattle.cluster_opening.proofs.Growing.{no_gates, none_out, grown, one_out}
 use Rattle.cluster_opening.proofs.DisksStopping.{agreed_later, stopped}
+use Rattle.cluster_opening.proofs.Reading.{one_unworn}
 use Rattle.cluster_opening.proofs.disks_opening.open_logs.Goals as goal
 
 pub returns-in-Err-clause-stopped : goal.returns-in-Err-clause-stopped
@@ -25,6 +26,12 @@ returns-in-Err-open_one-clause-stopped g c =
     let low = c.loop-shard-test.true in let first = c.loop-shard.auto.shard in let end = c.shards-shard-end.ensures.shards in let most = c.shards-shard-end.ensures.most in
     stopped splits L c.loop-shard.gates.items (F h) (F h1) (F h2) (O h) (O h1) (O h2) (S h) (S h1) (S h2) c.requires.inside inv.gates (omega arith) k long inv.out (omega arith) (omega arith) (Some splits) (agreed_later k splits (omega arith))
     c.in-Err-open_one.error e.refused e.unchanged e.back e.cause e.others
+
+pub returns-in-Err-clause-unworn : goal.returns-in-Err-clause-unworn
+returns-in-Err-clause-unworn g c = one_unworn _ _ _ c.in-Err.error c.in-Err.ensures.refused
+
+pub returns-in-Err-open_one-clause-unworn : goal.returns-in-Err-open_one-clause-unworn
+returns-in-Err-open_one-clause-unworn g c = one_unworn _ _ _ c.in-Err-open_one.error c.in-Err-open_one.ensures.refused
 
 pub loop-shard-init : goal.loop-shard-init
 loop-shard-init g c =

@@ -2,12 +2,13 @@ use Rattle.std.proofs.Common.{map, IfSome}
 use Rattle.clv_commands.specs.Kinds.{IsOfCommand}
 use Rattle.clv_commands.specs.Disks.{ClosedBy, Makes}
 use Rattle.clv_commands.specs.Sinks.{Took}
-use Rattle.clv_commands.specs.Causes.{HasBytes, BreaksBy, CountsSourceBy, CountsSinkBy}
+use Rattle.clv_commands.specs.Causes.{HasBytes, BreaksBy, BreaksSource, CountsSourceBy, CountsSinkBy}
 use Rattle.clv_commands.specs.Reading.{ReadsBy}
+use Rattle.clv_commands.specs.Audited.{AuditedBy}
 use Rattle.clv_commands.specs.Completing.{IsAccepted, NoneRose, IsCompleted}
 use Rattle.clv_commands.specs.Runs.{PromisedBy, ServedBy, OpensByCommand}
 use Rattle.clv_commands.proofs.Words.{shown}
-use Rattle.clv_commands.proofs.Refused.{refused, kind, closed, taken, unread, completed_not, source_stands, sink_stands, source_still, sink_still, source_but, sink_but}
+use Rattle.clv_commands.proofs.Refused.{refused, kind, closed, taken, unread, completed_not, unbroken, unjudged, source_stands, sink_stands, source_still, sink_still, source_but, sink_but}
 use Rattle.clv_commands.proofs.Completing.{completed}
 use Rattle.clv_commands.proofs.top.run.Goals as goal
 
@@ -21,6 +22,11 @@ pub returns-in-Ok-clause-served : goal.returns-in-Ok-clause-served
 returns-in-Ok-clause-served g c = shown (map (λ w. w.now) c.args.words.now) c.in-Ok.command
     (λ d. IfSome c.obey.result.history (ServedBy d (g.S.Source.left c.args.source.now) (g.S.Source.left c.obey.new.source) (g.K.Sink.taken c.args.sink.now) (g.K.Sink.taken c.obey.new.sink) (g.H.House.story c.args.house.now) (g.H.House.story c.obey.new.house) (g.H.House.faults c.args.house.now) (g.H.House.faults c.obey.new.house) c.obey.result.status))
     c.in-Ok.ensures.command c.obey.ensures.served
+
+pub returns-in-Ok-clause-audited : goal.returns-in-Ok-clause-audited
+returns-in-Ok-clause-audited g c = shown (map (λ w. w.now) c.args.words.now) c.in-Ok.command
+    (λ d. AuditedBy d (g.S.Source.left c.args.source.now) (g.H.House.story c.args.house.now) (g.K.Sink.faults c.args.sink.now) (g.K.Sink.faults c.obey.new.sink) (g.K.Sink.taken c.args.sink.now) (g.K.Sink.taken c.obey.new.sink) c.obey.result.status)
+    c.in-Ok.ensures.command c.obey.ensures.audited
 
 pub returns-in-Ok-clause-opened : goal.returns-in-Ok-clause-opened
 returns-in-Ok-clause-opened g c = shown (map (λ w. w.now) c.args.words.now) c.in-Ok.command (λ d. OpensByCommand d c.obey.result.status c.obey.result.history) c.in-Ok.ensures.command c.obey.ensures.opened
@@ -51,6 +57,9 @@ returns-in-Ok-clause-read g c = shown (map (λ w. w.now) c.args.words.now) c.in-
 pub returns-in-Ok-clause-logs : goal.returns-in-Ok-clause-logs
 returns-in-Ok-clause-logs g c = shown (map (λ w. w.now) c.args.words.now) c.in-Ok.command (λ d. BreaksBy d c.obey.result.status c.obey.result.history (g.H.House.story c.args.house.now)) c.in-Ok.ensures.command c.obey.ensures.logs
 
+pub returns-in-Ok-clause-script : goal.returns-in-Ok-clause-script
+returns-in-Ok-clause-script g c = shown (map (λ w. w.now) c.args.words.now) c.in-Ok.command (λ d. BreaksSource d c.obey.result.status (g.S.Source.left c.args.source.now)) c.in-Ok.ensures.command c.obey.ensures.script
+
 pub returns-in-Ok-clause-source : goal.returns-in-Ok-clause-source
 returns-in-Ok-clause-source g c = source_but (map (λ w. w.now) c.args.words.now) c.in-Ok.command c.obey.result.history (g.S.Source.faults c.args.source.now) (g.S.Source.faults c.obey.new.source) c.obey.result.status c.in-Ok.ensures.command c.obey.ensures.source
 
@@ -69,7 +78,7 @@ returns-in-Ok-clause-completes g c =
     shown (map (λ w. w.now) c.args.words.now) c.in-Ok.command
     (λ d. IsAccepted d (g.S.Source.left c.args.source.now) (g.H.House.story c.args.house.now) → NoneRose (g.S.Source.faults c.args.source.now) (g.S.Source.faults c.obey.new.source) (g.K.Sink.faults c.args.sink.now) (g.K.Sink.faults c.obey.new.sink) (g.H.House.faults c.args.house.now) (g.H.House.faults c.obey.new.house) → IsCompleted d c.obey.result.status)
     c.in-Ok.ensures.command
-    (λ ok none. completed c.scripts_are_not_refused.ensures c.good_logs_are_not_refused.ensures c.obey.result.history (g.S.Source.left c.args.source.now) (g.H.House.story c.args.house.now) (g.H.House.story c.obey.new.house) (g.S.Source.faults c.args.source.now) (g.S.Source.faults c.obey.new.source) (g.K.Sink.faults c.args.sink.now) (g.K.Sink.faults c.obey.new.sink) (g.H.House.faults c.args.house.now) (g.H.House.faults c.obey.new.house) none
+    (λ ok none. completed c.scripts_are_not_refused.ensures c.reports_have_no_fault.ensures c.good_logs_are_not_refused.ensures c.obey.result.history (g.S.Source.left c.args.source.now) (g.H.House.story c.args.house.now) (g.H.House.story c.obey.new.house) (g.S.Source.faults c.args.source.now) (g.S.Source.faults c.obey.new.source) (g.K.Sink.faults c.args.sink.now) (g.K.Sink.faults c.obey.new.sink) (g.H.House.faults c.args.house.now) (g.H.House.faults c.obey.new.house) none
     c.in-Ok.command c.obey.result.status e.kind e.exists e.logs e.script e.source e.sink e.disks ok)
 
 pub returns-in-Err-clause-usage : goal.returns-in-Err-clause-usage
@@ -83,6 +92,12 @@ returns-in-Err-clause-closed g c = closed (map (λ w. w.now) c.args.words.now) c
 
 pub returns-in-Err-clause-read : goal.returns-in-Err-clause-read
 returns-in-Err-clause-read g c = unread (map (λ w. w.now) c.args.words.now) c.in-Err.error c.into.result (g.S.Source.left c.args.source.now) c.into.ensures c.in-Err.ensures.usage
+
+pub returns-in-Err-clause-script : goal.returns-in-Err-clause-script
+returns-in-Err-clause-script g c = unbroken (map (λ w. w.now) c.args.words.now) c.in-Err.error c.into.result (g.S.Source.left c.args.source.now) c.into.ensures
+
+pub returns-in-Err-clause-audited : goal.returns-in-Err-clause-audited
+returns-in-Err-clause-audited g c = unjudged (map (λ w. w.now) c.args.words.now) c.in-Err.error c.into.result (g.S.Source.left c.args.source.now) (g.H.House.story c.args.house.now) (g.K.Sink.faults c.args.sink.now) (g.K.Sink.taken c.args.sink.now) c.into.ensures
 
 pub returns-in-Err-clause-completes : goal.returns-in-Err-clause-completes
 returns-in-Err-clause-completes g c = λ d is ok none. completed_not (map (λ w. w.now) c.args.words.now) c.in-Err.error c.into.result c.into.ensures c.in-Err.ensures.usage d is

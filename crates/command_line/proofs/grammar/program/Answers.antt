@@ -11,4 +11,5 @@ returns c =
     let two = c.in_ok-two.ensures ∙ ap (λ (a : App). with_subcommand a run_app.top) one in
     let three = c.in_ok-three.ensures.shape c.new.ensures.local ∙ ap₂ with_subcommand two (ap (λ (a : App). a.top) c.new.ensures.app) in
     let four = c.in_ok-four.ensures ∙ ap (λ (a : App). with_subcommand a load_app.top) three in
-    IfOk-weaker c.with_serve.result _ _ (λ whole is. is ∙ ap (λ (a : App). with_subcommand a serve_app.top) four) c.with_serve.ensures
+    let five = c.in_ok-five.ensures ∙ ap (λ (a : App). with_subcommand a serve_app.top) four in
+    IfOk-weaker c.subcommand-2.result _ _ (λ whole adds. adds.shape c.new-2.ensures.local ∙ ap₂ with_subcommand five (ap (λ (a : App). a.top) c.new-2.ensures.app)) c.subcommand-2.ensures

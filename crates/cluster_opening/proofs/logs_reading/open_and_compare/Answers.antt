@@ -1,0 +1,25 @@
+use Rattle.std.proofs.Common.{◌≡◌, ◌∙◌, map, length, ap, sym, subst, arith}
+use Rattle.std.proofs.lemmas.List.{length-map}
+use Rattle.clv_base.specs.Shards.{shard_count}
+use Rattle.clv_base.specs.LogRules.{apart}
+use Rattle.log_analysis.specs.Facts.{KnowAll}
+use Rattle.cluster_opening.specs.Judging.{FaultsOfAll}
+use Rattle.cluster_opening.proofs.DisksStopping.{all_stopped}
+use Rattle.cluster_opening.proofs.logs_reading.open_and_compare.Goals as goal
+use Rattle.law_base.proofs.Lists.{few_shards}
+
+pub agree-requires : goal.agree-requires
+agree-requires g c =
+    subst (λ z. KnowAll z (map (λ v. v.items) c.deref.result.now)) (sym c.deref-2.ensures.value) (subst (λ z. KnowAll c.open_logs.new.facts.items (map (λ v. v.items) z)) (sym c.deref.ensures.value) c.in-Ok.ensures.known)
+
+pub returns-in-Ok-agree-clause-agree : goal.returns-in-Ok-agree-clause-agree
+returns-in-Ok-agree-clause-agree g c = ap (λ z. apart (map (λ v. v.items) z)) (sym c.deref.ensures.value) ∙ c.in-Ok-agree.ensures.agree
+
+pub returns-in-Err-agree-clause-stopped : goal.returns-in-Err-agree-clause-stopped
+returns-in-Err-agree-clause-stopped g c =
+    let L = map (λ v. v.items) c.open_logs.new.logs.items in let splits = c.in-Ok.header.splits in
+    let long : length L ≡ shard_count splits = length-map c.open_logs.new.logs.items (λ v. v.items) ∙ c.in-Ok.ensures.count in
+    let same = ap (map (λ v. v.items)) c.deref.ensures.value in
+    let h = c.args.house.now in let h1 = c.open_logs.new.house in let F = g.H.House.faults in let O = g.H.House.is_out in let S = g.H.House.story in
+    all_stopped splits L c.open_logs.new.gates.items (F h) (F h1) (F h1) (O h) (O h1) (O h1) (S h) (S h1) (S h1) c.requires.inside c.in-Ok.ensures.gates (let few = few_shards splits c.in-Ok.header.rising in omega arith) (shard_count splits) long c.in-Ok.ensures.out c.in-Ok.header.rising long
+    c.in-Err-agree.error (subst (λ z. FaultsOfAll z c.in-Err-agree.error) same c.in-Err-agree.ensures.fault)
