@@ -23,7 +23,7 @@ told_again : (o : Option Story) → IsSome o → IsReadAgain o o
 told_again None is = absurd cc
 told_again (Some s) is = refl
 
-found_again : (o : Option Story) → IsSome o → IsFoundAgain o o
+pub found_again : (o : Option Story) → IsSome o → IsFoundAgain o o
 found_again None is = absurd cc
 found_again (Some s) is = inl refl
 
