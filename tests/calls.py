@@ -4,7 +4,7 @@
 For scripts on one, two and three shards: one run in which a call fails, one in which all later ones fail too, and one that ends in its place; calls
 that are interrupted, that move less than they were asked to, that find no room; all disks from a call on. Then the same of `make`, of the standard
 streams and of threads, and a write that fails in a run of `load`, which tries its transfers without end. One shard fails for ever, at one write after
-the other: sessions that work on another one alone go on to their ends. Cases at random: sessions that meet on three shards, with one such fault.
+the other: sessions that work on another one alone go on to their ends. Cases at random: sessions that meet on three shards, with one such fault. And each call of an audit fails in its turn.
 
 What must hold after each run over logs, where three images of what a crash may leave are made from the calls that it made:
 
@@ -23,6 +23,7 @@ import faults
 import logs
 import members
 import reports
+import verdicts
 from program import Checks, Folder, arguments, cases
 
 ONE_PUT = b"session\nbegin\nput 5 10\ncommit\n"
@@ -240,6 +241,8 @@ class Trial:
         self.check(f"{name}: status", is_stopped or (got.status, got.err) == want, (got, want))
         disks = faults.Disks(self.start, trace)
         self.check(f"{name}: the logs are as its calls left them", disks.read() == left, (disks.read(), left))
+        if got.out:
+            self.audit(name, got, left)
         try:
             told = Reported(got, self.script, self.before)
         except (reports.Wrong, ValueError, KeyError, IndexError) as wrong:
@@ -247,6 +250,15 @@ class Trial:
             return got, set(), trace
         shown = {self.judge(f"{name}: {choices}", files, told) for choices, files in disks.images()}
         return got, shown, trace
+
+    def audit(self, name, got, left):
+        """What was told by a run whose disks failed is true by the logs that it left, where these may be read, if nothing is unsettled."""
+        with Folder(self.program) as folder:
+            folder.put(left)
+            source = (logs.shown(self.before) + got.out).encode()
+            found = verdicts.judges(self.checks, folder, f"{name}: audit", source, self.case)
+        is_settled = got.out.endswith('"unsettled":0}\n')
+        self.check(f"{name}: true, or unsettled", not is_settled or found.status in (0, 7), found)
 
     def judge(self, name, files, told):
         """One image: what it stands for, as `show` spells it."""
@@ -363,6 +375,28 @@ def makes(checks, library, program):
             while fails_to_make(checks, library, folder, kind, number):
                 number += 1
             checks.check(f"make: it makes calls of the kind {kind}", number > 1)
+
+
+def audits(checks, library, program):
+    """Each call of an audit fails in its turn. It makes none that writes."""
+    with Folder(program) as folder:
+        folder.run("make", "10")
+        folder.run("run", script=FILLING)
+        source = "[2,2]\n[14,4]\n" + folder.run("run", script=TWO_SHARDS).out
+        files = folder.logs()
+        plain = folder.run("audit", script=source.encode())
+        checks.check("audit: yes", plain.is_fine() and plain.out.startswith("yes "), plain)
+        for kind in ("open", "lock", "len", "read", "sync", "write"):
+            number, is_made = 0, True
+            while is_made:
+                number += 1
+                got, trace = library.run(folder, "audit", script=source.encode(), call=f"{kind}:{number}:{errno.EIO}")
+                is_made = bool(trace.faults)
+                want = (*expected(trace), "" if is_made else plain.out)
+                checks.check(f"audit: {kind} {number}", (got.status, got.err, got.out) == want, (got, want))
+                is_kept = folder.logs() == files and all(it.kind != "write" for it in trace.calls)
+                checks.check(f"audit: {kind} {number}: no log was written", is_kept, folder.logs())
+            checks.check(f"audit: calls of the kind {kind}", (number > 1) == (kind != "write"), number)
 
 
 # What is to fail of a stream, the status and the text.
@@ -487,6 +521,7 @@ def main():
         library = faults.built(checks, place)
         if library and told.sweeps and told.only is None:
             makes(checks, library, told.program)
+            audits(checks, library, told.program)
             streams(checks, library, told.program)
             others_go_on(checks, library, told.program)
             loads(checks, library, told.program)

@@ -188,6 +188,13 @@ LINES = [
     ("head -c 200000 /dev/zero | $P run", 3, "script line 1\n"),
     ("head -c 20000000 /dev/zero | $P run", 3, "script line 0\n"),
     ("yes session | head -100 | $P run", 3, "script line 65\n"),
+    ("$P run < script | $P audit", 0, ""),
+    ("$P run < script | $P audit >&-", 5, "write fault\n"),
+    ("$P run < script | $P audit > /dev/full", 5, "write fault\n"),
+    ("$P audit <&-", 4, "read fault\n"),
+    ("$P audit < .", 4, "read fault\n"),
+    ("$P audit < /dev/null", 3, "script line 1\n"),
+    ("head -c 20000000 /dev/zero | $P audit", 3, "script line 0\n"),
 ]
 
 

@@ -23,12 +23,13 @@ import logs
 import reports
 from calls import ONE_PUT
 from program import Checks, Folder, Ran, arguments, cases
+from worked import DONE
 
 SPLITS = ("10", "20")
 FILLING = b"session\nbegin\nput 1 1\nput 11 2\nput 21 3\ncommit\n"
 ACCOUNTS, SESSIONS, TRANSFERS = 100, 4, 300
 LOAD = f"load --seed 1 --sessions {SESSIONS} --accounts {ACCOUNTS} --transfers {TRANSFERS}".split()
-COMMANDS = [("run",), ("show",), ("load", "--seed", "1", "--sessions", "1", "--accounts", "4", "--transfers", "1")]
+COMMANDS = [("run",), ("show",), ("audit",), ("load", "--seed", "1", "--sessions", "1", "--accounts", "4", "--transfers", "1")]
 SECONDS = 60
 # How much the logs have grown by, at least, when a run is stopped: more than the first transaction of `load` and an opening make.
 GROWTH = 20000
@@ -52,7 +53,7 @@ def refused(checks, name, folder, shard, commands):
     """No command does anything."""
     before = folder.logs()
     for words in commands:
-        got = folder.run(*words, script=ONE_PUT, seconds=SECONDS)
+        got = folder.run(*words, script=DONE.encode() if words[0] == "audit" else ONE_PUT, seconds=SECONDS)
         checks.check(f"{name}: {words[0]}", is_locked(got, [shard]) and folder.logs() == before, got)
 
 

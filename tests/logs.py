@@ -445,8 +445,8 @@ def is_home(logs, transaction, home):
     return True
 
 
-def opened(files):
-    """The splits, and what each file's log says, judged as an opening does: file by file, all together, the run. None is a missing file."""
+def read_all(files):
+    """The splits, and what each file's log says, judged as by one who only reads: file by file, then all together. None is a missing file."""
     splits, logs = None, []
     while splits is None or len(logs) <= len(splits):
         shard = len(logs)
@@ -456,6 +456,12 @@ def opened(files):
     for transaction in sorted({it for facts in logs for it in facts.committed}):
         if not any(is_home(logs, transaction, home) for home in range(len(logs))):
             raise Fault(11, "transaction {}.{}.{}: logs apart".format(*transaction))
+    return splits, logs
+
+
+def opened(files):
+    """The same, judged as an opening does, which needs a run, too."""
+    splits, logs = read_all(files)
     if last_run(logs) == LAST_RUN:
         raise Fault(9, f"worn at {LAST_RUN + 1}")
     return splits, logs

@@ -17,6 +17,7 @@ import members
 import reports
 from calls import ONE_PUT, ONE_SHARD, RUN, crowd
 from program import Checks, Folder, arguments, cases
+from worked import DONE
 
 SPREAD = b"session\nbegin\nput 0 1\nput 10 2\nput 20 3\nput 18446744073709551615 4\ncommit\nbegin\nscan 0 18446744073709551615\ncommit\n"
 MEETING = b"session\nbegin\nput 5 10\ncommit\nsession\nbegin\nget 5\ncommit\n"
@@ -97,6 +98,9 @@ COMMANDS = [
     ("additions", (10, 20), SPREAD, RUN, ADDITIONS),
     ("savepoints", (10, 20), SPREAD, RUN, SAVEPOINTS),
     ("show", (10, 20), SPREAD, ("show",), b""),
+    ("audit", (10, 20), ONE_PUT, ("audit",), DONE.encode()),
+    ("an audit that says no", (10, 20), SPREAD, ("audit",), DONE.encode()),
+    ("an audit of no report", (10,), ONE_PUT, ("audit",), b"[5,10]\n"),
     ("load", (50,), b"", LOAD, b""),
     ("make", None, b"", ("make", "10"), b""),
     ("wrong words", (), b"", ("run", "--tries", "0"), b""),
@@ -156,6 +160,8 @@ class Command:
 
     def wrong_after(self, folder, got, after):
         """What is wrong in what stands after a run, if anything."""
+        if self.words[0] == "audit":
+            return None if folder.logs() == self.start and got.out in ("", self.plain.out) else "audit wrote to the logs, or told something else"
         if self.words[0] == "show":
             return None if after == self.before and got.out in ("", self.plain.out) else "show changed it, or told something else"
         if self.words[0] == "load":

@@ -4,11 +4,12 @@
 
 Each case makes logs of 1 to 4 shards, and runs some scripts of 1 to 8 sessions over them, one behind the other, each from what the one before
 left. Of each run: the report's transactions, one after the other on a plain map, give each answer exactly, those of a session in the order of
-its script; the counts add up; the logs and `show` tell the map after them. Then a run of `load` keeps its sum. Before all cases 64 sessions meet under `load`.
+its script; the counts add up; the logs and `show` tell the map after them, and `audit` says yes to the report. Then a run of `load` keeps its sum. Before all cases 64 sessions meet under `load`.
 """
 
 import logs
 import reports
+import verdicts
 from program import Checks, Folder, arguments, cases, seeded
 
 LAST = (1 << 64) - 1
@@ -88,6 +89,8 @@ def follows(checks, name, case, folder, script, pairs, tries):
     checks.check(f"{name}: counts", is_counted, (counts, committing), script, case)
     found = logs.map_of(folder.logs())
     checks.check(f"{name}: what the logs stand for", found == after, (found, after, got.out), script, case)
+    audit = verdicts.judges(checks, folder, f"{name}: audit", (logs.shown(pairs) + got.out).encode(), case)
+    checks.check(f"{name}: the report is true", audit.status == 0, audit, script, case)
     return after
 
 

@@ -17,7 +17,7 @@ TOP = os.path.dirname(os.path.dirname(os.path.abspath(__file__)))
 LAST = (1 << 64) - 1
 LONGEST_SCRIPT = 16777216
 SECONDS = 120
-USAGE = "usage: clv_shell make [SPLIT].. | run [--tries N] | show | load --seed S --sessions N --accounts A --transfers T | serve [--sessions N]"
+USAGE = "usage: clv_shell make [SPLIT].. | run [--tries N] | show | load --seed S --sessions N --accounts A --transfers T | serve [--sessions N] | audit"
 ONE_PUT = b"session\nbegin\nput 5 10\ncommit\n"
 NOTHING_DONE = '{"aborted":0,"acknowledged":0,"unsettled":0}\n'
 
@@ -252,6 +252,8 @@ REFUSED_WORDS = [
     "--version",
     "show 1",
     "show --tries 5",
+    "audit 1",
+    "audit --tries 5",
     "make x",
     "make 01",
     "make -1",
