@@ -3,11 +3,14 @@ pub mod Places
 pub mod Parsing
 pub mod Recording
 pub mod Crash
+pub mod WrittenAnew
+pub mod Switching
 pub mod Numbers
 pub mod Headers
 pub mod Records
 pub mod Chain
 pub mod Views
+pub mod Reach
 pub mod Ends
 pub mod RecordLoop
 pub mod SplitLoop
@@ -19,6 +22,7 @@ pub mod Fronts
 pub mod Unchanged
 pub mod Finding
 pub mod Agreed
+pub mod WhichSide
 pub mod ManyLogs
 pub mod ReopenedUnchanged
 pub mod Laws

@@ -1,4 +1,5 @@
 use Rattle.std.proofs.Common.{◌≡◌, ◌<◌, ◌^◌, ℕ, List, ◌++◌, length, drop, IfSome, sym, subst, rules, arith, length-take, length-append}
+use Rattle.io_model.specs.Sides.{both_told}
 use Rattle.log_gate.specs.Image.{HasLog, HasHeader}
 use Rattle.log_gate.specs.Gate.{EachNow}
 use Rattle.log_gate.specs.View.{View}
@@ -15,22 +16,22 @@ made-requires g c =
       room = λ up. omega (arith, size, kept, length-take c.in-Ok.scratch.len (c.read_log.new.scratch ++ rest), length-append c.read_log.new.scratch rest);
       place = c.in-Ok-read_log.ensures.within;
       small = small;
-      holds = λ up. opened_holds c.args.shard _ small (c.in-Ok-read_log.header, c.in-Ok-read_log.records, c.in-Ok-read_log.at) (g.D.Disk.story c.args.disk) (g.D.Disk.story c.read_log.new.disk) c.in-Ok-read_log.ensures.told;
+      holds = λ up. opened_holds c.args.shard _ small (c.in-Ok-read_log.choice, c.in-Ok-read_log.records, c.in-Ok-read_log.at) (both_told (g.D.Disk.story c.args.sides.side0) (g.D.Disk.story c.args.sides.side1)) (both_told (g.D.Disk.story c.read_log.new.sides.side0) (g.D.Disk.story c.read_log.new.sides.side1)) c.in-Ok-read_log.ensures.told;
     }
 
 pub returns-in-Ok-read_log-clause-log : goal.returns-in-Ok-read_log-clause-log
 returns-in-Ok-read_log-clause-log g c =
     let small : c.args.shard < 2 ^ 32 = omega arith in
     subst (λ (v : View). IfSome v.story (EachNow (HasLog v.shard c.in-Ok-read_log.records.items))) (sym c.made.ensures)
-    (opened_log c.args.shard _ small (c.in-Ok-read_log.header, c.in-Ok-read_log.records, c.in-Ok-read_log.at) (g.D.Disk.story c.args.disk) (g.D.Disk.story c.read_log.new.disk) c.in-Ok-read_log.ensures.told)
+    (opened_log c.args.shard _ small (c.in-Ok-read_log.choice, c.in-Ok-read_log.records, c.in-Ok-read_log.at) (both_told (g.D.Disk.story c.args.sides.side0) (g.D.Disk.story c.args.sides.side1)) (both_told (g.D.Disk.story c.read_log.new.sides.side0) (g.D.Disk.story c.read_log.new.sides.side1)) c.in-Ok-read_log.ensures.told)
 
 pub returns-in-Ok-read_log-clause-header : goal.returns-in-Ok-read_log-clause-header
 returns-in-Ok-read_log-clause-header g c =
     let small : c.args.shard < 2 ^ 32 = omega arith in
-    subst (λ (v : View). IfSome v.story (EachNow (HasHeader v.shard c.in-Ok-read_log.header.splits))) (sym c.made.ensures)
-    (opened_header c.args.shard _ small (c.in-Ok-read_log.header, c.in-Ok-read_log.records, c.in-Ok-read_log.at) (g.D.Disk.story c.args.disk) (g.D.Disk.story c.read_log.new.disk) c.in-Ok-read_log.ensures.told)
+    subst (λ (v : View). IfSome v.story (EachNow (HasHeader v.shard c.in-Ok-read_log.choice.header.splits))) (sym c.made.ensures)
+    (opened_header c.args.shard _ small (c.in-Ok-read_log.choice, c.in-Ok-read_log.records, c.in-Ok-read_log.at) (both_told (g.D.Disk.story c.args.sides.side0) (g.D.Disk.story c.args.sides.side1)) (both_told (g.D.Disk.story c.read_log.new.sides.side0) (g.D.Disk.story c.read_log.new.sides.side1)) c.in-Ok-read_log.ensures.told)
 
 pub returns-in-Ok-read_log-clause-before : goal.returns-in-Ok-read_log-clause-before
 returns-in-Ok-read_log-clause-before g c =
     let small : c.args.shard < 2 ^ 32 = omega arith in
-    opened_before c.args.shard _ small (c.in-Ok-read_log.header, c.in-Ok-read_log.records, c.in-Ok-read_log.at) (g.D.Disk.story c.args.disk) (g.D.Disk.story c.read_log.new.disk) c.in-Ok-read_log.ensures.told
+    opened_before c.args.shard _ small (c.in-Ok-read_log.choice, c.in-Ok-read_log.records, c.in-Ok-read_log.at) (both_told (g.D.Disk.story c.args.sides.side0) (g.D.Disk.story c.args.sides.side1)) (both_told (g.D.Disk.story c.read_log.new.sides.side0) (g.D.Disk.story c.read_log.new.sides.side1)) c.in-Ok-read_log.ensures.told
