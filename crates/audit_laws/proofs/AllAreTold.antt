@@ -30,7 +30,7 @@ use Rattle.history_laws.proofs.RequestsNameWhatAnswered.{requests_name_what_answ
 use Rattle.session_books.specs.declared.counts.Counts.{Counts}
 use Rattle.session_books.specs.Told.{is_tx, looked_by, has_look, try_of, is_of_birth, has_birth}
 use Rattle.session_books.specs.Counts.{is_acknowledged_try, has_acknowledged_try, is_open, counted, count_try, counts_in}
-use Rattle.audit_laws.proofs.EntriesAreTheirWalkers.{IsOfWalker, AreTheirs, are_theirs}
+use Rattle.session_books.proofs.Laws.{IsOfWalker, AreTheirs, are_theirs}
 use Rattle.audit_laws.proofs.BirthsAreTakenOnce.{same_births, not_older, IsLaterOp, IsOpOf, asked, told, later_behind}
 
 -- ---- lists

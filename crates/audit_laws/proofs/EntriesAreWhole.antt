@@ -22,7 +22,7 @@ use Rattle.history_cases.proofs.Merging.{Placed}
 use Rattle.session_books.specs.declared.told.Told.{Told}
 use Rattle.session_books.specs.Done.{Done, Did, WentBack}
 use Rattle.session_books.specs.Told.{told_by, with_told, told_in}
-use Rattle.audit_laws.proofs.EntriesAreTheirWalkers.{IsOfWalker, AreTheirs, are_theirs}
+use Rattle.session_books.proofs.Laws.{IsOfWalker, AreTheirs, are_theirs}
 use Rattle.audit_laws.specs.Reports.{ScansAreWhole}
 use Rattle.audit_laws.proofs.NumbersHaveNoGap.{scans, backs, NextBy, AreNumbered, numbered_in}
 use Rattle.audit_laws.proofs.AllAreTold.{acknowledgement_is}

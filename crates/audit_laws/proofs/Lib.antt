@@ -1,4 +1,3 @@
-pub mod EntriesAreTheirWalkers
 pub mod BirthsAreTakenOnce
 pub mod AllAreTold
 pub mod MembersAreAcknowledged

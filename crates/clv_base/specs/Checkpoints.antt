@@ -6,10 +6,10 @@ use Rattle.clv_base.specs.declared.logs.LogRecord.{LogRecord}
 use Rattle.clv_base.specs.declared.logs.LogRecord.TheVariants.{Update, Clr, Prepare, Commit, Abort, End, Restart, Add, Unadd, Forgotten, Check}
 use Rattle.clv_base.specs.declared.shard_log.FileRecord.{FileRecord}
 use Rattle.clv_base.specs.declared.shard_log.FileRecord.TheVariants.{Plain, Begin, Base, Keep, Checked}
-use Rattle.clv_base.specs.Values.{Value, same_list, same_optional_value}
+use Rattle.clv_base.specs.Values.{same_list, same_optional_value}
 use Rattle.clv_base.specs.Orders.{tx_same, tx_in, nat_in}
-use Rattle.clv_base.specs.Maps.{KeyMap, map_get, is_number}
-use Rattle.clv_base.specs.Logs.{StandingUpdate, own_tx, is_record_of, has_standing, committed_in, prepared_in, aborted_in, ended_in, prepare_of, commit_parts, standing, fold_at, fold_writes, base_of}
+use Rattle.clv_base.specs.Maps.{KeyMap, is_number}
+use Rattle.clv_base.specs.Logs.{StandingUpdate, own_tx, is_record_of, has_standing, committed_in, prepared_in, aborted_in, ended_in, prepare_of, commit_parts, standing, value_in, fold_writes, base_of}
 use Rattle.clv_base.specs.LogRules.{same_record, last_restart, some_parts, may_set, may_add, writes_below, disorder_from}
 
 -- ---- the checkpoint of a log
@@ -102,15 +102,11 @@ abbrev pub may_list_kept : List LogRecord → List LogRecord → TxId → TxId �
 may_list_kept kept so_far tx p =
     not (is_known kept p) || (not (tx_same p tx) && prepared_in so_far p && not (committed_in so_far p) && not (aborted_in so_far p))
 
--- the value of a key
-abbrev pub value_kept : List LogRecord → ℕ → Option Value
-value_kept log k = fold_at k (map_get k (base_of log)) (standing log)
-
 -- of one without a COMMIT: what a log may have, but for the run
 abbrev pub may_keep_open : ℕ → List LogRecord → List LogRecord → LogRecord → Bool
 may_keep_open run kept so_far (Update tx key before after) =
-    may_have_written run kept so_far tx && same_optional_value before (value_kept so_far key) && (is_some before || is_some after) && may_set so_far tx key (standing so_far)
-may_keep_open run kept so_far (Add tx key by) = may_have_written run kept so_far tx && is_number (value_kept so_far key) && may_add so_far tx key (standing so_far)
+    may_have_written run kept so_far tx && same_optional_value before (value_in so_far key) && (is_some before || is_some after) && may_set so_far tx key (standing so_far)
+may_keep_open run kept so_far (Add tx key by) = may_have_written run kept so_far tx && is_number (value_in so_far key) && may_add so_far tx key (standing so_far)
 may_keep_open run kept so_far (Prepare tx home predecessors) =
     has_standing so_far tx && is_unclosed so_far tx && list_all (λ p. nat_le p.run run && may_list_kept kept so_far tx p) predecessors
     && list_all (λ w. committed_in so_far w.tx || tx_in w.tx predecessors) (writes_below tx (standing so_far))

@@ -1,14 +1,17 @@
 -- The writes that stand, by the records at their LSNs.
-use Rattle.std.proofs.Common.{◌≡◌, ℕ, ◌+◌, ◌-◌, ◌<◌, ◌≤◌, Bool, cond, List, map, drop, get_or, length, refl, sym, ap, ◌∙◌, arith}
+use Rattle.std.proofs.Common.{◌≡◌, ℕ, ◌+◌, ◌-◌, ◌<◌, ◌≤◌, Bool, cond, List, ◌∷◌, Some, map, drop, get_or, length, refl, sym, ap, ◌∙◌, arith}
 use Rattle.std.proofs.lemmas.List.{drop_more}
 use Rattle.clv_base.specs.declared.names.TxId.{TxId}
 use Rattle.clv_base.specs.declared.logs.LogRecord.{LogRecord}
 use Rattle.clv_base.specs.declared.changes.Change.{Change}
 use Rattle.clv_base.specs.declared.changes.Change.TheVariants.{Sets, Adds}
-use Rattle.clv_base.specs.Maps.{KeyMap}
-use Rattle.clv_base.specs.Logs.{standing, fold_writes, with_change}
+use Rattle.clv_base.specs.declared.values.Value.{Value as ValueType}
+use Rattle.clv_base.specs.Maps.{KeyMap, map_set, with_pairs}
+use Rattle.clv_base.specs.Logs.{standing, fold_writes, fold_updates, with_change}
 use Rattle.clv_base.specs.OneShard.{update_of}
 use Rattle.law_base.proofs.Lists.{elem_at}
+use Rattle.log_analysis.specs.Lists.{pairs_at}
+use Rattle.log_analysis.proofs.Laws.Bases.{base_first}
 use Rattle.log_analysis.proofs.Laws.Standing.{write_inside, write_there}
 use Rattle.history_replay.specs.Folds.{with_record}
 
@@ -29,3 +32,18 @@ fold_step keep log lsns n r start now next is some within read so_far made =
     ∙ done_by keep w.tx w.key w.change now
     ∙ ap (λ m. cond (keep w.tx) (with_change w.key w.change m) m) (so_far ∙ ap (λ k. fold_writes keep (drop k ws) start) (sym place))
     ∙ ap (λ vs. fold_writes keep vs start) (sym (drop_more ws (n - 1) (elem_at ws (n - 1) inside) inside))
+
+-- with one pair more, from the last one on
+pub pairs_step : (base : KeyMap) (n : ℕ) (p : ℕ × ValueType) (start now next : KeyMap) → 0 < n → n ≤ length base → p ≡ get_or base (n - 1) p → now ≡ with_pairs (drop n base) start → next ≡ map_set p.0 (Some p.1) now
+    → next ≡ with_pairs (drop (n - 1) base) start
+pairs_step base n p start now next some within read so_far made =
+    let inside : n - 1 < length base = omega arith in
+    let place : (n - 1) + 1 ≡ n = omega arith in
+    made
+    ∙ ap (map_set p.0 (Some p.1)) (so_far ∙ ap (λ k. with_pairs (drop k base) start) (sym place))
+    ∙ ap (λ (q : ℕ × ValueType). with_pairs (q ∷ drop ((n - 1) + 1) base) start) read
+    ∙ ap (λ l. with_pairs l start) (sym (drop_more base (n - 1) p inside))
+
+-- what the log begins with, and then its writes
+pub begun : (keep : TxId → Bool) (log : List LogRecord) (base old mid new : KeyMap) → base ≡ pairs_at log (Some 0) → mid ≡ with_pairs base old → new ≡ fold_writes keep (standing log) mid → new ≡ fold_updates keep log old
+begun keep log base old mid new is put made = made ∙ ap (fold_writes keep (standing log)) (put ∙ ap (λ b. with_pairs b old) (is ∙ base_first log))

@@ -10,6 +10,7 @@ use Rattle.clv_base.specs.declared.logs.LogRecord.{LogRecord}
 use Rattle.clv_base.specs.declared.changes.Change.{Change}
 use Rattle.clv_base.specs.Orders.{tx_same, nat_in}
 use Rattle.clv_base.specs.Logs.{StandingUpdate, unchanged, standing, without_newest, newest_of, has_standing}
+use Rattle.clv_base.specs.Maps.{KeyMap}
 use Rattle.clv_base.specs.Needs.{Records, value_at}
 use Rattle.clv_base.specs.State.{Local}
 use Rattle.clv_base.specs.Undo.{undone_at, record_without, records_without, compensation, clrs_by, is_of, newest_lsn, newest_lsns, is_at, take_back, roll_to}
@@ -257,16 +258,16 @@ newest_have : (m n : ℕ) (tx : TxId) (ws : List StandingUpdate) (rs : Records) 
 newest_have m n tx ws rs f have = all_mono _ _ (λ v h i. h.0 (or_left _ _ (h.1 i))) ws (all_both _ _ ws have (newest_own m n tx ws f))
 
 -- the records' values are again those of what stands
-pub values_rolled : (tx : TxId) (n : ℕ) (l : Local) (k : ℕ) → Chain (standing l.log) → Upward (is_of (tx ∷ [])) (standing l.log) → HaveRecords l.records (is_of (tx ∷ [])) (standing l.log) → value_at k l.records ≡ top_value k (standing l.log)
-    → value_at k (roll_to tx n l).records ≡ top_value k (standing (roll_to tx n l).log)
-values_rolled tx n l k chain up have e =
+pub values_rolled : (floor : KeyMap) (tx : TxId) (n : ℕ) (l : Local) (k : ℕ) → Chain floor (standing l.log) → Upward (is_of (tx ∷ [])) (standing l.log) → HaveRecords l.records (is_of (tx ∷ [])) (standing l.log) → value_at k l.records ≡ top_value floor k (standing l.log)
+    → value_at k (roll_to tx n l).records ≡ top_value floor k (standing (roll_to tx n l).log)
+values_rolled floor tx n l k chain up have e =
     let f = standing_falls l.log in
-    values_undone (newest_test n tx (standing l.log)) (standing l.log) l.records k chain (newest_up (length l.log) n tx (standing l.log) f up) (newest_have (length l.log) n tx (standing l.log) l.records f have) e
-    ∙ ap (top_value k) (sym (standing_rolled tx n l))
+    values_undone floor (newest_test n tx (standing l.log)) (standing l.log) l.records k chain (newest_up (length l.log) n tx (standing l.log) f up) (newest_have (length l.log) n tx (standing l.log) l.records f have) e
+    ∙ ap (top_value floor k) (sym (standing_rolled tx n l))
 
-pub chain_rolled : (tx : TxId) (n : ℕ) (l : Local) → Upward (is_of (tx ∷ [])) (standing l.log) → Chain (standing l.log) → Chain (standing (roll_to tx n l).log)
-chain_rolled tx n l up chain =
-    subst Chain (sym (standing_rolled tx n l)) (chain_stays (newest_test n tx (standing l.log)) (standing l.log) (newest_up (length l.log) n tx (standing l.log) (standing_falls l.log) up) chain)
+pub chain_rolled : (floor : KeyMap) (tx : TxId) (n : ℕ) (l : Local) → Upward (is_of (tx ∷ [])) (standing l.log) → Chain floor (standing l.log) → Chain floor (standing (roll_to tx n l).log)
+chain_rolled floor tx n l up chain =
+    subst (Chain floor) (sym (standing_rolled tx n l)) (chain_stays floor (newest_test n tx (standing l.log)) (standing l.log) (newest_up (length l.log) n tx (standing l.log) (standing_falls l.log) up) chain)
 
 -- a record at a key where the transaction wrote nothing that stands is as it was
 pub record_rolled : (tx : TxId) (n : ℕ) (l : Local) (k : ℕ) → AllByRecursion (λ w. w.key ≡ k → tx_same tx w.tx ≡ false) (standing l.log) → record_at k (roll_to tx n l).records ≡ record_at k l.records

@@ -6,6 +6,7 @@ pub mod Cells
 pub mod Tables
 pub mod Commits
 pub mod Standing
+pub mod Bases
 pub mod Running
 pub mod Undoing
 pub mod GoingBack

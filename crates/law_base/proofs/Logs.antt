@@ -4,14 +4,14 @@ use Rattle.clv_base.specs.declared.logs.LogRecord.{LogRecord}
 use Rattle.clv_base.specs.Restarts.{run_after, homes_of, pairs_of_listed, losers, undo_records, restart_records, restored_pairs, restored_locks, with_ghosts, ghost_if_absent, part_of}
 use Rattle.clv_base.specs.declared.changes.Change.{Change}
 use Rattle.clv_base.specs.declared.changes.Change.TheVariants.{Sets, Adds}
-use Rattle.clv_base.specs.Logs.{is_setting, record_size, fitting, committed_in, committed_somewhere, changed, fold_updates, fold_writes, with_change, stands_from, place_from, prepared_in, prepare_of, standing, aborted_in, StandingUpdate, standing_from, without_newest}
+use Rattle.clv_base.specs.Logs.{is_setting, record_size, fitting, committed_in, committed_somewhere, changed, base_of, fold_updates, fold_writes, with_change, stands_from, place_from, prepared_in, prepare_of, standing, aborted_in, StandingUpdate, standing_from, without_newest}
 use Rattle.std.specs.Prelude.{slice_get, ⊤, is_none}
 use Rattle.std.proofs.Math.Seq.{get_or-append_seam}
 use Rattle.std.proofs.lemmas.Option.{slice_get_read}
 use Rattle.clv_base.specs.declared.logs.LogRecord.TheVariants.{Clr, Abort, Restart, Prepare, Update, Commit, End, Add, Unadd, Forgotten, Check}
 use Rattle.clv_base.specs.declared.names.TxId.{TxId}
 use Rattle.clv_base.specs.LogRules.{log_of, all_logs_from, disorder, may_follow, disorder_from, last_restart}
-use Rattle.clv_base.specs.Maps.{KeyMap, map_get}
+use Rattle.clv_base.specs.Maps.{KeyMap, map_get, with_pairs}
 use Rattle.std.specs.List.{list_all, list_any, AllByRecursion, filter}
 use Rattle.std.proofs.lemmas.Bool.{and_parts, and_from, or_parts, both_ways, cases_Bool, cond_both, cond-true, cond-false, or_cases}
 use Rattle.clv_base.specs.FileRules.{passes_file_rules, log_passes, has_spelling}
@@ -24,6 +24,7 @@ use Rattle.std.proofs.lemmas.List.Folds.{list_all-append, list_any-append, list_
 use Rattle.clv_base.proofs.SameNames.{or_left, or_right, tx_self, tx_true}
 use Rattle.clv_base.specs.Orders.{tx_same, tx_in}
 pub use Rattle.law_base.proofs.Standing.{standing_push}
+use Rattle.law_base.proofs.Bases.{base_more, with_rises}
 use Rattle.law_base.proofs.Standing.{standing_append}
 use Rattle.clv_base.specs.Folding.{IsRising}
 use Rattle.clv_base.proofs.Folding.{rising_set}
@@ -194,7 +195,7 @@ writes_rise keep (w ∷ ws) m h = at (keep w.tx) (writes_rise keep ws m h)
     at false r = r
 
 pub fold_rises : (keep : TxId → Bool) (log : List LogRecord) (m : KeyMap) → IsRising m → IsRising (fold_updates keep log m)
-fold_rises keep log m h = writes_rise keep (standing log) m h
+fold_rises keep log m h = writes_rise keep (standing log) (with_pairs (base_of log) m) (with_rises (base_of log) m h)
 
 abbrev pub is_update_at : TxId → ℕ → LogRecord → Bool
 is_update_at t q (Update tx key before after) = tx_same t tx && (q == key)
@@ -247,12 +248,20 @@ fold_spared keep n (End tx ∷ more) ws m a = absurd a.0
 fold_spared keep n (Forgotten ∷ more) ws m a = absurd a.0
 fold_spared keep n (Check run' epoch' upto base ∷ more) ws m a = absurd a.0
 
--- undo records of others leave the fold
-pub same_fold : (f k : TxId → Bool) → ((t : TxId) → f t ≡ k t) → (log more : List LogRecord) (m : KeyMap) → AllByRecursion (Spares k) more → fold_updates f (log ++ more) m ≡ fold_updates k log m
-same_fold f k e log more m a =
-    ap (λ (keep : TxId → Bool). fold_updates keep (log ++ more) m) (fun_ext e)
-    ∙ ap (λ ws. fold_writes k ws m) (standing_append 0 log more [])
-    ∙ fold_spared k (0 + length log) more (standing log) m a
+-- undo records begin no log with a map
+pub undo_base : (rs : List LogRecord) → AllByRecursion IsUndo rs → base_of rs ≡ []
+undo_base [] a = refl
+undo_base (Abort tx ∷ rs) a = refl
+undo_base (Clr tx u q v ∷ rs) a = refl
+undo_base (Unadd tx u q by ∷ rs) a = refl
+undo_base (Restart run epoch ∷ rs) a = refl
+undo_base (Update tx q b v ∷ rs) a = refl
+undo_base (Add tx q by ∷ rs) a = refl
+undo_base (Prepare tx home ps ∷ rs) a = refl
+undo_base (Commit tx ps ∷ rs) a = refl
+undo_base (End tx ∷ rs) a = refl
+undo_base (Forgotten ∷ rs) a = refl
+undo_base (Check run' epoch' upto base ∷ rs) a = absurd a.0
 
 pub spares_undo : (keep : TxId → Bool) (r : LogRecord) → Spares keep r → IsUndo r
 spares_undo keep (Abort tx) a = tt
@@ -266,6 +275,14 @@ spares_undo keep (Commit tx ps) a = a
 spares_undo keep (End tx) a = a
 spares_undo keep Forgotten a = a
 spares_undo keep (Check run' epoch' upto base) a = a
+
+-- undo records of others leave the fold
+pub same_fold : (f k : TxId → Bool) → ((t : TxId) → f t ≡ k t) → (log more : List LogRecord) (m : KeyMap) → AllByRecursion (Spares k) more → fold_updates f (log ++ more) m ≡ fold_updates k log m
+same_fold f k e log more m a =
+    ap (λ (keep : TxId → Bool). fold_updates keep (log ++ more) m) (fun_ext e)
+    ∙ ap (λ ws. fold_writes k ws (with_pairs (base_of (log ++ more)) m)) (standing_append 0 log more [])
+    ∙ fold_spared k (0 + length log) more (standing log) (with_pairs (base_of (log ++ more)) m) a
+    ∙ ap (λ base. fold_writes k (standing log) (with_pairs base m)) (base_more log more (undo_base more (all_mono _ _ (spares_undo k) more a)))
 
 pub aborts_spare : (keep : TxId → Bool) (ts : List TxId) → AllByRecursion (Spares keep) (map (λ t. Abort t) ts)
 aborts_spare keep [] = tt

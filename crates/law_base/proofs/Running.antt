@@ -8,10 +8,10 @@ use Rattle.clv_base.specs.declared.ops.Op.{Op}
 use Rattle.clv_base.specs.declared.ops.Op.TheVariants.{Get, Put, Del, Scan, Add}
 use Rattle.clv_base.specs.declared.ops.Answer.{Answer}
 use Rattle.clv_base.specs.declared.ops.Answer.TheVariants.{Value, Pairs, Added}
-use Rattle.clv_base.specs.Maps.{KeyMap, map_get, map_set, map_add, plus, is_number, map_between, lies_between, op_answer, op_after, ops_after, ops_answers, replay_ops_map, replay_ops_answers, Acts, Operates, Trail, map_now, acts_after, acts_answers, replay_map, replay_answers}
+use Rattle.clv_base.specs.Maps.{KeyMap, map_get, map_set, map_add, with_pairs, plus, is_number, map_between, lies_between, op_answer, op_after, ops_after, ops_answers, replay_ops_map, replay_ops_answers, Acts, Operates, Trail, map_now, acts_after, acts_answers, replay_map, replay_answers}
 use Rattle.clv_base.specs.Needs.{writes_of}
 use Rattle.clv_base.specs.declared.changes.Change.{Change}
-use Rattle.clv_base.specs.Logs.{StandingUpdate, changed, fold_at, with_change, fold_writes, wrote_in, has_standing, fold_updates, standing}
+use Rattle.clv_base.specs.Logs.{StandingUpdate, changed, fold_at, base_of, with_change, fold_writes, wrote_in, has_standing, fold_updates, standing}
 use Rattle.clv_base.specs.Folding.{IsRising, meets_key, adds}
 use Rattle.clv_base.specs.declared.names.TxId.{TxId}
 use Rattle.clv_base.specs.declared.logs.LogRecord.{LogRecord}
@@ -235,22 +235,22 @@ pub runs_push : (xs : List Item) (x : Item) (m : KeyMap) → Runs m xs → x.ans
 runs_push [] x m r e = (e, tt)
 runs_push (y ∷ ys) x m r e = (r.0, runs_push ys x (op_after y.op m) r.1 e)
 
--- ---- the value at a key is the fold of its writes
+-- ---- the value at a key is the fold of its writes, from a map
 
-abbrev pub top_value : ℕ → List StandingUpdate → Option ValueType
-top_value k ws = fold_at k None ws
+abbrev pub top_value : KeyMap → ℕ → List StandingUpdate → Option ValueType
+top_value floor k ws = fold_at k (map_get k floor) ws
 
-pub on_top_value : (x : Item) (ws : List StandingUpdate) (k : ℕ) → top_value k (on_top x.tx x.lsn (wrote x) ws) ≡ with_write (wrote x) k (top_value k ws)
-on_top_value x ws k = at (wrote x)
+pub on_top_value : (floor : KeyMap) (x : Item) (ws : List StandingUpdate) (k : ℕ) → top_value floor k (on_top x.tx x.lsn (wrote x) ws) ≡ with_write (wrote x) k (top_value floor k ws)
+on_top_value floor x ws k = at (wrote x)
   where
-    at : (w : Option (ℕ × Change)) → top_value k (on_top x.tx x.lsn w ws) ≡ with_write w k (top_value k ws)
+    at : (w : Option (ℕ × Change)) → top_value floor k (on_top x.tx x.lsn w ws) ≡ with_write w k (top_value floor k ws)
     at None = refl
     at (Some w) = refl
 
-pub pile_value : (xs : List Item) (m : KeyMap) (ws : List StandingUpdate) (k : ℕ) → Runs m xs → map_get k m ≡ top_value k ws → map_get k (after m xs) ≡ top_value k (pile xs ws)
-pile_value [] m ws k r e = e
-pile_value (x ∷ xs) m ws k r e =
-    pile_value xs (op_after x.op m) (on_top x.tx x.lsn (wrote x) ws) k r.1 (item_value x m k r.0 ∙ ap (with_write (wrote x) k) e ∙ sym (on_top_value x ws k))
+pub pile_value : (floor : KeyMap) (xs : List Item) (m : KeyMap) (ws : List StandingUpdate) (k : ℕ) → Runs m xs → map_get k m ≡ top_value floor k ws → map_get k (after m xs) ≡ top_value floor k (pile xs ws)
+pile_value floor [] m ws k r e = e
+pile_value floor (x ∷ xs) m ws k r e =
+    pile_value floor xs (op_after x.op m) (on_top x.tx x.lsn (wrote x) ws) k r.1 (item_value x m k r.0 ∙ ap (with_write (wrote x) k) e ∙ sym (on_top_value floor x ws k))
 
 pub pile_push : (xs : List Item) (x : Item) (ws : List StandingUpdate) → pile (xs ++ x ∷ []) ws ≡ on_top x.tx x.lsn (wrote x) (pile xs ws)
 pile_push [] x ws = refl
@@ -298,7 +298,7 @@ fold_same f k (w ∷ ws) m e =
 
 -- so on those alone of whom a write stands
 pub fold_standing : (f k : TxId → Bool) (log : List LogRecord) (m : KeyMap) → ((t : TxId) → has_standing log t ≡ true → f t ≡ k t) → fold_updates f log m ≡ fold_updates k log m
-fold_standing f k log m e = fold_same f k (standing log) m (all_mono _ _ (λ w h. e w.tx h) (standing log) (all_stand log))
+fold_standing f k log m e = fold_same f k (standing log) (with_pairs (base_of log) m) (all_mono _ _ (λ w h. e w.tx h) (standing log) (all_stand log))
 
 pub fold_writers : (f k : TxId → Bool) (log : List LogRecord) (m : KeyMap) → ((t : TxId) → wrote_in log t ≡ true → f t ≡ k t) → fold_updates f log m ≡ fold_updates k log m
 fold_writers f k log m e = fold_standing f k log m (λ t h. e t (standing_wrote log t h))

@@ -9,7 +9,7 @@ use Rattle.clv_base.specs.declared.logs.LogRecord.TheVariants.{Abort}
 use Rattle.clv_base.specs.Orders.{tx_same, tx_in}
 use Rattle.clv_base.specs.declared.changes.Change.{Change}
 use Rattle.clv_base.specs.declared.changes.Change.TheVariants.{Sets, Adds}
-use Rattle.clv_base.specs.Maps.{plus}
+use Rattle.clv_base.specs.Maps.{KeyMap, plus}
 use Rattle.clv_base.specs.Logs.{StandingUpdate, changed, unchanged, is_setting, standing, standing_from, standing_after, without_newest, has_standing}
 use Rattle.clv_base.specs.Undo.{undone_at, records_without, compensation, aborts_of, clrs_by, clrs_of, is_of, newest_lsn}
 use Rattle.clv_base.specs.Needs.{Records, value_at}
@@ -99,9 +99,9 @@ abbrev pub IsOver : Change → Option ValueType → Type 0
 IsOver (Sets before after) left = before ≡ left
 IsOver (Adds by) left = Unit {0}
 
-abbrev pub Chain : List StandingUpdate → Type 0
-Chain [] = Unit {0}
-Chain (w ∷ ws) = IsOver w.change (top_value w.key ws) × Chain ws
+abbrev pub Chain : KeyMap → List StandingUpdate → Type 0
+Chain floor [] = Unit {0}
+Chain floor (w ∷ ws) = IsOver w.change (top_value floor w.key ws) × Chain floor ws
 
 -- none of the writes that are taken back lies below one that stays, but that an ADD may stand over ADDs
 abbrev pub Upward : (StandingUpdate → Bool) → List StandingUpdate → Type 0
@@ -136,47 +136,47 @@ add_behind gone k by (w ∷ ws) v all =
     at false b c i e f = refl
 
 -- what is undone of the fold is the fold of the other writes
-pub undone_value : (gone : StandingUpdate → Bool) (k : ℕ) (ws : List StandingUpdate) → Chain ws → Upward gone ws → undone_at gone k ws (top_value k ws) ≡ top_value k (filter (stays_by gone) ws)
-undone_value gone k [] chain up = refl
-undone_value gone k (w ∷ ws) chain up = at (undone_value gone k ws chain.1 up.1) (gone w) (k == w.key) w.change refl refl refl
+pub undone_value : (floor : KeyMap) (gone : StandingUpdate → Bool) (k : ℕ) (ws : List StandingUpdate) → Chain floor ws → Upward gone ws → undone_at gone k ws (top_value floor k ws) ≡ top_value floor k (filter (stays_by gone) ws)
+undone_value floor gone k [] chain up = refl
+undone_value floor gone k (w ∷ ws) chain up = at (undone_value floor gone k ws chain.1 up.1) (gone w) (k == w.key) w.change refl refl refl
   where
-    at : undone_at gone k ws (top_value k ws) ≡ top_value k (filter (stays_by gone) ws) → (a b : Bool) (c : Change) → gone w ≡ a → (k == w.key) ≡ b → w.change ≡ c
-        → undone_at gone k ws (cond (a && b) (unchanged c (cond b (changed c (top_value k ws)) (top_value k ws))) (cond b (changed c (top_value k ws)) (top_value k ws)))
-        ≡ top_value k (cond (not a) (w ∷ filter (stays_by gone) ws) (filter (stays_by gone) ws))
+    at : undone_at gone k ws (top_value floor k ws) ≡ top_value floor k (filter (stays_by gone) ws) → (a b : Bool) (c : Change) → gone w ≡ a → (k == w.key) ≡ b → w.change ≡ c
+        → undone_at gone k ws (cond (a && b) (unchanged c (cond b (changed c (top_value floor k ws)) (top_value floor k ws))) (cond b (changed c (top_value floor k ws)) (top_value floor k ws)))
+        ≡ top_value floor k (cond (not a) (w ∷ filter (stays_by gone) ws) (filter (stays_by gone) ws))
     at ih true true (Sets before after) i e f =
-        ap (undone_at gone k ws) (subst (λ x. IsOver x (top_value w.key ws)) f chain.0 ∙ ap (λ j. top_value j ws) (sym (eqb-true k w.key e))) ∙ ih
-    at ih true true (Adds n) i e f = ap (undone_at gone k ws) (minus_plus n (top_value k ws)) ∙ ih
+        ap (undone_at gone k ws) (subst (λ x. IsOver x (top_value floor w.key ws)) f chain.0 ∙ ap (λ j. top_value floor j ws) (sym (eqb-true k w.key e))) ∙ ih
+    at ih true true (Adds n) i e f = ap (undone_at gone k ws) (minus_plus n (top_value floor k ws)) ∙ ih
     at ih true false c i e f = ih
     at ih false true (Sets before after) i e f =
         unwritten gone k ws after (all_mono _ _ (λ v h same. h (same ∙ eqb-true k w.key e) (or_right (is_setting v.change) _ (ap is_setting f))) ws (up.0 i))
-        ∙ sym (cond-true (k == w.key) _ _ e ∙ ap (λ x. changed x (top_value k (filter (stays_by gone) ws))) f)
+        ∙ sym (cond-true (k == w.key) _ _ e ∙ ap (λ x. changed x (top_value floor k (filter (stays_by gone) ws))) f)
     at ih false true (Adds n) i e f =
-        add_behind gone k n ws (top_value k ws) (all_mono _ _ (λ v h same sets. h (same ∙ eqb-true k w.key e) (or_left _ (is_setting w.change) sets)) ws (up.0 i))
+        add_behind gone k n ws (top_value floor k ws) (all_mono _ _ (λ v h same sets. h (same ∙ eqb-true k w.key e) (or_left _ (is_setting w.change) sets)) ws (up.0 i))
         ∙ ap (plus n) ih
-        ∙ sym (cond-true (k == w.key) _ _ e ∙ ap (λ x. changed x (top_value k (filter (stays_by gone) ws))) f)
+        ∙ sym (cond-true (k == w.key) _ _ e ∙ ap (λ x. changed x (top_value floor k (filter (stays_by gone) ws))) f)
     at ih false false c i e f = ih ∙ sym (cond-false (k == w.key) _ _ e)
 
 -- where nothing at the key is taken back, the fold stays
-pub top_stays : (gone : StandingUpdate → Bool) (k : ℕ) (ws : List StandingUpdate) → AllByRecursion (λ w. w.key ≡ k → gone w ≡ false) ws → top_value k (filter (stays_by gone) ws) ≡ top_value k ws
-top_stays gone k [] all = refl
-top_stays gone k (w ∷ ws) all = at (gone w) (k == w.key) refl refl (top_stays gone k ws all.1)
+pub top_stays : (floor : KeyMap) (gone : StandingUpdate → Bool) (k : ℕ) (ws : List StandingUpdate) → AllByRecursion (λ w. w.key ≡ k → gone w ≡ false) ws → top_value floor k (filter (stays_by gone) ws) ≡ top_value floor k ws
+top_stays floor gone k [] all = refl
+top_stays floor gone k (w ∷ ws) all = at (gone w) (k == w.key) refl refl (top_stays floor gone k ws all.1)
   where
-    at : (a b : Bool) → gone w ≡ a → (k == w.key) ≡ b → top_value k (filter (stays_by gone) ws) ≡ top_value k ws
-        → top_value k (cond (not a) (w ∷ filter (stays_by gone) ws) (filter (stays_by gone) ws)) ≡ cond b (changed w.change (top_value k ws)) (top_value k ws)
+    at : (a b : Bool) → gone w ≡ a → (k == w.key) ≡ b → top_value floor k (filter (stays_by gone) ws) ≡ top_value floor k ws
+        → top_value floor k (cond (not a) (w ∷ filter (stays_by gone) ws) (filter (stays_by gone) ws)) ≡ cond b (changed w.change (top_value floor k ws)) (top_value floor k ws)
     at true true g e ih = absurd (both_ways _ (all.0 (sym (eqb-true k w.key e))) g)
     at true false g e ih = ih
-    at false b g e ih = ap (λ c. cond c (changed w.change (top_value k (filter (stays_by gone) ws))) (top_value k (filter (stays_by gone) ws))) e ∙ ap (λ v. cond b (changed w.change v) v) ih
+    at false b g e ih = ap (λ c. cond c (changed w.change (top_value floor k (filter (stays_by gone) ws))) (top_value floor k (filter (stays_by gone) ws))) e ∙ ap (λ v. cond b (changed w.change v) v) ih
 
 -- each UPDATE that stays names the value that is left below it
-pub chain_stays : (gone : StandingUpdate → Bool) (ws : List StandingUpdate) → Upward gone ws → Chain ws → Chain (filter (stays_by gone) ws)
-chain_stays gone [] up chain = tt
-chain_stays gone (w ∷ ws) up chain = at (gone w) refl (chain_stays gone ws up.1 chain.1)
+pub chain_stays : (floor : KeyMap) (gone : StandingUpdate → Bool) (ws : List StandingUpdate) → Upward gone ws → Chain floor ws → Chain floor (filter (stays_by gone) ws)
+chain_stays floor gone [] up chain = tt
+chain_stays floor gone (w ∷ ws) up chain = at (gone w) refl (chain_stays floor gone ws up.1 chain.1)
   where
-    over : gone w ≡ false → (c : Change) → w.change ≡ c → IsOver c (top_value w.key ws) → IsOver c (top_value w.key (filter (stays_by gone) ws))
-    over out (Sets before after) f e = e ∙ sym (top_stays gone w.key ws (all_mono _ _ (λ v h same. h same (or_right (is_setting v.change) _ (ap is_setting f))) ws (up.0 out)))
+    over : gone w ≡ false → (c : Change) → w.change ≡ c → IsOver c (top_value floor w.key ws) → IsOver c (top_value floor w.key (filter (stays_by gone) ws))
+    over out (Sets before after) f e = e ∙ sym (top_stays floor gone w.key ws (all_mono _ _ (λ v h same. h same (or_right (is_setting v.change) _ (ap is_setting f))) ws (up.0 out)))
     over out (Adds by) f e = tt
 
-    at : (b : Bool) → gone w ≡ b → Chain (filter (stays_by gone) ws) → Chain (cond (not b) (w ∷ filter (stays_by gone) ws) (filter (stays_by gone) ws))
+    at : (b : Bool) → gone w ≡ b → Chain floor (filter (stays_by gone) ws) → Chain floor (cond (not b) (w ∷ filter (stays_by gone) ws) (filter (stays_by gone) ws))
     at true g ih = ih
     at false g ih = (over g w.change refl chain.0, ih)
 
@@ -206,12 +206,12 @@ live_case : (gone : StandingUpdate → Bool) (ws : List StandingUpdate) (k : ℕ
 live_case gone ws k None t u e none h = e ∙ sym (none refl) ∙ h
 live_case gone ws k (Some v) t u e none h = live_some (undone_at gone k ws v) ∙ ap (undone_at gone k ws) (sym (live_some v) ∙ e) ∙ h
 
-pub values_undone : (gone : StandingUpdate → Bool) (ws : List StandingUpdate) (rs : Records) (k : ℕ) → Chain ws → Upward gone ws → HaveRecords rs gone ws → value_at k rs ≡ top_value k ws → value_at k (records_without gone ws rs) ≡ top_value k (filter (stays_by gone) ws)
-values_undone gone ws rs k chain up have e =
+pub values_undone : (floor : KeyMap) (gone : StandingUpdate → Bool) (ws : List StandingUpdate) (rs : Records) (k : ℕ) → Chain floor ws → Upward gone ws → HaveRecords rs gone ws → value_at k rs ≡ top_value floor k ws → value_at k (records_without gone ws rs) ≡ top_value floor k (filter (stays_by gone) ws)
+values_undone floor gone ws rs k chain up have e =
     ap live_by (record_undone gone ws rs k)
-    ∙ live_case gone ws k (record_at k rs) (top_value k ws) (top_value k (filter (stays_by gone) ws)) e
-    (λ none. unwritten gone k ws (top_value k ws) (all_mono _ _ (λ v h same. ⊎_elim (λ i. absurd (h i (ap (λ j. record_at j rs) same ∙ none))) (λ i. i) (cases_Bool (gone v))) ws have))
-    (undone_value gone k ws chain up)
+    ∙ live_case gone ws k (record_at k rs) (top_value floor k ws) (top_value floor k (filter (stays_by gone) ws)) e
+    (λ none. unwritten gone k ws (top_value floor k ws) (all_mono _ _ (λ v h same. ⊎_elim (λ i. absurd (h i (ap (λ j. record_at j rs) same ∙ none))) (λ i. i) (cases_Bool (gone v))) ws have))
+    (undone_value floor gone k ws chain up)
 
 -- ---- these facts from the items
 

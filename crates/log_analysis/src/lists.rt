@@ -1,10 +1,11 @@
 // What the record at a place in a log lists.
 
 ghost use Rattle.std.specs.Prelude.{◌≡◌};
-ghost use Rattle.log_analysis.specs.Lists.{home_at as home_in, listed_at as listed_in, parts_at as parts_in};
+ghost use Rattle.log_analysis.specs.Lists.{home_at as home_in, listed_at as listed_in, pairs_at as pairs_in, parts_at as parts_in};
 
 use clv_base::logs::LogRecord;
 use clv_base::names::TxId;
+use clv_base::values::Value;
 
 /// The home that the PREPARE at this LSN names, none where no PREPARE stands there.
 pub fn home_at(records: &[LogRecord], at: Option<usize>) -> Option<u32>
@@ -38,6 +39,19 @@ pub fn parts_at(records: &[LogRecord], at: Option<usize>) -> &[u32]
     };
     match records.get(lsn) {
         Some(LogRecord::Commit { parts, .. }) => parts.as_slice(),
+        _ => &[],
+    }
+}
+
+/// The pairs of the checkpoint at this LSN, none where no checkpoint stands there.
+pub fn pairs_at(records: &[LogRecord], at: Option<usize>) -> &[(u64, Value)]
+    ensures { result.now ≡ pairs_in records.now at }
+{
+    let Some(lsn) = at else {
+        return &[];
+    };
+    match records.get(lsn) {
+        Some(LogRecord::Check { base, .. }) => base.as_slice(),
         _ => &[],
     }
 }

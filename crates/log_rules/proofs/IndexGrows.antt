@@ -10,7 +10,8 @@ use Rattle.clv_base.specs.declared.logs.LogRecord.{LogRecord}
 use Rattle.clv_base.specs.declared.logs.LogRecord.TheVariants.{Update, Clr, Prepare, Commit, Abort, End, Restart, Add, Unadd, Forgotten, Check}
 use Rattle.clv_base.specs.Orders.{tx_same, tx_in}
 use Rattle.clv_base.specs.OneShard.{update_of}
-use Rattle.clv_base.specs.Logs.{StandingUpdate, changed, unchanged, is_setting, is_commit_of, is_prepare_of, is_abort_of, committed_in, prepared_in, aborted_in, standing, newest_of, without_newest}
+use Rattle.clv_base.specs.Maps.{KeyMap}
+use Rattle.clv_base.specs.Logs.{StandingUpdate, base_by, base_of, changed, unchanged, is_setting, is_commit_of, is_prepare_of, is_abort_of, committed_in, prepared_in, aborted_in, standing, newest_of, without_newest}
 use Rattle.clv_base.specs.LogRules.{last_restart, above_restarts, before_restart, listed_in, may_undo, may_follow}
 use Rattle.clv_base.proofs.SameNames.{tx_true, tx_self, tx_flip}
 use Rattle.log_analysis.specs.Facts.{Knows}
@@ -35,6 +36,7 @@ use Rattle.log_rules.proofs.Links.{Linked, link_of, linked_at, linked_is, linked
 use Rattle.log_rules.proofs.Walks.{settled_shares}
 use Rattle.law_base.proofs.Sets.{same_flip as tx_symmetric}
 use Rattle.law_base.proofs.Bools.{by_bool as both, not_true, or_false, and_no, or_yes}
+use Rattle.law_base.proofs.Bases.{base_push}
 use Rattle.law_base.proofs.Logs.{last_restart_push, standing_push, no_prepare}
 use Rattle.law_base.proofs.Names.{Falls, falls_length}
 use Rattle.law_base.proofs.Standing.{newest_is}
@@ -70,12 +72,13 @@ record IsOther (r : LogRecord) : Type 0 where
   last : last_restart (r ∷ []) ≡ None
   above : (run epoch : ℕ) → above_restarts run epoch (r ∷ []) ≡ true
   before : (l : List LogRecord) → before_restart l (r ∷ []) ≡ []
+  base : base_by r ≡ []
 
 -- what an index has beside the facts and what it has of RESTARTs
 record HasRest (shard : ℕ) (z : Index) (log : List LogRecord) : Type 0 where
   tops : (k : ℕ) → top_at z.writes k ≡ top_set k (standing log)
   adds : (k : ℕ) → adds_at z.writes k ≡ adds_over k (standing log)
-  values : (k : ℕ) → value_at z.writes k ≡ top_value k (standing log)
+  values : (k : ℕ) → value_at z.writes k ≡ top_value (base_of log) k (standing log)
   newest : (t : TxId) → newest_by z.writes t ≡ lsn_of (newest_of t (standing log))
   linked : Linked z.writes (standing log)
   shares : (k : ℕ) → shares_at z.writes k ≡ shares_of (committed_in log) k (standing log)
@@ -105,6 +108,11 @@ module _ (shard : ℕ) (x y : Index) (log : List LogRecord) (s : Sound log) (i :
   shares_kept : (r : LogRecord) → ((t : TxId) → is_commit_of t r ≡ false) → (z : Index) → z.writes ≡ x.writes → standing (log ++ r ∷ []) ≡ standing log → (k : ℕ) → shares_at z.writes k ≡ shares_of (committed_in (log ++ r ∷ [])) k (standing (log ++ r ∷ []))
   shares_kept r other z same ws k = ap (λ m. shares_at m k) same ∙ i.shares k ∙ sym (shares_same r other k (standing log)) ∙ ap (shares_of (committed_in (log ++ r ∷ [])) k) (sym ws)
 
+  -- ---- the values
+
+  values_push : (r : LogRecord) → base_by r ≡ [] → (now : List StandingUpdate) → standing (log ++ r ∷ []) ≡ now → (k : ℕ) → top_value (base_of log) k now ≡ top_value (base_of (log ++ r ∷ [])) k (standing (log ++ r ∷ []))
+  values_push r none now ws k = ap (λ base. top_value base k now) (sym (base_push log r none)) ∙ ap (top_value (base_of (log ++ r ∷ [])) k) (sym ws)
+
   -- ---- RESTART
 
   pub after_restart : (run epoch : ℕ) → is_above run epoch x.last ≡ true → (z : Index) → AddsRestart x z (length log) run epoch → Knows y.facts (log ++ Restart run epoch ∷ [])
@@ -120,7 +128,7 @@ module _ (shard : ℕ) (x y : Index) (log : List LogRecord) (s : Sound log) (i :
         facts = knows;
         tops = λ k. ap (λ w. top_at w k) a.writes ∙ i.tops k ∙ ap (top_set k) (sym ws);
         adds = λ k. ap (λ w. adds_at w k) a.writes ∙ i.adds k ∙ ap (adds_over k) (sym ws);
-        values = λ k. ap (λ w. value_at w k) a.writes ∙ i.values k ∙ ap (top_value k) (sym ws);
+        values = λ k. ap (λ w. value_at w k) a.writes ∙ i.values k ∙ values_push r refl (standing log) ws k;
         newest = λ t. ap (λ w. newest_by w t) a.writes ∙ i.newest t ∙ ap (λ l. lsn_of (newest_of t l)) (sym ws);
         linked = rw (ws, a.writes) i.linked;
         shares = λ k. shares_kept r (λ u. refl) z a.writes ws k;
@@ -150,12 +158,12 @@ module _ (shard : ℕ) (x y : Index) (log : List LogRecord) (s : Sound log) (i :
   }
 
   -- where the writes stay
-  same_writes : (r : LogRecord) (z : Index) → standing (log ++ r ∷ []) ≡ standing log → z.writes ≡ x.writes → ((k : ℕ) → shares_at z.writes k ≡ shares_of (committed_in (log ++ r ∷ [])) k (standing (log ++ r ∷ []))) → Descends z.listers → ((q t : TxId) → tx_in t (listers_in z.listers q) ≡ tx_in q (listed_in (log ++ r ∷ []) t))
+  same_writes : (r : LogRecord) (z : Index) → standing (log ++ r ∷ []) ≡ standing log → base_by r ≡ [] → z.writes ≡ x.writes → ((k : ℕ) → shares_at z.writes k ≡ shares_of (committed_in (log ++ r ∷ [])) k (standing (log ++ r ∷ []))) → Descends z.listers → ((q t : TxId) → tx_in t (listers_in z.listers q) ≡ tx_in q (listed_in (log ++ r ∷ []) t))
       → ((t : TxId) → tx_in t z.barring ≡ bars shard (log ++ r ∷ []) t) → HasRest shard z (log ++ r ∷ [])
-  same_writes r z ws writes shares descends listers barring = record {
+  same_writes r z ws none writes shares descends listers barring = record {
     tops = λ k. ap (λ w. top_at w k) writes ∙ i.tops k ∙ ap (top_set k) (sym ws);
     adds = λ k. ap (λ w. adds_at w k) writes ∙ i.adds k ∙ ap (adds_over k) (sym ws);
-    values = λ k. ap (λ w. value_at w k) writes ∙ i.values k ∙ ap (top_value k) (sym ws);
+    values = λ k. ap (λ w. value_at w k) writes ∙ i.values k ∙ values_push r none (standing log) ws k;
     newest = λ t. ap (λ w. newest_by w t) writes ∙ i.newest t ∙ ap (λ l. lsn_of (newest_of t l)) (sym ws);
     linked = rw (ws, writes) i.linked;
     shares = shares;
@@ -165,12 +173,12 @@ module _ (shard : ℕ) (x y : Index) (log : List LogRecord) (s : Sound log) (i :
   }
 
   -- where but the shares of one go
-  settled_writes : (r : LogRecord) (z : Index) → standing (log ++ r ∷ []) ≡ standing log → (tx : TxId) → Settles x.writes z.writes (length log) tx → ((k : ℕ) → shares_at z.writes k ≡ shares_of (committed_in (log ++ r ∷ [])) k (standing (log ++ r ∷ []))) → Descends z.listers
+  settled_writes : (r : LogRecord) (z : Index) → standing (log ++ r ∷ []) ≡ standing log → base_by r ≡ [] → (tx : TxId) → Settles x.writes z.writes (length log) tx → ((k : ℕ) → shares_at z.writes k ≡ shares_of (committed_in (log ++ r ∷ [])) k (standing (log ++ r ∷ []))) → Descends z.listers
       → ((q t : TxId) → tx_in t (listers_in z.listers q) ≡ tx_in q (listed_in (log ++ r ∷ []) t)) → ((t : TxId) → tx_in t z.barring ≡ bars shard (log ++ r ∷ []) t) → HasRest shard z (log ++ r ∷ [])
-  settled_writes r z ws tx writes shares descends listers barring = record {
+  settled_writes r z ws none tx writes shares descends listers barring = record {
     tops = λ k. writes.keeps.tops k ∙ i.tops k ∙ ap (top_set k) (sym ws);
     adds = λ k. writes.keeps.adds k ∙ i.adds k ∙ ap (adds_over k) (sym ws);
-    values = λ k. writes.keeps.values k ∙ i.values k ∙ ap (top_value k) (sym ws);
+    values = λ k. writes.keeps.values k ∙ i.values k ∙ values_push r none (standing log) ws k;
     newest = λ t. ap (λ n. newest_by (record z.writes { newest = n }) t) writes.keeps.newest ∙ i.newest t ∙ ap (λ l. lsn_of (newest_of t l)) (sym ws);
     linked = rw ws
         (linked_stay x.writes z.writes (length log)
@@ -185,8 +193,8 @@ module _ (shard : ℕ) (x y : Index) (log : List LogRecord) (s : Sound log) (i :
   same_listers : (r : LogRecord) (z : Index) → z.listers ≡ x.listers → ((t : TxId) → listed_in (log ++ r ∷ []) t ≡ listed_in log t) → (q t : TxId) → tx_in t (listers_in z.listers q) ≡ tx_in q (listed_in (log ++ r ∷ []) t)
   same_listers r z listers other q t = ap (λ m. tx_in t (listers_in m q)) listers ∙ i.listers q t ∙ ap (tx_in q) (sym (other t))
 
-  plain : (r : LogRecord) → last_restart (r ∷ []) ≡ None → ((run epoch : ℕ) → above_restarts run epoch (r ∷ []) ≡ true) → ((l : List LogRecord) → before_restart l (r ∷ []) ≡ []) → IsOther r
-  plain r last above before = record { last = last; above = above; before = before }
+  plain : (r : LogRecord) → last_restart (r ∷ []) ≡ None → ((run epoch : ℕ) → above_restarts run epoch (r ∷ []) ≡ true) → ((l : List LogRecord) → before_restart l (r ∷ []) ≡ []) → base_by r ≡ [] → IsOther r
+  plain r last above before base = record { last = last; above = above; before = before; base = base }
 
   -- ---- END
 
@@ -194,8 +202,8 @@ module _ (shard : ℕ) (x y : Index) (log : List LogRecord) (s : Sound log) (i :
   after_end tx z a knows =
       let r : LogRecord = End tx in
       let ws : standing (log ++ r ∷ []) ≡ standing log = standing_push log r in
-      with_rest r z (plain r refl (λ run epoch. refl) (λ l. refl)) a.keeps
-      (same_writes r z ws a.writes (shares_kept r (λ u. refl) z a.writes ws) (rw a.listers i.descends) (same_listers r z a.listers (λ t. listed_other log r t refl))
+      with_rest r z (plain r refl (λ run epoch. refl) (λ l. refl) refl) a.keeps
+      (same_writes r z ws refl a.writes (shares_kept r (λ u. refl) z a.writes ws) (rw a.listers i.descends) (same_listers r z a.listers (λ t. listed_other log r t refl))
       (λ t. ap (tx_in t) a.barring ∙ i.barring t ∙ sym (bars_other shard log r (λ u. refl) t refl refl (ap (newest_of t) ws)))) knows
 
   -- ---- COMMIT
@@ -211,8 +219,8 @@ module _ (shard : ℕ) (x y : Index) (log : List LogRecord) (s : Sound log) (i :
   after_commit tx parts z a knows =
       let r : LogRecord = Commit tx parts in
       let ws : standing (log ++ r ∷ []) ≡ standing log = standing_push log r in
-      with_rest r z (plain r refl (λ run epoch. refl) (λ l. refl)) a.keeps
-      (settled_writes r z ws tx a.writes (λ k. a.writes.shares k ∙ shares_less r tx k (λ u. any_push (is_commit_of u) log r ∙ ap (λ b. committed_in log u || b) (tx_symmetric u tx)) ∙ ap (shares_of (committed_in (log ++ r ∷ [])) k) (sym ws)) (rw a.listers i.descends) (same_listers r z a.listers (λ t. listed_other log r t refl))
+      with_rest r z (plain r refl (λ run epoch. refl) (λ l. refl) refl) a.keeps
+      (settled_writes r z ws refl tx a.writes (λ k. a.writes.shares k ∙ shares_less r tx k (λ u. any_push (is_commit_of u) log r ∙ ap (λ b. committed_in log u || b) (tx_symmetric u tx)) ∙ ap (shares_of (committed_in (log ++ r ∷ [])) k) (sym ws)) (rw a.listers i.descends) (same_listers r z a.listers (λ t. listed_other log r t refl))
       (λ t. a.barring t
       ∙ both (λ b. tx_same tx t ≡ b → cond b false (tx_in t x.barring) ≡ bars shard (log ++ r ∷ []) t) (tx_same tx t)
       (λ _ own. sym (not_bar (is_some (newest_of t (standing (log ++ r ∷ [])))) (committed_in (log ++ r ∷ []) t) (is_held shard (log ++ r ∷ []) t) (any_push (is_commit_of t) log r ∙ ap (λ b. committed_in log t || b) (tx_flip tx t own) ∙ or_yes (committed_in log t))))
@@ -270,8 +278,8 @@ module _ (shard : ℕ) (x y : Index) (log : List LogRecord) (s : Sound log) (i :
       let r : LogRecord = Prepare tx home listed in
       let ws : standing (log ++ r ∷ []) ≡ standing log = standing_push log r in
       let lists = a.listers i.descends in
-      with_rest r z (plain r refl (λ run epoch. refl) (λ l. refl)) a.keeps
-      (same_writes r z ws a.writes (shares_kept r (λ u. refl) z a.writes ws) lists.descends
+      with_rest r z (plain r refl (λ run epoch. refl) (λ l. refl) refl) a.keeps
+      (same_writes r z ws refl a.writes (shares_kept r (λ u. refl) z a.writes ws) lists.descends
       (λ q t. lists.who q t ∙ ap (λ b. b || (tx_same tx t && tx_in q listed)) (i.listers q t)
       ∙ both (λ b. tx_same tx t ≡ b → tx_in q (listed_in log t) || (b && tx_in q listed) ≡ tx_in q (listed_in (log ++ r ∷ []) t)) (tx_same tx t)
       (λ _ own. subst (λ u. tx_in q (listed_in log u) || tx_in q listed ≡ tx_in q (listed_in (log ++ r ∷ []) u)) (tx_true tx t own) (lists_now tx home listed may q))
@@ -320,8 +328,8 @@ module _ (shard : ℕ) (x y : Index) (log : List LogRecord) (s : Sound log) (i :
   after_abort tx may z a knows =
       let r : LogRecord = Abort tx in
       let ws : standing (log ++ r ∷ []) ≡ standing log = standing_push log r in
-      with_rest r z (plain r refl (λ run epoch. refl) (λ l. refl)) a.keeps
-      (same_writes r z ws a.writes (shares_kept r (λ u. refl) z a.writes ws) (rw a.listers i.descends) (same_listers r z a.listers (λ t. listed_other log r t refl))
+      with_rest r z (plain r refl (λ run epoch. refl) (λ l. refl) refl) a.keeps
+      (same_writes r z ws refl a.writes (shares_kept r (λ u. refl) z a.writes ws) (rw a.listers i.descends) (same_listers r z a.listers (λ t. listed_other log r t refl))
       (λ t. a.barring t
       ∙ both (λ b. tx_same tx t ≡ b → cond b true (tx_in t x.barring || (tx_in t (listers_in x.listers tx) && bars_after_abort x t)) ≡ bars shard (log ++ r ∷ []) t) (tx_same tx t)
       (λ _ own. subst (λ u. true ≡ bars shard (log ++ r ∷ []) u) (tx_true tx t own) (sym (bars_self tx may)))
@@ -366,7 +374,7 @@ module _ (shard : ℕ) (x y : Index) (log : List LogRecord) (s : Sound log) (i :
               ∙ ap (λ n. cond (k == w.key) n (adds_at x.writes k)) (adds_now w.change (adds_at x.writes k))
               ∙ ap (λ n. cond (k == w.key) (cond (is_setting w.change) 0 (n + 1)) n) (i.adds k) ∙ ap (adds_over k) (sym ws);
           values = λ k. pushed.values k ∙ at_own k (value_at x.writes) (changed w.change)
-              ∙ ap (λ v. cond (k == w.key) (changed w.change v) v) (i.values k) ∙ ap (top_value k) (sym ws);
+              ∙ ap (λ v. cond (k == w.key) (changed w.change v) v) (i.values k) ∙ values_push r other.base (w ∷ standing log) ws k;
           newest = λ t. pushed.newest t
               ∙ both (λ b. (tx_same w.tx t) ≡ b → cond b (Some w.lsn) (newest_by x.writes t) ≡ lsn_of (cond b (Some w) (newest_of t (standing log)))) (tx_same w.tx t) (λ _ _. refl) (λ _ _. i.newest t) refl
               ∙ ap (λ b. lsn_of (cond b (Some w) (newest_of t (standing log)))) (tx_symmetric w.tx t) ∙ ap (λ l. lsn_of (newest_of t l)) (sym ws);
@@ -391,9 +399,9 @@ module _ (shard : ℕ) (x y : Index) (log : List LogRecord) (s : Sound log) (i :
   newest_found tx [] w under others own = ap (λ b. cond b (Some w) (newest_of tx under)) own
   newest_found tx (v ∷ vs) w under others own = ap (λ b. cond b (Some v) (newest_of tx (vs ++ w ∷ under))) others.0 ∙ newest_found tx vs w under others.1 own
 
-  chain_under : (over : List StandingUpdate) (w : StandingUpdate) (under : List StandingUpdate) → Chain (over ++ w ∷ under) → IsOver w.change (top_value w.key under)
-  chain_under [] w under chain = chain.0
-  chain_under (v ∷ vs) w under chain = chain_under vs w under chain.1
+  chain_under : (floor : KeyMap) (over : List StandingUpdate) (w : StandingUpdate) (under : List StandingUpdate) → Chain floor (over ++ w ∷ under) → IsOver w.change (top_value floor w.key under)
+  chain_under floor [] w under chain = chain.0
+  chain_under floor (v ∷ vs) w under chain = chain_under floor vs w under chain.1
 
   module _ (r : LogRecord) (tx : TxId) (ws : standing (log ++ r ∷ []) ≡ without_newest tx (standing log)) (other : IsOther r) (no_abort : (t : TxId) → is_abort_of t r ≡ false) (no_prepare : (t : TxId) → is_prepare_of t r ≡ false)
       (no_commit : (t : TxId) → is_commit_of t r ≡ false) (may : may_undo log tx ≡ true) (u : Undoes tx (standing log)) where
@@ -409,8 +417,8 @@ module _ (shard : ℕ) (x y : Index) (log : List LogRecord) (s : Sound log) (i :
     found : write_at x.writes (newest_by x.writes tx) ≡ Some link
     found = ap (write_at x.writes) (i.newest tx ∙ ap lsn_of newest_was) ∙ linked_at x.writes u.over u.write u.under (subst (Linked x.writes) u.is i.linked)
 
-    chained : IsOver u.write.change (top_value u.write.key u.under)
-    chained = chain_under u.over u.write u.under (subst Chain u.is s.chain)
+    chained : IsOver u.write.change (top_value (base_of log) u.write.key u.under)
+    chained = chain_under (base_of log) u.over u.write u.under (subst (Chain (base_of log)) u.is s.chain)
 
     uncommitted : committed_in log u.write.tx ≡ false
     uncommitted = ap (committed_in log) (sym (tx_true tx u.write.tx u.own)) ∙ undone_uncommitted log tx s may
@@ -464,14 +472,15 @@ module _ (shard : ℕ) (x y : Index) (log : List LogRecord) (s : Sound log) (i :
         let popped : PopsWrite x.writes z.writes tx link = subst (Pops x.writes z.writes tx) found a.writes there in
         let newest : (t : TxId) → newest_by z.writes t ≡ lsn_of (newest_of t (standing (log ++ r ∷ []))) =
         λ t. popped.newest t ∙ ap (cond (tx_same tx t) link.earlier) (i.newest t ∙ ap (λ l. lsn_of (newest_of t l)) u.is)
-        ∙ sym (newest_left tx u.write u.over u.under u.others u.own u.clear chained t) ∙ ap (λ l. lsn_of (newest_of t l)) (sym now) in
+        ∙ sym (newest_left tx u.write u.over u.under u.others u.own u.clear (base_of log) chained t) ∙ ap (λ l. lsn_of (newest_of t l)) (sym now) in
         with_rest r z other a.keeps (record {
           tops = λ k. popped.tops k
-              ∙ by_keys (top_at x.writes) top_set (top_before link u.write.change) i.tops (tops_left tx u.write u.over u.under u.others u.own u.clear chained) k;
+              ∙ by_keys (top_at x.writes) top_set (top_before link u.write.change) i.tops (tops_left tx u.write u.over u.under u.others u.own u.clear (base_of log) chained) k;
           adds = λ k. popped.adds k
-              ∙ by_keys (adds_at x.writes) adds_over (adds_before link u.write.change) i.adds (adds_left tx u.write u.over u.under u.others u.own u.clear chained) k;
+              ∙ by_keys (adds_at x.writes) adds_over (adds_before link u.write.change) i.adds (adds_left tx u.write u.over u.under u.others u.own u.clear (base_of log) chained) k;
           values = λ k. popped.values k
-              ∙ by_keys (value_at x.writes) top_value (unchanged u.write.change) i.values (values_left tx u.write u.over u.under u.others u.own u.clear chained) k;
+              ∙ by_keys (value_at x.writes) (top_value (base_of log)) (unchanged u.write.change) i.values (values_left tx u.write u.over u.under u.others u.own u.clear (base_of log) chained) k
+              ∙ values_push r other.base (standing (log ++ r ∷ [])) refl k;
           newest = newest;
           linked = subst (Linked z.writes) (sym now)
               (linked_left z.writes tx u.write u.over u.under u.others u.own u.clear
@@ -495,18 +504,18 @@ grows_between shard x y z log (Restart run epoch) s i at may above a knows = aft
 grows_between shard x y z log (Update tx key before after) s i at may above a knows =
     let r : LogRecord = Update tx key before after in
     let w : StandingUpdate = record { lsn = length log; tx = tx; key = key; change = Sets before after } in
-    after_write shard x y log s i r w refl (standing_push log r) (plain shard x y log s i r refl (λ run epoch. refl) (λ l. refl)) (λ t. refl) (λ t. refl) (λ t. refl) (update_rule shard log tx key before after may).may at z a knows
+    after_write shard x y log s i r w refl (standing_push log r) (plain shard x y log s i r refl (λ run epoch. refl) (λ l. refl) refl) (λ t. refl) (λ t. refl) (λ t. refl) (update_rule shard log tx key before after may).may at z a knows
 grows_between shard x y z log (Add tx key by) s i at may above a knows =
     let r : LogRecord = Add tx key by in
     let w : StandingUpdate = record { lsn = length log; tx = tx; key = key; change = Adding by } in
-    after_write shard x y log s i r w refl (standing_push log r) (plain shard x y log s i r refl (λ run epoch. refl) (λ l. refl)) (λ t. refl) (λ t. refl) (λ t. refl) (add_rule shard log tx key by may).may at z a knows
+    after_write shard x y log s i r w refl (standing_push log r) (plain shard x y log s i r refl (λ run epoch. refl) (λ l. refl) refl) (λ t. refl) (λ t. refl) (λ t. refl) (add_rule shard log tx key by may).may at z a knows
 grows_between shard x y z log (Clr tx undo_next key after) s i at may above a knows =
     let r : LogRecord = Clr tx undo_next key after in
-    after_undo shard x y log s i r tx (standing_push log r) (plain shard x y log s i r refl (λ run epoch. refl) (λ l. refl)) (λ t. refl) (λ t. refl) (λ t. refl) (clr_rule shard log tx undo_next key after may).may
+    after_undo shard x y log s i r tx (standing_push log r) (plain shard x y log s i r refl (λ run epoch. refl) (λ l. refl) refl) (λ t. refl) (λ t. refl) (λ t. refl) (clr_rule shard log tx undo_next key after may).may
     (clr_undoes shard (length log) log tx undo_next key after s.falls may) z a knows
 grows_between shard x y z log (Unadd tx undo_next key by) s i at may above a knows =
     let r : LogRecord = Unadd tx undo_next key by in
-    after_undo shard x y log s i r tx (standing_push log r) (plain shard x y log s i r refl (λ run epoch. refl) (λ l. refl)) (λ t. refl) (λ t. refl) (λ t. refl) (unadd_rule shard log tx undo_next key by may).may
+    after_undo shard x y log s i r tx (standing_push log r) (plain shard x y log s i r refl (λ run epoch. refl) (λ l. refl) refl) (λ t. refl) (λ t. refl) (λ t. refl) (unadd_rule shard log tx undo_next key by may).may
     (unadd_undoes shard (length log) log tx undo_next key by s.falls may) z a knows
 grows_between shard x y z log (Prepare tx home listed) s i at may above a knows = after_prepare shard x y log s i tx home listed may z a knows
 grows_between shard x y z log (Commit tx parts) s i at may above a knows = after_commit shard x y log s i tx parts z a knows

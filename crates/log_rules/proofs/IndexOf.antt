@@ -3,7 +3,7 @@ use Rattle.std.proofs.Common.{◌≡◌, ℕ, ◌≤◌, List, [], length}
 use Rattle.clv_base.specs.declared.names.TxId.{TxId}
 use Rattle.clv_base.specs.declared.logs.LogRecord.{LogRecord}
 use Rattle.clv_base.specs.Orders.{tx_in}
-use Rattle.clv_base.specs.Logs.{wrote_in, committed_in, standing, newest_of}
+use Rattle.clv_base.specs.Logs.{base_of, wrote_in, committed_in, standing, newest_of}
 use Rattle.clv_base.specs.LogRules.{last_restart, above_restarts, before_restart, listed_in}
 use Rattle.log_analysis.specs.Facts.{Knows, first_update_lsn}
 use Rattle.log_rules.specs.declared.index.Index.{Index}
@@ -28,7 +28,7 @@ pub record IsIndexOf (shard : ℕ) (x : Index) (log : List LogRecord) : Type 0 w
   pub facts : Knows x.facts log
   pub tops : (k : ℕ) → top_at x.writes k ≡ top_set k (standing log)
   pub adds : (k : ℕ) → adds_at x.writes k ≡ adds_over k (standing log)
-  pub values : (k : ℕ) → value_at x.writes k ≡ top_value k (standing log)
+  pub values : (k : ℕ) → value_at x.writes k ≡ top_value (base_of log) k (standing log)
   pub newest : (t : TxId) → newest_by x.writes t ≡ lsn_of (newest_of t (standing log))
   pub linked : Linked x.writes (standing log)
   pub shares : (k : ℕ) → shares_at x.writes k ≡ shares_of (committed_in log) k (standing log)

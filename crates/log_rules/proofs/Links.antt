@@ -6,6 +6,7 @@ use Rattle.clv_base.specs.declared.names.TxId.{TxId}
 use Rattle.clv_base.specs.declared.changes.Change.{Change}
 use Rattle.clv_base.specs.declared.changes.Change.TheVariants.{Sets, Adds}
 use Rattle.clv_base.specs.Orders.{tx_same}
+use Rattle.clv_base.specs.Maps.{KeyMap}
 use Rattle.clv_base.specs.Logs.{StandingUpdate, unchanged, is_setting, newest_of}
 use Rattle.clv_base.proofs.SameNames.{tx_true}
 use Rattle.log_rules.specs.Writes.{Write, Writes, write_at, top_at, adds_at, newest_by, linked_over, top_before, adds_before}
@@ -80,7 +81,7 @@ linked_left m tx w (v ∷ vs) under others own clear l = (
 )
 
 -- what is left at each key, by the link of what goes
-module _ (tx : TxId) (w : StandingUpdate) (over under : List StandingUpdate) (others : AllByRecursion (λ v. tx_same tx v.tx ≡ false) over) (own : tx_same tx w.tx ≡ true) (clear : AllByRecursion (IsClear w) over) (chained : IsOver w.change (top_value w.key under)) where
+module _ (tx : TxId) (w : StandingUpdate) (over under : List StandingUpdate) (others : AllByRecursion (λ v. tx_same tx v.tx ≡ false) over) (own : tx_same tx w.tx ≡ true) (clear : AllByRecursion (IsClear w) over) (floor : KeyMap) (chained : IsOver w.change (top_value floor w.key under)) where
   abbrev ws : List StandingUpdate
   ws = over ++ w ∷ under
 
@@ -105,12 +106,12 @@ module _ (tx : TxId) (w : StandingUpdate) (over under : List StandingUpdate) (ot
   pub adds_left : (k : ℕ) → adds_over k us ≡ cond (w.key == k) (adds_before (link_of w under) w.change (adds_over w.key ws)) (adds_over k ws)
   adds_left = by_key adds_over (adds_before (link_of w under) w.change (adds_over w.key ws)) (adds_elsewhere w over under clear) (adds_here w.change refl)
 
-  value_here : (c : Change) → w.change ≡ c → top_value w.key us ≡ unchanged c (top_value w.key ws)
-  value_here (Sets before after) e = value_unset w over under clear (ap is_setting e) ∙ sym (subst (λ x. IsOver x (top_value w.key under)) e chained)
-  value_here (Adds n) e = value_unadd w n over under clear e
+  value_here : (c : Change) → w.change ≡ c → top_value floor w.key us ≡ unchanged c (top_value floor w.key ws)
+  value_here (Sets before after) e = value_unset w over under clear floor (ap is_setting e) ∙ sym (subst (λ x. IsOver x (top_value floor w.key under)) e chained)
+  value_here (Adds n) e = value_unadd floor w n over under clear e
 
-  pub values_left : (k : ℕ) → top_value k us ≡ cond (w.key == k) (unchanged w.change (top_value w.key ws)) (top_value k ws)
-  values_left = by_key top_value (unchanged w.change (top_value w.key ws)) (value_elsewhere w over under clear) (value_here w.change refl)
+  pub values_left : (k : ℕ) → top_value floor k us ≡ cond (w.key == k) (unchanged w.change (top_value floor w.key ws)) (top_value floor k ws)
+  values_left = by_key (top_value floor) (unchanged w.change (top_value floor w.key ws)) (value_elsewhere w over under clear floor) (value_here w.change refl)
 
   pub newest_left : (t : TxId) → lsn_of (newest_of t us) ≡ cond (tx_same tx t) (link_of w under).earlier (lsn_of (newest_of t ws))
   newest_left t =

@@ -9,7 +9,8 @@ use Rattle.clv_base.specs.declared.changes.Change.TheVariants.{Sets, Adds}
 use Rattle.clv_base.specs.declared.logs.LogRecord.{LogRecord}
 use Rattle.clv_base.specs.declared.logs.LogRecord.TheVariants.{Update, Clr, Prepare, Commit, Abort, End, Restart, Add, Unadd, Forgotten, Check}
 use Rattle.clv_base.specs.Orders.{tx_same, tx_in}
-use Rattle.clv_base.specs.Logs.{StandingUpdate, is_setting, is_commit_of, is_prepare_of, is_abort_of, committed_in, prepared_in, aborted_in, prepare_of, standing, standing_after, newest_of, without_newest, value_in}
+use Rattle.clv_base.specs.Maps.{KeyMap}
+use Rattle.clv_base.specs.Logs.{StandingUpdate, base_of, is_setting, is_commit_of, is_prepare_of, is_abort_of, committed_in, prepared_in, aborted_in, prepare_of, standing, standing_after, newest_of, without_newest, value_in}
 use Rattle.clv_base.specs.LogRules.{before_restart, listed_in, may_cover, may_undo, may_follow}
 use Rattle.clv_base.proofs.SameNames.{tx_true, tx_self}
 use Rattle.log_analysis.proofs.Laws.Bools.{and_first, and_second, all_weaker}
@@ -25,6 +26,7 @@ use Rattle.law_base.proofs.Lists.{later_mono}
 use Rattle.law_base.proofs.Names.{Falls, falls_weaker, falls_without}
 use Rattle.law_base.proofs.Numbers.{unequal_flip}
 use Rattle.law_base.proofs.Options.{optional_value_true}
+use Rattle.law_base.proofs.Bases.{base_push, follow_base}
 use Rattle.law_base.proofs.Logs.{standing_push, push_left as any_more, no_prepare}
 use Rattle.law_base.proofs.Undoing.{IsOver, Chain}
 
@@ -52,7 +54,7 @@ pub record Sound (log : List LogRecord) : Type 0 where
   -- the LSNs of the writes that stand fall, from the newest on
   pub falls : Falls (length log) (standing log)
   -- each UPDATE names the value below it
-  pub chain : Chain (standing log)
+  pub chain : Chain (base_of log) (standing log)
   -- who is written over by another is closed
   pub covers : AllLater (Covers (closed_in log)) (standing log)
   -- below the writes of a PREPARE without an ABORT all others' are committed or listed
@@ -101,14 +103,14 @@ later_fewer : (R : StandingUpdate → StandingUpdate → Type 0) (over : List St
 later_fewer R [] w under later = later.1
 later_fewer R (v ∷ vs) w under later = (all_fewer (R v) vs w under later.0, later_fewer R vs w under later.1)
 
-chain_fewer : (over : List StandingUpdate) (w : StandingUpdate) (under : List StandingUpdate) → AllByRecursion (IsClear w) over → Chain (over ++ w ∷ under) → Chain (over ++ under)
-chain_fewer [] w under clear chain = chain.1
-chain_fewer (v ∷ vs) w under clear chain = (at v.change refl chain.0, chain_fewer vs w under clear.1 chain.1)
+chain_fewer : (floor : KeyMap) (over : List StandingUpdate) (w : StandingUpdate) (under : List StandingUpdate) → AllByRecursion (IsClear w) over → Chain floor (over ++ w ∷ under) → Chain floor (over ++ under)
+chain_fewer floor [] w under clear chain = chain.1
+chain_fewer floor (v ∷ vs) w under clear chain = (at v.change refl chain.0, chain_fewer floor vs w under clear.1 chain.1)
   where
-    at : (c : Change) → v.change ≡ c → IsOver c (top_value v.key (vs ++ w ∷ under)) → IsOver c (top_value v.key (vs ++ under))
+    at : (c : Change) → v.change ≡ c → IsOver c (top_value floor v.key (vs ++ w ∷ under)) → IsOver c (top_value floor v.key (vs ++ under))
     at (Adds n) e is = tt
     at (Sets before after) e is =
-        is ∙ ahead (top_value v.key) (value_step v.key) vs (w ∷ under) under
+        is ∙ ahead (top_value floor v.key) (value_step floor v.key) vs (w ∷ under) under
         (cond-false _ _ _ (both (λ b. (w.key == v.key) ≡ b → (v.key == w.key) ≡ false) (w.key == v.key) (λ _ same. absurd (both_ways _ (clear.0 same).0 (ap is_setting e))) (λ _ apart. unequal_flip w.key v.key apart) refl))
 
 pub of_other : (tx t : TxId) (ws : List StandingUpdate) → tx_same tx t ≡ false → newest_of t (without_newest tx ws) ≡ newest_of t ws
@@ -181,15 +183,15 @@ module _ (shard : ℕ) (log : List LogRecord) (s : Sound log) where
   left_of : (tx : TxId) (u : Undoes tx (standing log)) → without_newest tx (standing log) ≡ u.over ++ u.under
   left_of tx u = ap (without_newest tx) u.is ∙ left_is tx u.over u.write u.under u.others u.own
 
-  chain_undone : (tx : TxId) → Undoes tx (standing log) → Chain (without_newest tx (standing log))
-  chain_undone tx u = subst Chain (sym (left_of tx u)) (chain_fewer u.over u.write u.under u.clear (subst Chain u.is s.chain))
+  chain_undone : (tx : TxId) → Undoes tx (standing log) → Chain (base_of log) (without_newest tx (standing log))
+  chain_undone tx u = subst (Chain (base_of log)) (sym (left_of tx u)) (chain_fewer (base_of log) u.over u.write u.under u.clear (subst (Chain (base_of log)) u.is s.chain))
 
   covers_undone : (r : LogRecord) (tx : TxId) → Undoes tx (standing log) → AllLater (Covers (closed_in (log ++ r ∷ []))) (without_newest tx (standing log))
   covers_undone r tx u =
       covers_more log r (without_newest tx (standing log))
       (subst (AllLater (Covers (closed_in log))) (sym (left_of tx u)) (later_fewer (Covers (closed_in log)) u.over u.write u.under (subst (AllLater (Covers (closed_in log))) u.is s.covers)))
 
-  chain_after : (r : LogRecord) → may_follow shard log r ≡ true → Chain (standing_after (length log) r (standing log))
+  chain_after : (r : LogRecord) → may_follow shard log r ≡ true → Chain (base_of log) (standing_after (length log) r (standing log))
   chain_after (Update tx key before after) may = (optional_value_true before (value_in log key) (update_rule shard log tx key before after may).value, s.chain)
   chain_after (Add tx key by) may = (tt, s.chain)
   chain_after (Clr tx undo_next key after) may = chain_undone tx (clr_undoes shard (length log) log tx undo_next key after s.falls may)
@@ -379,7 +381,7 @@ module _ (shard : ℕ) (log : List LogRecord) (s : Sound log) where
   pub sound_push : (r : LogRecord) → may_follow shard log r ≡ true → Sound (log ++ r ∷ [])
   sound_push r may = record {
     falls = falls_push r;
-    chain = rw standing_push (chain_after r may);
+    chain = subst (λ base. Chain base (standing (log ++ r ∷ []))) (sym (base_push log r (follow_base shard log r may))) (subst (Chain (base_of log)) (sym (standing_push log r)) (chain_after r may));
     covers = rw standing_push (covers_after r may);
     below = λ t prepared unaborted. ap (all_pass (may_lie (log ++ r ∷ []) t) t) (standing_push log r) ∙ below_after r may t prepared unaborted;
     fates = fates_after r may;

@@ -6,7 +6,7 @@ use Rattle.clv_base.specs.declared.names.TxId.{TxId}
 use Rattle.clv_base.specs.declared.changes.Change.{Change}
 use Rattle.clv_base.specs.declared.changes.Change.TheVariants.{Sets, Adds}
 use Rattle.clv_base.specs.Orders.{tx_same}
-use Rattle.clv_base.specs.Maps.{plus, minus}
+use Rattle.clv_base.specs.Maps.{KeyMap, plus, minus}
 use Rattle.clv_base.specs.Logs.{StandingUpdate, changed, is_setting, newest_at, newest_of, without_newest}
 use Rattle.clv_base.specs.LogRules.{lies_below}
 use Rattle.clv_base.proofs.SameNames.{tx_true}
@@ -62,8 +62,8 @@ top_step k v xs ys e = ap (λ r. cond (k == v.key) (cond (is_setting v.change) (
 pub adds_step : (k : ℕ) (v : StandingUpdate) (xs ys : List StandingUpdate) → adds_over k xs ≡ adds_over k ys → adds_over k (v ∷ xs) ≡ adds_over k (v ∷ ys)
 adds_step k v xs ys e = ap (λ r. cond (k == v.key) (cond (is_setting v.change) 0 (r + 1)) r) e
 
-pub value_step : (k : ℕ) (v : StandingUpdate) (xs ys : List StandingUpdate) → top_value k xs ≡ top_value k ys → top_value k (v ∷ xs) ≡ top_value k (v ∷ ys)
-value_step k v xs ys e = ap (λ r. cond (k == v.key) (changed v.change r) r) e
+pub value_step : (floor : KeyMap) (k : ℕ) (v : StandingUpdate) (xs ys : List StandingUpdate) → top_value floor k xs ≡ top_value floor k ys → top_value floor k (v ∷ xs) ≡ top_value floor k (v ∷ ys)
+value_step floor k v xs ys e = ap (λ r. cond (k == v.key) (changed v.change r) r) e
 
 pub newest_step : (t : TxId) (v : StandingUpdate) (xs ys : List StandingUpdate) → newest_of t xs ≡ newest_of t ys → newest_of t (v ∷ xs) ≡ newest_of t (v ∷ ys)
 newest_step t v xs ys e = ap (λ r. cond (tx_same t v.tx) (Some v) r) e
@@ -137,8 +137,8 @@ module _ (w : StandingUpdate) (over under : List StandingUpdate) (clear : AllByR
   pub adds_elsewhere : (k : ℕ) → (k == w.key) ≡ false → adds_over k us ≡ adds_over k ws
   adds_elsewhere k e = sym (ahead (adds_over k) (adds_step k) over (w ∷ under) under (cond-false _ _ _ e))
 
-  pub value_elsewhere : (k : ℕ) → (k == w.key) ≡ false → top_value k us ≡ top_value k ws
-  value_elsewhere k e = sym (ahead (top_value k) (value_step k) over (w ∷ under) under (cond-false _ _ _ e))
+  pub value_elsewhere : (floor : KeyMap) (k : ℕ) → (k == w.key) ≡ false → top_value floor k us ≡ top_value floor k ws
+  value_elsewhere floor k e = sym (ahead (top_value floor k) (value_step floor k) over (w ∷ under) under (cond-false _ _ _ e))
 
   -- and at its own, where it set the value
   pub top_unset : is_setting w.change ≡ true → top_set w.key us ≡ top_set w.key under
@@ -147,8 +147,8 @@ module _ (w : StandingUpdate) (over under : List StandingUpdate) (clear : AllByR
   pub adds_unset : is_setting w.change ≡ true → adds_over w.key us ≡ adds_over w.key under
   adds_unset sets = passed (adds_over w.key) w.key (λ v xs e. cond-false _ _ _ e) over under (other_keys w sets over clear)
 
-  pub value_unset : is_setting w.change ≡ true → top_value w.key us ≡ top_value w.key under
-  value_unset sets = passed (top_value w.key) w.key (λ v xs e. cond-false _ _ _ e) over under (other_keys w sets over clear)
+  pub value_unset : (floor : KeyMap) → is_setting w.change ≡ true → top_value floor w.key us ≡ top_value floor w.key under
+  value_unset floor sets = passed (top_value floor w.key) w.key (λ v xs e. cond-false _ _ _ e) over under (other_keys w sets over clear)
 
   -- where it added
   pub top_unadd : (k : ℕ) → is_setting w.change ≡ false → top_set k us ≡ top_set k ws
@@ -176,18 +176,18 @@ something_there w over under clear top adds =
     let no : ◌≡◌ {A = Option ℕ} (Some w.lsn) None = sym here ∙ top in cc)
     (λ _ added. let more = add_more w over under clear added in absurd (omega (arith, more, adds))) refl
 
-pub value_unadd : (w : StandingUpdate) (n : ℕ) (over under : List StandingUpdate) → AllByRecursion (IsClear w) over → w.change ≡ Adds n → top_value w.key (over ++ under) ≡ minus n (top_value w.key (over ++ w ∷ under))
-value_unadd w n [] under clear adds =
-    sym (minus_plus n (top_value w.key under))
-    ∙ sym (ap (minus n) (cond-true _ _ _ (same_key w.key) ∙ ap (λ c. changed c (top_value w.key under)) adds))
-value_unadd w n (v ∷ vs) under clear adds =
-    both (λ b. (w.key == v.key) ≡ b → cond b (changed v.change (top_value w.key (vs ++ under))) (top_value w.key (vs ++ under))
-    ≡ minus n (cond b (changed v.change (top_value w.key (vs ++ w ∷ under))) (top_value w.key (vs ++ w ∷ under)))) (w.key == v.key)
-    (λ _ e. beside v.change (clear.0 e).0 (value_unadd w n vs under clear.1 adds)) (λ _ e. value_unadd w n vs under clear.1 adds) refl
+pub value_unadd : (floor : KeyMap) (w : StandingUpdate) (n : ℕ) (over under : List StandingUpdate) → AllByRecursion (IsClear w) over → w.change ≡ Adds n → top_value floor w.key (over ++ under) ≡ minus n (top_value floor w.key (over ++ w ∷ under))
+value_unadd floor w n [] under clear adds =
+    sym (minus_plus n (top_value floor w.key under))
+    ∙ sym (ap (minus n) (cond-true _ _ _ (same_key w.key) ∙ ap (λ c. changed c (top_value floor w.key under)) adds))
+value_unadd floor w n (v ∷ vs) under clear adds =
+    both (λ b. (w.key == v.key) ≡ b → cond b (changed v.change (top_value floor w.key (vs ++ under))) (top_value floor w.key (vs ++ under))
+    ≡ minus n (cond b (changed v.change (top_value floor w.key (vs ++ w ∷ under))) (top_value floor w.key (vs ++ w ∷ under)))) (w.key == v.key)
+    (λ _ e. beside v.change (clear.0 e).0 (value_unadd floor w n vs under clear.1 adds)) (λ _ e. value_unadd floor w n vs under clear.1 adds) refl
   where
-    beside : (c : Change) → is_setting c ≡ false → top_value w.key (vs ++ under) ≡ minus n (top_value w.key (vs ++ w ∷ under)) → changed c (top_value w.key (vs ++ under)) ≡ minus n (changed c (top_value w.key (vs ++ w ∷ under)))
+    beside : (c : Change) → is_setting c ≡ false → top_value floor w.key (vs ++ under) ≡ minus n (top_value floor w.key (vs ++ w ∷ under)) → changed c (top_value floor w.key (vs ++ under)) ≡ minus n (changed c (top_value floor w.key (vs ++ w ∷ under)))
     beside (Sets before after) s ih = absurd (both_ways _ s refl)
-    beside (Adds m) s ih = ap (plus m) ih ∙ sym (minus_over_plus n m (top_value w.key (vs ++ w ∷ under)))
+    beside (Adds m) s ih = ap (plus m) ih ∙ sym (minus_over_plus n m (top_value floor w.key (vs ++ w ∷ under)))
 
 -- the newest of each transaction
 pub newest_other : (tx t : TxId) (w : StandingUpdate) (over under : List StandingUpdate) → tx_same tx w.tx ≡ true → tx_same tx t ≡ false → newest_of t (over ++ under) ≡ newest_of t (over ++ w ∷ under)

@@ -11,7 +11,7 @@ use Rattle.clv_base.specs.declared.names.TxId.{TxId}
 use Rattle.clv_base.specs.declared.logs.LogRecord.{LogRecord}
 use Rattle.clv_base.specs.declared.logs.LogRecord.TheVariants.{Update, Clr, Prepare, Commit, Abort, Add, Unadd}
 use Rattle.clv_base.specs.Orders.{nat_in}
-use Rattle.clv_base.specs.Logs.{standing, committed_in, prepared_in, aborted_in, is_commit_of, is_abort_of}
+use Rattle.clv_base.specs.Logs.{standing, base_of, committed_in, prepared_in, aborted_in, is_commit_of, is_abort_of}
 use Rattle.clv_base.specs.LogRules.{may_undo, may_follow, disorder_from, disorder}
 use Rattle.clv_base.specs.Restarts.{greatest_run}
 use Rattle.clv_base.proofs.SameNames.{tx_true}
@@ -21,6 +21,7 @@ use Rattle.protocol_laws.proofs.LogsInOrder.RunsAreOfRestarts.{runs_step}
 use Rattle.protocol_laws.proofs.LogsInOrder.StandingUpdatesLie.{Writes, writes_step}
 use Rattle.protocol_laws.proofs.LogsInOrder.UndoBeforeClosing.{undoable_push, may_undo_step}
 use Rattle.law_base.proofs.Bools.{and_first as front, and_second as last}
+use Rattle.law_base.proofs.Bases.{base_push, follow_base}
 use Rattle.law_base.proofs.Logs.{order_case, standing_push}
 
 -- a COMMIT does not name the shard itself as a part
@@ -33,7 +34,7 @@ pub record Order (shard : ℕ) (log : List LogRecord) : Type 0 where
   pub sealed : Sealed [] log
   pub apart : (t : TxId) → committed_in log t ≡ true → aborted_in log t ≡ false
   pub undoable : Undoable [] log
-  pub writes : Writes (committed_in log) (length log) (standing log)
+  pub writes : Writes (base_of log) (committed_in log) (length log) (standing log)
   pub runs : AllByRecursion (RunFits (greatest_run log)) log
   pub parts : AllByRecursion (OtherParts shard) log
 
@@ -92,8 +93,9 @@ order_push shard log r h m =
       apart = λ t c. ⊎_elim (λ old. push_false (is_abort_of t) log r (h.apart t old) (no_abort shard log r t m old)) (λ new. let p = commit_new shard log r t m new in push_false (is_abort_of t) log r p.0 p.1)
           (push_cases (is_commit_of t) log r c);
       undoable = undoable_push [] log r h.undoable (may_undo_step shard log r m);
-      writes = subst (λ n. Writes (committed_in (log ++ r ∷ [])) n (standing (log ++ r ∷ []))) (length_push log r)
-          (subst (Writes (committed_in (log ++ r ∷ [])) (suc (length log))) (sym (standing_push log r)) (writes_step shard log r m h.writes));
+      writes = subst (λ base. Writes base (committed_in (log ++ r ∷ [])) (length (log ++ r ∷ [])) (standing (log ++ r ∷ []))) (sym (base_push log r (follow_base shard log r m)))
+          (subst (λ n. Writes (base_of log) (committed_in (log ++ r ∷ [])) n (standing (log ++ r ∷ []))) (length_push log r)
+          (subst (Writes (base_of log) (committed_in (log ++ r ∷ [])) (suc (length log))) (sym (standing_push log r)) (writes_step shard log r m h.writes)));
       runs = runs_step shard log r h.runs m;
       parts = all_push (OtherParts shard) log r h.parts (parts_step shard log r m);
     }

@@ -2,7 +2,7 @@
 
 ghost use Rattle.report_text.specs.Laws.{BooksReport, BooksAreReported};
 
-use session_books::laws::books_make_the_report;
+use session_books::statements::books_make_the_report;
 
 /// In a legal history whose sessions kept these books, their report is the history's.
 pub fn books_report()

@@ -1,5 +1,5 @@
 -- The pairs that logs stand for whose records have spellings: keys and values are within their bounds.
-use Rattle.std.proofs.Common.{◌≡◌, ◌<◌, refl, ℕ, suc, Bool, true, false, cond, not, ◌==◌, List, [], ◌∷◌, length, Option, Some, None, arith}
+use Rattle.std.proofs.Common.{◌≡◌, ◌<◌, refl, sym, subst, ℕ, suc, Bool, true, false, cond, not, ◌==◌, List, [], ◌∷◌, length, Option, Some, None, arith}
 use Rattle.std.specs.List.{list_all}
 use Rattle.std.specs.FinMap.{put}
 use Rattle.std.specs.FinMap.Entries.{where_key, by_order}
@@ -13,8 +13,9 @@ use Rattle.clv_base.specs.declared.logs.LogRecord.{LogRecord}
 use Rattle.clv_base.specs.Values.{fits_value}
 use Rattle.clv_base.specs.FileRules.{has_spelling, have_spellings, is_value, is_64_bits}
 use Rattle.clv_base.specs.LogRules.{log_of}
-use Rattle.clv_base.specs.Maps.{KeyMap, map_get, map_set}
-use Rattle.clv_base.specs.Logs.{StandingUpdate, changed, standing, with_change, fold_writes, fold_updates, committed_somewhere, stands_from, stands}
+use Rattle.clv_base.specs.Maps.{KeyMap, map_get, map_set, with_pairs}
+use Rattle.clv_base.specs.Logs.{StandingUpdate, base_of, changed, standing, with_change, fold_writes, fold_updates, committed_somewhere, stands_from, stands}
+use Rattle.law_base.proofs.Bases.{spelled_base}
 use Rattle.protocol_laws.proofs.ChangesKeepSpelling.UndoIsSpelled.{changed_fits, AreFit, fit_standing}
 use Rattle.report_reading.specs.Told.{fits_pair}
 
@@ -66,7 +67,8 @@ fit_logs : (keep : TxId → Bool) (logs : List (List LogRecord)) (m : KeyMap) �
 fit_logs keep [] m h f = f
 fit_logs keep (log ∷ logs) m h f =
     let both = and_parts (list_all has_spelling log) (have_spellings logs) h in
-    fit_logs keep logs (fold_updates keep log m) both.1 (fit_writes keep (length log) (standing log) m (fit_standing log both.0) f)
+    let base : Fit (with_pairs (base_of log) m) = subst (λ (ps : KeyMap). Fit (with_pairs ps m)) (sym (spelled_base log both.0)) f in
+    fit_logs keep logs (fold_updates keep log m) both.1 (fit_writes keep (length log) (standing log) (with_pairs (base_of log) m) (fit_standing log both.0) base)
 
 pub stands_fit : (logs : List (List LogRecord)) → have_spellings logs ≡ true → Fit (stands logs)
 stands_fit logs h = fit_logs (committed_somewhere logs) logs [] h refl

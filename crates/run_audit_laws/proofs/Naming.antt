@@ -17,7 +17,7 @@ use Rattle.session_books.specs.Books.{row_of, row_at, rows_in, rows}
 use Rattle.report_reading.specs.declared.told.ReportedTx.{ReportedTx}
 use Rattle.report_reading.specs.Told.{is_session}
 use Rattle.audit_laws.specs.Reports.{reported_of}
-use Rattle.audit_laws.proofs.EntriesAreTheirWalkers.{all_at}
+use Rattle.session_books.proofs.Laws.{all_at}
 
 -- ---- what holds of each row
 

@@ -13,7 +13,7 @@ use Rattle.session_books.specs.declared.books.Row.{Row}
 use Rattle.session_books.specs.declared.counts.Counts.{Counts}
 use Rattle.session_books.specs.Books.{Book, rows}
 use Rattle.session_books.specs.Laws.{session_part, AreBooks, all_rows, all_counts, plus, BooksMakeTheReport}
-use Rattle.session_books.proofs.Whose.{AreTheirs, are_theirs, all_at}
+use Rattle.session_books.proofs.EntriesAreTheirWalkers.{AreTheirs, are_theirs, all_at}
 use Rattle.session_books.proofs.Spreading.{AreOf, spread, rows_of_part, rows_spread}
 use Rattle.session_books.proofs.Ordered.{rows_rise, sorted_back}
 use Rattle.session_books.proofs.Summing.{summed, counts_of_part, counts_summed}

@@ -20,7 +20,7 @@ use Rattle.session_books.specs.declared.told.Told.{Told}
 use Rattle.session_books.specs.Told.{told_by, with_told, told_in, is_tx, looked_by, has_look, try_of, same_birth, is_of_birth, has_birth}
 use Rattle.session_books.specs.Counts.{is_acknowledged_try}
 use Rattle.session_books.specs.Laws.{session_part}
-use Rattle.session_books.proofs.Whose.{IsOfWalker, AreTheirs}
+use Rattle.session_books.proofs.EntriesAreTheirWalkers.{IsOfWalker, AreTheirs}
 
 -- ---- a walker's part of a history with one more entry
 

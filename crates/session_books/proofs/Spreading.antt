@@ -16,7 +16,7 @@ use Rattle.session_books.specs.declared.books.Row.{Row}
 use Rattle.session_books.specs.Told.{told_in}
 use Rattle.session_books.specs.Books.{whole_ops, row_at, rows_in, rows}
 use Rattle.session_books.specs.Laws.{session_part}
-use Rattle.session_books.proofs.Whose.{IsOfWalker, AreTheirs}
+use Rattle.session_books.proofs.EntriesAreTheirWalkers.{IsOfWalker, AreTheirs}
 use Rattle.session_books.proofs.Parting.{part_cons, part_is_its, told_of_part, acknowledged_of_part}
 
 same_one : {A : Type 0} {a b : A} → Some a ≡ Some b → a ≡ b

@@ -14,7 +14,7 @@ use Rattle.session_books.specs.declared.counts.Counts.{Counts}
 use Rattle.session_books.specs.Told.{try_of, is_of_birth, has_birth}
 use Rattle.session_books.specs.Counts.{is_acknowledged_try, has_acknowledged_try, is_open, nothing_counted, counted, count_try, counts_in}
 use Rattle.session_books.specs.Laws.{session_part, plus}
-use Rattle.session_books.proofs.Whose.{IsOfWalker, AreTheirs}
+use Rattle.session_books.proofs.EntriesAreTheirWalkers.{IsOfWalker, AreTheirs}
 use Rattle.session_books.proofs.Parting.{part_cons, part_is_its, acknowledged_of_part, requested_of_part, looked_of_part, born_of_part, tried_of_part}
 use Rattle.session_books.proofs.Spreading.{AreOf, part_of_other, above, nobodys}
 

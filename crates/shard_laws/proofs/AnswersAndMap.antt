@@ -10,7 +10,7 @@ use Rattle.law_base.specs.Items.{Deed}
 use Rattle.clv_base.proofs.SameNames.{tx_true}
 use Rattle.law_base.proofs.Tables.{is_pair}
 use Rattle.law_base.proofs.Sets.{filter_in, in_filter}
-use Rattle.shard_laws.proofs.Keeping.WhatOneShardKeeps.{Past, place}
+use Rattle.shard_laws.proofs.Keeping.WhatOneShardKeeps.{Past, place, view_of, begins}
 use Rattle.std.specs.List.{filter}
 use Rattle.std.specs.Prelude.{take}
 use Rattle.clv_base.specs.declared.events.Event.{Event}
@@ -43,6 +43,7 @@ use Rattle.shard_laws.proofs.Events.RequestsKeep.{asks_sound}
 use Rattle.shard_laws.proofs.Cuts.MembersRunSerially.{Once, once_push}
 use Rattle.shard_laws.proofs.Cuts.MembersOfCutsReplay.{serial_run, recovered}
 use Rattle.shard_laws.proofs.Events.StandingNumbers.{numbers_are}
+use Rattle.law_base.proofs.Running.{top_value}
 
 -- ---- who asks, asks once
 
@@ -196,7 +197,7 @@ answers_and_map shard run before d s cut leads le backs =
     )
 
 pub values_are_folds : ValuesAreFolds
-values_are_folds shard run before d s leads k = let b = held shard run before d s leads in let h = (b.1).kept in h.values k
+values_are_folds shard run before d s leads k = let b = held shard run before d s leads in let h = (b.1).kept in h.values k ∙ ap (λ base. top_value base k (standing s.local.log)) (sym (begins b.0 (view_of s) h))
 
 pub recoverable : Recoverable
 recoverable shard run before d s cut t p leads le e member =

@@ -28,7 +28,7 @@ use Rattle.shard_laws.proofs.Keeping.DeedsThatHold.{Rise, runs_held, held_chosen
 use Rattle.shard_laws.proofs.Keeping.ChangesKeepPrepared.{Lists, Listing, sealed_later, listed_keeps}
 use Rattle.shard_laws.proofs.Events.DueKeeps.{Sound, did, as_done, Lost}
 use Rattle.shard_laws.proofs.Order.WritesLieOnListed.{order_of}
-use Rattle.shard_laws.proofs.Cuts.WhatCutsHold.{cut_keeps, durable_cut, of_kept, tidy_later, fold_values}
+use Rattle.shard_laws.proofs.Cuts.WhatCutsHold.{cut_keeps, durable_cut, of_kept, tidy_later, updates_values}
 use Rattle.shard_laws.proofs.Cuts.MembersRunSerially.{filter_place, in_kept, Once, once_filter, serial_of}
 use Rattle.shard_laws.proofs.Cuts.MembersOfCutsReplay.{own_chosen, SameDeeds, same_acts, same_answers, same_backs, all_passed, dep_cut, item_asked, cut_base, pile_keep, filter_all_kept, filter_alike, filter_within}
 use Rattle.shard_laws.proofs.Cuts.WhoIsInDoubt.{prepared_cut, listed_cut}
@@ -170,19 +170,22 @@ module _ (all : List Deed) (g : Past) (s : Shard) (told : List TxId) (cut : ℕ)
   base_chosen : AllByRecursion (λ w. chosen w.tx ≡ true) g.base
   base_chosen = all_mono _ _ (λ w e. may.commits w.tx e) g.base (cut_base all g s told cut h le once all_over)
 
-  cut_map : (q : ℕ) → map_get q (map_chosen s.shard (take cut s.local.log) chosen) ≡ top_value q (filter (of_kept chosen) (standing s.local.log))
-  cut_map q = fold_values winning (standing (take cut s.local.log)) q ∙ ap (top_value q) (sym rest_unmoved ∙ sym (filter_alike chosen winning (standing s.local.log) writers_win))
+  cut_map : (q : ℕ) → map_get q (map_chosen s.shard (take cut s.local.log) chosen) ≡ top_value g.floor q (filter (of_kept chosen) (standing s.local.log))
+  cut_map q =
+      updates_values winning (take cut s.local.log) q
+      ∙ ap (λ base. top_value base q (filter (of_kept winning) (standing (take cut s.local.log)))) (h.kept.floor_done cut le)
+      ∙ ap (top_value g.floor q) (sym rest_unmoved ∙ sym (filter_alike chosen winning (standing s.local.log) writers_win))
 
   pub same_chosen : after g.start (held (deeds_by_chosen chosen g.done)) ≡ map_chosen s.shard (take cut s.local.log) chosen
   same_chosen =
       same_map (after g.start (held kept)) (map_chosen s.shard (take cut s.local.log) chosen)
       (rising_all (held kept) g.start h.kept.start_rises) (fold_rises winning (take cut s.local.log) [] tt)
-      (λ q. pile_value (held kept) g.start g.base q kept_run (h.kept.base_value q)
-      ∙ ap (λ ws. top_value q (pile (held kept) ws)) (sym (filter_all_kept chosen g.base base_chosen))
-      ∙ ap (λ xs. top_value q (pile xs (filter (of_kept chosen) g.base))) (held_chosen chosen g.done)
-      ∙ ap (top_value q) (sym (pile_keep chosen (held g.done) g.base))
-      ∙ sym (keys_top (filter (of_kept chosen) (filter (of_kept (is_alive g.lost)) (standing s.local.log))) (filter (of_kept chosen) (pile (held g.done) g.base)) q (keys_filter (of_kept chosen) (filter (of_kept (is_alive g.lost)) (standing s.local.log)) (pile (held g.done) g.base) h.kept.standing_is))
-      ∙ ap (top_value q) (filter_within chosen (is_alive g.lost) (standing s.local.log) (λ t k. ap not (false_from_ne_true _ (λ l. not_lost t k l))))
+      (λ q. pile_value g.floor (held kept) g.start g.base q kept_run (h.kept.base_value q)
+      ∙ ap (λ ws. top_value g.floor q (pile (held kept) ws)) (sym (filter_all_kept chosen g.base base_chosen))
+      ∙ ap (λ xs. top_value g.floor q (pile xs (filter (of_kept chosen) g.base))) (held_chosen chosen g.done)
+      ∙ ap (top_value g.floor q) (sym (pile_keep chosen (held g.done) g.base))
+      ∙ sym (keys_top g.floor (filter (of_kept chosen) (filter (of_kept (is_alive g.lost)) (standing s.local.log))) (filter (of_kept chosen) (pile (held g.done) g.base)) q (keys_filter (of_kept chosen) (filter (of_kept (is_alive g.lost)) (standing s.local.log)) (pile (held g.done) g.base) h.kept.standing_is))
+      ∙ ap (top_value g.floor q) (filter_within chosen (is_alive g.lost) (standing s.local.log) (λ t k. ap not (false_from_ne_true _ (λ l. not_lost t k l))))
       ∙ sym (cut_map q))
 
   pub chosen_run : GoBackInOrder (filter chosen g.asked) all → (replay_answers g.start (acts_by (filter chosen g.asked) all) ≡ answers_by (filter chosen g.asked) all) × (replay_map g.start (acts_by (filter chosen g.asked) all) ≡ map_chosen s.shard (take cut s.local.log) chosen)

@@ -13,7 +13,7 @@ use Rattle.clv_base.specs.declared.events.Outcome.TheVariants.{Answered, Rolled}
 use Rattle.clv_base.specs.Orders.{tx_same, tx_in}
 use Rattle.clv_base.specs.Folding.{IsRising}
 use Rattle.clv_base.specs.Maps.{KeyMap, replay_map, replay_answers}
-use Rattle.clv_base.specs.Logs.{StandingUpdate, standing, committed_in, prepared_in, is_prepare_of, in_doubt, is_winner, stands, committed_somewhere}
+use Rattle.clv_base.specs.Logs.{StandingUpdate, standing, committed_in, prepared_in, is_prepare_of, in_doubt, is_winner, stands, committed_somewhere, base_of}
 use Rattle.clv_base.specs.Restarts.{greatest_run}
 use Rattle.clv_base.specs.State.{Shard}
 use Rattle.clv_base.proofs.SameNames.{or_left, or_right, tx_ne}
@@ -25,7 +25,7 @@ use Rattle.law_base.proofs.Tables.{is_pair}
 use Rattle.shard_laws.specs.OneShard.{Deeds, doer, deeds_of, items_in, act_of_deed, with_one, new_deed, new_asked, new_met, MayHappen, MayServe, Leads, opens, happens, lands, others_ask, revives, acts_by, answers_by, GoBackInOrder, found_items, found_asked, found_met, map_found, LaterReplay}
 use Rattle.shard_laws.proofs.Operations.WritesAtEachKey.{keys_filter, keys_top}
 use Rattle.shard_laws.proofs.Keeping.WhatOneShardKeeps.{of_kept, place}
-use Rattle.shard_laws.proofs.Cuts.WhatCutsHold.{fold_values}
+use Rattle.shard_laws.proofs.Cuts.WhatCutsHold.{updates_values}
 use Rattle.shard_laws.proofs.Keeping.LeavingKeeps.{in_first}
 use Rattle.shard_laws.proofs.Cuts.MembersOfCutsReplay.{own_chosen, SameDeeds, same_acts, same_answers, same_backs, pile_keep, filter_all_kept, filter_within}
 use Rattle.shard_laws.proofs.Cuts.MembersRunSerially.{once_filter, filter_place, in_kept, serial_of}
@@ -196,12 +196,12 @@ module _ (shard run : ℕ) (before : List LogRecord) (may : MayServe shard run b
   pub firsts_map : after start picks ≡ map_found shard before chosen
   firsts_map =
       same_map (after start picks) (map_found shard before chosen) (rising_all picks start start_rises) (fold_rises pick before [] tt)
-      (λ q. pile_value picks start base q picks_run (start_value shard run before may q)
-      ∙ ap (top_value q) pile_picks
-      ∙ sym (keys_top (filter (of_kept pick) (filter (of_kept (is_winner shard before)) (standing before))) (filter (of_kept pick) (pile (found_items shard before) base)) q
+      (λ q. pile_value (base_of before) picks start base q picks_run (start_value shard run before may q)
+      ∙ ap (top_value (base_of before) q) pile_picks
+      ∙ sym (keys_top (base_of before) (filter (of_kept pick) (filter (of_kept (is_winner shard before)) (standing before))) (filter (of_kept pick) (pile (found_items shard before) base)) q
       (keys_filter (of_kept pick) (filter (of_kept (is_winner shard before)) (standing before)) (pile (found_items shard before) base) (split_start shard run before may)))
-      ∙ ap (top_value q) (filter_within pick (is_winner shard before) (standing before) picked_wins)
-      ∙ sym (fold_values pick (standing before) q))
+      ∙ ap (top_value (base_of before) q) (filter_within pick (is_winner shard before) (standing before) picked_wins)
+      ∙ sym (updates_values pick before q))
 
   -- ---- with all that was done
 

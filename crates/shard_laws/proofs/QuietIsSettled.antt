@@ -1,14 +1,11 @@
 -- Where a shard is quiet its live records are the map that its log stands for.
-use Rattle.std.proofs.Common.{◌≡◌, ⊎_elim, true, false, Bool, List, [], ◌∷◌, ◌||◌, length, refl, sym, ap, subst, ◌∙◌, arith}
-use Rattle.std.specs.Prelude.{take}
+use Rattle.std.proofs.Common.{◌≡◌, ⊎_elim, true, false, Bool, List, [], ◌∷◌, ◌||◌, refl, sym, ap, ◌∙◌}
 use Rattle.std.specs.List.{AllByRecursion, filter, list_all}
 use Rattle.std.proofs.lemmas.Bool.{both_ways, and_parts, or_cases, cases_Bool}
-use Rattle.std.proofs.lemmas.List.{take_all}
 use Rattle.std.proofs.Math.Bool.{or-false}
 use Rattle.clv_base.specs.declared.modes.Anchor.TheVariants.{At}
 use Rattle.clv_base.specs.declared.state.Stage.{Stage}
 use Rattle.clv_base.specs.declared.state.Stage.TheVariants.{Active, Closed, Gone}
-use Rattle.clv_base.specs.Maps.{map_get}
 use Rattle.clv_base.specs.Logs.{StandingUpdate, committed_in, fold_updates, committed_somewhere, stands, standing}
 use Rattle.clv_base.specs.State.{Shard, is_gone_stage}
 use Rattle.clv_base.specs.Needs.{live_pairs}
@@ -21,9 +18,9 @@ use Rattle.law_base.proofs.Commits.{commit_durable, durable_committed}
 use Rattle.shard_laws.specs.OneShard.{QuietIsSettled}
 use Rattle.shard_laws.proofs.AnswersAndMap.{held}
 use Rattle.law_base.proofs.LockRows.{holder_row}
-use Rattle.shard_laws.proofs.Keeping.WhatOneShardKeeps.{Past, view_of, Kept, Wrote, part_for, Belongs, StageFits}
+use Rattle.shard_laws.proofs.Keeping.WhatOneShardKeeps.{Past, view_of, Kept, Wrote, part_for, Belongs, StageFits, begins}
 use Rattle.shard_laws.proofs.Operations.AnswersByValues.{live_rises, live_find}
-use Rattle.shard_laws.proofs.Cuts.WhatCutsHold.{of_kept, cut_values, fold_alike}
+use Rattle.shard_laws.proofs.Cuts.WhatCutsHold.{of_kept, updates_values, fold_alike}
 use Rattle.shard_laws.proofs.Cuts.MembersOfCutsReplay.{filter_all_kept}
 use Rattle.law_base.proofs.Bools.{t_true}
 use Rattle.law_base.proofs.Logs.{fold_rises}
@@ -53,14 +50,14 @@ writer_committed g s x h q w =
 pub settled_map : (g : Past) (s : Shard) → Kept g (view_of s) → IsQuiet s → live_pairs s.local.records ≡ stands (s.local.log ∷ [])
 settled_map g s h q =
     let log = s.local.log in
-    let whole : take (length log) log ≡ log = take_all (length log) log (omega arith) in
     let all : AllByRecursion (λ w. committed_in s.local.log w.tx ≡ true) (standing s.local.log) = all_mono (Wrote (view_of s)) _ (λ w a. writer_committed g s w h q a) (standing s.local.log) h.wrote in
     same_map (live_pairs s.local.records) (fold_updates (committed_in log) log []) (t_true _ (live_rises s.local.records h.rises)) (fold_rises (committed_in log) log [] tt)
     (λ k.
     live_find k s.local.records h.rises
     ∙ h.values k
-    ∙ ap (top_value k) (sym (filter_all_kept (committed_in log) (standing log) all))
-    ∙ sym (subst (λ l. map_get k (fold_updates (committed_in l) l []) ≡ top_value k (filter (of_kept (committed_in l)) (standing log))) whole (cut_values g (view_of s) (length log) k h)))
+    ∙ ap (top_value g.floor k) (sym (filter_all_kept (committed_in log) (standing log) all))
+    ∙ ap (λ base. top_value base k (filter (of_kept (committed_in log)) (standing log))) (sym (begins g (view_of s) h))
+    ∙ sym (updates_values (committed_in log) log k))
     ∙ sym (fold_alike (committed_somewhere (log ∷ [])) (committed_in log) log [] (λ t. or-false (committed_in log t)))
 
 pub quiet_is_settled : QuietIsSettled

@@ -8,13 +8,15 @@ use Rattle.clv_base.specs.declared.logs.LogRecord.TheVariants.{Clr, Abort, Resta
 use Rattle.clv_base.specs.declared.changes.Change.{Change}
 use Rattle.clv_base.specs.declared.changes.Change.TheVariants.{Sets, Adds}
 use Rattle.clv_base.specs.Orders.{tx_in}
-use Rattle.clv_base.specs.Maps.{KeyMap}
-use Rattle.clv_base.specs.Logs.{StandingUpdate, standing, writers, aborted_in, committed_in, in_doubt, is_winner, fold_writes, with_change}
+use Rattle.clv_base.specs.Maps.{KeyMap, with_pairs}
+use Rattle.clv_base.specs.Logs.{StandingUpdate, standing, writers, aborted_in, committed_in, in_doubt, is_winner, base_of, fold_writes, fold_updates, with_change}
 use Rattle.clv_base.specs.Needs.{Records, found_at}
 use Rattle.clv_base.specs.Undo.{is_of, clrs_of, newest_lsn, compensation}
-use Rattle.clv_base.specs.Restarts.{losers, log_after_restart, records_of, with_ghosts, ghost_if_absent}
+use Rattle.clv_base.specs.Restarts.{losers, restart_records, log_after_restart, records_of, with_ghosts, ghost_if_absent}
 use Rattle.clv_base.proofs.SameNames.{or_left, or_right, tx_true, tx_self}
 use Rattle.law_base.specs.Undone.{stays_of}
+use Rattle.law_base.proofs.Bases.{base_more}
+use Rattle.law_base.proofs.Logs.{undo_base, restart_undoes}
 use Rattle.law_base.proofs.Doubts.{Unlike, is_it, nobody, abort_unlike, clr_unlike, unadd_unlike, restart_unlike, doubts_more, winners_more, standing_more}
 use Rattle.law_base.proofs.Sets.{in_filter}
 use Rattle.law_base.proofs.Undoing.{set_newest, standing_undone_by}
@@ -137,13 +139,15 @@ module _ (shard : ℕ) (log : List LogRecord) (run epoch : ℕ) where
   pub restart_leaves : records_after shard (log_after_restart shard log run epoch) ≡ records_after shard log
   restart_leaves =
       let after = log_after_restart shard log run epoch in
+      let begins = base_more log (restart_records shard log run epoch) (undo_base (restart_records shard log run epoch) (restart_undoes shard log run epoch)) in
       let folded = fold_alike (is_winner shard after) (is_winner shard log) leaves.wins after []
-      ∙ ap (λ ws. fold_writes (is_winner shard log) ws []) stands
-      ∙ fold_kept (is_winner shard log) (stays_of all) (standing log) [] (λ w e. loses w.tx (gone w e)) in
-      ap (λ ts. with_ghosts ts (standing after) (records_of (fold_writes (is_winner shard after) (standing after) []))) leaves.doubts
+      ∙ ap (λ base. fold_writes (is_winner shard log) (standing after) (with_pairs base [])) begins
+      ∙ ap (λ ws. fold_writes (is_winner shard log) ws (with_pairs (base_of log) [])) stands
+      ∙ fold_kept (is_winner shard log) (stays_of all) (standing log) (with_pairs (base_of log) []) (λ w e. loses w.tx (gone w e)) in
+      ap (λ ts. with_ghosts ts (standing after) (records_of (fold_updates (is_winner shard after) after []))) leaves.doubts
       ∙ ap (λ m. with_ghosts (in_doubt shard log) (standing after) (records_of m)) folded
-      ∙ ap (λ ws. with_ghosts (in_doubt shard log) ws (records_of (fold_writes (is_winner shard log) (standing log) []))) stands
-      ∙ ghosts_kept (in_doubt shard log) (stays_of all) (standing log) (records_of (fold_writes (is_winner shard log) (standing log) [])) (λ w e. undoubted w.tx (gone w e))
+      ∙ ap (λ ws. with_ghosts (in_doubt shard log) ws (records_of (fold_updates (is_winner shard log) log []))) stands
+      ∙ ghosts_kept (in_doubt shard log) (stays_of all) (standing log) (records_of (fold_updates (is_winner shard log) log [])) (λ w e. undoubted w.tx (gone w e))
     where
       gone : (w : StandingUpdate) → stays_of all w ≡ false → tx_in w.tx all ≡ true
       gone w e = at (tx_in w.tx all) e

@@ -1,5 +1,5 @@
 -- Writes in the order of their keys leave the map that they leave in the log's order.
-use Rattle.std.proofs.Common.{◌≡◌, ℕ, ◌<◌, Bool, true, false, cond, not, ◌&&◌, ◌==◌, List, [], ◌∷◌, ◌++◌, ◌+◌, ◌-◌, ◌≤◌, length, drop, get_or, map, Option, Some, None, append-nil, refl, sym, ap, ◌∙◌, eqb-true, arith}
+use Rattle.std.proofs.Common.{◌≡◌, ℕ, ◌<◌, Bool, true, false, cond, not, ◌&&◌, ◌==◌, List, [], ◌∷◌, ◌++◌, ◌+◌, ◌-◌, ◌≤◌, length, drop, get_or, map, Option, Some, None, append-nil, append_assoc, refl, sym, ap, ◌∙◌, eqb-true, arith}
 use Rattle.std.specs.List.{filter, cons_option}
 use Rattle.std.specs.List.Sorted.{ties, IsStableByKey}
 use Rattle.std.specs.Ordering.{nat_cmp, is_lt}
@@ -12,7 +12,7 @@ use Rattle.clv_base.specs.declared.logs.LogRecord.{LogRecord}
 use Rattle.clv_base.specs.declared.changes.Change.{Change}
 use Rattle.clv_base.specs.declared.changes.Change.TheVariants.{Sets, Adds}
 use Rattle.clv_base.specs.declared.values.Value.TheVariants.{Num, Bytes}
-use Rattle.clv_base.specs.Maps.{KeyMap, map_get, map_set}
+use Rattle.clv_base.specs.Maps.{KeyMap, map_get, map_set, with_pairs}
 use Rattle.clv_base.specs.Folding.{IsRising}
 use Rattle.clv_base.specs.Logs.{StandingUpdate, standing, with_change, fold_writes}
 use Rattle.clv_base.specs.OneShard.{update_of}
@@ -21,7 +21,7 @@ use Rattle.law_base.proofs.Lists.{elem_at}
 use Rattle.log_analysis.proofs.Laws.Standing.{write_inside, write_there}
 use Rattle.shard_recovery.specs.declared.writes.Write.{Write}
 use Rattle.shard_recovery.specs.declared.writes.Left.TheVariants.{Nothing, More}
-use Rattle.shard_recovery.specs.Winning.{set_by, left_at, kept_write, kept_writes, writes_after}
+use Rattle.shard_recovery.specs.Winning.{set_by, left_at, kept_write, kept_writes, begun, writes_after}
 
 pub writes_more : (ws : List Write) (w : Write) (m : KeyMap) → writes_after (ws ++ w ∷ []) m ≡ map_set w.key (left_at w.left (map_get w.key (writes_after ws m))) (writes_after ws m)
 writes_more [] w m = refl
@@ -56,6 +56,26 @@ kept_one keep tx key (Adds by) vs m = at (keep tx)
     at : (b : Bool) → writes_after (vs ++ cons_option (cond b (Some (record { key = key; left = More by })) None) []) m ≡ cond b (with_change key (Adds by) (writes_after vs m)) (writes_after vs m)
     at true = writes_more vs (record { key = key; left = More by }) m
     at false = ap (λ l. writes_after l m) (append-nil vs)
+
+-- the writes of pairs put them
+pub begun_fold : (ps : KeyMap) (ws : List Write) (m : KeyMap) → writes_after (begun ps ++ ws) m ≡ writes_after ws (with_pairs ps m)
+begun_fold [] ws m = refl
+begun_fold (p ∷ ps) ws m =
+    let w : Write = record { key = p.0; left = set_by (Some p.1) } in
+    ap (λ l. writes_after l m) (append_assoc (begun ps) (w ∷ []) ws)
+    ∙ begun_fold ps (w ∷ ws) m
+    ∙ ap (λ x. writes_after ws (map_set p.0 x (with_pairs ps m))) (set_is (Some p.1) (map_get p.0 (with_pairs ps m)))
+
+-- with one pair more, from the last one on
+pub begun_more : (base : KeyMap) (n : ℕ) (p : ℕ × ValueType) (ws next : List Write) → 0 < n → n ≤ length base → p ≡ get_or base (n - 1) p → ws ≡ begun (drop n base)
+    → next ≡ ws ++ record { key = p.0; left = set_by (Some p.1) } ∷ [] → next ≡ begun (drop (n - 1) base)
+begun_more base n p ws next some within read so_far made =
+    let inside : n - 1 < length base = omega arith in
+    let place : (n - 1) + 1 ≡ n = omega arith in
+    made
+    ∙ ap (λ l. l ++ record { key = p.0; left = set_by (Some p.1) } ∷ []) (so_far ∙ ap (λ k. begun (drop k base)) (sym place))
+    ∙ ap (λ (q : ℕ × ValueType). begun (q ∷ drop ((n - 1) + 1) base)) read
+    ∙ ap begun (sym (drop_more base (n - 1) p inside))
 
 pub kept_fold : (keep : TxId → Bool) (ws : List StandingUpdate) (m : KeyMap) → writes_after (kept_writes keep ws) m ≡ fold_writes keep ws m
 kept_fold keep [] m = refl

@@ -43,6 +43,11 @@ abbrev pub kept_writes : (TxId → Bool) → List StandingUpdate → List Write
 kept_writes keep [] = []
 kept_writes keep (w ∷ ws) = kept_writes keep ws ++ cons_option (kept_write keep (update_of w.tx w.key w.change)) []
 
+-- what leaves these pairs, the first one last
+abbrev pub begun : KeyMap → List Write
+begun [] = []
+begun (p ∷ ps) = begun ps ++ record { key = p.0; left = set_by (Some p.1) } ∷ []
+
 -- the map after these writes, one after another
 abbrev pub writes_after : List Write → KeyMap → KeyMap
 writes_after [] m = m

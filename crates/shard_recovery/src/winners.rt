@@ -82,7 +82,7 @@ fn put_all<S: Store>(store: &mut S, writes: &[Write]) -> Result<(), AllocError>
     Ok(())
 }
 
-/// Does the UPDATEs and ADDs of the winners that stand again in an empty store.
+/// Puts what the log begins with into an empty store, and does the UPDATEs and ADDs of the winners that stand again.
 fn fold<S: Store>(
     alloc: Global,
     store: &mut S,

@@ -1,15 +1,17 @@
 //! What those that win in a log wrote, of what stands, in the order that a store takes it in.
-ghost use Rattle.std.specs.Prelude.{◌≡◌, List, [], map, IfOk};
+ghost use Rattle.std.specs.Prelude.{◌≡◌, ◌++◌, List, [], Some, map, IfOk};
 ghost use Rattle.std.specs.List.Sorted.{IsNonDecreasingBy};
 ghost use Rattle.clv_base.specs.Logs.{fold_updates, standing};
 ghost use Rattle.clv_base.specs.declared.logs.LogRecord.{LogRecord as Record};
 ghost use Rattle.log_analysis.specs.Facts.{Knows};
-ghost use Rattle.shard_recovery.specs.Winning.{wins_in, set_by, kept_write, kept_writes, writes_after};
+ghost use Rattle.log_analysis.specs.Lists.{pairs_at as pairs_in};
+ghost use Rattle.shard_recovery.specs.Winning.{wins_in, begun, set_by, kept_write, kept_writes, writes_after};
 
 use clv_base::logs::LogRecord;
 use clv_base::names::TxId;
 use clv_base::texts::ByteText;
 use clv_base::values::Value;
+use log_analysis::lists::pairs_at;
 use log_analysis::{LogFacts, TxSet, standing_lsns};
 use std::alloc::{AllocError, Global};
 
@@ -74,9 +76,24 @@ fn written(facts: &LogFacts, doubtful: &TxSet, found: &LogRecord) -> Option<Writ
     }
 }
 
-/// What the winners wrote of what stands at these LSNs, the newest first, in the log's order.
+/// What leaves these pairs, the first one last: of two with one key it counts.
+fn begin(alloc: Global, base: &[(u64, Value)]) -> Result<Vec<Write>, AllocError>
+    ensures { IfOk result (λ ws. ws.items ≡ begun base.now) }
+{
+    let mut writes = Vec::new(alloc);
+    for place in (0..base.len()).rev() {
+        let pair = &base[place];
+        writes.push(Write {
+            key: pair.0,
+            left: left_by(&Some(pair.1.copy())),
+        })?;
+    }
+    Ok(writes)
+}
+
+/// These, and behind them what the winners wrote of what stands at these LSNs, the newest first, in the log's order.
 fn gather_at(
-    alloc: Global,
+    first: Vec<Write>,
     facts: &LogFacts,
     doubtful: &TxSet,
     log: &[LogRecord],
@@ -84,9 +101,9 @@ fn gather_at(
 ) -> Result<Vec<Write>, AllocError>
     requires knows { Knows facts.now log.now }
     requires stand { lsns.now ≡ map (λ w. w.lsn) (standing log.now) }
-    ensures { IfOk result (λ ws. ws.items ≡ kept_writes (wins_in log.now doubtful.now) (standing log.now)) }
+    ensures { IfOk result (λ ws. ws.items ≡ first.items ++ kept_writes (wins_in log.now doubtful.now) (standing log.now)) }
 {
-    let mut writes = Vec::new(alloc);
+    let mut writes = first;
     for place in (0..lsns.len()).rev() {
         if let Some(write) = written(facts, doubtful, &log[lsns[place] as usize]) {
             writes.push(write)?;
@@ -95,7 +112,7 @@ fn gather_at(
     Ok(writes)
 }
 
-/// What the winners wrote and stands, in the log's order. What its transaction took back is not done first and undone then: between the two an
+/// What leaves the map that the log begins with, and what the winners wrote and stands, in the log's order. What its transaction took back is not done first and undone then: between the two an
 /// in-doubt one's value may have come and gone that a later abort takes away.
 fn gather(
     alloc: Global,
@@ -104,10 +121,11 @@ fn gather(
     log: &[LogRecord],
 ) -> Result<Vec<Write>, AllocError>
     requires knows { Knows facts.now log.now }
-    ensures { IfOk result (λ ws. ws.items ≡ kept_writes (wins_in log.now doubtful.now) (standing log.now)) }
+    ensures { IfOk result (λ ws. ws.items ≡ begun (pairs_in log.now (Some 0)) ++ kept_writes (wins_in log.now doubtful.now) (standing log.now)) }
 {
     let lsns = standing_lsns(alloc, log)?;
-    gather_at(alloc, facts, doubtful, log, &lsns)
+    let first = begin(alloc, pairs_at(log, Some(0)))?;
+    gather_at(first, facts, doubtful, log, &lsns)
 }
 
 /// The same by rising keys, as a store takes it fastest, and in the log's order at each key: it leaves the same map. A log whose keys rise is in

@@ -1,5 +1,5 @@
 -- The map that logs stand for agrees with what each log has of it.
-use Rattle.std.proofs.Common.{◌≡◌, ℕ, zero, suc, ◌+◌, ◌<◌, ◌≤◌, Bool, true, false, cond, List, [], ◌∷◌, length, None, ◌==◌, refl, sym, ap, subst, ◌∙◌, arith}
+use Rattle.std.proofs.Common.{◌≡◌, ℕ, zero, suc, ◌+◌, ◌<◌, ◌≤◌, Bool, true, false, cond, List, [], ◌∷◌, length, Some, None, ◌==◌, refl, sym, ap, subst, ◌∙◌, arith}
 use Rattle.std.specs.List.{AllByRecursion, list_all}
 use Rattle.std.proofs.lemmas.Bool.{both_ways, and_parts, false_from_ne_true}
 use Rattle.clv_base.specs.declared.changes.Change.{Change}
@@ -7,8 +7,8 @@ use Rattle.clv_base.specs.declared.changes.Change.TheVariants.{Sets, Adds}
 use Rattle.clv_base.specs.declared.names.TxId.{TxId}
 use Rattle.clv_base.specs.declared.logs.LogRecord.{LogRecord}
 use Rattle.clv_base.specs.declared.logs.LogRecord.TheVariants.{Update, Clr, Prepare, Commit, Abort, End, Restart, Add, Unadd, Forgotten, Check}
-use Rattle.clv_base.specs.Maps.{KeyMap, map_get, plus}
-use Rattle.clv_base.specs.Logs.{StandingUpdate, standing_from, standing, with_change, fold_writes, fold_updates, stands_from, stands, committed_somewhere}
+use Rattle.clv_base.specs.Maps.{KeyMap, map_get, with_pairs, plus}
+use Rattle.clv_base.specs.Logs.{StandingUpdate, base_of, standing_from, standing, with_change, fold_writes, fold_updates, stands_from, stands, committed_somewhere}
 use Rattle.clv_base.specs.LogRules.{log_of, all_logs_from}
 use Rattle.clv_base.specs.FileRules.{passes_file_rules}
 use Rattle.clv_base.specs.Shards.{shard_count, are_splits, in_span}
@@ -17,6 +17,7 @@ use Rattle.clv_base.proofs.Folding.{eq_true, get_set, get_other}
 use Rattle.serial_laws.specs.Shares.{HasShares}
 use Rattle.serial_laws.proofs.ReplayByShards.SpansShareNoKey.{one_shard}
 use Rattle.headline_laws.specs.Shares.{AreLogsOf, share_of}
+use Rattle.law_base.proofs.Bases.{get_with, value_or}
 use Rattle.law_base.proofs.Logs.{fold_rises}
 use Rattle.law_base.proofs.Names.{all_without}
 
@@ -74,8 +75,24 @@ writes_away splits i keep (w ∷ ws) k m a e = at (keep w.tx) (writes_away split
     at true h = change_away w.key k w.change (fold_writes keep ws m) other ∙ h
     at false h = h
 
+-- and so do the pairs that it begins with
+base_within : (splits : List ℕ) (i : ℕ) (log : List LogRecord) → list_all (passes_file_rules splits i) log ≡ true → list_all (λ p. in_span splits i p.0) (base_of log) ≡ true
+base_within splits i [] p = refl
+base_within splits i (Check run epoch upto base ∷ rs) p = (and_parts (list_all (λ q. in_span splits i q.0) base) (list_all (passes_file_rules splits i) rs) p).0
+base_within splits i (_ ∷ rs) p = refl
+
+with_away : (splits : List ℕ) (i : ℕ) (ps m : KeyMap) (k : ℕ) → list_all (λ p. in_span splits i p.0) ps ≡ true → in_span splits i k ≡ false → map_get k (with_pairs ps m) ≡ map_get k m
+with_away splits i [] m k within out = refl
+with_away splits i (p ∷ ps) m k within out =
+    let q = and_parts (in_span splits i p.0) (list_all (λ r. in_span splits i r.0) ps) within in
+    get_other k p.0 (Some p.1) (with_pairs ps m)
+    (false_from_ne_true (k == p.0) (λ h. both_ways (in_span splits i p.0) (subst (λ z. in_span splits i z ≡ false) (eq_true k p.0 h) out) q.0))
+    ∙ with_away splits i ps m k q.1 out
+
 pub fold_away : (splits : List ℕ) (i : ℕ) (keep : TxId → Bool) (log : List LogRecord) (k : ℕ) (m : KeyMap) → list_all (passes_file_rules splits i) log ≡ true → in_span splits i k ≡ false → map_get k (fold_updates keep log m) ≡ map_get k m
-fold_away splits i keep log k m p e = writes_away splits i keep (standing log) k m (within_from splits i 0 log [] p tt) e
+fold_away splits i keep log k m p e =
+    writes_away splits i keep (standing log) k (with_pairs (base_of log) m) (within_from splits i 0 log [] p tt) e
+    ∙ with_away splits i (base_of log) m k (base_within splits i log p) e
 
 -- ---- all logs
 
@@ -105,7 +122,8 @@ all_values splits i d n keep [] k m s p c l q e none = absurd (omega (arith, c, 
 all_values splits i zero n keep (log ∷ logs) k m s p c l q e none =
     let r = and_parts (list_all (passes_file_rules splits i) log) _ p in
     all_away splits (suc i) keep logs k (fold_updates keep log m) r.1 (λ j a b. not_another splits n j k s l (omega (arith, b, c)) e (λ h. omega (arith, a, h, q)))
-    ∙ writes_alike keep (standing log) k m [] none
+    ∙ writes_alike keep (standing log) k (with_pairs (base_of log) m) (with_pairs (base_of log) [])
+    (get_with (base_of log) m k ∙ ap (value_or (map_get k (base_of log))) none ∙ sym (get_with (base_of log) [] k))
 all_values splits i (suc d) n keep (log ∷ logs) k m s p c l q e none =
     let r = and_parts (list_all (passes_file_rules splits i) log) _ p in
     all_values splits (suc i) d n keep logs k (fold_updates keep log m) s r.1 (omega (arith, c)) l (omega (arith, q)) e

@@ -1,5 +1,5 @@
 -- What a PREPARE lists, and the map of what stands.
-use Rattle.std.proofs.Common.{◌≡◌, ◌≤◌, ◌<◌, refl, ap, ℕ, Bool, true, false, cond, not, ◌&&◌, ◌==◌, List, [], ◌∷◌, ◌++◌, map, length, Option, Some, None, nat_lt, nat_le, arith}
+use Rattle.std.proofs.Common.{◌≡◌, ◌≤◌, ◌<◌, refl, sym, ap, subst, ℕ, Bool, true, false, cond, not, ◌&&◌, ◌==◌, List, [], ◌∷◌, ◌++◌, map, length, Option, Some, None, nat_lt, nat_le, arith}
 use Rattle.std.specs.List.{AllByRecursion, filter, list_all}
 use Rattle.std.specs.List.Sorted.{IsStrictlySortedBy}
 use Rattle.std.specs.FinMap.{put}
@@ -17,13 +17,14 @@ use Rattle.clv_base.specs.declared.logs.LogRecord.TheVariants.{Update, Clr, Prep
 use Rattle.clv_base.specs.declared.modes.Found.{Found}
 use Rattle.clv_base.specs.declared.modes.Found.TheVariants.{Live, Ghost, Absent}
 use Rattle.clv_base.specs.Orders.{tx_cmp, tx_same, tx_in, tx_insert}
-use Rattle.clv_base.specs.Maps.{KeyMap, map_get, map_set}
+use Rattle.clv_base.specs.Maps.{KeyMap, map_get, map_set, with_pairs}
 use Rattle.clv_base.specs.FileRules.{has_spelling, tx_has_spelling, txs_rise, is_value}
-use Rattle.clv_base.specs.Logs.{StandingUpdate, changed, standing, has_standing, committed_in, prepare_of, with_change, fold_writes, fold_updates}
+use Rattle.clv_base.specs.Logs.{StandingUpdate, base_of, changed, standing, has_standing, committed_in, prepare_of, with_change, fold_writes, fold_updates}
 use Rattle.clv_base.specs.Facts.{predecessors_of}
 use Rattle.clv_base.specs.Needs.{Records, found_at}
 use Rattle.clv_base.specs.OneShard.{closing_record, closing}
 use Rattle.clv_base.specs.Restarts.{records_of, ghost_if_absent, with_ghosts, pairs_of_listed, restored_pairs}
+use Rattle.law_base.proofs.Bases.{spelled_base}
 use Rattle.law_base.proofs.Sets.{predecessors_rise}
 use Rattle.protocol_laws.proofs.ChangesKeepSpelling.UndoIsSpelled.{change_fits, changed_fits, AreFit, fit_standing, Named, named_insert}
 use Rattle.protocol_laws.proofs.ChangesKeepSpelling.RowsAreSpelled.{Seconds, Values, set_value}
@@ -173,5 +174,11 @@ ghosts_values txs (w ∷ ws) rs all =
     ghosts_values txs ws (cond (tx_in w.tx txs) (ghost_if_absent w.key rs (found_at w.key rs)) rs)
     (cond_both (tx_in w.tx txs) (ghost_if_absent w.key rs (found_at w.key rs)) rs Values (λ e. ghost_value w.key rs (found_at w.key rs) all) (λ e. all))
 
+-- no log of records that all have a spelling begins with a map
+base_fits : (log : List LogRecord) → list_all has_spelling log ≡ true → Fits (with_pairs (base_of log) [])
+base_fits log h = subst (λ base. Fits (with_pairs base [])) (sym (spelled_base log h)) tt
+
 pub restored_values : (txs : List TxId) (keep : TxId → Bool) (log : List LogRecord) → list_all has_spelling log ≡ true → Values (with_ghosts txs (standing log) (records_of (fold_updates keep log [])))
-restored_values txs keep log h = ghosts_values txs (standing log) (records_of (fold_updates keep log [])) (map_values (fold_updates keep log []) (fold_fits (length log) keep (standing log) [] (fit_standing log h) tt))
+restored_values txs keep log h =
+    ghosts_values txs (standing log) (records_of (fold_updates keep log [])) (map_values (fold_updates keep log [])
+    (fold_fits (length log) keep (standing log) (with_pairs (base_of log) []) (fit_standing log h) (base_fits log h)))

@@ -10,7 +10,8 @@ use Rattle.clv_base.specs.declared.logs.LogRecord.TheVariants.{Update, Clr, Prep
 use Rattle.clv_base.specs.Orders.{tx_same}
 use Rattle.clv_base.specs.declared.changes.Change.{Change}
 use Rattle.clv_base.specs.declared.changes.Change.TheVariants.{Sets, Adds}
-use Rattle.clv_base.specs.Logs.{StandingUpdate, changed, is_setting, standing, standing_after, without_newest, newest_at, newest_of, committed_in, is_commit_of, value_in}
+use Rattle.clv_base.specs.Maps.{KeyMap}
+use Rattle.clv_base.specs.Logs.{StandingUpdate, base_of, changed, is_setting, standing, standing_after, without_newest, newest_at, newest_of, committed_in, is_commit_of, value_in}
 use Rattle.clv_base.specs.LogRules.{has_above, lies_below, clears, unadds, compensates, may_write, may_follow}
 use Rattle.clv_base.proofs.SameNames.{or_left, or_right, tx_true, tx_self}
 use Rattle.law_base.proofs.Lists.{all_mono, all_both, filter_passes}
@@ -28,8 +29,8 @@ abbrev pub Falling : List StandingUpdate → Type 0
 Falling [] = Unit {0}
 Falling (w ∷ ws) = AllByRecursion (λ v. v.lsn < w.lsn) ws × Falling ws
 
-pub record Writes (these : TxId → Bool) (n : ℕ) (ws : List StandingUpdate) : Type 0 where
-  pub chain : Chain ws
+pub record Writes (floor : KeyMap) (these : TxId → Bool) (n : ℕ) (ws : List StandingUpdate) : Type 0 where
+  pub chain : Chain floor ws
   pub falls : Falling ws
   pub low : AllByRecursion (λ w. w.lsn < n) ws
   pub lie : LieOnThese these ws
@@ -49,12 +50,12 @@ none_some : {X : Type 0} {Y : Type 0} (x : X) → ◌≡◌ {A = Option X} None 
 none_some x e = absurd cc
 
 -- where the newest of the transaction is of another key, the key's value stays
-top_without : (t : TxId) (k : ℕ) (u : StandingUpdate) (ws : List StandingUpdate) → newest_of t ws ≡ Some u → (k == u.key) ≡ false → top_value k (without_newest t ws) ≡ top_value k ws
-top_without t k u [] e d = none_some u e
-top_without t k u (w ∷ ws) e d = at (tx_same t w.tx) e (λ f. top_without t k u ws f d)
+top_without : (floor : KeyMap) (t : TxId) (k : ℕ) (u : StandingUpdate) (ws : List StandingUpdate) → newest_of t ws ≡ Some u → (k == u.key) ≡ false → top_value floor k (without_newest t ws) ≡ top_value floor k ws
+top_without floor t k u [] e d = none_some u e
+top_without floor t k u (w ∷ ws) e d = at (tx_same t w.tx) e (λ f. top_without floor t k u ws f d)
   where
-    at : (b : Bool) → cond b (Some w) (newest_of t ws) ≡ Some u → (newest_of t ws ≡ Some u → top_value k (without_newest t ws) ≡ top_value k ws) → top_value k (cond b ws (w ∷ without_newest t ws)) ≡ top_value k (w ∷ ws)
-    at true f ih = sym (cond-false (k == w.key) (changed w.change (top_value k ws)) (top_value k ws) (subst (λ z. (k == z.key) ≡ false) (sym (same_Some w u f)) d))
+    at : (b : Bool) → cond b (Some w) (newest_of t ws) ≡ Some u → (newest_of t ws ≡ Some u → top_value floor k (without_newest t ws) ≡ top_value floor k ws) → top_value floor k (cond b ws (w ∷ without_newest t ws)) ≡ top_value floor k (w ∷ ws)
+    at true f ih = sym (cond-false (k == w.key) (changed w.change (top_value floor k ws)) (top_value floor k ws) (subst (λ z. (k == z.key) ≡ false) (sym (same_Some w u f)) d))
     at false f ih = ap (λ v. cond (k == w.key) (changed w.change v) v) (ih f)
 
 low_of : (t : TxId) (u : StandingUpdate) (n : ℕ) (ws : List StandingUpdate) → newest_of t ws ≡ Some u → AllByRecursion (λ v. v.lsn < n) ws → u.lsn < n
@@ -73,21 +74,21 @@ over_add : (c : Change) (v : Option ValueType) → is_setting c ≡ false → Is
 over_add (Sets before after) v e = absurd (both_ways true e refl)
 over_add (Adds by) v e = tt
 
-chain_without : (t : TxId) (u : StandingUpdate) (ws : List StandingUpdate) → newest_of t ws ≡ Some u → OnTop u ws → Falling ws → Chain ws → Chain (without_newest t ws)
-chain_without t u [] e n f c = tt
-chain_without t u (w ∷ ws) e n f c = at (tx_same t w.tx) e (λ g. chain_without t u ws g n.1 f.1 c.1)
+chain_without : (floor : KeyMap) (t : TxId) (u : StandingUpdate) (ws : List StandingUpdate) → newest_of t ws ≡ Some u → OnTop u ws → Falling ws → Chain floor ws → Chain floor (without_newest t ws)
+chain_without floor t u [] e n f c = tt
+chain_without floor t u (w ∷ ws) e n f c = at (tx_same t w.tx) e (λ g. chain_without floor t u ws g n.1 f.1 c.1)
   where
     flipped : (u.key == w.key) ≡ false → (w.key == u.key) ≡ false
     flipped d = false_from_ne_true _ (λ k. both_ways _ d (eq-eqb u.key w.key (sym (eqb-true w.key u.key k))))
 
-    later : newest_of t ws ≡ Some u → IsOver w.change (top_value w.key (without_newest t ws))
+    later : newest_of t ws ≡ Some u → IsOver w.change (top_value floor w.key (without_newest t ws))
     later g =
         ⊎_elim
         (λ k. over_add w.change _ (n.0 (eqb-true u.key w.key k) (low_of t u w.lsn ws g f.0)).1)
-        (λ d. subst (IsOver w.change) (sym (top_without t w.key u ws g (flipped d))) c.0)
+        (λ d. subst (IsOver w.change) (sym (top_without floor t w.key u ws g (flipped d))) c.0)
         (cases_Bool (u.key == w.key))
 
-    at : (b : Bool) → cond b (Some w) (newest_of t ws) ≡ Some u → (newest_of t ws ≡ Some u → Chain (without_newest t ws)) → Chain (cond b ws (w ∷ without_newest t ws))
+    at : (b : Bool) → cond b (Some w) (newest_of t ws) ≡ Some u → (newest_of t ws ≡ Some u → Chain floor (without_newest t ws)) → Chain floor (cond b ws (w ∷ without_newest t ws))
     at true g ih = c.1
     at false g ih = (later g, ih g)
 
@@ -132,10 +133,10 @@ unadded_top w by ws (Adds added) is e = under_none w ws (ap is_setting (sym is))
 
 -- the write that is compensated
 compensated : (log : List LogRecord) (tx : TxId) (next : Option ℕ) (key : ℕ) (test : StandingUpdate → Bool) (o : Option StandingUpdate) → newest_of tx (standing log) ≡ o
-    → compensates test tx next key (standing log) o ≡ true → ((u : StandingUpdate) → test u ≡ true → OnTop u (standing log)) → Falling (standing log) → Chain (standing log)
-    → Chain (without_newest tx (standing log))
+    → compensates test tx next key (standing log) o ≡ true → ((u : StandingUpdate) → test u ≡ true → OnTop u (standing log)) → Falling (standing log) → Chain (base_of log) (standing log)
+    → Chain (base_of log) (without_newest tx (standing log))
 compensated log tx next key test None e c top f k = absurd (both_ways false refl c)
-compensated log tx next key test (Some u) e c top f k = chain_without tx u (standing log) e (top u (last _ _ (front _ _ c))) f k
+compensated log tx next key test (Some u) e c top f k = chain_without (base_of log) tx u (standing log) e (top u (last _ _ (front _ _ c))) f k
 
 -- ---- these, and more of them
 
@@ -170,7 +171,7 @@ module _ (tx : TxId) (f h : TxId → Bool) (all : List StandingUpdate) (more : (
 
 -- ---- a record more
 
-quiet : (log : List LogRecord) (r : LogRecord) (ws : List StandingUpdate) → ((t : TxId) → is_commit_of t r ≡ false) → Writes (committed_in log) (length log) ws → Writes (committed_in (log ++ r ∷ [])) (suc (length log)) ws
+quiet : (log : List LogRecord) (r : LogRecord) (ws : List StandingUpdate) → ((t : TxId) → is_commit_of t r ≡ false) → Writes (base_of log) (committed_in log) (length log) ws → Writes (base_of log) (committed_in (log ++ r ∷ [])) (suc (length log)) ws
 quiet log r ws none k =
     record {
       chain = k.chain;
@@ -186,7 +187,7 @@ commit_only log tx parts t c n = ⊎_elim (λ a. absurd (both_ways _ n a)) (λ a
 open_of : (log : List LogRecord) (tx : TxId) → may_write log tx ≡ true → not (committed_in log tx) ≡ true
 open_of log tx m = last _ _ (front _ _ (front _ _ m))
 
-pub writes_step : (shard : ℕ) (log : List LogRecord) (r : LogRecord) → may_follow shard log r ≡ true → Writes (committed_in log) (length log) (standing log) → Writes (committed_in (log ++ r ∷ [])) (suc (length log)) (standing_after (length log) r (standing log))
+pub writes_step : (shard : ℕ) (log : List LogRecord) (r : LogRecord) → may_follow shard log r ≡ true → Writes (base_of log) (committed_in log) (length log) (standing log) → Writes (base_of log) (committed_in (log ++ r ∷ [])) (suc (length log)) (standing_after (length log) r (standing log))
 writes_step shard log (Update tx key before after) m k =
     let r = Update tx key before after in
     let q = quiet log r (standing log) (λ t. refl) k in
@@ -240,31 +241,31 @@ writes_step shard log (Check run' epoch' upto base) m k = quiet log (Check run' 
 -- ---- those of these alone
 
 -- a change of a key's value that keeps it, or an ADD: the fold of those of these, where others below it don't count
-top_kept : (these : TxId → Bool) (k : ℕ) (ws : List StandingUpdate) → AllByRecursion (λ v. v.key ≡ k → these v.tx ≡ true) ws → top_value k (filter (λ w. these w.tx) ws) ≡ top_value k ws
-top_kept these k [] a = refl
-top_kept these k (w ∷ ws) a = at (k == w.key) refl (top_kept these k ws a.1)
+top_kept : (floor : KeyMap) (these : TxId → Bool) (k : ℕ) (ws : List StandingUpdate) → AllByRecursion (λ v. v.key ≡ k → these v.tx ≡ true) ws → top_value floor k (filter (λ w. these w.tx) ws) ≡ top_value floor k ws
+top_kept floor these k [] a = refl
+top_kept floor these k (w ∷ ws) a = at (k == w.key) refl (top_kept floor these k ws a.1)
   where
-    kept : (c : Bool) → c ≡ true → top_value k (filter (λ w. these w.tx) ws) ≡ top_value k ws → top_value k (cond c (w ∷ filter (λ w. these w.tx) ws) (filter (λ w. these w.tx) ws)) ≡ top_value k (w ∷ ws)
+    kept : (c : Bool) → c ≡ true → top_value floor k (filter (λ w. these w.tx) ws) ≡ top_value floor k ws → top_value floor k (cond c (w ∷ filter (λ w. these w.tx) ws) (filter (λ w. these w.tx) ws)) ≡ top_value floor k (w ∷ ws)
     kept true e ih = ap (λ v. cond (k == w.key) (changed w.change v) v) ih
     kept false e ih = absurd (both_ways false refl e)
 
-    other : (c : Bool) → (k == w.key) ≡ false → top_value k (filter (λ w. these w.tx) ws) ≡ top_value k ws → top_value k (cond c (w ∷ filter (λ w. these w.tx) ws) (filter (λ w. these w.tx) ws)) ≡ top_value k (w ∷ ws)
+    other : (c : Bool) → (k == w.key) ≡ false → top_value floor k (filter (λ w. these w.tx) ws) ≡ top_value floor k ws → top_value floor k (cond c (w ∷ filter (λ w. these w.tx) ws) (filter (λ w. these w.tx) ws)) ≡ top_value floor k (w ∷ ws)
     other true q ih = ap (λ v. cond (k == w.key) (changed w.change v) v) ih
-    other false q ih = ih ∙ sym (cond-false (k == w.key) (changed w.change (top_value k ws)) (top_value k ws) q)
+    other false q ih = ih ∙ sym (cond-false (k == w.key) (changed w.change (top_value floor k ws)) (top_value floor k ws) q)
 
-    at : (b : Bool) → (k == w.key) ≡ b → top_value k (filter (λ w. these w.tx) ws) ≡ top_value k ws → top_value k (filter (λ w. these w.tx) (w ∷ ws)) ≡ top_value k (w ∷ ws)
+    at : (b : Bool) → (k == w.key) ≡ b → top_value floor k (filter (λ w. these w.tx) ws) ≡ top_value floor k ws → top_value floor k (filter (λ w. these w.tx) (w ∷ ws)) ≡ top_value floor k (w ∷ ws)
     at true q ih = kept (these w.tx) (a.0 (sym (eqb-true k w.key q))) ih
     at false q ih = other (these w.tx) q ih
 
 -- under an UPDATE all of its key are of these, so what it names is the fold of these
-over_kept : (these : TxId → Bool) (k : ℕ) (c : Change) (ws : List StandingUpdate) → AllByRecursion (λ v. v.key ≡ k → (is_setting v.change || is_setting c) ≡ true → these v.tx ≡ true) ws → IsOver c (top_value k ws)
-    → IsOver c (top_value k (filter (λ w. these w.tx) ws))
-over_kept these k (Sets before after) ws a e = e ∙ sym (top_kept these k ws (all_mono _ _ (λ v h q. h q (or_right (is_setting v.change) true refl)) ws a))
-over_kept these k (Adds by) ws a e = tt
+over_kept : (floor : KeyMap) (these : TxId → Bool) (k : ℕ) (c : Change) (ws : List StandingUpdate) → AllByRecursion (λ v. v.key ≡ k → (is_setting v.change || is_setting c) ≡ true → these v.tx ≡ true) ws → IsOver c (top_value floor k ws)
+    → IsOver c (top_value floor k (filter (λ w. these w.tx) ws))
+over_kept floor these k (Sets before after) ws a e = e ∙ sym (top_kept floor these k ws (all_mono _ _ (λ v h q. h q (or_right (is_setting v.change) true refl)) ws a))
+over_kept floor these k (Adds by) ws a e = tt
 
 -- a chain that lies so is one without the others
-pub chain_kept : (these : TxId → Bool) (ws : List StandingUpdate) → LieOnThese these ws → Chain ws → Chain (filter (λ w. these w.tx) ws)
-chain_kept these [] l c = tt
-chain_kept these (w ∷ ws) l c =
-    cond_both (these w.tx) (w ∷ filter (λ w. these w.tx) ws) (filter (λ w. these w.tx) ws) Chain
-    (λ e. (over_kept these w.key w.change ws (l.0 e) c.0, chain_kept these ws l.1 c.1)) (λ e. chain_kept these ws l.1 c.1)
+pub chain_kept : (floor : KeyMap) (these : TxId → Bool) (ws : List StandingUpdate) → LieOnThese these ws → Chain floor ws → Chain floor (filter (λ w. these w.tx) ws)
+chain_kept floor these [] l c = tt
+chain_kept floor these (w ∷ ws) l c =
+    cond_both (these w.tx) (w ∷ filter (λ w. these w.tx) ws) (filter (λ w. these w.tx) ws) (Chain floor)
+    (λ e. (over_kept floor these w.key w.change ws (l.0 e) c.0, chain_kept floor these ws l.1 c.1)) (λ e. chain_kept floor these ws l.1 c.1)

@@ -222,14 +222,14 @@ module _ (all : List Deed) (g : Past) (s : Shard) (told : List TxId) (cut : ℕ)
   same_stands =
       same_map (after g.start (held kept)) (fold_updates (committed_in (take cut s.local.log)) (take cut s.local.log) [])
       (rising_all (held kept) g.start h.kept.start_rises) (fold_rises (committed_in (take cut s.local.log)) (take cut s.local.log) [] tt)
-      (λ q. pile_value (held kept) g.start g.base q kept_run (h.kept.base_value q)
-      ∙ ap (λ ws. top_value q (pile (held kept) ws)) (sym (filter_all_kept (λ t. is_member s cut told t) g.base (all_mono _ _ (λ w c. or_left _ _ c) g.base cut_base)))
-      ∙ ap (λ xs. top_value q (pile xs (filter (of_kept (λ t. is_member s cut told t)) g.base))) (held_chosen (is_member s cut told) g.done)
-      ∙ ap (top_value q) (sym (pile_keep (λ t. is_member s cut told t) (held g.done) g.base) ∙ filter_alike (λ t. is_member s cut told t) (committed_in (take cut s.local.log)) (pile (held g.done) g.base) writers_alike)
-      ∙ sym (keys_top (filter (of_kept (committed_in (take cut s.local.log))) (filter (of_kept (is_alive g.lost)) (standing s.local.log))) (filter (of_kept (committed_in (take cut s.local.log))) (pile (held g.done) g.base)) q
+      (λ q. pile_value g.floor (held kept) g.start g.base q kept_run (h.kept.base_value q)
+      ∙ ap (λ ws. top_value g.floor q (pile (held kept) ws)) (sym (filter_all_kept (λ t. is_member s cut told t) g.base (all_mono _ _ (λ w c. or_left _ _ c) g.base cut_base)))
+      ∙ ap (λ xs. top_value g.floor q (pile xs (filter (of_kept (λ t. is_member s cut told t)) g.base))) (held_chosen (is_member s cut told) g.done)
+      ∙ ap (top_value g.floor q) (sym (pile_keep (λ t. is_member s cut told t) (held g.done) g.base) ∙ filter_alike (λ t. is_member s cut told t) (committed_in (take cut s.local.log)) (pile (held g.done) g.base) writers_alike)
+      ∙ sym (keys_top g.floor (filter (of_kept (committed_in (take cut s.local.log))) (filter (of_kept (is_alive g.lost)) (standing s.local.log))) (filter (of_kept (committed_in (take cut s.local.log))) (pile (held g.done) g.base)) q
       (keys_filter (of_kept (committed_in (take cut s.local.log))) (filter (of_kept (is_alive g.lost)) (standing s.local.log)) (pile (held g.done) g.base) h.kept.standing_is))
-      ∙ ap (top_value q) (filter_within (committed_in (take cut s.local.log)) (is_alive g.lost) (standing s.local.log) (λ t c. ap not (false_from_ne_true _ (λ l. both_ways _ (h.falls.open_ t l) (cut_keeps cut s.local.log t c)))))
-      ∙ sym (cut_values g (view_of s) cut q h.kept))
+      ∙ ap (top_value g.floor q) (filter_within (committed_in (take cut s.local.log)) (is_alive g.lost) (standing s.local.log) (λ t c. ap not (false_from_ne_true _ (λ l. both_ways _ (h.falls.open_ t l) (cut_keeps cut s.local.log t c)))))
+      ∙ sym (cut_values g (view_of s) cut q h.kept le))
       ∙ sym (fold_alike (committed_somewhere (take cut s.local.log ∷ [])) (committed_in (take cut s.local.log)) (take cut s.local.log) [] somewhere)
 
   -- ---- all of it

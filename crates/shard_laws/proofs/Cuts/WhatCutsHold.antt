@@ -6,8 +6,8 @@ use Rattle.clv_base.specs.declared.names.TxId.{TxId}
 use Rattle.clv_base.specs.declared.logs.LogRecord.{LogRecord}
 use Rattle.clv_base.specs.declared.logs.LogRecord.TheVariants.{Update, Clr, Prepare, Commit, Abort, End, Restart, Add, Unadd, Forgotten, Check}
 use Rattle.clv_base.specs.Orders.{tx_same}
-use Rattle.clv_base.specs.Maps.{KeyMap, map_get}
-use Rattle.clv_base.specs.Logs.{StandingUpdate, standing, standing_from, committed_in, is_commit_of}
+use Rattle.clv_base.specs.Maps.{KeyMap, map_get, with_pairs}
+use Rattle.clv_base.specs.Logs.{StandingUpdate, standing, standing_from, committed_in, is_commit_of, base_of, fold_at}
 use Rattle.clv_base.proofs.SameNames.{tx_true}
 use Rattle.law_base.proofs.Lists.{all_of}
 use Rattle.law_base.proofs.Running.{top_value, fold_same}
@@ -21,6 +21,7 @@ use Rattle.std.specs.Prelude.{take, drop}
 use Rattle.std.proofs.lemmas.List.{take-append-drop}
 use Rattle.clv_base.specs.Logs.{place_from, changed, with_change, fold_writes, fold_updates, standing_after, without_newest}
 use Rattle.clv_base.proofs.Folding.{get_set}
+use Rattle.law_base.proofs.Bases.{get_pairs}
 
 -- ---- COMMITs below the cut
 
@@ -76,25 +77,31 @@ without_other keep t [] out = refl
 without_other keep t (w ∷ ws) out = without_case keep t w ws (tx_same t w.tx) refl out (without_other keep t ws out)
 
 -- a write of one that passes changes the map as it changes the fold
-top_filter : (keep : TxId → Bool) (k : ℕ) (w : StandingUpdate) (ws : List StandingUpdate) (m : KeyMap) → map_get k m ≡ top_value k (filter (of_kept keep) ws) → (map_get w.key m ≡ top_value w.key (filter (of_kept keep) ws))
-    → map_get k (cond (keep w.tx) (with_change w.key w.change m) m) ≡ top_value k (filter (of_kept keep) (w ∷ ws))
-top_filter keep k w ws m e own = at (keep w.tx)
+top_filter : (floor : KeyMap) (keep : TxId → Bool) (k : ℕ) (w : StandingUpdate) (ws : List StandingUpdate) (m : KeyMap) → map_get k m ≡ top_value floor k (filter (of_kept keep) ws) → (map_get w.key m ≡ top_value floor w.key (filter (of_kept keep) ws))
+    → map_get k (cond (keep w.tx) (with_change w.key w.change m) m) ≡ top_value floor k (filter (of_kept keep) (w ∷ ws))
+top_filter floor keep k w ws m e own = at (keep w.tx)
   where
     here : (b : Bool) → (k == w.key) ≡ b
-        → cond b (changed w.change (map_get w.key m)) (map_get k m) ≡ cond b (changed w.change (top_value k (filter (of_kept keep) ws))) (top_value k (filter (of_kept keep) ws))
-    here true q = ap (changed w.change) (own ∙ ap (λ j. top_value j (filter (of_kept keep) ws)) (sym (eqb-true k w.key q)))
+        → cond b (changed w.change (map_get w.key m)) (map_get k m) ≡ cond b (changed w.change (top_value floor k (filter (of_kept keep) ws))) (top_value floor k (filter (of_kept keep) ws))
+    here true q = ap (changed w.change) (own ∙ ap (λ j. top_value floor j (filter (of_kept keep) ws)) (sym (eqb-true k w.key q)))
     here false q = e
 
-    at : (b : Bool) → map_get k (cond b (with_change w.key w.change m) m) ≡ top_value k (cond b (w ∷ filter (of_kept keep) ws) (filter (of_kept keep) ws))
+    at : (b : Bool) → map_get k (cond b (with_change w.key w.change m) m) ≡ top_value floor k (cond b (w ∷ filter (of_kept keep) ws) (filter (of_kept keep) ws))
     at true = get_set k w.key (changed w.change (map_get w.key m)) m ∙ here (k == w.key) refl
     at false = e
 
-pub fold_values : (keep : TxId → Bool) (ws : List StandingUpdate) (k : ℕ) → map_get k (fold_writes keep ws []) ≡ top_value k (filter (of_kept keep) ws)
-fold_values keep [] k = refl
-fold_values keep (w ∷ ws) k = top_filter keep k w ws (fold_writes keep ws []) (fold_values keep ws k) (fold_values keep ws w.key)
+pub fold_values : (keep : TxId → Bool) (ws : List StandingUpdate) (m : KeyMap) (k : ℕ) → map_get k (fold_writes keep ws m) ≡ top_value m k (filter (of_kept keep) ws)
+fold_values keep [] m k = refl
+fold_values keep (w ∷ ws) m k = top_filter m keep k w ws (fold_writes keep ws m) (fold_values keep ws m k) (fold_values keep ws m w.key)
+
+-- the values that the writes of those that pass leave of what the log begins with
+pub updates_values : (keep : TxId → Bool) (log : List LogRecord) (k : ℕ) → map_get k (fold_updates keep log []) ≡ top_value (base_of log) k (filter (of_kept keep) (standing log))
+updates_values keep log k =
+    fold_values keep (standing log) (with_pairs (base_of log) []) k
+    ∙ ap (λ v. fold_at k v (filter (of_kept keep) (standing log))) (get_pairs (base_of log) k)
 
 pub fold_alike : (f k : TxId → Bool) (log : List LogRecord) (m : KeyMap) → ((t : TxId) → f t ≡ k t) → fold_updates f log m ≡ fold_updates k log m
-fold_alike f k log m e = fold_same f k (standing log) m (all_of _ (λ w. e w.tx) (standing log))
+fold_alike f k log m e = fold_same f k (standing log) (with_pairs (base_of log) m) (all_of _ (λ w. e w.tx) (standing log))
 
 -- ---- no record after the cut moves one that the cut commits
 
@@ -132,5 +139,9 @@ standing_cut c log t =
     ∙ same_after (take c log) (take c log) (drop c log) (0 + length (take c log)) (standing (take c log)) (λ u e. e) (tidy_later [] (take c log) (drop c log) (subst (Tidy []) (sym whole) t))
 
 -- the map that the cut stands for, key by key
-pub cut_values : (g : Past) (v : View) (c k : ℕ) → Kept g v → map_get k (fold_updates (committed_in (take c v.log)) (take c v.log) []) ≡ top_value k (filter (of_kept (committed_in (take c v.log))) (standing v.log))
-cut_values g v c k h = fold_values (committed_in (take c v.log)) (standing (take c v.log)) k ∙ ap (top_value k) (sym (standing_cut c v.log h.tidy))
+pub cut_values : (g : Past) (v : View) (c k : ℕ) → Kept g v → v.durable ≤ c
+    → map_get k (fold_updates (committed_in (take c v.log)) (take c v.log) []) ≡ top_value g.floor k (filter (of_kept (committed_in (take c v.log))) (standing v.log))
+cut_values g v c k h le =
+    updates_values (committed_in (take c v.log)) (take c v.log) k
+    ∙ ap (λ base. top_value base k (filter (of_kept (committed_in (take c v.log))) (standing (take c v.log)))) (h.floor_done c le)
+    ∙ ap (top_value g.floor k) (sym (standing_cut c v.log h.tidy))

@@ -9,7 +9,7 @@ use Rattle.clv_base.specs.declared.changes.Change.{Change}
 use Rattle.clv_base.specs.declared.state.Stage.TheVariants.{Active}
 use Rattle.clv_base.specs.Orders.{tx_same, tx_in}
 use Rattle.clv_base.specs.Backs.{count_after}
-use Rattle.clv_base.specs.Logs.{StandingUpdate, standing, committed_in, aborted_in}
+use Rattle.clv_base.specs.Logs.{StandingUpdate, standing, committed_in, aborted_in, base_of}
 use Rattle.clv_base.specs.Undo.{records_without, clrs_by, newest_lsns, is_at}
 use Rattle.clv_base.proofs.SameNames.{tx_true}
 use Rattle.law_base.specs.Items.{Item, Deed, WentBack, is_beyond, held, wrote, pile, AllLater}
@@ -17,14 +17,14 @@ use Rattle.law_base.specs.Undone.{stays_by}
 use Rattle.law_base.proofs.Anchors.{rising_undone}
 use Rattle.law_base.proofs.Commits.{commit_durable, before_keeps, durable_keeps, durable_committed, uncommitted_append, committed_from}
 use Rattle.law_base.proofs.Lists.{all_mono, all_both, all_of, all_push, all_kept, later_mono, later_filter, later_push, filters_swap}
-use Rattle.law_base.proofs.Logs.{clrs_undo_by}
+use Rattle.law_base.proofs.Logs.{clrs_undo_by, undo_base}
 use Rattle.law_base.proofs.Running.{top_value}
 use Rattle.law_base.proofs.Tables.{stage_in}
 use Rattle.law_base.proofs.Undoing.{Chain, Upward, NewestGo, HaveRecords, TellsOf, standing_undone_by, values_undone, pile_filter_by, filter_all_by}
 use Rattle.protocol_laws.proofs.LogsInOrder.StandingUpdatesLie.{Falling}
 use Rattle.shard_laws.specs.OneShard.{doer, number_of, items_in, AreBelow}
 use Rattle.shard_laws.proofs.Operations.WritesAtEachKey.{keys_by, keys_filter, keys_all, keys_own}
-use Rattle.shard_laws.proofs.Keeping.WhatOneShardKeeps.{View, Past, Dep, Wrote, Kept, KeptLog, of_kept, is_alive, KeptPast, Known, Left, Cause, IsAlone, Covers}
+use Rattle.shard_laws.proofs.Keeping.WhatOneShardKeeps.{View, Past, Dep, Wrote, Kept, KeptLog, of_kept, is_alive, KeptPast, Known, Left, Cause, IsAlone, Covers, begins}
 use Rattle.shard_laws.proofs.Keeping.DeedsThatHold.{Rise, ItemsRise, items_back, held_push, acts_push, met_push, met_mono, between_back, items_rise, later_held, AllMet}
 use Rattle.shard_laws.proofs.Keeping.DeedsInTheLog.{pile_each, pile_base}
 use Rattle.shard_laws.proofs.Keeping.ChangesKeepPrepared.{prepared_more, prepared_back, Prepared}
@@ -35,6 +35,7 @@ use Rattle.shard_laws.proofs.Keeping.RecordsOfAnUndo.{undo_commits, undo_writes,
 use Rattle.protocol_laws.specs.Order.{Tidy}
 use Rattle.clv_base.specs.State.{is_present}
 use Rattle.law_base.proofs.Sets.{same_flip}
+use Rattle.law_base.proofs.Bases.{take_base}
 
 -- a transaction's operations that hold
 abbrev pub own_held : TxId → List Deed → List Item
@@ -68,7 +69,7 @@ own_alive tx lost (w ∷ ws) alive = at (tx_same tx w.tx) (tx_in w.tx lost) refl
     at true true e f ih = absurd (both_ways _ alive (subst (λ z. tx_in z lost ≡ true) (sym (tx_true tx w.tx e)) f))
     at false true e f ih = ih
 
-module _ (g : Past) (v : View) (tx : TxId) (n : ℕ) (k : Kept g v) (active : stage_in v.parts tx ≡ Some Active) (chain_here : Chain (standing v.log)) (falls_here : Falling (standing v.log)) (upward_here : Upward (is_at (newest_lsns n tx (standing v.log))) (standing v.log))
+module _ (g : Past) (v : View) (tx : TxId) (n : ℕ) (k : Kept g v) (active : stage_in v.parts tx ≡ Some Active) (chain_here : Chain (base_of v.log) (standing v.log)) (falls_here : Falling (standing v.log)) (upward_here : Upward (is_at (newest_lsns n tx (standing v.log))) (standing v.log))
     (newest : NewestGo (is_at (newest_lsns n tx (standing v.log))) (standing v.log)) (own : AllByRecursion (λ w. is_at (newest_lsns n tx (standing v.log)) w ≡ true → tx_same tx w.tx ≡ true) (standing v.log)) where
   abbrev gone : StandingUpdate → Bool
   gone = is_at (newest_lsns n tx (standing v.log))
@@ -100,6 +101,9 @@ module _ (g : Past) (v : View) (tx : TxId) (n : ℕ) (k : Kept g v) (active : st
   have_here : HaveRecords v.records gone (standing v.log)
   have_here = all_mono _ _ (λ w h e. (h.1 (false_from_ne_true _ (λ c. both_ways _ (h.0 e) (durable_committed v.log v.durable w.tx c)))).1) (standing v.log) (all_both _ _ (standing v.log) gone_open k.wrote)
 
+  chain_floor : Chain g.floor (standing v.log)
+  chain_floor = subst (λ base. Chain base (standing v.log)) (begins g v k) chain_here
+
   -- where the log has the writes of what then holds
   keeps_with : (done : List Deed) → (items_in done ≡ items_in g.done) → KeptPast g.start done g.asked g.lost → KeptLog g.base done g.lost (v.log ++ more) → AllByRecursion (λ d. Known g v (doer d)) done → AllByRecursion (λ d. Left g v (doer d)) done
       → AllMet (Cause v.pairs v.log v.durable) done → Prepared done g.met v.parts v.log → Kept (record g { done = done }) Rolled
@@ -107,7 +111,7 @@ module _ (g : Past) (v : View) (tx : TxId) (n : ℕ) (k : Kept g v) (active : st
     start = k.start;
     past = past;
     log = log;
-    records = record { rises = rising_undone gone (standing v.log) v.records k.rises; values = λ q. values_undone gone (standing v.log) v.records q chain_here upward_here have_here (k.values q) ∙ ap (top_value q) (sym standing_more) };
+    records = record { rises = rising_undone gone (standing v.log) v.records k.rises; values = λ q. values_undone g.floor gone (standing v.log) v.records q chain_floor upward_here have_here (k.values q) ∙ ap (top_value g.floor q) (sym standing_more) };
     locks = record {
       rows = k.rows;
       covered = all_mono _ _ (λ y h a. covers_undone gone (standing v.log) v.locks v.records y (h a)) (items_in done) (subst (AllByRecursion (λ y. stage_in v.parts y.tx ≡ Some Active → Covers v.records v.locks y)) (sym same) k.covered);
@@ -131,7 +135,7 @@ module _ (g : Past) (v : View) (tx : TxId) (n : ℕ) (k : Kept g v) (active : st
       recover = λ t p e. ⊎_elim (λ o. inl o) (λ d. inr (still_dep t p d.0, d.1)) (k.recover t p e);
     };
     pairs = record { downwards = λ t p e c. before_keeps v.log more p t (k.downwards t p e (committed_from v.log more t (no_more t) c)); causes = met_mono _ _ (λ x y h r. ⊎_elim (λ s. inl s) (λ d. inr (still_dep y.tx x.tx d)) (h r)) done causes };
-    durable = record { base_done = all_mono _ _ (λ w c. still_durable w.tx c) g.base k.base_done; front = k.front };
+    durable = record { base_done = all_mono _ _ (λ w c. still_durable w.tx c) g.base k.base_done; front = k.front; floor_done = λ c l. take_base c v.log more (undo_base more (clrs_undo_by gone (standing v.log))) ∙ k.floor_done c l };
   }
 
   tidy_now : Tidy [] (v.log ++ more)

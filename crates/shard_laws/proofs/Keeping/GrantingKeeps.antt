@@ -1,5 +1,6 @@
 -- A granted operation keeps what a shard keeps.
 use Rattle.std.proofs.Common.{◌≡◌, ◌+◌, ◌<◌, ◌⊎◌, inl, inr, Bool, true, false, cond, not, ◌&&◌, List, [], ◌∷◌, ◌++◌, map, length, Option, Some, None, ◌==◌, refl, sym, ap, subst, ◌∙◌, arith, eqb-true, eq-eqb, ◌≤◌, ℕ, ⊎_elim}
+use Rattle.std.specs.Prelude.{take}
 use Rattle.std.proofs.lemmas.Bool.{cases_Bool, both_ways, cond-true, cond-false, or_cases, and_parts, not-true, false_from_ne_true, or_from}
 use Rattle.std.specs.List.{AllByRecursion, filter, list_any}
 use Rattle.clv_base.specs.Needs.{live_pairs}
@@ -21,7 +22,7 @@ use Rattle.clv_base.specs.declared.state.Held.{Held}
 use Rattle.clv_base.specs.Orders.{Table, tx_same, tx_in, tx_get}
 use Rattle.clv_base.specs.Maps.{map_get}
 use Rattle.clv_base.specs.declared.changes.Change.TheVariants.{Sets, Adds}
-use Rattle.clv_base.specs.Logs.{StandingUpdate, changed, is_setting, standing, committed_in, prepared_in, has_standing, aborted_in}
+use Rattle.clv_base.specs.Logs.{StandingUpdate, base_of, changed, is_setting, standing, committed_in, prepared_in, has_standing, aborted_in}
 use Rattle.clv_base.specs.Locks.{Locks}
 use Rattle.clv_base.specs.State.{is_present}
 use Rattle.clv_base.specs.Needs.{value_at, lower_anchor}
@@ -69,6 +70,7 @@ use Rattle.shard_laws.proofs.Keeping.DeedsThatHold.{AllMet, Rise, items_append, 
 use Rattle.law_base.proofs.Standing.{all_stand}
 use Rattle.law_base.proofs.Sets.{filter_in, in_filter}
 use Rattle.shard_laws.proofs.Keeping.DeedsInTheLog.{item_wrote, stands_held}
+use Rattle.law_base.proofs.Bases.{take_base}
 
 module _ (g : Past) (v : View) (tx : TxId) (birth : Birth) (nth : ℕ) (op : Op) (k : Kept g v) (grant : decide tx birth (needs_of op v.records) v.locks ≡ Grant)
     (may : MayStand v.parts tx birth) (new : tx_in tx g.asked ≡ false) (open_ : committed_in v.log tx ≡ false) (alive : aborted_in v.log tx ≡ false) (unprepared : prepared_in v.log tx ≡ false) (unmet : (p : TxId) → is_pair g.met tx p ≡ true → stage_in v.parts tx ≡ Some Active) (no_succ : (t : TxId) → is_pair v.pairs t tx ≡ true → ⊥) (lost_open : (t : TxId) → tx_in t g.lost ≡ true → committed_in v.log t ≡ false) (rises : AreBelow tx nth g.done) where
@@ -190,15 +192,20 @@ module _ (g : Past) (v : View) (tx : TxId) (birth : Birth) (nth : ℕ) (op : Op)
   standing_by (Some (key, Sets before after)) = standing_append 0 v.log (Update tx key before after ∷ []) []
   standing_by (Some (key, Adds by)) = standing_append 0 v.log (Add tx key by ∷ []) []
 
-  value_by : (w : Written) (q : ℕ) → value_at q (records_by w v.records) ≡ top_value q (on_top tx (0 + length v.log) w (standing v.log))
+  value_by : (w : Written) (q : ℕ) → value_at q (records_by w v.records) ≡ top_value g.floor q (on_top tx (0 + length v.log) w (standing v.log))
   value_by None q = k.values q
   value_by (Some w) q =
       ap live_by (record_at_set q w.0 (changed w.1 (value_at w.0 v.records)) v.records) ∙ at (q == w.0) refl
     where
       at : (b : Bool) → (q == w.0) ≡ b
-          → live_by (cond b (Some (changed w.1 (value_at w.0 v.records))) (record_at q v.records)) ≡ cond b (changed w.1 (top_value q (standing v.log))) (top_value q (standing v.log))
-      at true e = live_some (changed w.1 (value_at w.0 v.records)) ∙ ap (changed w.1) (k.values w.0 ∙ ap (λ j. top_value j (standing v.log)) (sym (eqb-true q w.0 e)))
+          → live_by (cond b (Some (changed w.1 (value_at w.0 v.records))) (record_at q v.records)) ≡ cond b (changed w.1 (top_value g.floor q (standing v.log))) (top_value g.floor q (standing v.log))
+      at true e = live_some (changed w.1 (value_at w.0 v.records)) ∙ ap (changed w.1) (k.values w.0 ∙ ap (λ j. top_value g.floor j (standing v.log)) (sym (eqb-true q w.0 e)))
       at false e = k.values q
+
+  floor_by : (w : Written) (c : ℕ) → v.durable ≤ c → base_of (take c (log_by tx w v.log)) ≡ g.floor
+  floor_by None c l = k.floor_done c l
+  floor_by (Some (key, Sets before after)) c l = take_base c v.log (Update tx key before after ∷ []) refl ∙ k.floor_done c l
+  floor_by (Some (key, Adds by)) c l = take_base c v.log (Add tx key by ∷ []) refl ∙ k.floor_done c l
 
   from_by : (w : Written) (t : TxId) → committed_in (log_by tx w v.log) t ≡ true → committed_in v.log t ≡ true
   from_by None t c = c
@@ -302,14 +309,14 @@ module _ (g : Past) (v : View) (tx : TxId) (birth : Birth) (nth : ℕ) (op : Op)
   runs : Runs g.start (held g.done)
   runs = runs_held g.start g.done k.start_rises k.acts k.between k.rising
 
-  past_value : (q : ℕ) → top_value q (filter (of_kept (is_alive g.lost)) (standing v.log)) ≡ map_get q (after g.start (held g.done))
-  past_value q = sym (pile_value (held g.done) g.start g.base q runs (k.base_value q) ∙ sym (keys_top (filter (of_kept (is_alive g.lost)) (standing v.log)) (pile (held g.done) g.base) q k.standing_is))
+  past_value : (q : ℕ) → top_value g.floor q (filter (of_kept (is_alive g.lost)) (standing v.log)) ≡ map_get q (after g.start (held g.done))
+  past_value q = sym (pile_value g.floor (held g.done) g.start g.base q runs (k.base_value q) ∙ sym (keys_top g.floor (filter (of_kept (is_alive g.lost)) (standing v.log)) (pile (held g.done) g.base) q k.standing_is))
 
   same_values : tx_in tx g.lost ≡ false → ((p : TxId) → tx_in p vs ≡ true → tx_in p g.lost ≡ false) → adding ≡ false → (q : ℕ) → meets item q ≡ true
       → map_get q (live_pairs v.records) ≡ map_get q (after g.start (held g.done))
   same_values own others sets q met =
       live_find q v.records k.rises ∙ k.values q
-      ∙ sym (top_alive (is_alive g.lost) q (standing v.log)
+      ∙ sym (top_alive g.floor (is_alive g.lost) q (standing v.log)
       (all_mono _ _ (λ w h e. ap not (alive_at own others q met w h e (ap (λ b. not (is_setting w.change) && b) sets ∙ and_none (not (is_setting w.change))))) (standing v.log) each_wrote))
       ∙ past_value q
 
@@ -317,7 +324,7 @@ module _ (g : Past) (v : View) (tx : TxId) (birth : Birth) (nth : ℕ) (op : Op)
       → is_number (value_at q v.records) ≡ is_number (map_get q (after g.start (held g.done)))
   same_number own others q met =
       ap is_number (k.values q)
-      ∙ sym (number_alive (is_alive g.lost) q (standing v.log)
+      ∙ sym (number_alive g.floor (is_alive g.lost) q (standing v.log)
       (all_mono _ _ (λ w h e s. ap not (alive_at own others q met w h e (ap (λ b. not b && adding) s))) (standing v.log) each_wrote))
       ∙ ap is_number (past_value q)
 
@@ -465,8 +472,8 @@ module _ (g : Past) (v : View) (tx : TxId) (birth : Birth) (nth : ℕ) (op : Op)
   downwards_now : (t p : TxId) → is_pair (add_pairs tx vs v.pairs) t p ≡ true → committed_in (log_by tx change v.log) t ≡ true → CommitBefore (log_by tx change v.log) p t
   downwards_now t p e c = ⊎_elim (λ old. before_by change p t (k.downwards t p old (from_by change t c))) (λ s. absurd (both_ways _ open_ (ap (committed_in v.log) (sym s) ∙ from_by change t c))) (add_from tx vs v.pairs t p e)
 
-  values_now : (q : ℕ) → value_at q (records_by change v.records) ≡ top_value q (standing (log_by tx change v.log))
-  values_now q = value_by change q ∙ ap (top_value q) (sym (standing_by change))
+  values_now : (q : ℕ) → value_at q (records_by change v.records) ≡ top_value g.floor q (standing (log_by tx change v.log))
+  values_now q = value_by change q ∙ ap (top_value g.floor q) (sym (standing_by change))
 
   -- ---- it is not lost: it did one thing more
   top_kept : (w : Written) → tx_in tx g.lost ≡ false → filter (of_kept (is_alive g.lost)) (on_top tx (0 + length v.log) w (standing v.log)) ≡ on_top tx (0 + length v.log) w (filter (of_kept (is_alive g.lost)) (standing v.log))
@@ -509,7 +516,7 @@ module _ (g : Past) (v : View) (tx : TxId) (birth : Birth) (nth : ℕ) (op : Op)
     fates = record { uncommitted = λ u a. none_by change u (⊎_elim (λ s. ap (committed_in v.log) s ∙ open_) (λ b. k.uncommitted u b) (active_back u a)); dead = dead_now; doomed = doomed_now; prepared = prepared_by change };
     ends = record { left = all_push _ g.done (Did item) (all_mono _ _ (λ d l. still_left (doer d) l) g.done k.left) (inl (ap is_present stage_own)); over = over_now; recover = recovers g.lost (λ t l. l) };
     pairs = record { downwards = downwards_now; causes = met_push _ g.done (Did item) causes_now (all_mono _ _ (λ y h. cause_new y h.0 h.1) (held g.done) (all_both _ _ (held g.done) (all_held Tells g.done tells) wrote_here_all)) };
-    durable = record { base_done = all_mono _ _ (λ w c. durable_by change w.tx c) g.base k.base_done; front = k.front };
+    durable = record { base_done = all_mono _ _ (λ w c. durable_by change w.tx c) g.base k.base_done; front = k.front; floor_done = floor_by change };
   }
     where
       below_is : (a b : ℕ) → a < b → a ≤ b
@@ -571,7 +578,7 @@ module _ (g : Past) (v : View) (tx : TxId) (birth : Birth) (nth : ℕ) (op : Op)
     fates = record { uncommitted = λ u a. none_by change u (⊎_elim (λ s. ap (committed_in v.log) s ∙ open_) (λ b. k.uncommitted u b) (active_back u a)); dead = dead_now; doomed = doomed_now; prepared = prepared_lost change };
     ends = record { left = all_mono _ _ (λ d h. still_left (doer d) h) stay (of_stay _ k.left); over = over_now; recover = recovers (tx ∷ g.lost) (λ t l. or_right (tx_same tx t) _ l) };
     pairs = record { downwards = downwards_now; causes = met_stay _ causes_now };
-    durable = record { base_done = all_mono _ _ (λ w c. durable_by change w.tx c) g.base k.base_done; front = k.front };
+    durable = record { base_done = all_mono _ _ (λ w c. durable_by change w.tx c) g.base k.base_done; front = k.front; floor_done = floor_by change };
   }
 
 -- the state after a granted operation

@@ -12,7 +12,7 @@ use Rattle.clv_base.specs.declared.state.Stage.{Stage}
 use Rattle.clv_base.specs.declared.state.Stage.TheVariants.{Closed}
 use Rattle.clv_base.specs.declared.state.Held.{Held}
 use Rattle.clv_base.specs.Orders.{Table, tx_same, tx_in}
-use Rattle.clv_base.specs.Logs.{StandingUpdate, changed, standing, committed_in, has_standing, aborted_in}
+use Rattle.clv_base.specs.Logs.{StandingUpdate, changed, standing, committed_in, has_standing, aborted_in, base_of}
 use Rattle.clv_base.specs.Locks.{Locks, release}
 use Rattle.clv_base.specs.Undo.{gone_in, pairs_without, records_without, aborts_of, clrs_of, is_of}
 use Rattle.clv_base.specs.State.{is_present}
@@ -31,7 +31,7 @@ use Rattle.law_base.proofs.Tables.{stage_in, is_pair, without_pairs, pairs_stay}
 use Rattle.law_base.proofs.Commits.{commit_durable, before_keeps, before_first, durable_keeps, durable_committed, before_durable, uncommitted_append, committed_from}
 use Rattle.shard_laws.proofs.Keeping.ChangesKeepPrepared.{prepared_more, prepared_parts, prepared_kept}
 use Rattle.shard_laws.proofs.Operations.WritesAtEachKey.{keys_by, keys_filter}
-use Rattle.shard_laws.proofs.Keeping.WhatOneShardKeeps.{View, Past, Belongs, Dep, Known, Kept, Ended, Wrote, Left, of_kept, is_alive, Covers}
+use Rattle.shard_laws.proofs.Keeping.WhatOneShardKeeps.{View, Past, Belongs, Dep, Known, Kept, Ended, Wrote, Left, of_kept, is_alive, Covers, begins}
 use Rattle.shard_laws.proofs.Operations.NeedsCoverKeys.{met_part, wrote_part}
 use Rattle.shard_laws.proofs.Keeping.WhatOneShardKeeps.{is_adding, part_for}
 use Rattle.law_base.proofs.Undoing.{reset}
@@ -42,6 +42,9 @@ use Rattle.shard_laws.proofs.Keeping.DeedsThatHold.{AllMet, Rise, held_chosen, b
 use Rattle.law_base.proofs.Standing.{all_stand}
 use Rattle.clv_base.proofs.Folding.{or_left as or_false_left, or_right as or_false_right}
 use Rattle.shard_laws.proofs.Keeping.RecordsOfAnUndo.{no_commits, no_writes, no_prepares, aborted_here, tidy_harmless, harmless_aborts, harmless_clrs}
+use Rattle.clv_base.specs.Maps.{KeyMap}
+use Rattle.law_base.proofs.Bases.{take_base}
+use Rattle.law_base.proofs.Logs.{IsUndo, aborts_undo, clrs_undo, undo_base}
 
 -- ---- parts that are gone
 
@@ -158,19 +161,19 @@ pub record MayGo (v : View) (set : List TxId) : Type 0 where
   pub present : (t : TxId) → tx_in t set ≡ true → is_present (stage_in v.parts t) ≡ true
 
 -- where all writes of a key are of those that pass, its fold is theirs
-pub top_alive : (f : TxId → Bool) (q : ℕ) (ws : List StandingUpdate) → AllByRecursion (λ w. w.key ≡ q → f w.tx ≡ true) ws → top_value q (filter (of_kept f) ws) ≡ top_value q ws
-top_alive f q [] a = refl
-top_alive f q (w ∷ ws) a = at (q == w.key) (f w.tx) refl refl (top_alive f q ws a.1)
+pub top_alive : (floor : KeyMap) (f : TxId → Bool) (q : ℕ) (ws : List StandingUpdate) → AllByRecursion (λ w. w.key ≡ q → f w.tx ≡ true) ws → top_value floor q (filter (of_kept f) ws) ≡ top_value floor q ws
+top_alive floor f q [] a = refl
+top_alive floor f q (w ∷ ws) a = at (q == w.key) (f w.tx) refl refl (top_alive floor f q ws a.1)
   where
-    at : (b c : Bool) → (q == w.key) ≡ b → f w.tx ≡ c → top_value q (filter (of_kept f) ws) ≡ top_value q ws → top_value q (cond c (w ∷ filter (of_kept f) ws) (filter (of_kept f) ws)) ≡ top_value q (w ∷ ws)
+    at : (b c : Bool) → (q == w.key) ≡ b → f w.tx ≡ c → top_value floor q (filter (of_kept f) ws) ≡ top_value floor q ws → top_value floor q (cond c (w ∷ filter (of_kept f) ws) (filter (of_kept f) ws)) ≡ top_value floor q (w ∷ ws)
     at true true e h ih =
-        cond-true (q == w.key) (changed w.change (top_value q (filter (of_kept f) ws))) (top_value q (filter (of_kept f) ws)) e ∙ ap (changed w.change) ih
-        ∙ sym (cond-true (q == w.key) (changed w.change (top_value q ws)) (top_value q ws) e)
+        cond-true (q == w.key) (changed w.change (top_value floor q (filter (of_kept f) ws))) (top_value floor q (filter (of_kept f) ws)) e ∙ ap (changed w.change) ih
+        ∙ sym (cond-true (q == w.key) (changed w.change (top_value floor q ws)) (top_value floor q ws) e)
     at true false e h ih = absurd (both_ways _ h (a.0 (sym (eqb-true q w.key e))))
     at false true e h ih =
-        cond-false (q == w.key) (changed w.change (top_value q (filter (of_kept f) ws))) (top_value q (filter (of_kept f) ws)) e ∙ ih
-        ∙ sym (cond-false (q == w.key) (changed w.change (top_value q ws)) (top_value q ws) e)
-    at false false e h ih = ih ∙ sym (cond-false (q == w.key) (changed w.change (top_value q ws)) (top_value q ws) e)
+        cond-false (q == w.key) (changed w.change (top_value floor q (filter (of_kept f) ws))) (top_value floor q (filter (of_kept f) ws)) e ∙ ih
+        ∙ sym (cond-false (q == w.key) (changed w.change (top_value floor q ws)) (top_value floor q ws) e)
+    at false false e h ih = ih ∙ sym (cond-false (q == w.key) (changed w.change (top_value floor q ws)) (top_value floor q ws) e)
 
 -- the writes of those that pass, without a set's
 pub filter_less : (set lost : List TxId) (ws : List StandingUpdate) → filter (of_kept (is_alive (set ++ lost))) ws ≡ filter (stays_of set) (filter (of_kept (is_alive lost)) ws)
@@ -267,7 +270,7 @@ still_left gone t (w ∷ ws) all e = at (tx_same t w.tx) (gone w) refl refl (or_
     at false true s o h more = ⊎_elim (λ i. absurd (both_ways _ s i)) (λ i. more i) h
     at false false s o h more = ⊎_elim (λ i. absurd (both_ways _ s i)) (λ i. or_right (tx_same t w.tx) _ (more i)) h
 
-module _ (g : Past) (v : View) (set : List TxId) (d : TxId) (k : Kept g v) (may : MayGo v set) (chain_here : Chain (standing v.log)) (upward_here : Upward (is_of set) (standing v.log)) where
+module _ (g : Past) (v : View) (set : List TxId) (d : TxId) (k : Kept g v) (may : MayGo v set) (chain_here : Chain (base_of v.log) (standing v.log)) (upward_here : Upward (is_of set) (standing v.log)) where
   Taken : List LogRecord → View
   Taken log = record {
     records = records_without (is_of set) (standing v.log) v.records;
@@ -301,6 +304,14 @@ module _ (g : Past) (v : View) (set : List TxId) (d : TxId) (k : Kept g v) (may 
 
   have_here : HaveRecords v.records (is_of set) (standing v.log)
   have_here = all_mono _ _ (λ w h i. (h (false_from_ne_true _ (λ c. both_ways _ (may.undecided w.tx i) (durable_committed v.log v.durable w.tx c)))).1) (standing v.log) k.wrote
+
+  chain_floor : Chain g.floor (standing v.log)
+  chain_floor = subst (λ base. Chain base (standing v.log)) (begins g v k) chain_here
+
+  brings : base_of (aborts_of v.log set ++ clrs_of set (standing v.log)) ≡ []
+  brings =
+      undo_base (aborts_of v.log set ++ clrs_of set (standing v.log))
+      (all_append IsUndo (aborts_of v.log set) (clrs_of set (standing v.log)) (aborts_undo (filter (has_standing v.log) set)) (clrs_undo set (standing v.log)))
 
   more : List LogRecord
   more = aborts_of v.log set ++ clrs_of set (standing v.log)
@@ -353,7 +364,7 @@ module _ (g : Past) (v : View) (set : List TxId) (d : TxId) (k : Kept g v) (may 
           (tidy_harmless v.log v.log _ (λ t e. e)
           (all_append _ (aborts_of v.log set) (clrs_of set (standing v.log)) (harmless_aborts v.log (filter (has_standing v.log) set)) (harmless_clrs v.log (is_of set) (standing v.log) (all_of _ (λ w i. may.undecided w.tx i) (standing v.log)))));
     };
-    records = record { rises = rising_undone (is_of set) (standing v.log) v.records k.rises; values = λ q. values_undone (is_of set) (standing v.log) v.records q chain_here upward_here have_here (k.values q) ∙ ap (top_value q) (sym standing_more) };
+    records = record { rises = rising_undone (is_of set) (standing v.log) v.records k.rises; values = λ q. values_undone g.floor (is_of set) (standing v.log) v.records q chain_floor upward_here have_here (k.values q) ∙ ap (top_value g.floor q) (sym standing_more) };
     locks = record {
       rows = rows_go set (Some d) v.parts v.locks k.rows;
       covered = all_mono _ _ (λ y h active.
@@ -406,7 +417,11 @@ module _ (g : Past) (v : View) (set : List TxId) (d : TxId) (k : Kept g v) (may 
           (λ m. ⊎_elim (λ pair. inr (inl (pairs_stay set v.pairs y.tx x.tx h.1 pair))) (λ b. inr (inr (before_keeps v.log _ x.tx y.tx b))) m) dep)) (h.0 r))
           stay (met_stay _ k.causes);
     };
-    durable = record { base_done = all_mono _ _ (λ w c. still_durable w.tx c) g.base k.base_done; front = k.front };
+    durable = record {
+      base_done = all_mono _ _ (λ w c. still_durable w.tx c) g.base k.base_done;
+      front = k.front;
+      floor_done = λ c l. take_base c v.log (aborts_of v.log set ++ clrs_of set (standing v.log)) brings ∙ k.floor_done c l;
+    };
   }
 
   pub keeps_taken : Kept (record g { done = deeds_by_chosen (is_alive set) g.done; lost = set ++ g.lost }) (record {

@@ -12,7 +12,7 @@ use Rattle.clv_base.specs.declared.modes.Anchor.TheVariants.{Low, At}
 use Rattle.clv_base.specs.declared.state.Stage.{Stage}
 use Rattle.clv_base.specs.declared.state.Stage.TheVariants.{Active, Closed, Gone}
 use Rattle.clv_base.specs.Orders.{tx_same, tx_in}
-use Rattle.clv_base.specs.Logs.{standing, committed_in, wrote_in, prepared_in, is_update_of, is_commit_of, is_prepare_of, has_standing, aborted_in, is_abort_of}
+use Rattle.clv_base.specs.Logs.{standing, committed_in, wrote_in, prepared_in, is_update_of, is_commit_of, is_prepare_of, has_standing, aborted_in, is_abort_of, base_by, base_of}
 use Rattle.clv_base.specs.Locks.{Locks, is_free}
 use Rattle.clv_base.specs.State.{is_present}
 use Rattle.clv_base.specs.Needs.{Records, value_at, lower_anchor, is_locked_or_live, without_ghosts}
@@ -36,6 +36,7 @@ use Rattle.std.proofs.lemmas.Option.{none-some, same_Some}
 use Rattle.clv_base.specs.declared.values.Value.{Value as ValueType}
 use Rattle.shard_laws.specs.OneShard.{doer, items_in}
 use Rattle.shard_laws.proofs.Keeping.DeedsThatHold.{met_mono, met_both}
+use Rattle.law_base.proofs.Bases.{take_base}
 
 -- ---- a record more
 
@@ -73,13 +74,14 @@ pub record More (v : View) (more : List LogRecord) : Type 0 where
   pub no_abort : (t : TxId) → aborted_in more t ≡ false
   pub down : (t p : TxId) → is_pair v.pairs t p ≡ true → committed_in more t ≡ true → CommitBefore (v.log ++ more) p t
   pub tidies : Tidy v.log more
+  pub brings : base_of more ≡ []
 
 pub keeps_records : (g : Past) (v : View) (more : List LogRecord) → Kept g v → More v more → Prepared g.done g.met v.parts (v.log ++ more) → Kept g (record v { log = v.log ++ more })
 keeps_records g v more k m prep = record {
   start = k.start;
   past = k.past;
   log = record { standing_is = keys_by (ap (filter (of_kept (is_alive g.lost))) m.same_standing) k.standing_is refl; tidy = tidy_append [] v.log more k.tidy m.tidies };
-  records = record { rises = k.rises; values = λ q. k.values q ∙ ap (top_value q) (sym m.same_standing) };
+  records = record { rises = k.rises; values = λ q. k.values q ∙ ap (top_value g.floor q) (sym m.same_standing) };
   locks = record { rows = k.rows; covered = k.covered; wrote = subst (AllByRecursion (Wrote (record v { log = v.log ++ more }))) (sym m.same_standing) (all_mono _ _ (λ x h out. h (undurable v.log more v.durable v.durable x.tx (omega arith) out)) (standing v.log) k.wrote) };
   parts = k.parts;
   fates = record {
@@ -98,7 +100,7 @@ keeps_records g v more k m prep = record {
     downwards = λ t p h c. ⊎_elim (λ i. before_keeps v.log more p t (k.downwards t p h i)) (λ i. m.down t p h i) (or_cases (committed_in v.log t) (committed_in more t) (sym (committed_append v.log more t) ∙ c));
     causes = met_mono _ _ (λ x y h r. ⊎_elim (λ s. inl s) (λ d. inr (dep_more v more y.tx x.tx d)) (h r)) g.done k.causes;
   };
-  durable = record { base_done = all_mono _ _ (λ w h. durable_keeps v.log more v.durable v.durable w.tx (omega arith) h) g.base k.base_done; front = k.front };
+  durable = record { base_done = all_mono _ _ (λ w h. durable_keeps v.log more v.durable v.durable w.tx (omega arith) h) g.base k.base_done; front = k.front; floor_done = λ c l. take_base c v.log more m.brings ∙ k.floor_done c l };
 }
 
 -- a record that is no UPDATE, CLR, COMMIT, PREPARE or ABORT
@@ -108,6 +110,7 @@ pub record Quiet (r : LogRecord) : Type 0 where
   pub no_abort : (t : TxId) → is_abort_of t r ≡ false
   pub no_move : moves r ≡ None
   pub no_prepare : (t : TxId) → is_prepare_of t r ≡ false
+  pub brings : base_by r ≡ []
 
 open_none : (before : List LogRecord) (o : Option TxId) → o ≡ None → Open_at before o
 open_none before o e = subst (Open_at before) (sym e) tt
@@ -122,10 +125,11 @@ keeps_quiet g v r k e q = keeps_records g v (r ∷ []) k (record {
   no_abort = λ t. or_from _ false (q.no_abort t) refl;
   down = λ t p h c. absurd (both_ways _ (or_from _ false (q.no_commit t) refl) c);
   tidies = (open_none v.log (moves r) q.no_move, tt);
+  brings = q.brings;
 }) (prepared_more g.done g.met v.parts v.log (r ∷ []) k.prepared (λ t. or_from _ false (q.no_update t) refl) (λ t. or_from _ false (q.no_prepare t) refl))
 
 pub quiet_end : (tx : TxId) → Quiet (End tx)
-quiet_end tx = record { no_commit = λ t. refl; no_update = λ t. refl; no_abort = λ t. refl; no_move = refl; no_prepare = λ t. refl }
+quiet_end tx = record { no_commit = λ t. refl; no_update = λ t. refl; no_abort = λ t. refl; no_move = refl; no_prepare = λ t. refl; brings = refl }
 
 stage_apart : (v : View) (t u : TxId) (a b : Stage) → stage_in v.parts t ≡ Some a → stage_in v.parts u ≡ Some b → (Some a ≡ Some b → ⊥) → tx_same u t ≡ false
 stage_apart v t u a b e f ne = tx_ne u t (λ s. ne (sym e ∙ ap (stage_in v.parts) (sym s) ∙ f))
@@ -146,6 +150,7 @@ keeps_commit g v t parts k closed new before = keeps_records g v (Commit t parts
       (λ i. absurd (both_ways false refl i))
       (or_cases (tx_same u t) false c);
   tidies = (tt, tt);
+  brings = refl;
 }) (prepared_more g.done g.met v.parts v.log (Commit t parts ∷ []) k.prepared (λ u. refl) (λ u. refl))
 
 -- a PREPARE of a closed part, whose predecessors it lists or are committed
@@ -178,6 +183,7 @@ module _ (g : Past) (v : View) (t : TxId) (home : ℕ) (ps : List TxId) (k : Kep
     no_abort = λ u. refl;
     down = λ u p h c. absurd (both_ways false refl c);
     tidies = (tt, tt);
+    brings = refl;
   }
 
   prepared_prepare : Prepared g.done g.met v.parts (v.log ++ Prepare t home ps ∷ [])
@@ -214,12 +220,12 @@ keeps_front g v n k le = record {
     recover = λ t p e. ⊎_elim (λ o. inl o) (λ d. inr (dep_front v n t p le d.0, d.1)) (k.recover t p e);
   };
   pairs = record { downwards = k.downwards; causes = met_mono _ _ (λ x y h r. ⊎_elim (λ s. inl s) (λ d. inr (dep_front v n y.tx x.tx le d)) (h r)) g.done k.causes };
-  durable = record { base_done = all_mono _ _ (λ w h. further v.log v.durable n w.tx le h) g.base k.base_done; front = λ m e. absurd (none-some m e) };
+  durable = record { base_done = all_mono _ _ (λ w h. further v.log v.durable n w.tx le h) g.base k.base_done; front = λ m e. absurd (none-some m e); floor_done = λ c l. k.floor_done c (omega (arith, le, l)) };
 }
 
 pub keeps_flight : (g : Past) (v : View) (n : ℕ) → Kept g v → v.durable ≤ n → Kept g (record v { flight = Some n })
 keeps_flight g v n k le =
-    let front : KeptFront g.base v.log v.durable (Some n) = record { base_done = k.base_done; front = λ m e. subst (λ x. v.durable ≤ x) (same_Some n m e) le } in
+    let front : KeptFront g.floor g.base v.log v.durable (Some n) = record { base_done = k.base_done; front = λ m e. subst (λ x. v.durable ≤ x) (same_Some n m e) le; floor_done = k.floor_done } in
     record { start = k.start; past = k.past; log = k.log; records = k.records; locks = k.locks; parts = k.parts; fates = k.fates; ends = k.ends; pairs = k.pairs; durable = front }
 
 -- ---- a purge

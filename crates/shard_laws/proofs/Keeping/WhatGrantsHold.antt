@@ -371,18 +371,18 @@ pub number_changed : (c : Change) (a b : Option ValueType) → is_number a ≡ i
 number_changed (Sets before after) a b e = refl
 number_changed (Adds n) a b e = plus_is_number n a ∙ e ∙ sym (plus_is_number n b)
 
-pub number_alive : (f : TxId → Bool) (q : ℕ) (ws : List StandingUpdate) → AllByRecursion (λ w. w.key ≡ q → is_setting w.change ≡ true → f w.tx ≡ true) ws
-    → is_number (top_value q (filter (of_kept f) ws)) ≡ is_number (top_value q ws)
-number_alive f q [] a = refl
-number_alive f q (w ∷ ws) a = at (q == w.key) (f w.tx) refl refl (number_alive f q ws a.1)
+pub number_alive : (floor : KeyMap) (f : TxId → Bool) (q : ℕ) (ws : List StandingUpdate) → AllByRecursion (λ w. w.key ≡ q → is_setting w.change ≡ true → f w.tx ≡ true) ws
+    → is_number (top_value floor q (filter (of_kept f) ws)) ≡ is_number (top_value floor q ws)
+number_alive floor f q [] a = refl
+number_alive floor f q (w ∷ ws) a = at (q == w.key) (f w.tx) refl refl (number_alive floor f q ws a.1)
   where
-    added : (c : Change) → (is_setting c ≡ true → ⊥) → is_number (top_value q ws) ≡ is_number (changed c (top_value q ws))
+    added : (c : Change) → (is_setting c ≡ true → ⊥) → is_number (top_value floor q ws) ≡ is_number (changed c (top_value floor q ws))
     added (Sets before after) none = absurd (none refl)
-    added (Adds n) none = sym (plus_is_number n (top_value q ws))
+    added (Adds n) none = sym (plus_is_number n (top_value floor q ws))
 
-    at : (b c : Bool) → (q == w.key) ≡ b → f w.tx ≡ c → is_number (top_value q (filter (of_kept f) ws)) ≡ is_number (top_value q ws)
-        → is_number (top_value q (cond c (w ∷ filter (of_kept f) ws) (filter (of_kept f) ws))) ≡ is_number (cond b (changed w.change (top_value q ws)) (top_value q ws))
-    at true true e h ih = ap is_number (cond-true (q == w.key) _ _ e) ∙ number_changed w.change (top_value q (filter (of_kept f) ws)) (top_value q ws) ih
+    at : (b c : Bool) → (q == w.key) ≡ b → f w.tx ≡ c → is_number (top_value floor q (filter (of_kept f) ws)) ≡ is_number (top_value floor q ws)
+        → is_number (top_value floor q (cond c (w ∷ filter (of_kept f) ws) (filter (of_kept f) ws))) ≡ is_number (cond b (changed w.change (top_value floor q ws)) (top_value floor q ws))
+    at true true e h ih = ap is_number (cond-true (q == w.key) _ _ e) ∙ number_changed w.change (top_value floor q (filter (of_kept f) ws)) (top_value floor q ws) ih
     at true false e h ih = ih ∙ added w.change (λ s. both_ways _ h (a.0 (sym (eqb-true q w.key e)) s))
     at false true e h ih = ap is_number (cond-false (q == w.key) _ _ e) ∙ ih
     at false false e h ih = ih

@@ -1,6 +1,8 @@
 -- What one shard keeps.
-use Rattle.std.proofs.Common.{◌≡◌, ◌≤◌, ◌<◌, ◌⊎◌, Bool, true, false, not, List, [], Option, Some, None, ℕ}
+use Rattle.std.proofs.Common.{◌≡◌, ◌≤◌, ◌<◌, ◌⊎◌, Bool, true, false, not, List, [], length, Option, Some, None, ℕ, ◌+◌, sym, ap, ◌∙◌, arith}
+use Rattle.std.specs.Prelude.{take}
 use Rattle.std.specs.List.{AllByRecursion, filter}
+use Rattle.std.proofs.lemmas.List.{take_all}
 use Rattle.clv_base.specs.declared.names.TxId.{TxId}
 use Rattle.clv_base.specs.declared.names.Birth.{Birth}
 use Rattle.clv_base.specs.declared.logs.LogRecord.{LogRecord}
@@ -13,7 +15,7 @@ use Rattle.clv_base.specs.declared.state.Stage.TheVariants.{Active, Closed, Gone
 use Rattle.clv_base.specs.declared.state.Held.{Held}
 use Rattle.clv_base.specs.Orders.{Table, tx_in, tx_get}
 use Rattle.clv_base.specs.Maps.{KeyMap, map_get}
-use Rattle.clv_base.specs.Logs.{StandingUpdate, is_setting, standing, committed_in, aborted_in, has_standing}
+use Rattle.clv_base.specs.Logs.{StandingUpdate, base_of, is_setting, standing, committed_in, aborted_in, has_standing}
 use Rattle.clv_base.specs.Locks.{Locks}
 use Rattle.clv_base.specs.State.{Shard}
 use Rattle.clv_base.specs.State.{is_present}
@@ -49,6 +51,8 @@ view_of s = record { records = s.local.records; locks = s.local.locks; parts = s
 
 -- what was there at opening, what was done by those that are not lost, and who made a request, in that order
 pub record Past : Type 0 where
+  -- what the log begins with
+  pub floor : KeyMap
   pub start : KeyMap
   pub base : List StandingUpdate
   pub done : List Deed
@@ -143,10 +147,10 @@ abbrev pub is_alive : List TxId → TxId → Bool
 is_alive lost t = not (tx_in t lost)
 
 -- what was there at opening: the map, and the writes that it came from
-pub record KeptStart (start : KeyMap) (base : List StandingUpdate) : Type 0 where
+pub record KeptStart (floor start : KeyMap) (base : List StandingUpdate) : Type 0 where
   pub start_rises : IsRising start
-  pub base_value : (k : ℕ) → map_get k start ≡ top_value k base
-  pub base_chain : Chain base
+  pub base_value : (k : ℕ) → map_get k start ≡ top_value floor k base
+  pub base_chain : Chain floor base
 
 -- what was done since gives its answers, none of it by one that is lost; where two clash the earlier asked first; and nobody clashed with what a
 -- going back took away
@@ -163,9 +167,9 @@ pub record KeptLog (base : List StandingUpdate) (done : List Deed) (lost : List 
   pub tidy : Tidy [] log
 
 -- the records have the newest values that stand in the log
-pub record KeptRecords (records : Records) (log : List LogRecord) : Type 0 where
+pub record KeptRecords (floor : KeyMap) (records : Records) (log : List LogRecord) : Type 0 where
   pub rises : Rising records
-  pub values : (k : ℕ) → value_at k records ≡ top_value k (standing log)
+  pub values : (k : ℕ) → value_at k records ≡ top_value floor k (standing log)
 
 -- each lock is of a part that is here; who is active holds what all its operations need, also those it went back over, and who wrote what that needs
 pub record KeptLocks (done : List Deed) (records : Records) (locks : Locks) (parts : Table Held) (log : List LogRecord) (durable : ℕ) : Type 0 where
@@ -206,20 +210,21 @@ pub record KeptPairs (done : List Deed) (pairs : List (TxId × TxId)) (log : Lis
   pub downwards : (t p : TxId) → is_pair pairs t p ≡ true → committed_in log t ≡ true → CommitBefore log p t
   pub causes : AllMet (Cause pairs log durable) done
 
--- what was there at opening is durable, and what is in flight lies beyond the front
-pub record KeptFront (base : List StandingUpdate) (log : List LogRecord) (durable : ℕ) (flight : Option ℕ) : Type 0 where
+-- what was there at opening is durable, and what is in flight lies beyond the front; the log from the front on begins with its map
+pub record KeptFront (floor : KeyMap) (base : List StandingUpdate) (log : List LogRecord) (durable : ℕ) (flight : Option ℕ) : Type 0 where
   pub base_done : AllByRecursion (λ w. commit_durable log durable w.tx ≡ true) base
   pub front : (n : ℕ) → flight ≡ Some n → durable ≤ n
+  pub floor_done : (n : ℕ) → durable ≤ n → base_of (take n log) ≡ floor
 
 -- each group reads only what its type names, so a step that leaves this alone hands the group on
 pub record Kept (g : Past) (v : View) : Type 0 where
-  pub start : KeptStart g.start g.base
+  pub start : KeptStart g.floor g.start g.base
   pub open start use *
   pub past : KeptPast g.start g.done g.asked g.lost
   pub open past use *
   pub log : KeptLog g.base g.done g.lost v.log
   pub open log use *
-  pub records : KeptRecords v.records v.log
+  pub records : KeptRecords g.floor v.records v.log
   pub open records use *
   pub locks : KeptLocks g.done v.records v.locks v.parts v.log v.durable
   pub open locks use *
@@ -231,5 +236,9 @@ pub record Kept (g : Past) (v : View) : Type 0 where
   pub open ends use *
   pub pairs : KeptPairs g.done v.pairs v.log v.durable
   pub open pairs use *
-  pub durable : KeptFront g.base v.log v.durable v.flight
+  pub durable : KeptFront g.floor g.base v.log v.durable v.flight
   pub open durable use *
+
+-- so does the whole log
+pub begins : (g : Past) (v : View) → Kept g v → base_of v.log ≡ g.floor
+begins g v k = ap base_of (sym (take_all (v.durable + length v.log) v.log (omega arith))) ∙ k.floor_done (v.durable + length v.log) (omega arith)

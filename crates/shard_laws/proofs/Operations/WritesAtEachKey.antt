@@ -12,6 +12,7 @@ use Rattle.clv_base.proofs.SameNames.{tx_true}
 use Rattle.clv_base.proofs.Sums.{plus_plus}
 use Rattle.law_base.specs.Items.{on_top}
 use Rattle.law_base.proofs.Running.{top_value}
+use Rattle.clv_base.specs.Maps.{KeyMap}
 
 -- two writes that may change places: of different transactions, and of different keys or both ADDs
 abbrev pub MaySwap : StandingUpdate → StandingUpdate → Type 0
@@ -54,19 +55,19 @@ changes_swap (Adds n) (Adds l) o e = plus_plus n l o
 changes_swap (Sets b a) d o e = absurd (both_ways true e refl)
 changes_swap (Adds n) (Sets b a) o e = absurd (both_ways true e refl)
 
-pub keys_top : (ws vs : List StandingUpdate) (q : ℕ) → SameAtKeys ws vs → top_value q ws ≡ top_value q vs
-keys_top _ _ q (unmoved {ws}) = refl
-keys_top _ _ q (behind {ws} {vs} w s) = ap (λ o. cond (q == w.key) (changed w.change o) o) (keys_top ws vs q s)
-keys_top _ _ q (swapped {ws} w v may) = at (q == w.key) (q == v.key) refl refl
+pub keys_top : (floor : KeyMap) (ws vs : List StandingUpdate) (q : ℕ) → SameAtKeys ws vs → top_value floor q ws ≡ top_value floor q vs
+keys_top floor _ _ q (unmoved {ws}) = refl
+keys_top floor _ _ q (behind {ws} {vs} w s) = ap (λ o. cond (q == w.key) (changed w.change o) o) (keys_top floor ws vs q s)
+keys_top floor _ _ q (swapped {ws} w v may) = at (q == w.key) (q == v.key) refl refl
   where
     at : (b c : Bool) → (q == w.key) ≡ b → (q == v.key) ≡ c
-        → cond b (changed w.change (cond c (changed v.change (top_value q ws)) (top_value q ws))) (cond c (changed v.change (top_value q ws)) (top_value q ws))
-        ≡ cond c (changed v.change (cond b (changed w.change (top_value q ws)) (top_value q ws))) (cond b (changed w.change (top_value q ws)) (top_value q ws))
-    at true true e f = changes_swap w.change v.change (top_value q ws) (may.1 (sym (eqb-true q w.key e) ∙ eqb-true q v.key f))
+        → cond b (changed w.change (cond c (changed v.change (top_value floor q ws)) (top_value floor q ws))) (cond c (changed v.change (top_value floor q ws)) (top_value floor q ws))
+        ≡ cond c (changed v.change (cond b (changed w.change (top_value floor q ws)) (top_value floor q ws))) (cond b (changed w.change (top_value floor q ws)) (top_value floor q ws))
+    at true true e f = changes_swap w.change v.change (top_value floor q ws) (may.1 (sym (eqb-true q w.key e) ∙ eqb-true q v.key f))
     at true false e f = refl
     at false true e f = refl
     at false false e f = refl
-keys_top _ _ q (twice {us} {vs} {ws} s t) = keys_top us vs q s ∙ keys_top vs ws q t
+keys_top floor _ _ q (twice {us} {vs} {ws} s t) = keys_top floor us vs q s ∙ keys_top floor vs ws q t
 
 pub keys_on_top : (tx : TxId) (lsn : ℕ) (w : Option (ℕ × Change)) (ws vs : List StandingUpdate) → SameAtKeys ws vs → SameAtKeys (on_top tx lsn w ws) (on_top tx lsn w vs)
 keys_on_top tx lsn None ws vs s = s

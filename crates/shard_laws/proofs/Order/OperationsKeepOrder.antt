@@ -42,7 +42,7 @@ use Rattle.protocol_laws.proofs.LogsInOrder.OneRecordMore.{push_cases}
 use Rattle.protocol_laws.proofs.LogsInOrder.{Order}
 use Rattle.law_base.proofs.LockRows.{conflict, violates, violated_row, holds, asks}
 use Rattle.shard_laws.proofs.Operations.NeedsCoverKeys.{wrote_part, asks_by, asks_at, asks_written}
-use Rattle.shard_laws.proofs.Keeping.WhatOneShardKeeps.{adds_in, part_for, View, Past, Belongs, Kept}
+use Rattle.shard_laws.proofs.Keeping.WhatOneShardKeeps.{adds_in, part_for, View, Past, Belongs, Kept, begins}
 use Rattle.shard_laws.proofs.Keeping.ChangesKeepPrepared.{prepared_append}
 use Rattle.shard_laws.proofs.Keeping.GrantingKeeps.{Written, log_by, adds_same, wrote_holds, own_part, not_active, is_closed, closed_row}
 use Rattle.law_base.proofs.Stages.{other_part, closed_not_active}
@@ -50,6 +50,7 @@ use Rattle.shard_laws.proofs.Order.RecordByRecord.{follows_append, last_push, be
 use Rattle.shard_laws.proofs.Order.WhoseWritesStand.{has_still}
 use Rattle.shard_laws.proofs.Order.ChangesKeepOrder.{LiesOn, Under, Lying, Ordered, listed_same, under_more}
 use Rattle.law_base.proofs.Names.{MayStand}
+use Rattle.law_base.proofs.Running.{top_value}
 
 -- ---- an UPDATE or ADD of an active part
 
@@ -274,7 +275,7 @@ module _ (shard run : ℕ) (g : Past) (v : View) (tx : TxId) (birth : Birth) (op
       (ap (λ z. elim z [ Some p ↦ tx.run == p.0 | None ↦ false ]) (o.last).1 ∙ eq-eqb tx.run run run_is) (ap not unprepared)) (ap not open_)) (ap not unaborted)) (ap not unwritten)
 
   value_now : (key : ℕ) → key ≡ key_of op → value_at (key_of op) v.records ≡ value_in v.log key
-  value_now key is = ap (λ q. value_at q v.records) (sym is) ∙ k.values key
+  value_now key is = ap (λ q. value_at q v.records) (sym is) ∙ k.values key ∙ ap (λ base. top_value base key (standing v.log)) (sym (begins g v k))
 
   follows : (key : ℕ) (c : Change) → key ≡ key_of op → FitsChange c (value_at (key_of op) v.records) → change ≡ Some (key, c) → may_follow shard v.log (update_of tx key c) ≡ true
   follows key (Sets before after) is fits e =

@@ -160,17 +160,17 @@ or_turn true false e = refl
 or_turn false b e = ⊎_elim (λ h. absurd (both_ways false refl h)) (λ h. or_left b false h) (or_cases false b e)
 
 -- what lies over the same has the same value, or a number as well
-value_over : (k : ℕ) (cs as_ bs : List StandingUpdate) → top_value k as_ ≡ top_value k bs → top_value k (cs ++ as_) ≡ top_value k (cs ++ bs)
-value_over k [] as_ bs e = e
-value_over k (c ∷ cs) as_ bs e = ap (λ v. cond (k == c.key) (changed c.change v) v) (value_over k cs as_ bs e)
+value_over : (floor : KeyMap) (k : ℕ) (cs as_ bs : List StandingUpdate) → top_value floor k as_ ≡ top_value floor k bs → top_value floor k (cs ++ as_) ≡ top_value floor k (cs ++ bs)
+value_over floor k [] as_ bs e = e
+value_over floor k (c ∷ cs) as_ bs e = ap (λ v. cond (k == c.key) (changed c.change v) v) (value_over floor k cs as_ bs e)
 
-numbers_over : (k : ℕ) (cs as_ bs : List StandingUpdate) → is_number (top_value k as_) ≡ is_number (top_value k bs) → is_number (top_value k (cs ++ as_)) ≡ is_number (top_value k (cs ++ bs))
-numbers_over k [] as_ bs e = e
-numbers_over k (c ∷ cs) as_ bs e = at (k == c.key) (numbers_over k cs as_ bs e)
+numbers_over : (floor : KeyMap) (k : ℕ) (cs as_ bs : List StandingUpdate) → is_number (top_value floor k as_) ≡ is_number (top_value floor k bs) → is_number (top_value floor k (cs ++ as_)) ≡ is_number (top_value floor k (cs ++ bs))
+numbers_over floor k [] as_ bs e = e
+numbers_over floor k (c ∷ cs) as_ bs e = at (k == c.key) (numbers_over floor k cs as_ bs e)
   where
-    at : (b : Bool) → is_number (top_value k (cs ++ as_)) ≡ is_number (top_value k (cs ++ bs))
-        → is_number (cond b (changed c.change (top_value k (cs ++ as_))) (top_value k (cs ++ as_))) ≡ is_number (cond b (changed c.change (top_value k (cs ++ bs))) (top_value k (cs ++ bs)))
-    at true ih = number_over c.change (top_value k (cs ++ as_)) (top_value k (cs ++ bs)) ih
+    at : (b : Bool) → is_number (top_value floor k (cs ++ as_)) ≡ is_number (top_value floor k (cs ++ bs))
+        → is_number (cond b (changed c.change (top_value floor k (cs ++ as_))) (top_value floor k (cs ++ as_))) ≡ is_number (cond b (changed c.change (top_value floor k (cs ++ bs))) (top_value floor k (cs ++ bs)))
+    at true ih = number_over c.change (top_value floor k (cs ++ as_)) (top_value floor k (cs ++ bs)) ih
     at false ih = ih
 
 module _ (done doubt : TxId → Bool) (apart : (t : TxId) → doubt t ≡ true → done t ≡ false) where
@@ -199,7 +199,7 @@ module _ (done doubt : TxId → Bool) (apart : (t : TxId) → doubt t ≡ true �
       at false false e d past ih = ih
 
   -- the writes of those in doubt run from a map of those that are done
-  module _ (start : KeyMap) (base : List StandingUpdate) (start_is : (q : ℕ) → map_get q start ≡ top_value q base) where
+  module _ (floor start : KeyMap) (base : List StandingUpdate) (start_is : (q : ℕ) → map_get q start ≡ top_value floor q base) where
     -- those in doubt only added at the key, or wrote nothing there
     abbrev DoubtAdds : List StandingUpdate → ℕ → Type 0
     DoubtAdds ws q = AllByRecursion (λ w. w.key ≡ q → doubt w.tx ≡ true → is_setting w.change ≡ false) ws
@@ -211,15 +211,15 @@ module _ (done doubt : TxId → Bool) (apart : (t : TxId) → doubt t ≡ true �
     -- none in doubt wrote the key
     abbrev Based : List StandingUpdate → ℕ → Type 0
     Based ws q =
-        (top_value q base ≡ top_value q (filter (of_kept done) ws))
-        ⊎ (((is_number (top_value q base) ≡ is_number (top_value q (filter (of_kept done) ws))) × DoubtAdds ws q) ⊎ NoDoubt ws q)
+        (top_value floor q base ≡ top_value floor q (filter (of_kept done) ws))
+        ⊎ (((is_number (top_value floor q base) ≡ is_number (top_value floor q (filter (of_kept done) ws))) × DoubtAdds ws q) ⊎ NoDoubt ws q)
 
-    based_same : (w : StandingUpdate) (ws : List StandingUpdate) (q : ℕ) → top_value q (filter (of_kept done) (w ∷ ws)) ≡ top_value q (filter (of_kept done) ws) → Based (w ∷ ws) q → Based ws q
+    based_same : (w : StandingUpdate) (ws : List StandingUpdate) (q : ℕ) → top_value floor q (filter (of_kept done) (w ∷ ws)) ≡ top_value floor q (filter (of_kept done) ws) → Based (w ∷ ws) q → Based ws q
     based_same w ws q e (inl s) = inl (s ∙ e)
     based_same w ws q e (inr (inl s)) = inr (inl (s.0 ∙ ap is_number e, s.1.1))
     based_same w ws q e (inr (inr n)) = inr (inr n.1)
 
-    based_add : (w : StandingUpdate) (ws : List StandingUpdate) (q : ℕ) → is_number (top_value q (filter (of_kept done) (w ∷ ws))) ≡ is_number (top_value q (filter (of_kept done) ws)) → DoubtAdds ws q → Based (w ∷ ws) q → Based ws q
+    based_add : (w : StandingUpdate) (ws : List StandingUpdate) (q : ℕ) → is_number (top_value floor q (filter (of_kept done) (w ∷ ws))) ≡ is_number (top_value floor q (filter (of_kept done) ws)) → DoubtAdds ws q → Based (w ∷ ws) q → Based ws q
     based_add w ws q e a (inl s) = inr (inl (ap is_number s ∙ e, a))
     based_add w ws q e a (inr (inl s)) = inr (inl (s.0 ∙ e, a))
     based_add w ws q e a (inr (inr n)) = inr (inr n.1)
@@ -231,31 +231,31 @@ module _ (done doubt : TxId → Bool) (apart : (t : TxId) → doubt t ≡ true �
         under e k = all_mono _ _ (λ v h f. h (f ∙ eqb-true q w.key k)) ws (l e)
 
         at : (c k s : Bool) → done w.tx ≡ c → (q == w.key) ≡ k → is_setting w.change ≡ s → Based ws q
-        at false k s e f a = based_same w ws q (ap (λ z. top_value q (cond z (w ∷ filter (of_kept done) ws) (filter (of_kept done) ws))) e) b
+        at false k s e f a = based_same w ws q (ap (λ z. top_value floor q (cond z (w ∷ filter (of_kept done) ws) (filter (of_kept done) ws))) e) b
         at true false s e f a =
             based_same w ws q
-            (ap (λ z. top_value q (cond z (w ∷ filter (of_kept done) ws) (filter (of_kept done) ws))) e
-            ∙ cond-false (q == w.key) (changed w.change (top_value q (filter (of_kept done) ws))) (top_value q (filter (of_kept done) ws)) f)
+            (ap (λ z. top_value floor q (cond z (w ∷ filter (of_kept done) ws) (filter (of_kept done) ws))) e
+            ∙ cond-false (q == w.key) (changed w.change (top_value floor q (filter (of_kept done) ws))) (top_value floor q (filter (of_kept done) ws)) f)
             b
         at true true true e f a = inr (inr (all_mono _ _ (λ v h k. not_doubt v.tx (h k (or_right (is_setting v.change) _ a))) ws (under e f)))
         at true true false e f a =
             based_add w ws q
-            (ap (λ z. is_number (top_value q (cond z (w ∷ filter (of_kept done) ws) (filter (of_kept done) ws)))) e
-            ∙ add_number w.change (q == w.key) (top_value q (filter (of_kept done) ws)) a)
+            (ap (λ z. is_number (top_value floor q (cond z (w ∷ filter (of_kept done) ws) (filter (of_kept done) ws)))) e
+            ∙ add_number w.change (q == w.key) (top_value floor q (filter (of_kept done) ws)) a)
             (all_mono _ _ (λ v h k d. false_from_ne_true _ (λ s. both_ways _ (apart v.tx d) (h k (or_left _ (is_setting w.change) s)))) ws (under e f)) b
 
     abbrev both : TxId → Bool
     both t = done t || doubt t
 
-    chain_rest : (b : Bool) (w : StandingUpdate) (ws : List StandingUpdate) → Chain (cond b (w ∷ ws) ws) → Chain ws
+    chain_rest : (b : Bool) (w : StandingUpdate) (ws : List StandingUpdate) → Chain floor (cond b (w ∷ ws) ws) → Chain floor ws
     chain_rest true w ws c = c.1
     chain_rest false w ws c = c
 
-    numbers_rest : (b : Bool) (w : StandingUpdate) (ws : List StandingUpdate) → FindNumbers (cond b (w ∷ ws) ws) → FindNumbers ws
+    numbers_rest : (b : Bool) (w : StandingUpdate) (ws : List StandingUpdate) → FindNumbers floor (cond b (w ∷ ws) ws) → FindNumbers floor ws
     numbers_rest true w ws c = c.1
     numbers_rest false w ws c = c
 
-    pub runs_found : (ws : List StandingUpdate) → AllByRecursion Tells ws → Chain (filter (of_kept (λ t. done t || doubt t)) ws) → FindNumbers (filter (of_kept (λ t. done t || doubt t)) ws) → LieOnThese done ws → ((q : ℕ) → Based ws q)
+    pub runs_found : (ws : List StandingUpdate) → AllByRecursion Tells ws → Chain floor (filter (of_kept (λ t. done t || doubt t)) ws) → FindNumbers floor (filter (of_kept (λ t. done t || doubt t)) ws) → LieOnThese done ws → ((q : ℕ) → Based ws q)
         → Runs start (items_found doubt ws)
     runs_found [] tells chain numbers lie based = tt
     runs_found (w ∷ ws) tells chain numbers lie based =
@@ -266,28 +266,28 @@ module _ (done doubt : TxId → Bool) (apart : (t : TxId) → doubt t ≡ true �
         there : doubt w.tx ≡ true → cond (both w.tx) (w ∷ filter (of_kept both) ws) (filter (of_kept both) ws) ≡ w ∷ filter (of_kept both) ws
         there d = cond-true (both w.tx) (w ∷ filter (of_kept both) ws) (filter (of_kept both) ws) (or_right (done w.tx) (doubt w.tx) d)
 
-        over : doubt w.tx ≡ true → IsOver w.change (top_value w.key (filter (of_kept both) ws))
-        over d = (subst Chain (there d) chain).0
+        over : doubt w.tx ≡ true → IsOver w.change (top_value floor w.key (filter (of_kept both) ws))
+        over d = (subst (Chain floor) (there d) chain).0
 
-        number : doubt w.tx ≡ true → OverNumber w.change (top_value w.key (filter (of_kept both) ws))
-        number d = (subst FindNumbers (there d) numbers).0
+        number : doubt w.tx ≡ true → OverNumber w.change (top_value floor w.key (filter (of_kept both) ws))
+        number d = (subst (FindNumbers floor) (there d) numbers).0
 
-        value_now : Runs start (items_found doubt ws) → map_get w.key (after start (items_found doubt ws)) ≡ top_value w.key (filter (of_kept doubt) ws ++ base)
-        value_now rest = pile_value (items_found doubt ws) start base w.key rest (start_is w.key) ∙ ap (top_value w.key) (pile_found doubt ws base tells.1)
+        value_now : Runs start (items_found doubt ws) → map_get w.key (after start (items_found doubt ws)) ≡ top_value floor w.key (filter (of_kept doubt) ws ++ base)
+        value_now rest = pile_value floor (items_found doubt ws) start base w.key rest (start_is w.key) ∙ ap (top_value floor w.key) (pile_found doubt ws base tells.1)
 
-        split : top_value w.key (filter (of_kept doubt) ws ++ filter (of_kept done) ws) ≡ top_value w.key (filter (of_kept both) ws)
-        split = sym (keys_top (filter (of_kept both) ws) (filter (of_kept doubt) ws ++ filter (of_kept done) ws) w.key (keys_split ws lie.1))
+        split : top_value floor w.key (filter (of_kept doubt) ws ++ filter (of_kept done) ws) ≡ top_value floor w.key (filter (of_kept both) ws)
+        split = sym (keys_top floor (filter (of_kept both) ws) (filter (of_kept doubt) ws ++ filter (of_kept done) ws) w.key (keys_split ws lie.1))
 
-        skipped : doubt w.tx ≡ true → top_value w.key (filter (of_kept done) (w ∷ ws)) ≡ top_value w.key (filter (of_kept done) ws)
-        skipped d = ap (λ z. top_value w.key (cond z (w ∷ filter (of_kept done) ws) (filter (of_kept done) ws))) (apart w.tx d)
+        skipped : doubt w.tx ≡ true → top_value floor w.key (filter (of_kept done) (w ∷ ws)) ≡ top_value floor w.key (filter (of_kept done) ws)
+        skipped d = ap (λ z. top_value floor w.key (cond z (w ∷ filter (of_kept done) ws) (filter (of_kept done) ws))) (apart w.tx d)
 
         finds : Runs start (items_found doubt ws) → doubt w.tx ≡ true → Based (w ∷ ws) w.key → Finds w.change (map_get w.key (after start (items_found doubt ws)))
         finds rest d (inl s) =
-            find_same w.change (map_get w.key (after start (items_found doubt ws))) (top_value w.key (filter (of_kept both) ws))
-            (value_now rest ∙ value_over w.key (filter (of_kept doubt) ws) base (filter (of_kept done) ws) (s ∙ skipped d) ∙ split) (over d) (number d)
+            find_same w.change (map_get w.key (after start (items_found doubt ws))) (top_value floor w.key (filter (of_kept both) ws))
+            (value_now rest ∙ value_over floor w.key (filter (of_kept doubt) ws) base (filter (of_kept done) ws) (s ∙ skipped d) ∙ split) (over d) (number d)
         finds rest d (inr (inl s)) =
-            find_number w.change (map_get w.key (after start (items_found doubt ws))) (top_value w.key (filter (of_kept both) ws)) (s.1.0 refl d)
-            (ap is_number (value_now rest) ∙ numbers_over w.key (filter (of_kept doubt) ws) base (filter (of_kept done) ws) (s.0 ∙ ap is_number (skipped d)) ∙ ap is_number split) (number d)
+            find_number w.change (map_get w.key (after start (items_found doubt ws))) (top_value floor w.key (filter (of_kept both) ws)) (s.1.0 refl d)
+            (ap is_number (value_now rest) ∙ numbers_over floor w.key (filter (of_kept doubt) ws) base (filter (of_kept done) ws) (s.0 ∙ ap is_number (skipped d)) ∙ ap is_number split) (number d)
         finds rest d (inr (inr n)) = absurd (both_ways _ (n.0 refl) d)
 
 -- ---- the order of PREPAREs

@@ -17,7 +17,7 @@ use Rattle.clv_base.specs.declared.state.Voter.{Voter}
 use Rattle.clv_base.specs.Orders.{tx_in}
 use Rattle.clv_base.specs.Maps.{map_get}
 use Rattle.clv_base.specs.Undo.{stage_of, clrs_of}
-use Rattle.clv_base.specs.Logs.{StandingUpdate, standing, committed_in, committed_somewhere, is_commit_of, is_prepare_of, is_abort_of, prepared_in, aborted_in, in_doubt, is_winner, fold_updates, stands, writers}
+use Rattle.clv_base.specs.Logs.{StandingUpdate, standing, committed_in, committed_somewhere, is_commit_of, is_prepare_of, is_abort_of, prepared_in, aborted_in, in_doubt, is_winner, fold_updates, stands, writers, base_of}
 use Rattle.clv_base.specs.LogRules.{listed_in}
 use Rattle.clv_base.specs.Restarts.{greatest_run, log_after_restart, records_of, with_ghosts, restored_locks, restored_parts, restored_pairs, unended_in, opened, losers}
 use Rattle.clv_base.specs.Coordinator.{restored_requests}
@@ -37,7 +37,7 @@ use Rattle.shard_laws.specs.OneShard.{MayServe, is_doomed, items_in, found_items
 use Rattle.shard_laws.proofs.Operations.WritesAtEachKey.{SameAtKeys, keys_by}
 use Rattle.shard_laws.proofs.Keeping.WhatOneShardKeeps.{Past, is_alive, place}
 use Rattle.shard_laws.proofs.Events.DueKeeps.{part_same, Sound}
-use Rattle.shard_laws.proofs.Cuts.WhatCutsHold.{of_kept, fold_alike, fold_values}
+use Rattle.shard_laws.proofs.Cuts.WhatCutsHold.{of_kept, fold_alike, updates_values}
 use Rattle.shard_laws.proofs.Cuts.MembersOfCutsReplay.{filter_all_kept}
 use Rattle.shard_laws.proofs.Restarts.UnrestoredFell.{all_durable}
 use Rattle.shard_laws.proofs.Keeping.FallenAndLost.{Falls}
@@ -74,6 +74,7 @@ undo_aborts shard log run t i =
 abbrev pub past_of : ℕ → List LogRecord → Past
 past_of shard before =
     record {
+      floor = base_of before;
       start = stands (before ∷ []);
       base = filter (of_kept (committed_in before)) (standing before);
       done = alone (found_items shard before);
@@ -145,8 +146,8 @@ module _ (shard run : ℕ) (before : List LogRecord) (may : MayServe shard run b
   map_is : stands (before ∷ []) ≡ fold_updates (committed_in before) before []
   map_is = fold_alike (committed_somewhere (before ∷ [])) (committed_in before) before [] (λ t. or-false (committed_in before t))
 
-  pub start_value : (k : ℕ) → map_get k (stands (before ∷ [])) ≡ top_value k (filter (of_kept (committed_in before)) (standing before))
-  start_value k = ap (map_get k) map_is ∙ fold_values (committed_in before) (standing before) k
+  pub start_value : (k : ℕ) → map_get k (stands (before ∷ [])) ≡ top_value (base_of before) k (filter (of_kept (committed_in before)) (standing before))
+  start_value k = ap (map_get k) map_is ∙ updates_values (committed_in before) before k
 
   base_done : (ws : List StandingUpdate) → AllByRecursion (λ w. commit_durable Now (length Now) w.tx ≡ true) (filter (of_kept (committed_in before)) ws)
   base_done [] = tt
@@ -158,8 +159,8 @@ module _ (shard run : ℕ) (before : List LogRecord) (may : MayServe shard run b
   pub runs_start : Runs (stands (before ∷ [])) (found_items shard before)
   runs_start =
       let lie : LieOnThese (is_winner shard before) (standing before) = winners_lie shard before order (standing before) order.writes.lie (lie_listed shard before follows) in
-      runs_found (committed_in before) (λ t. tx_in t doubt) doubt_apart (stands (before ∷ [])) (filter (of_kept (committed_in before)) (standing before)) start_value (standing before) (all_tell shard before follows)
-      (chain_kept (is_winner shard before) (standing before) lie order.writes.chain) (numbers_kept (is_winner shard before) (standing before) lie (find_numbers shard before follows)) order.writes.lie (λ q. inl refl)
+      runs_found (committed_in before) (λ t. tx_in t doubt) doubt_apart (base_of before) (stands (before ∷ [])) (filter (of_kept (committed_in before)) (standing before)) start_value (standing before) (all_tell shard before follows)
+      (chain_kept (base_of before) (is_winner shard before) (standing before) lie order.writes.chain) (numbers_kept (base_of before) (is_winner shard before) (standing before) lie (find_numbers shard before follows)) order.writes.lie (λ q. inl refl)
 
   all_alive : (ws : List StandingUpdate) → AllByRecursion (λ w. is_alive [] w.tx ≡ true) ws
   all_alive [] = tt
@@ -266,7 +267,7 @@ module _ (shard run : ℕ) (before : List LogRecord) (may : MayServe shard run b
   unfolding state_with
   sound_start = record {
     kept = record {
-      start = record { start_rises = fold_rises (committed_somewhere (before ∷ [])) before [] tt; base_value = start_value; base_chain = chain_kept (committed_in before) (standing before) order.writes.lie order.writes.chain };
+      start = record { start_rises = fold_rises (committed_somewhere (before ∷ [])) before [] tt; base_value = start_value; base_chain = chain_kept (base_of before) (committed_in before) (standing before) order.writes.lie order.writes.chain };
       past = record {
         acts = acts_alone (stands (before ∷ [])) (found_items shard before) runs_start;
         alive = all_found _ (λ x i. refl);
@@ -275,7 +276,7 @@ module _ (shard run : ℕ) (before : List LogRecord) (may : MayServe shard run b
         rising = later_alone Rise (found_items shard before) (found_rise (λ t. tx_in t doubt) (standing before));
       };
       log = record { standing_is = standing_start; tidy = re.found.tidy };
-      records = record { rises = rises_remade shard before Now re; values = values_remade shard before Now re };
+      records = record { rises = rises_remade shard before Now re; values = λ q. values_remade shard before Now re q ∙ ap (λ base. top_value base q (standing Now)) re.found.begins };
       locks = record {
         rows = rows_restored doubt (standing Now) [] tt;
         covered = subst (AllByRecursion _) (sym (items_alone (found_items shard before))) (all_mono _ _ (λ x i a. absurd (no_active x.tx a)) (found_items shard before) items_doubted);
@@ -311,7 +312,7 @@ module _ (shard run : ℕ) (before : List LogRecord) (may : MayServe shard run b
         downwards = λ t p e c. absurd (both_ways _ (doubt_open t (pair_of Now doubt t p e)) c);
         causes = met_alone _ (found_items shard before) (later_mono _ _ (λ x y u r. ⊎_elim (λ s. inl s) (λ l. inr (inr (inl (listed_pair y.tx x.tx l.2 l.1 l.0)))) (reached x y u r)) (found_items shard before) under_start);
       };
-      durable = record { base_done = base_done (standing before); front = λ n e. absurd (none-some n e) };
+      durable = record { base_done = base_done (standing before); front = λ n e. absurd (none-some n e); floor_done = λ n l. ap base_of (take_all n Now l) ∙ re.found.begins };
     };
     answers = record { told = λ t. inr refl; within = part_same done_start };
     requests = record { undecided = λ t q e u. absurd ((subst IsCommitted e (restored_committed (unended_in Now Now) t)).0 u); readers = λ t q e u. absurd ((subst IsCommitted e (restored_committed (unended_in Now Now) t)).1 u); unfallen = λ t q e u here. refl };

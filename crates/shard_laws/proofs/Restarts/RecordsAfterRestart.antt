@@ -11,7 +11,7 @@ use Rattle.clv_base.specs.declared.logs.LogRecord.{LogRecord}
 use Rattle.clv_base.specs.Orders.{tx_in}
 use Rattle.clv_base.specs.Maps.{KeyMap, map_get}
 use Rattle.clv_base.specs.declared.modes.Anchor.TheVariants.{At}
-use Rattle.clv_base.specs.Logs.{StandingUpdate, is_setting, standing, committed_in, in_doubt, is_winner, fold_updates}
+use Rattle.clv_base.specs.Logs.{StandingUpdate, is_setting, standing, committed_in, in_doubt, is_winner, fold_updates, base_of}
 use Rattle.clv_base.specs.Needs.{value_at}
 use Rattle.clv_base.specs.Folding.{IsRising}
 use Rattle.clv_base.specs.Restarts.{records_of, with_ghosts, restored_locks, restored_parts, restored_pairs}
@@ -23,7 +23,7 @@ use Rattle.law_base.proofs.Commits.{commit_durable}
 use Rattle.law_base.proofs.LockRows.{holds}
 use Rattle.shard_laws.proofs.Operations.NeedsCoverKeys.{wrote_part}
 use Rattle.shard_laws.proofs.Keeping.WhatOneShardKeeps.{part_for, View, Wrote}
-use Rattle.shard_laws.proofs.Cuts.WhatCutsHold.{of_kept, fold_alike, fold_values}
+use Rattle.shard_laws.proofs.Cuts.WhatCutsHold.{of_kept, fold_alike, updates_values}
 use Rattle.shard_laws.proofs.Restarts.RestoredLocksAndParts.{ghosts_value, ghosts_rise}
 use Rattle.shard_laws.proofs.Restarts.WinnersKeepTheirWrites.{winners, Restarted}
 use Rattle.shard_laws.proofs.Restarts.UnrestoredFell.{all_durable}
@@ -92,13 +92,13 @@ module _ (shard : ℕ) (cut log : List LogRecord) (re : Restarted shard cut log)
   standing_kept : filter (of_kept (is_winner shard cut)) (standing log) ≡ standing log
   standing_kept = ap (filter (of_kept (is_winner shard cut))) re.only_kept ∙ filter_twice (is_winner shard cut) (standing cut) ∙ sym re.only_kept
 
-  pub values_remade : (q : ℕ) → value_at q (view_remade shard cut log).records ≡ top_value q (standing log)
+  pub values_remade : (q : ℕ) → value_at q (view_remade shard cut log).records ≡ top_value (base_of log) q (standing log)
   values_remade q =
       ghosts_value (in_doubt shard cut) (standing log) (records_of (fold_updates (is_winner shard log) log [])) q
       ∙ get_records q (fold_updates (is_winner shard log) log [])
       ∙ ap (map_get q) (fold_alike (is_winner shard log) (is_winner shard cut) log [] (λ t. winners shard cut log t re.found))
-      ∙ fold_values (is_winner shard cut) (standing log) q
-      ∙ ap (top_value q) standing_kept
+      ∙ updates_values (is_winner shard cut) log q
+      ∙ ap (top_value (base_of log) q) standing_kept
 
   pub rises_remade : Rising (view_remade shard cut log).records
   rises_remade = ghosts_rise (in_doubt shard cut) (standing log) (records_of (fold_updates (is_winner shard log) log [])) (rising_records (fold_updates (is_winner shard log) log []) (fold_rises (is_winner shard log) log [] tt))

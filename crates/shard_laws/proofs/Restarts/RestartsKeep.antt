@@ -3,7 +3,7 @@ use Rattle.std.proofs.Common.{◌≡◌, ℕ, ◌+◌, ◌≤◌, ◌<◌, ◌�
 use Rattle.std.specs.Prelude.{take, drop}
 use Rattle.std.specs.List.{AllByRecursion, filter}
 use Rattle.std.proofs.lemmas.Bool.{cases_Bool, both_ways, cond_both, or_cases, and_from, or_from, false_from_ne_true, not-true, and_parts, cond-false}
-use Rattle.std.proofs.lemmas.List.{take-append-drop}
+use Rattle.std.proofs.lemmas.List.{take-append-drop, take_all}
 use Rattle.std.proofs.lemmas.List.Folds.{list_any-append}
 use Rattle.std.proofs.lemmas.Option.{none-some}
 use Rattle.clv_base.specs.declared.names.TxId.{TxId}
@@ -17,7 +17,7 @@ use Rattle.clv_base.specs.declared.state.Request.{Request}
 use Rattle.clv_base.specs.declared.state.RequestState.TheVariants.{Undecided, Finished}
 use Rattle.clv_base.specs.declared.state.Voter.{Voter}
 use Rattle.clv_base.specs.Orders.{Table, tx_same, tx_in, tx_get}
-use Rattle.clv_base.specs.Logs.{StandingUpdate, standing, committed_in, prepared_in, aborted_in, wrote_in, has_standing, is_update_of, is_commit_of, in_doubt, is_winner, fold_updates, is_abort_of}
+use Rattle.clv_base.specs.Logs.{StandingUpdate, standing, committed_in, prepared_in, aborted_in, wrote_in, has_standing, is_update_of, is_commit_of, in_doubt, is_winner, fold_updates, is_abort_of, base_of}
 use Rattle.clv_base.specs.Locks.{Locks}
 use Rattle.clv_base.specs.State.{Shard, is_present}
 use Rattle.clv_base.specs.Undo.{stage_of}
@@ -28,7 +28,7 @@ use Rattle.clv_base.specs.Restarts.{records_of, with_ghosts, restored_locks, res
 use Rattle.clv_base.proofs.SameNames.{or_left, or_right, tx_true}
 use Rattle.law_base.specs.Items.{Item, Deed, held, Acts, AllLater, pile}
 use Rattle.law_base.proofs.Lists.{all_mono, all_both, all_of, all_filter, later_mono, later_filter}
-use Rattle.law_base.proofs.Running.{Keeps}
+use Rattle.law_base.proofs.Running.{Keeps, top_value}
 use Rattle.law_base.proofs.Standing.{standing_append, all_stand, of_writer}
 use Rattle.law_base.proofs.Tables.{stage_in}
 use Rattle.law_base.proofs.Commits.{commit_durable, committed_append, place_there, before_second}
@@ -454,7 +454,7 @@ module _ (all : List Deed) (g : Past) (s : Shard) (c epoch : ℕ) (log : List Lo
         rising = later_mono _ _ (λ d e f. f.0) done_now (later_filter _ (λ d. stays (doer d)) g.done h.kept.rising);
       };
       log = record { standing_is = standing_now; tidy = found.tidy };
-      records = record { rises = rises_remade s.shard (take c s.local.log) log re; values = values_remade s.shard (take c s.local.log) log re };
+      records = record { rises = rises_remade s.shard (take c s.local.log) log re; values = λ q. values_remade s.shard (take c s.local.log) log re q ∙ ap (λ base. top_value base q (standing log)) (found.begins ∙ h.kept.floor_done c le) };
       locks = record { rows = rows_restored doubt (standing log) [] tt; covered = all_of _ (λ x a. absurd (no_active x.tx a)) (items_in done_now); wrote = wrote_remade s.shard (take c s.local.log) log re };
       parts = record {
         known = all_mono _ _ (λ d f. inr (stays_asked (doer d) f.0.0 f.0.1 f.1, λ a. no_active (doer d) a)) done_now known_now;
@@ -484,7 +484,7 @@ module _ (all : List Deed) (g : Past) (s : Shard) (c epoch : ℕ) (log : List Lo
         recover = λ t p e. ⊎_elim (λ o. inl (in_more (left_out s (revived s epoch log)) g.lost t o.0, λ a. no_active t a)) (λ d. recover_now t p d (h.kept.prepared.recover t p e)) (h.kept.recover t p e);
       };
       pairs = record { downwards = λ t p e m. absurd (both_ways _ (doubt_open t (pair_of log doubt t p e)) m); causes = causes_now };
-      durable = record { base_done = all_mono _ _ (λ w e. committed_remade s.shard (take c s.local.log) log re w.tx e) g.base (cut_base all g s g.over c h le once (λ t i. i)); front = λ n e. absurd (none-some n e) };
+      durable = record { base_done = all_mono _ _ (λ w e. committed_remade s.shard (take c s.local.log) log re w.tx e) g.base (cut_base all g s g.over c h le once (λ t i. i)); front = λ n e. absurd (none-some n e); floor_done = λ n l. ap base_of (take_all n log l) ∙ found.begins ∙ h.kept.floor_done c le };
     };
     answers = record { told = told_now; within = part_filter (λ d. stays (doer d)) g.done all h.within };
     requests = record {

@@ -64,6 +64,7 @@ found_self shard log o = record {
   sealed = o.sealed;
   aborts = λ t e. e;
   listed = λ t e. refl;
+  begins = refl;
 }
 
 pub all_first : {I : Type 0} (P : I → Type 0) (xs ys : List I) → AllByRecursion P (xs ++ ys) → AllByRecursion P xs

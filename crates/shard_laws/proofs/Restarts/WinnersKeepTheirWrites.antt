@@ -9,7 +9,7 @@ use Rattle.clv_base.specs.declared.logs.LogRecord.TheVariants.{Update, Clr, Prep
 use Rattle.clv_base.specs.declared.changes.Change.{Change}
 use Rattle.clv_base.specs.Orders.{tx_same, tx_in}
 use Rattle.clv_base.specs.declared.changes.Change.TheVariants.{Sets, Adds}
-use Rattle.clv_base.specs.Logs.{StandingUpdate, standing, standing_from, without_newest, committed_in, prepared_in, wrote_in, aborted_in, is_update_of, is_undo_of, is_commit_of, is_prepare_of, writers, in_doubt, is_winner, is_abort_of}
+use Rattle.clv_base.specs.Logs.{StandingUpdate, standing, standing_from, without_newest, committed_in, prepared_in, wrote_in, aborted_in, is_update_of, is_undo_of, is_commit_of, is_prepare_of, writers, in_doubt, is_winner, is_abort_of, base_by, base_of}
 use Rattle.clv_base.specs.Undo.{clrs_of, newest_lsn, compensation}
 use Rattle.clv_base.specs.State.{Shard}
 use Rattle.clv_base.specs.Restarts.{losers, restart_records, log_after_restart, next_epoch, FailedRestarts, untouched, failed_first, Restarts}
@@ -32,6 +32,7 @@ use Rattle.shard_laws.proofs.Cuts.MembersOfCutsReplay.{filter_alike}
 use Rattle.std.proofs.lemmas.List.Folds.{list_any-append}
 use Rattle.clv_base.specs.LogRules.{listed_in}
 use Rattle.clv_base.proofs.Folding.{or_left as or_false_left, or_right as or_false_right}
+use Rattle.law_base.proofs.Bases.{base_more}
 
 -- ---- what restarts may make of the log that was found
 
@@ -45,6 +46,7 @@ pub record Plain (shard : ℕ) (log : List LogRecord) (r : LogRecord) : Type 0 w
   pub whom : TxId → Bool
   pub unlike : Unlike whom r
   pub spares : (t : TxId) → tx_in t (in_doubt shard log) ≡ true → whom t ≡ false
+  pub brings : base_by r ≡ []
 
 -- what a log that restarts made of the cut keeps of it
 pub record Found (shard : ℕ) (cut log : List LogRecord) : Type 0 where
@@ -57,6 +59,7 @@ pub record Found (shard : ℕ) (cut log : List LogRecord) : Type 0 where
   pub sealed : Sealed [] log
   pub aborts : (t : TxId) → aborted_in cut t ≡ true → aborted_in log t ≡ true
   pub listed : (t : TxId) → prepared_in cut t ≡ true → listed_in log t ≡ listed_in cut t
+  pub begins : base_of log ≡ base_of cut
 
 pub winners : (shard : ℕ) (cut log : List LogRecord) (t : TxId) → Found shard cut log → is_winner shard log t ≡ is_winner shard cut t
 winners shard cut log t f = ap (λ b. b || tx_in t (in_doubt shard log)) (f.commits t) ∙ ap (λ l. committed_in cut t || tx_in t l) f.doubts
@@ -77,6 +80,10 @@ none_update shard log (r ∷ rs) t all = ap (λ b. b || wrote_in rs t) ((all.0).
 pub none_prepare : (shard : ℕ) (log rs : List LogRecord) (t : TxId) → AllByRecursion (Plain shard log) rs → prepared_in rs t ≡ false
 none_prepare shard log [] t all = refl
 none_prepare shard log (r ∷ rs) t all = ap (λ b. b || prepared_in rs t) ((all.0).no_prepare t) ∙ none_prepare shard log rs t all.1
+
+none_brings : (shard : ℕ) (log rs : List LogRecord) → AllByRecursion (Plain shard log) rs → base_of rs ≡ []
+none_brings shard log [] all = refl
+none_brings shard log (r ∷ rs) all = (all.0).brings
 
 undone_open : (shard : ℕ) (log rs : List LogRecord) (t : TxId) → AllByRecursion (Plain shard log) rs → undone_in rs t ≡ true → is_winner shard log t ≡ false
 undone_open shard log [] t all e = absurd (both_ways false refl e)
@@ -121,6 +128,7 @@ found_more shard cut log more f all = record {
   sealed = sealed_more log more f.sealed (λ t. none_update shard log more t all) (λ t. none_prepare shard log more t all);
   aborts = λ t e. list_any-append (is_abort_of t) log more ∙ or_left _ _ (f.aborts t e);
   listed = λ t e. listed_keeps log more t (f.prepares t ∙ e) ∙ f.listed t e;
+  begins = base_more log more (none_brings shard log more all) ∙ f.begins;
 }
 
 -- ---- what a restart writes is plain
@@ -140,6 +148,7 @@ plain_aborts shard log (t ∷ ts) h = (
     whom = is_it t;
     unlike = abort_unlike t;
     spares = λ u i. false_from_ne_true _ (λ same. both_ways _ (or_false_right _ _ (h t (or_left _ _ (tx_self t)))) (subst (λ z. tx_in z (in_doubt shard log) ≡ true) (tx_true u t same) i));
+    brings = refl;
   },
   plain_aborts shard log ts (λ u i. h u (or_right (tx_same t u) _ i)),
 )
@@ -160,6 +169,7 @@ plain_clrs shard log set (w ∷ ws) h =
       whom = nobody;
       unlike = clr_unlike w.tx (newest_lsn w.tx ws) w.key before;
       spares = λ u j. refl;
+      brings = refl;
     }
     one (Adds by) i = record {
       opens = or_false_left _ _ (h w.tx i);
@@ -170,6 +180,7 @@ plain_clrs shard log set (w ∷ ws) h =
       whom = nobody;
       unlike = unadd_unlike w.tx (newest_lsn w.tx ws) w.key by;
       spares = λ u j. refl;
+      brings = refl;
     }
 
 aborted_losers : (shard : ℕ) (log : List LogRecord) (t : TxId) → tx_in t (filter (λ u. not (aborted_in log u)) (losers shard log)) ≡ true → is_winner shard log t ≡ false
@@ -180,7 +191,7 @@ plain_restart shard log run epoch =
     all_append (Plain shard log) (map (λ t. Abort t) (filter (λ t. not (aborted_in log t)) (losers shard log)) ++ clrs_of (losers shard log) (standing log)) (Restart run epoch ∷ [])
     (all_append (Plain shard log) (map (λ t. Abort t) (filter (λ t. not (aborted_in log t)) (losers shard log))) (clrs_of (losers shard log) (standing log))
     (plain_aborts shard log (filter (λ t. not (aborted_in log t)) (losers shard log)) (aborted_losers shard log)) (plain_clrs shard log (losers shard log) (standing log) (loser_out shard log)))
-    (record { opens = tt; no_commit = λ u. refl; no_update = λ u. refl; no_prepare = λ u. refl; undoes = λ u e. absurd (both_ways false refl e); whom = nobody; unlike = restart_unlike run epoch; spares = λ u i. refl }, tt)
+    (record { opens = tt; no_commit = λ u. refl; no_update = λ u. refl; no_prepare = λ u. refl; undoes = λ u e. absurd (both_ways false refl e); whom = nobody; unlike = restart_unlike run epoch; spares = λ u i. refl; brings = refl }, tt)
 
 -- ---- the whole restart leaves the writes of those that win alone
 

@@ -1,4 +1,4 @@
-use Rattle.std.proofs.Common.{◌++◌, ◌-◌, [], ◌∷◌, drop, append-nil, sym, ap, ◌∙◌, arith}
+use Rattle.std.proofs.Common.{◌++◌, ◌-◌, [], ◌∷◌, drop, append-nil, append_assoc, sym, ap, ◌∙◌, arith}
 use Rattle.std.specs.List.{cons_option}
 use Rattle.clv_base.specs.Logs.{standing}
 use Rattle.log_analysis.proofs.Laws.Standing.{lsn_inside}
@@ -16,12 +16,14 @@ pub loop-place-preserved-in-Continue-1 : goal.loop-place-preserved-in-Continue-1
 loop-place-preserved-in-Continue-1 c =
     let log = c.args.log.now in let keep = wins_in log c.args.doubtful.now in let so_far = kept_writes keep (drop c.loop-place.place (standing log)) in
     c.in_ok-push.ensures.items ∙ ap (λ l. l ++ c.in-Some.write ∷ []) c.loop-place.invariant
-    ∙ ap (λ o. so_far ++ cons_option o []) (sym c.in-Some.is ∙ c.written.ensures log c.requires.knows)
-    ∙ sym (kept_more keep log c.args.lsns.now c.loop-place.place c.index-log-lsns.result c.requires.stand (omega arith) (omega arith) c.index-log-lsns.is)
+    ∙ append_assoc c.args.first.items so_far (c.in-Some.write ∷ [])
+    ∙ ap (λ o. c.args.first.items ++ (so_far ++ cons_option o [])) (sym c.in-Some.is ∙ c.written.ensures log c.requires.knows)
+    ∙ ap (λ l. c.args.first.items ++ l) (sym (kept_more keep log c.args.lsns.now c.loop-place.place c.index-log-lsns.result c.requires.stand (omega arith) (omega arith) c.index-log-lsns.is))
 
 pub loop-place-preserved : goal.loop-place-preserved
 loop-place-preserved c =
     let log = c.args.log.now in let keep = wins_in log c.args.doubtful.now in let so_far = kept_writes keep (drop c.loop-place.place (standing log)) in
-    c.loop-place.invariant ∙ sym (append-nil so_far)
+    c.loop-place.invariant ∙ ap (λ l. c.args.first.items ++ l)
+    (sym (append-nil so_far)
     ∙ ap (λ o. so_far ++ cons_option o []) (sym c.in_default.is ∙ c.written.ensures log c.requires.knows)
-    ∙ sym (kept_more keep log c.args.lsns.now c.loop-place.place c.index-log-lsns.result c.requires.stand (omega arith) (omega arith) c.index-log-lsns.is)
+    ∙ sym (kept_more keep log c.args.lsns.now c.loop-place.place c.index-log-lsns.result c.requires.stand (omega arith) (omega arith) c.index-log-lsns.is))
