@@ -10,7 +10,7 @@ use Rattle.clv_base.specs.Journals.{History}
 use Rattle.clv_base.specs.History.{Member, answers_given, serial_acts, serial_answers, acknowledged_in, acts_in}
 use Rattle.clv_base.proofs.SameNames.{tx_true}
 use Rattle.law_base.proofs.Lists.{all_mono}
-use Rattle.io_model.specs.Story.{Story}
+use Rattle.io_model.specs.Sides.{Stories}
 use Rattle.history_replay.specs.Entries.{Kept}
 use Rattle.cluster_runs.specs.Ran.{RanAll}
 use Rattle.command_line.specs.declared.status.Status.TheVariants.{Fine}
@@ -116,7 +116,7 @@ all_kept : ℕ → Bool
 all_kept n = true
 
 module _
-    (are : MembersAreOfScript) (seed sessions accounts count : ℕ) (before now : ℕ → Option Story) (counts counts_now : ℕ → ℕ) (kept : Kept) (some : 1 ≤ sessions) (two : 2 ≤ accounts)
+    (are : MembersAreOfScript) (seed sessions accounts count : ℕ) (before now : ℕ → Option Stories) (counts counts_now : ℕ → ℕ) (kept : Kept) (some : 1 ≤ sessions) (two : 2 ≤ accounts)
     (r : RanAll before now counts counts_now None FirstAlone (load seed sessions accounts count) kept Fine) where
   abbrev ms : List Member
   ms = members_by r.splits kept ((r.promised).keeps).left all_kept

@@ -1,0 +1,2 @@
+-- Lemmas that this crate offers to the proofs of the crates above it.
+pub mod Coming

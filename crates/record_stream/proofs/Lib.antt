@@ -1,0 +1,9 @@
+pub mod Scans
+pub mod NumberScans
+pub mod NameScans
+pub mod ValueScans
+pub mod ListScans
+pub mod RecordScans
+pub mod Loops
+pub mod UnknownKinds
+pub mod Laws

@@ -1,0 +1,11 @@
+pub mod Cuts
+pub mod Fronts
+pub mod Members
+pub mod Before
+pub mod Settled
+pub mod Kept
+pub mod Shares
+pub mod Parts
+pub mod Out
+pub mod GoingInOrder
+pub mod ShownIsSerial
