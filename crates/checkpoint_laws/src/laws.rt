@@ -2,7 +2,8 @@
 
 ghost use Rattle.checkpoint_laws.specs.Laws.{CheckpointsOfLogsInOrder, LogsInOrderStayAlike};
 
-/// The checkpoint of a log in order has itself as checkpoint; the same are in doubt in both, and a restart writes the same records behind both.
+/// The checkpoint of a log in order has itself as checkpoint; the same are in doubt in both, a restart writes the same records behind both, and both
+/// stand for the same map.
 pub fn checkpoints_of_logs_in_order()
     ensures { CheckpointsOfLogsInOrder }
 {}

@@ -2,7 +2,7 @@
 
 ghost use Rattle.std.specs.Prelude.{◌≡◌, ◌≢◌, ◌<◌, ℕ, true, false, None, IfOk, IfErr, OnOk, OnErr};
 ghost use Rattle.std.specs.Option.{option_map};
-ghost use Rattle.clv_base.specs.LogRules.{disorder as first_disorder};
+ghost use Rattle.clv_base.specs.LogRules.{upto_of, disorder as first_disorder};
 ghost use Rattle.io_model.specs.Disk.{Tells};
 ghost use Rattle.log_analysis.specs.Facts.{Knows};
 ghost use Rattle.log_gate.specs.Opening.{IsUnchanged};
@@ -40,6 +40,7 @@ fn judge(
     header: &Header,
     log: &[LogRecord],
 ) -> Result<LogFacts, OpenError>
+    requires plain { upto_of log.now ≡ 0 }
     ensures fine { OnOk result (Agrees (option_map (λ h. h.now.splits) agreed.entry) header.now.splits × (first_disorder shard log.now ≡ None)) }
     ensures knows { IfOk result (λ facts. Knows facts log.now) }
     ensures fault { IfErr result (Faults shard (option_map (λ h. h.now.splits) agreed.entry) header.now.splits log.now) }

@@ -476,7 +476,7 @@ opens {splits} {before} {after} {h} l n i =
       tied = tied_opened (λ t p. ⊤) n (run_after before) (log_of before n) (all_tied (log_of before n));
       barred = barred_state (Denied before after []) (WasOut before after [] n) (Met before [] [] n) (HomeHere h n) n (run_after before) 0 log 0 []
           (whole_ahead n (log_of before n) (run_after before) 0 (log_ahead splits before n l.opens (log_found l n i)))
-          (λ u j. doubt_stand n log u ((bs.parted n i).base).firm j)
+          (λ u j. doubt_stand n log (length log) u ((bs.parted n i).base).firm j)
           (λ u p c. let r = prepared_asked splits before after h [] n l.legal (λ y j. elim j [ ]) bs.fated i u p c in (inl r.0, r.1))
           (λ u v. (first u v).1) (λ u p v j c. absurd (both_ways _ (first u v).0 (ap is_present (restored_closed (in_doubt n log) u j))));
     }

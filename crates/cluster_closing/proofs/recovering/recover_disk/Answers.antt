@@ -1,5 +1,7 @@
 use Rattle.std.proofs.Common.{◌≡◌, ◌∙◌, ℕ, List, ap, sym, subst, suc, refl}
 use Rattle.clv_base.specs.declared.logs.LogRecord.{LogRecord}
+use Rattle.clv_base.specs.LogRules.{upto_of}
+use Rattle.law_base.proofs.Places.{spelled_plain}
 use Rattle.clv_base.specs.Restarts.{first_barred, greatest_epoch}
 use Rattle.log_gate.specs.View.{Only}
 use Rattle.cluster_closing.specs.Judging.{RefusesDisk, Bars}
@@ -8,6 +10,10 @@ use Rattle.cluster_closing.specs.Readied.{HasGate}
 use Rattle.cluster_closing.proofs.ReviveLeaving.{at_start}
 use Rattle.cluster_closing.proofs.Refusing.{refused_open, refused_judged, left_begun}
 use Rattle.cluster_closing.proofs.recovering.recover_disk.Goals as goal
+
+-- its records have a spelling
+pub judge-requires-clause-plain : goal.judge-requires-clause-plain
+judge-requires-clause-plain g c = ap upto_of c.deref.ensures.value ∙ spelled_plain c.in-Ok.opened.1.items c.in-Ok.ensures.spelled
 
 pub returns-in-Err-clause-refused : goal.returns-in-Err-clause-refused
 returns-in-Err-clause-refused g c = let story = g.M.Disk.Disk.story c.args.disk in

@@ -1,7 +1,12 @@
 use Rattle.std.proofs.Common.{◌∙◌, ap, sym}
-use Rattle.clv_base.specs.LogRules.{disorder}
+use Rattle.clv_base.specs.LogRules.{upto_of, disorder}
+use Rattle.law_base.proofs.Places.{spelled_plain}
 use Rattle.cluster_opening.proofs.OneDisk.{told_own, faults_refuse, refused_as}
 use Rattle.cluster_opening.proofs.finding.find.Goals as goal
+
+-- its records have a spelling
+pub judge-requires-clause-plain : goal.judge-requires-clause-plain
+judge-requires-clause-plain g c = ap upto_of c.deref.ensures.value ∙ spelled_plain c.in-Ok.log.items c.in-Ok.ensures.spelled
 
 pub returns-in-Ok-judge-clause-found : goal.returns-in-Ok-judge-clause-found
 returns-in-Ok-judge-clause-found g c =
