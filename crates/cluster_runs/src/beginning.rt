@@ -18,6 +18,7 @@ use cluster_opening::{Found, OpenError, give_back_locks, make_walkers, open_disk
 use cluster_turns::{Home, Shards, Walker};
 use clv_base::logs::LogRecord;
 use io_model::House;
+use lean_machine::LeanMachine;
 use lock_table::Locks;
 use log_gate::LogGate;
 use machine_calls::{Machine, OverDisks};
@@ -106,9 +107,9 @@ fn open_and_begin<S: Store + Drop, L: Locks + Drop, H: House>(
     house: &mut H,
     walkers: usize,
     first: u64,
-    locks: Vec<TurnLock<Home<ShardMachine<S, L, LogGate<H::Disk>>>>>,
-    passes: Vec<Vec<Pass<Home<ShardMachine<S, L, LogGate<H::Disk>>>, Note, Origin>>>,
-) -> Result<Began<ShardMachine<S, L, LogGate<H::Disk>>>, OpenError>
+    locks: Vec<TurnLock<Home<LeanMachine<ShardMachine<S, L, LogGate<H::Disk>>>>>>,
+    passes: Vec<Vec<Pass<Home<LeanMachine<ShardMachine<S, L, LogGate<H::Disk>>>>, Note, Origin>>>,
+) -> Result<Began<LeanMachine<ShardMachine<S, L, LogGate<H::Disk>>>>, OpenError>
     requires inside { (n : ℕ) → n < 16 → H.is_out house.old n ≡ false }
     requires some { (0 < walkers) × (walkers ≤ 65) }
     requires empty { (vec_len locks ≡ 0) × (vec_len passes ≡ 0) }
@@ -142,7 +143,7 @@ fn open_and_begin<S: Store + Drop, L: Locks + Drop, H: House>(
         facts,
         run,
     };
-    match begin::<H, ShardMachine<S, L, LogGate<H::Disk>>>(
+    match begin::<H, LeanMachine<ShardMachine<S, L, LogGate<H::Disk>>>>(
         alloc, house, logs, walkers, first, locks, passes,
     ) {
         Ok(begun) => Ok(Began { begun, found }),
@@ -161,7 +162,7 @@ pub fn open_all<S: Store + Drop, L: Locks + Drop, H: House>(
     house: &mut H,
     walkers: usize,
     first: u64,
-) -> Result<Opened<ShardMachine<S, L, LogGate<H::Disk>>>, OpenError>
+) -> Result<Opened<LeanMachine<ShardMachine<S, L, LogGate<H::Disk>>>>, OpenError>
     requires inside { (n : ℕ) → n < 16 → H.is_out house.old n ≡ false }
     requires few { walkers ≤ 64 }
 
@@ -180,7 +181,7 @@ pub fn open_all<S: Store + Drop, L: Locks + Drop, H: House>(
     ensures back { OnErr result ((n : ℕ) → n < 16 → H.is_out house.new n ≡ false) }
     ensures left { IfErr result (LeavesDisks (H.story house.old) (H.story house.new)) }
 {
-    let Ok((room, locks)) = take_rooms::<ShardMachine<S, L, LogGate<H::Disk>>>(alloc) else {
+    let Ok((room, locks)) = take_rooms::<LeanMachine<ShardMachine<S, L, LogGate<H::Disk>>>>(alloc) else {
         return Err(OpenError::Memory);
     };
     let Room {

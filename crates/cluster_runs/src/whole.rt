@@ -20,6 +20,7 @@ use cluster_opening::OpenError;
 use command_line::running_status;
 use history_replay::History;
 use io_model::{House, Pace};
+use lean_machine::LeanMachine;
 use lock_table::Locks;
 use log_gate::LogGate;
 use ordered_store::Store;
@@ -74,7 +75,7 @@ where
         found,
     } = opened;
     let end = run_over(rt, alloc, &shards, pace, &mut walkers, plan, &mut books);
-    let closed = close_run::<H, ShardMachine<S, L, LogGate<H::Disk>>>(
+    let closed = close_run::<H, LeanMachine<ShardMachine<S, L, LogGate<H::Disk>>>>(
         alloc, house, shards, walkers, room,
     );
     let Closed {

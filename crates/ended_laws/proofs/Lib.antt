@@ -13,3 +13,6 @@ pub mod Beside
 pub mod Alone
 pub mod Worked
 pub mod Losing
+pub mod Spent
+pub mod Recalled
+pub mod Laws

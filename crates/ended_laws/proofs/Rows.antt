@@ -72,7 +72,7 @@ set_without tx t x (r ∷ rs) o = at (tx_same t r.0) (tx_same tx r.0) refl refl 
         ∙ sym (cond-false (tx_same t r.0) ((r.0, x) ∷ without tx rs) (r ∷ tx_set t x (without tx rs)) e)
 
 -- it goes before all rows that are above it
-put_first : {X : Type 0} (t : TxId) (x : X) (rows : Table X) → AllAbove t (keys_of rows) → tx_put t x rows ≡ (t, x) ∷ rows
+pub put_first : {X : Type 0} (t : TxId) (x : X) (rows : Table X) → AllAbove t (keys_of rows) → tx_put t x rows ≡ (t, x) ∷ rows
 put_first t x [] a = refl
 put_first t x (r ∷ rs) a = ap (λ o. match_ordering o ((t, x) ∷ r ∷ rs) ((r.0, x) ∷ rs) (r ∷ tx_put t x rs)) a.0
 

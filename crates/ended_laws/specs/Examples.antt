@@ -19,7 +19,7 @@ use Rattle.clv_base.specs.Restarts.{opened}
 use Rattle.clv_base.specs.Coordinator.{new_request}
 use Rattle.clv_base.specs.Events.{QuietBeforeWorn, Does, happen, landed}
 use Rattle.clv_base.specs.Journals.{reply_state}
-use Rattle.ended_laws.specs.Requests.{forgets, IsOver}
+use Rattle.ended_laws.specs.Requests.{forgets, IsOver, IsSpent}
 use Rattle.ended_laws.specs.Parts.{forgets_part, IsPast}
 
 abbrev pub first_tx : TxId
@@ -40,9 +40,9 @@ flushing_writer = made (opened 0 1 []) (OpEvent first_tx first_birth 1 None (Put
 abbrev pub flushed_writer : Shard
 flushed_writer = reply_state flushing_writer (landed flushing_writer 3 true)
 
--- then its request is over
-abbrev pub OneShardIsOver : Type 0
-OneShardIsOver = IsOver flushed_writer first_tx (new_request ((0, 0) ∷ []) Undecided)
+-- then its request is spent
+abbrev pub OneShardIsSpent : Type 0
+OneShardIsSpent = IsSpent flushed_writer first_tx (new_request ((0, 0) ∷ []) Undecided)
 
 -- it writes on shard 1 as well: the home takes its yes, writes the COMMIT, has it durable, and takes the acknowledgement, so the END is written
 abbrev pub flushing_home : Shard
@@ -56,9 +56,9 @@ ended_home = made (reply_state flushing_home (landed flushing_home 4 true)) (Del
 abbrev pub ended_request : Request
 ended_request = record { touched = (0, 0) ∷ (1, 0) ∷ []; votes = (1, Yes) ∷ []; state = Committed (1 ∷ []); acknowledged_by = 1 ∷ []; is_ended = true }
 
--- then its request is over
-abbrev pub AnEndedCommitIsOver : Type 0
-AnEndedCommitIsOver = IsOver ended_home first_tx ended_request
+-- then its request is spent
+abbrev pub AnEndedCommitIsSpent : Type 0
+AnEndedCommitIsSpent = IsSpent ended_home first_tx ended_request
 
 -- where the other shard votes no instead, the request is refused, and over; but a look is answered by its row
 abbrev pub cause : AbortCause

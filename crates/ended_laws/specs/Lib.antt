@@ -1,4 +1,5 @@
 pub mod Requests
+pub mod Recalled
 pub mod Parts
 pub mod Sessions
 pub mod Histories

@@ -1,5 +1,5 @@
 -- A request that is over at its home, and the shard without its row.
-use Rattle.std.specs.Prelude.{◌≡◌, ◌⊎◌, ⊤, Bool, true, false, not, [], Some, None}
+use Rattle.std.specs.Prelude.{◌≡◌, ◌⊎◌, ⊤, ℕ, Bool, true, false, not, [], Some, None}
 use Rattle.std.specs.List.{filter, list_all}
 use Rattle.std.specs.List.Sorted.{IsStrictlySortedBy}
 use Rattle.std.specs.Map.{keys_of}
@@ -12,11 +12,12 @@ use Rattle.clv_base.specs.Logs.{committed_in}
 use Rattle.clv_base.specs.declared.state.Request.{Request}
 use Rattle.clv_base.specs.declared.state.RequestState.{RequestState}
 use Rattle.clv_base.specs.declared.state.RequestState.TheVariants.{Undecided, Committed, Finished, Refused}
+use Rattle.clv_base.specs.declared.state.Stage.TheVariants.{Gone}
 use Rattle.clv_base.specs.State.{Shard, is_present}
 use Rattle.clv_base.specs.Undo.{stage_of}
 use Rattle.clv_base.specs.Facts.{doom_by}
 use Rattle.clv_base.specs.Coordinator.{others, end_ruling}
-use Rattle.clv_base.specs.Events.{Reply, QuietBeforeWorn, QuietAfterWorn, Does, happen}
+use Rattle.clv_base.specs.Events.{Reply, QuietBeforeWorn, QuietAfterWorn, Does, happen, landed}
 
 -- the rows of all other transactions
 abbrev pub without : {X : Type 0} → TxId → Table X → Table X
@@ -73,3 +74,28 @@ NobodyMissesIt =
 abbrev pub OverStaysOver : Type 0
 OverStaysOver =
     (s t : Shard) (tx : TxId) (q : Request) (e : Event) (o : Outcome) → IsOver s tx q → MayCome tx q e → happen s e ≡ Does o t → IsOver t tx q
+
+-- ---- whatever comes
+
+-- it is over, its part here is finished, and the log answers a look at it
+pub record IsSpent (s : Shard) (tx : TxId) (q : Request) : Type 0 where
+  pub over : IsOver s tx q
+  pub finished : stage_of s.local tx ≡ Some (Gone None)
+  pub by_log : is_by_log q.state ≡ true
+
+-- then each event finds the same without the row, one that no session makes too
+abbrev pub NothingMissesIt : Type 0
+NothingMissesIt = (s : Shard) (tx : TxId) (q : Request) (e : Event) → IsSpent s tx q → happen (forgets tx s) e ≡ forgetful tx (happen s e)
+
+-- and leaves it so; and so does the end of a flush
+abbrev pub SpentStaysSpent : Type 0
+SpentStaysSpent = (s t : Shard) (tx : TxId) (q : Request) (e : Event) (o : Outcome) → IsSpent s tx q → happen s e ≡ Does o t → IsSpent t tx q
+
+abbrev pub FlushesMissNothing : Type 0
+FlushesMissNothing =
+    (s : Shard) (tx : TxId) (q : Request) (n : ℕ) (pushed : Bool) → IsSpent s tx q
+    → (landed (forgets tx s) n pushed ≡ forgetful tx (landed s n pushed)) × ((o : Outcome) (t : Shard) → landed s n pushed ≡ Does o t → IsSpent t tx q)
+
+-- forgetting another one leaves it so
+abbrev pub SpentGoAlone : Type 0
+SpentGoAlone = (s : Shard) (tx u : TxId) (q : Request) → tx_same tx u ≡ false → IsSpent s u q → IsSpent (forgets tx s) u q

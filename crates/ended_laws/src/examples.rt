@@ -1,15 +1,15 @@
 // Worked examples.
 
-ghost use Rattle.ended_laws.specs.Examples.{OneShardIsOver, AnEndedCommitIsOver, ALookTells, ALatePrepareTells};
+ghost use Rattle.ended_laws.specs.Examples.{OneShardIsSpent, AnEndedCommitIsSpent, ALookTells, ALatePrepareTells};
 
-/// A transaction of one shard is over once its COMMIT is durable.
-pub fn one_shard_is_over()
-    ensures { OneShardIsOver }
+/// A transaction of one shard is over once its COMMIT is durable, and nothing reads its request any more.
+pub fn one_shard_is_spent()
+    ensures { OneShardIsSpent }
 {}
 
-/// A commit is over once its END is written.
-pub fn an_ended_commit_is_over()
-    ensures { AnEndedCommitIsOver }
+/// So is a commit with other shards once its END is written.
+pub fn an_ended_commit_is_spent()
+    ensures { AnEndedCommitIsSpent }
 {}
 
 /// A refused request is over, and its first look is still answered by its row.

@@ -14,6 +14,7 @@ use cluster_runs::{Opened, close_run, open_all};
 use command_line::{Status, running_status};
 use history_replay::History;
 use io_model::{House, Pace, ReadError, Sink, Source};
+use lean_machine::LeanMachine;
 use lock_table::Locks;
 use log_gate::LogGate;
 use ordered_store::Store;
@@ -92,7 +93,7 @@ where
         source,
         sink,
     );
-    let closed = close_run::<H, ShardMachine<S, L, LogGate<H::Disk>>>(
+    let closed = close_run::<H, LeanMachine<ShardMachine<S, L, LogGate<H::Disk>>>>(
         alloc, house, shards, walkers, room,
     );
     let Closed {

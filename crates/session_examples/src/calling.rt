@@ -17,6 +17,7 @@ use cluster_turns::{
     remind_once,
 };
 use io_model::{House, Pace};
+use lean_machine::LeanMachine;
 use lock_table::Locks;
 use log_gate::LogGate;
 use machine_calls::Flier;
@@ -137,7 +138,7 @@ pub fn open_call_close<S: Store + Drop, L: Locks + Drop, R: Wait, H: House, P: P
         found,
     } = opened;
     let (answers, quiet) = call_and_look(rt, alloc, &shards, pace, &mut walkers, calls, answers);
-    let left = close_all::<H, ShardMachine<S, L, LogGate<H::Disk>>>(
+    let left = close_all::<H, LeanMachine<ShardMachine<S, L, LogGate<H::Disk>>>>(
         alloc, house, shards, walkers, room, found,
     );
     Ok((answers, quiet, left))

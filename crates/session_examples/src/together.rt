@@ -16,6 +16,7 @@ use cluster_opening::OpenError;
 use cluster_runs::{Opened, open_all};
 use cluster_turns::{Home, Shards, Walker, drain};
 use io_model::{House, Pace};
+use lean_machine::LeanMachine;
 use lock_table::Locks;
 use log_gate::LogGate;
 use machine_calls::Flier;
@@ -296,7 +297,7 @@ where
         often,
         tries,
     );
-    let left = close_all::<H, ShardMachine<S, L, LogGate<H::Disk>>>(
+    let left = close_all::<H, LeanMachine<ShardMachine<S, L, LogGate<H::Disk>>>>(
         alloc, house, shards, walkers, room, found,
     );
     Ok((moved, left))

@@ -14,6 +14,7 @@ use cluster_opening::OpenError;
 use cluster_runs::{Opened, open_all};
 use cluster_turns::{Shards, Walker};
 use io_model::{House, Pace};
+use lean_machine::LeanMachine;
 use lock_table::Locks;
 use log_gate::LogGate;
 use machine_calls::Flier;
@@ -93,7 +94,7 @@ pub fn open_transfer_close<S: Store + Drop, L: Locks + Drop, R: Wait, H: House, 
         amount,
         tries,
     );
-    let left = close_all::<H, ShardMachine<S, L, LogGate<H::Disk>>>(
+    let left = close_all::<H, LeanMachine<ShardMachine<S, L, LogGate<H::Disk>>>>(
         alloc, house, shards, walkers, room, found,
     );
     Ok((transferred, left))

@@ -1,5 +1,0 @@
-use Rattle.ended_laws.proofs.Worked.{an_ended_commit_is_over}
-use Rattle.ended_laws.proofs.examples.an_ended_commit_is_over.Goals as goal
-
-pub returns : goal.returns
-returns c = an_ended_commit_is_over

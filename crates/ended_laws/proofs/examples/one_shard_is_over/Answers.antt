@@ -1,5 +1,0 @@
-use Rattle.ended_laws.proofs.examples.one_shard_is_over.Goals as goal
-use Rattle.ended_laws.proofs.Worked.{one_shard_is_over}
-
-pub returns : goal.returns
-returns c = one_shard_is_over
