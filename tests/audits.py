@@ -172,13 +172,13 @@ def update(transaction, key, before, after):
 
 def stores(program):
     """Logs, with the status and the line of an audit of one put."""
-    closed = WORKED[:38] + b"\0" + WORKED[39:]
+    closed = WORKED[:46] + b"\0" + WORKED[47:]
     done = [RESTART, update(FIRST, 5, None, 10), ("COMMIT", FIRST, ())]
     part = [RESTART, update(SECOND, 11, None, 1), ("PREPARE", SECOND, 0, ())]
     return [
         ("a torn tail", [WORKED + b"\1\2\3"], 0, "yes 1"),
         ("a closed gate before the batch", [closed], 12, "no: key 5"),
-        ("cut in the batch", [WORKED[:60]], 7, "shard 0: not a log at byte 39"),
+        ("cut in the batch", [WORKED[:68]], 7, "shard 0: not a log at byte 47"),
         ("an empty file", [b""], 7, "shard 0: not a log at byte 0"),
         ("no file", [], 7, "shard 0: not a log at byte 0"),
         ("the last run", [logs.log(0, [], [[("RESTART", 4294967295, 0)]])], 12, "no: key 5"),

@@ -4,9 +4,9 @@
 For scripts on one, two and three shards: one run in which a call fails, one in which all later ones fail too, and one that ends in its place; calls
 that are interrupted, that move less than they were asked to, that find no room; all disks from a call on. Then the same of `make`, of the standard
 streams and of threads, and a write that fails in a run of `load`, which tries its transfers without end. One shard fails for ever, at one write after
-the other: sessions that work on another one alone go on to their ends. Cases at random: sessions that meet on three shards, with one such fault. And each call of an audit fails in its turn.
+the other: sessions that work on another one alone go on to their ends. Cases at random: sessions that meet on three shards, with one such fault. And each call of an audit, and of a standby, fails in its turn.
 
-What must hold after each run over logs, where three images of what a crash may leave are made from the calls that it made:
+What must hold after each run over logs, where four images of what a crash may leave are made from the calls that it made:
 
 - it ends, with status 6 exactly where a call failed, which tells the lowest shard of which one did, and else with status 0;
 - where it opened the logs it wrote a report, whose transactions are a serial run from what stood before;
@@ -168,14 +168,17 @@ SCRIPTS = [
     ("savepoints", (10,), FILLING, SAVEPOINTS),
 ]
 
-# What ONE_PUT reports where its Nth call of a kind fails, and what may stand then.
+# What ONE_PUT reports where the Nth call of a kind on a file of its log fails, and what may stand then.
 DONE = '{"ops":[["put",5,10,null]],"serial":1,"session":1}\n{"aborted":0,"acknowledged":1,"unsettled":0}\n'
 UNSETTLED = '{"aborted":0,"acknowledged":0,"unsettled":1}\n'
 NOTHING, EITHER = {""}, {"", "[5,10]\n"}
 UNOPENED = {"open": 1, "lock": 1, "len": 2, "read": 2, "write": 2, "sync": 3}
-WORKED = {(kind, number): ("", NOTHING) for kind, most in UNOPENED.items() for number in range(1, most + 1)}
-WORKED |= {("write", 3): (UNSETTLED, NOTHING), ("sync", 4): (UNSETTLED, NOTHING)}
-WORKED |= {("write", 4): (UNSETTLED, EITHER), ("sync", 5): (UNSETTLED, EITHER)}
+UNOPENED_BESIDE = {"open": 1, "lock": 1, "len": 2, "sync": 1}
+LOG, BESIDE = faults.names(0)
+WORKED = {(kind, LOG, number): ("", NOTHING) for kind, most in UNOPENED.items() for number in range(1, most + 1)}
+WORKED |= {(kind, BESIDE, number): ("", NOTHING) for kind, most in UNOPENED_BESIDE.items() for number in range(1, most + 1)}
+WORKED |= {("write", LOG, 3): (UNSETTLED, NOTHING), ("sync", LOG, 4): (UNSETTLED, NOTHING)}
+WORKED |= {("write", LOG, 4): (UNSETTLED, EITHER), ("sync", LOG, 5): (UNSETTLED, EITHER)}
 
 # Errors of a call, with what more is told of it.
 ODD_ERRORS = [(errno.EINTR, ""), (errno.EAGAIN, ""), (errno.ENOSPC, ""), (errno.EINTR, ":short"), (errno.ENOSPC, ":half")]
@@ -190,7 +193,7 @@ def has_failed(call):
 
 def expected(trace):
     """The status and the text of a run that made these calls."""
-    down = [it.shard() for it in trace.calls if it.log and has_failed(it)]
+    down = [it.shard() for it in trace.calls if has_failed(it)]
     return (6, f"disk fault on shard {min(down)}\n") if down else (0, "")
 
 
@@ -290,12 +293,13 @@ class Trial:
 # Each call, one after the other.
 
 
-def is_worked(trial, title, kind, number, got, shown):
+def is_worked(trial, title, call, got, shown):
     """ONE_PUT, of which this call failed, has told and left what was worked out by hand."""
-    text, may_stand = WORKED.get((kind, number), (DONE, {"[5,10]\n"}))
-    trial.check(f"{title}: {kind} {number}: output", got.out == text, (got, text))
-    is_right = shown <= may_stand and (shown == EITHER or (kind, number) != ("sync", 5))
-    trial.check(f"{title}: {kind} {number}: what stands", is_right, (shown, may_stand))
+    text, may_stand = WORKED.get(call, (DONE, {"[5,10]\n"}))
+    name = " ".join(map(str, call))
+    trial.check(f"{title}: {name}: output", got.out == text, (got, text))
+    is_right = shown <= may_stand and (shown == EITHER or call != ("sync", LOG, 5))
+    trial.check(f"{title}: {name}: what stands", is_right, (shown, may_stand))
 
 
 def fails(trial, title, counts):
@@ -304,7 +308,7 @@ def fails(trial, title, counts):
         for number in range(1, most + 2):
             got, shown, _ = trial.run(title, call=f"{kind}@{log}:{number}:{errno.EIO}")
             if trial.script == ONE_PUT:
-                is_worked(trial, title, kind, number, got, shown)
+                is_worked(trial, title, (kind, log, number), got, shown)
             trial.run(title, call=f"{kind}@{log}:{number}:{errno.EIO}:on")
 
 
@@ -359,11 +363,11 @@ def fails_to_make(checks, library, folder, kind, number):
     if not trace.faults:
         checks.check(f"{name}: none fails", got.is_fine(), got)
         return False
-    shard = [it for it in trace.calls if it.log][-1].shard()
+    shard = trace.calls[-1].shard()
     checks.check(name, got.is_refused(6, f"disk fault on shard {shard}"), got)
     filled = [it for it, data in enumerate(folder.logs()) if data]
     again = folder.run("make", "10")
-    is_right = again.is_refused(10, f"shard {filled[0]}: length 29, not 0") if filled else again.is_fine()
+    is_right = again.is_refused(10, f"shard {filled[0]}: length 37, not 0") if filled else again.is_fine()
     checks.check(f"{name}: again", is_right, (again, filled))
     return True
 
@@ -397,6 +401,27 @@ def audits(checks, library, program):
                 is_kept = folder.logs() == files and all(it.kind != "write" for it in trace.calls)
                 checks.check(f"audit: {kind} {number}: no log was written", is_kept, folder.logs())
             checks.check(f"audit: calls of the kind {kind}", (number > 1) == (kind != "write"), number)
+
+
+def standbys(checks, library, program):
+    """Each call of `standby` fails in its turn. It makes none that writes to a log."""
+    with Folder(program) as folder:
+        folder.run("make", "10")
+        folder.run("run", script=TWO_SHARDS)
+        files = folder.logs()
+        plain = folder.run("standby", "9", "4")
+        checks.check("standby: it shows", plain.is_fine() and plain.out != "", plain)
+        for kind in ("open", "lock", "len", "read", "sync", "write"):
+            number, is_made = 0, True
+            while is_made:
+                number += 1
+                got, trace = library.run(folder, "standby", "9", "4", call=f"{kind}:{number}:{errno.EIO}")
+                is_made = bool(trace.faults)
+                want = (*expected(trace), "" if is_made else plain.out)
+                checks.check(f"standby: {kind} {number}", (got.status, got.err, got.out) == want, (got, want))
+                is_kept = folder.logs() == files and all(it.kind != "write" for it in trace.calls)
+                checks.check(f"standby: {kind} {number}: no log was written", is_kept, folder.logs())
+            checks.check(f"standby: calls of the kind {kind}", (number > 1) == (kind != "write"), number)
 
 
 # What is to fail of a stream, the status and the text.
@@ -522,6 +547,7 @@ def main():
         if library and told.sweeps and told.only is None:
             makes(checks, library, told.program)
             audits(checks, library, told.program)
+            standbys(checks, library, told.program)
             streams(checks, library, told.program)
             others_go_on(checks, library, told.program)
             loads(checks, library, told.program)

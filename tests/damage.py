@@ -5,10 +5,11 @@ Each image is opened with a bound on memory and on time. The status and the text
 file has changed then; where there is no fault, the output is what the logs stand for, and the logs have grown by what an opening adds alone: ABORTs
 and CLRs of what it undoes, a RESTART, and decisions on what was in doubt; they may be opened again, and stand for the same.
 
-There are rows by hand; each cut and some changes of each byte of two small stores; and cases at random: logs that a run left, with some bytes
-changed, and records that keep the order rules, with one of them changed now and then.
+There are rows by hand; each cut and some changes of each byte of some small stores, of both versions and on both files of a shard; and cases at
+random: logs that a run left, with some bytes changed, and records that keep the order rules, with one of them changed now and then.
 """
 
+import itertools
 import resource
 import struct
 
@@ -35,8 +36,13 @@ def expected(files):
         return fault, None
 
 
+def sides_of(files):
+    """The bytes of both files of a shard."""
+    return files if isinstance(files, tuple) else (files or b"", b"")
+
+
 def hexadecimal(files):
-    return "\n".join("no file" if it is None else it.hex() for it in files)
+    return "\n".join(" and ".join(side.hex() or "no file" for side in sides_of(it)) for it in files)
 
 
 def undone(facts):
@@ -78,14 +84,15 @@ def wrong_after(before, after, pairs):
 
 def is_unchanged(files, found):
     """Whether no file has changed. One that was missing may be there, without bytes."""
-    wanted = [it or b"" for it in files]
-    return found[: len(wanted)] == wanted[: len(found)] and not any(wanted[len(found) :]) and not any(found[len(wanted) :])
+    wanted, found = list(map(sides_of, files)), list(map(sides_of, found))
+    none = (b"", b"")
+    return all(one == other for one, other in itertools.zip_longest(wanted, found, fillvalue=none))
 
 
 def judge(checks, folder, name, files, case=None):
     fault, pairs = expected(files)
     folder.put(files)
-    space = SPACE + SPACE_OF_BYTE * sum(len(it) for it in files if it)
+    space = SPACE + SPACE_OF_BYTE * sum(len(side) for it in files for side in sides_of(it))
     got = folder.run("show", limits=[(resource.RLIMIT_AS, space)], seconds=SECONDS)
     if fault:
         is_right = got.is_refused(fault.status, fault.text) and is_unchanged(files, folder.logs())
@@ -219,7 +226,7 @@ def commits_what_its_home_committed(checks, folder):
 def refuses_counts(checks, folder):
     """Numbers that promise more than there is or may be."""
     head, begin = logs.header(0, []), logs.spell(RESTART) + logs.spell(update(FIRST, 5, None, 1))
-    place = 25 + len(begin)
+    place = 33 + len(begin)
     listed = tuple((1, 1, it) for it in range(2, 1027))
     refused_at(checks, folder, "a PREPARE that lists 1025", head + logs.batch(begin + logs.spell(("PREPARE", FIRST, 0, listed))) + b"\0", place)
     for count in (16, 17, 0xFFFFFFFF):
@@ -227,10 +234,12 @@ def refuses_counts(checks, folder):
         refused_at(checks, folder, f"a COMMIT of {count} parts", head + logs.batch(begin + commit) + b"\0", place)
     for length in (0, logs.LONGEST_BATCH + 1, 1 << 31, 0xFFFFFFFF):
         bad = b"\1" + struct.pack("<I", length) + bytes(2048)
-        refused_at(checks, folder, f"a batch of {length} bytes", head + bad, 21)
-        refused_at(checks, folder, f"a second batch of {length} bytes", head + logs.batch(logs.spell(RESTART)) + bad, 39)
+        refused_at(checks, folder, f"a batch of {length} bytes", head + bad, 29)
+        refused_at(checks, folder, f"a second batch of {length} bytes", head + logs.batch(logs.spell(RESTART)) + bad, 47)
     for count in (0, 17, 0xFFFFFFFF):
-        refused_at(checks, folder, f"a header of {count} shards", b"CLVLOG01" + struct.pack("<III", 1, 0, count) + bytes(999), 16)
+        for version, magic in logs.MAGICS.items():
+            front = magic + struct.pack("<III", version, 0, count)
+            refused_at(checks, folder, f"a header of version {version}, of {count} shards", front + bytes(999), 16)
 
 
 def reads_the_longest_batch(checks, folder):
@@ -244,12 +253,44 @@ def reads_the_longest_batch(checks, folder):
     body = b"".join(map(logs.spell, records))
     # One UPDATE more than has room: cut, it ends where its last record has no spelling.
     more = body + logs.spell(update(FIRST, len(records), None, 1)) * 2
-    place = 25 + len(body) + 35 * ((most - len(body)) // 35)
+    place = 33 + len(body) + 35 * ((most - len(body)) // 35)
     refused_at(checks, folder, "a batch that is cut in a record", head + logs.batch(more[:most]) + b"\0", place)
-    refused_at(checks, folder, "a batch that is one byte too long", head + logs.batch(more[: most + 1]) + b"\0", 21)
+    refused_at(checks, folder, "a batch that is one byte too long", head + logs.batch(more[: most + 1]) + b"\0", 29)
     folder.put([head + logs.batch(body + commit) + b"\0"])
     got = folder.run("show")
     checks.check("a batch that is nearly full", got.is_fine() and got.out.count("\n") == len(records) - 1, got)
+
+
+def chooses_a_side(checks, folder):
+    """Of both files the one with the newer generation is the log; generations go round."""
+    last, old = logs.LAST_GENERATION, [[RESTART]]
+    new = [[RESTART], [update(FIRST, 5, None, 1), ("COMMIT", FIRST, ())]]
+    generations = ((1, 2), (7, 9), (last - 1, last), (last, 1))
+    for older, newer in generations:
+        sides = logs.log(0, [], old, older), logs.log(0, [], new, newer)
+        for name, files in (("second", sides), ("first", sides[::-1])):
+            judge(checks, folder, f"generations {older} and {newer}, the {name} file", [files])
+            checks.check(f"generations {older} and {newer}, the {name} file: by logs.py", expected([files])[1] == {5: 1})
+    first, other = logs.log(0, [], new), logs.log(0, [], old, 2)
+    rows = {
+        "the second file alone": (b"", first),
+        "a first file that isn't in use": (first[:27], first),
+        "a second file that isn't in use": (first, b"\0" + other[1:]),
+        "version 1, and whatever stands beside it": (logs.log(0, [], new, 0), other),
+    }
+    for name, files in rows.items():
+        judge(checks, folder, name, [files])
+        checks.check(f"{name}: by logs.py", expected([files])[1] == {5: 1})
+    refused_at(checks, folder, "two files of one generation", (first, first), 0)
+    refused_at(checks, folder, "a second file of version 1", (first, logs.log(0, [], old, 0)), 0)
+    refused_at(checks, folder, "no file in use", (b"C", b"\0" * 99), 0)
+    refused_at(checks, folder, "a second file of another shard", (first, logs.log(1, [], old, 2)), 12)
+    refused_at(checks, folder, "a second file of more shards", (first, logs.log(0, [10], old, 2)), 16)
+    refused_at(checks, folder, "no generation", logs.header(0, [])[:20] + bytes(9), 20)
+    both = [logs.log(0, [10], old), (logs.log(1, [10], old), logs.log(1, [11], old, 2))]
+    folder.put(both)
+    got = folder.run("show")
+    checks.check("other splits on a second file", got.is_refused(7, "shard 1: not a log at byte 20") and expected(both)[0].text == got.err[:-1], got)
 
 
 def misses_a_file(checks, folder):
@@ -259,7 +300,7 @@ def misses_a_file(checks, folder):
 
 
 def rows(checks, program):
-    for row in (undoes_doubt_over_a_loser, takes_sums_apart, takes_back, took_all_back_elsewhere, commits_what_its_home_committed, refuses_counts, reads_the_longest_batch, misses_a_file):
+    for row in (undoes_doubt_over_a_loser, takes_sums_apart, takes_back, took_all_back_elsewhere, commits_what_its_home_committed, refuses_counts, reads_the_longest_batch, chooses_a_side, misses_a_file):
         with Folder(program) as folder:
             row(checks, folder)
 
@@ -267,12 +308,18 @@ def rows(checks, program):
 # Each cut, and some changes of each byte.
 
 
+def small_store(splits, generation):
+    home = [[RESTART], [update(FIRST, 1, None, 1), ("PREPARE", FIRST, 0, ()), ("COMMIT", FIRST, (1,) if splits else ())]]
+    part = [[RESTART], [update(FIRST, 11, None, 1), ("PREPARE", FIRST, 0, ())]]
+    return [logs.log(0, splits, home, generation)] + [logs.log(1, splits, part, generation) for _ in splits]
+
+
 def small_stores():
-    """A store of one shard, and one of two with a transaction that is committed at home and in doubt on the other shard."""
-    for splits in ([], [10]):
-        home = [[RESTART], [update(FIRST, 1, None, 1), ("PREPARE", FIRST, 0, ()), ("COMMIT", FIRST, (1,) if splits else ())]]
-        part = [[RESTART], [update(FIRST, 11, None, 1), ("PREPARE", FIRST, 0, ())]]
-        yield [logs.log(0, splits, home)] + [logs.log(1, splits, part) for _ in splits]
+    """Of one shard, and of two with a transaction that is committed at home and in doubt on the other shard; of version 1; and on both files."""
+    yield from (small_store(splits, generation) for splits in ([], [10]) for generation in (1, 0))
+    old, new = logs.log(0, [], [[RESTART]], 1), *small_store([], 2)
+    yield [(old, new)]
+    yield [(new, old)]
 
 
 def changes_of(data):
@@ -284,13 +331,24 @@ def changes_of(data):
             yield f"with byte {place} {other}", data[:place] + bytes([other]) + data[place + 1 :]
 
 
+def changes_of_files(files):
+    """One of the files of a shard is changed."""
+    if not isinstance(files, tuple):
+        yield from changes_of(files)
+        return
+    for name, changed in changes_of(files[0]):
+        yield f"first file {name}", (changed, files[1])
+    for name, changed in changes_of(files[1]):
+        yield f"second file {name}", (files[0], changed)
+
+
 def sweeps(checks, program):
     with Folder(program) as folder:
-        for files in small_stores():
+        for number, files in enumerate(small_stores()):
             for shard, data in enumerate(files):
-                for name, changed in changes_of(data):
+                for name, changed in changes_of_files(data):
                     image = [changed if it == shard else other for it, other in enumerate(files)]
-                    judge(checks, folder, f"{len(files)} shards, shard {shard} {name}", image)
+                    judge(checks, folder, f"store {number}, shard {shard} {name}", image)
 
 
 # Bytes at random.
@@ -347,20 +405,37 @@ def closes_a_gate(_numbers, data):
 CHANGES = (flips, flips, flips, cuts, puts_in, leaves_out, promises, doubles, adds, closes_a_gate)
 
 
+def change_one(numbers, change, files):
+    """One of the files of a shard is changed, if it has bytes."""
+    sides = list(sides_of(files))
+    side = numbers.randrange(2) if sides[1] else 0
+    sides[side] = change(numbers, sides[side]) if sides[side] else sides[side]
+    return tuple(sides)
+
+
+def beside(numbers, files, other):
+    """Something stands on the second file: what isn't in use, another store's log, or this one's, with whatever stands there for a generation."""
+    log, place = sides_of(files)[0], numbers.randrange(16, 60)
+    newer = log[:place] + struct.pack("<Q", numbers.choice((1, 2, logs.LAST_GENERATION))) + log[place + 8 :]
+    return log, numbers.choice((b"", some_bytes(numbers, 99), sides_of(other)[0], newer, newer))
+
+
 def change_files(numbers, files, others):
-    """One file changed, two exchanged, or one taken from another store."""
+    """One file changed, two exchanged, one taken from another store, or a second file beside a first one."""
     files, shard = list(files), numbers.randrange(len(files))
-    how = numbers.randrange(len(CHANGES) + 3)
+    how = numbers.randrange(len(CHANGES) + 5)
     if how < len(CHANGES):
-        files[shard] = CHANGES[how](numbers, files[shard]) if files[shard] else files[shard]
+        files[shard] = change_one(numbers, CHANGES[how], files[shard])
     elif how == len(CHANGES):
         other = numbers.randrange(len(files))
         files[shard], files[other] = files[other], files[shard]
     elif how == len(CHANGES) + 1:
         files[shard] = others[shard]
+    elif how == len(CHANGES) + 2:
+        head = 20 + 8 * len(files)
+        files[shard] = sides_of(files[shard - 1])[0][:head] + sides_of(files[shard])[0][head:]
     else:
-        head = 12 + 8 * len(files)
-        files[shard] = files[shard - 1][:head] + files[shard][head:]
+        files[shard] = beside(numbers, files[shard], others[shard])
     return files
 
 
@@ -486,6 +561,18 @@ def damaged_runs(numbers, program, splits, keys):
         yield changed
 
 
+def on_a_side(numbers, shard, splits, batches):
+    """The files of a shard with this log: of version 1, or of version 2 on either file, beside one that is older or isn't in use."""
+    generation = numbers.choice((0, 1, 2, logs.LAST_GENERATION))
+    log = logs.log(shard, splits, batches, generation)
+    if generation == 0:
+        return log, numbers.choice((b"", some_bytes(numbers, 99), logs.log(shard, splits, [], 3)))
+    older = logs.LAST_GENERATION if generation == 1 else generation - 1
+    unused = b"", b"\0" + log[1:], log[:27]
+    sides = [log, numbers.choice((*unused, logs.log(shard, splits, batches[:1], older)))]
+    return tuple(sides if numbers.randrange(2) else sides[::-1])
+
+
 def records_in_order(numbers, splits, keys):
     """Logs of records at random; one record in four logs is changed."""
     shards = len(splits) + 1
@@ -496,7 +583,7 @@ def records_in_order(numbers, splits, keys):
             records = records_at(numbers, shard, shards, own)
             if numbers.random() < 0.25:
                 records = change_records(numbers, records)
-            files.append(logs.log(shard, splits, batches_at(numbers, records)))
+            files.append(on_a_side(numbers, shard, splits, batches_at(numbers, records)))
         yield files
 
 

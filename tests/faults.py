@@ -7,20 +7,26 @@ import subprocess
 SOURCE = os.path.join(os.path.dirname(os.path.abspath(__file__)), "faults.c")
 # What a run ends with that the library stopped.
 STOPPED = 137
-# What a crash leaves of bytes that weren't synced: as they were before, as they were written, or this byte.
-CHOICES = ("before", "written", 255)
+# What a crash leaves of bytes that weren't synced: as they were before, as they were written, or this byte. A log begins with 67.
+CHOICES = ("before", "written", 255, 67)
+
+
+def names(shard):
+    """The files of a shard."""
+    return f"shard-{shard:02}.log", f"shard-{shard:02}.alt"
 
 
 class Call:
-    """A call on a log, as a line of the trace tells it."""
+    """A call on a log, as a line of the trace tells it. The folder is synced for the file that was opened last."""
 
     def __init__(self, line):
         self.kind, *self.words = line.split()
         self.error = int(self.words[-1])
         self.log = None if self.kind == "folder" else self.words[0]
+        self.opened = self.log
 
     def shard(self):
-        return int(self.log[6:8])
+        return int(self.opened[6:8])
 
 
 class Trace:
@@ -28,6 +34,8 @@ class Trace:
 
     def __init__(self, lines):
         self.calls = [Call(it) for it in lines if it != "stop" and not it.startswith("fault ")]
+        for before, call in zip(self.calls, self.calls[1:]):
+            call.opened = call.log or before.log
         self.faults = [it.split()[1] for it in lines if it.startswith("fault ")]
 
     def counts(self):
@@ -78,44 +86,51 @@ def built(checks, place):
 
 
 class Disks:
-    """The bytes of the logs as a trace tells them: as a read gives them, as they were synced last, and the places of those that aren't synced."""
+    """The bytes of all files of logs as a trace tells them: as a read gives them, as they were synced last, and the places of those that aren't synced."""
 
-    def __init__(self, files, trace):
-        self.now = [bytearray(it) for it in files]
-        self.synced = [bytes(it) for it in files]
-        self.loose = [set() for _ in files]
+    def __init__(self, logs, trace):
+        self.shards = len(logs)
+        start = {name: data for shard, one in enumerate(logs) for name, data in zip(names(shard), one if isinstance(one, tuple) else (one, b""))}
+        self.now = {name: bytearray(data) for name, data in start.items()}
+        self.synced = {name: bytes(data) for name, data in start.items()}
+        self.loose = {name: set() for name in start}
         for call in trace.calls:
             if call.kind == "write":
                 self.write(call)
             elif call.kind == "sync" and call.error == 0:
-                self.synced[call.shard()], self.loose[call.shard()] = bytes(self.now[call.shard()]), set()
+                self.synced[call.log], self.loose[call.log] = bytes(self.now[call.log]), set()
 
     def write(self, call):
         """After a write that failed a crash may leave anything where it was to write."""
-        shard, at, data = call.shard(), int(call.words[1]), bytes.fromhex(call.words[2])
-        self.loose[shard] |= set(range(at, at + len(data)))
+        at, data = int(call.words[1]), bytes.fromhex(call.words[2])
+        self.loose[call.log] |= set(range(at, at + len(data)))
         if call.error == 0:
-            now = self.now[shard]
+            now = self.now[call.log]
             now.extend(bytes(max(0, at - len(now))))
             now[at : at + len(data)] = data
 
-    def read(self):
-        return [bytes(it) for it in self.now]
+    def logs(self, files):
+        """The logs by shard, as a folder tells them: of the first file alone, or of both, where the second one has bytes."""
+        found = [tuple(bytes(files[name]) for name in names(shard)) for shard in range(self.shards)]
+        return [it if it[1] else it[0] for it in found]
 
-    def byte(self, shard, place, choice):
-        synced = self.synced[shard]
+    def read(self):
+        return self.logs(self.now)
+
+    def byte(self, name, place, choice):
+        synced = self.synced[name]
         if choice == "before":
             return synced[place] if place < len(synced) else 0
-        return self.now[shard][place] if choice == "written" else choice
+        return self.now[name][place] if choice == "written" else choice
 
     def image(self, choice):
         """What a crash leaves of all logs."""
-        files = [bytearray(it) for it in self.now]
-        for shard, data in enumerate(files):
-            for place in self.loose[shard]:
+        files = {name: bytearray(it) for name, it in self.now.items()}
+        for name, data in files.items():
+            for place in self.loose[name]:
                 if place < len(data):
-                    data[place] = self.byte(shard, place, choice)
-        return [bytes(it) for it in files]
+                    data[place] = self.byte(name, place, choice)
+        return self.logs(files)
 
     def images(self):
         """The images by all choices, each once, with their choices."""

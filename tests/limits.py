@@ -195,6 +195,9 @@ LINES = [
     ("$P audit < .", 4, "read fault\n"),
     ("$P audit < /dev/null", 3, "script line 1\n"),
     ("head -c 20000000 /dev/zero | $P audit", 3, "script line 0\n"),
+    ("$P run < script > /dev/null; $P standby <&-", 0, ""),
+    ("$P run < script > /dev/null; $P standby >&-", 5, "write fault\n"),
+    ("$P run < script > /dev/null; $P standby > /dev/full", 5, "write fault\n"),
 ]
 
 

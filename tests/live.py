@@ -126,7 +126,7 @@ def words(checks, program):
     with Folder(program) as folder:
         for given in ("serve --sessions 0", "serve --sessions 65", "serve --sessions x", "serve 3", "serve --sessions"):
             got = folder.run(*given.split())
-            checks.check(given, got.status == 2 and got.out == "" and got.err.startswith("usage: ") and got.err.endswith("| serve [--sessions N] | audit\n"), got)
+            checks.check(given, got.status == 2 and got.out == "" and got.err.startswith("usage: ") and got.err.endswith("| serve [--sessions N] | audit | standby [N]..\n"), got)
         got = folder.run("serve", script=b"1 begin\n")
         checks.check("no logs", got.is_refused(7, "shard 0: not a log at byte 0"), got)
         folder.run("make")

@@ -367,8 +367,18 @@ TEXTS = [
 ]
 
 
+# A text is made on one thread while others go on: by turns of luck no allocation of one sweep is a text's. So often a sweep is tried before that is a fault.
+SWEEPS = 20
+
+
 def texts(trial, step):
-    """Each allocation from the first answer on finds no memory, while lines put texts and what is none."""
+    """Lines put texts and what is none while memory is wanting: each answer is one that its line may have, and some text finds none."""
+    refused = any(sweep(trial, step) for _ in range(SWEEPS))
+    trial.checks.check("some text found no memory", refused, refused)
+
+
+def sweep(trial, step):
+    """Each allocation from the first answer on finds no memory. How many runs told that a text found none."""
     script = "".join(f"{line}\n" for line, _ in TEXTS).encode()
     number, quiet, refused, is_near = 1, 0, 0, step == 1
     while quiet < QUIET:
@@ -382,7 +392,7 @@ def texts(trial, step):
             has_ended = has_ended or answer == MEMORY
         quiet = 0 if "alloc" in trace.faults else quiet + 1
         number += 1 if is_near else step
-    trial.checks.check("some text found no memory", refused, refused)
+    return refused
 
 
 def bounds(trial, step):

@@ -29,7 +29,7 @@ SPLITS = ("10", "20")
 FILLING = b"session\nbegin\nput 1 1\nput 11 2\nput 21 3\ncommit\n"
 ACCOUNTS, SESSIONS, TRANSFERS = 100, 4, 300
 LOAD = f"load --seed 1 --sessions {SESSIONS} --accounts {ACCOUNTS} --transfers {TRANSFERS}".split()
-COMMANDS = [("run",), ("show",), ("audit",), ("load", "--seed", "1", "--sessions", "1", "--accounts", "4", "--transfers", "1")]
+COMMANDS = [("run",), ("show",), ("audit",), ("standby",), ("load", "--seed", "1", "--sessions", "1", "--accounts", "4", "--transfers", "1")]
 SECONDS = 60
 # How much the logs have grown by, at least, when a run is stopped: more than the first transaction of `load` and an opening make.
 GROWTH = 20000

@@ -2,6 +2,7 @@
 
 Written from docs/FORMAT.md and the rules of logs in docs/PROTOCOL.md, it shares no code with the program; tests compare the program with it.
 A record is a tuple of its kind and its fields, as docs/FORMAT.md has them, with None for none; a transaction is (run, session, serial).
+A shard's files are the bytes of both, or those of the first one alone, where the second one is empty or missing.
 """
 
 import json
@@ -13,6 +14,8 @@ LONGEST_TEXT = 200
 MOST_SHARDS, MOST_PARTS, MOST_PREDECESSORS, MOST_SESSIONS = 16, 15, 1024, 64
 LAST_RUN = (1 << 32) - 1
 NO_UNDO = BEYOND - 1
+LAST_GENERATION = BEYOND - 1
+MAGICS = {1: b"CLVLOG01", 2: b"CLVLOG02"}
 KINDS = ("UPDATE", "CLR", "PREPARE", "COMMIT", "ABORT", "END", "RESTART", "ADD", "UNADD")
 
 
@@ -76,8 +79,11 @@ def spell(record):
     return byte + spell_transaction(record[1]) + spell_fields(kind, record[2:])
 
 
-def header(shard, splits):
-    return b"CLVLOG01" + struct.pack(f"<III{len(splits)}Q", 1, shard, len(splits) + 1, *splits)
+def header(shard, splits, generation=1):
+    """Generation 0 stands for version 1, which has none."""
+    version = 2 if generation else 1
+    fields = MAGICS[version] + struct.pack(f"<III{len(splits)}Q", version, shard, len(splits) + 1, *splits)
+    return fields + struct.pack("<Q", generation) if generation else fields
 
 
 def batch(payload):
@@ -85,9 +91,9 @@ def batch(payload):
     return b"\1" + struct.pack("<I", len(payload)) + payload
 
 
-def log(shard, splits, batches):
+def log(shard, splits, batches, generation=1):
     """The bytes of a log with these batches of records."""
-    return header(shard, splits) + b"".join(batch(b"".join(map(spell, records))) for records in batches) + b"\0"
+    return header(shard, splits, generation) + b"".join(batch(b"".join(map(spell, records))) for records in batches) + b"\0"
 
 
 # How they are read.
@@ -200,9 +206,9 @@ def number_at(data, shard, place, size):
     return int.from_bytes(data[place : place + size], "little")
 
 
-def read_header(data, shard, agreed):
-    """The splits in the header. `agreed` are those of shard 0; None for shard 0 itself."""
-    for place, want in ((0, b"CLVLOG01"), (8, struct.pack("<I", 1)), (12, struct.pack("<I", shard))):
+def read_header(data, version, shard, agreed):
+    """The splits in the header, and the generation, 0 in version 1. `agreed` are the splits of shard 0; None for shard 0 itself."""
+    for place, want in ((0, MAGICS[version]), (8, struct.pack("<I", version)), (12, struct.pack("<I", shard))):
         if data[place : place + len(want)] != want:
             raise at_byte(shard, place)
     count = number_at(data, shard, 16, 4)
@@ -215,7 +221,38 @@ def read_header(data, shard, agreed):
         if (splits and split <= splits[-1]) or (agreed is not None and split != agreed[number]):
             raise at_byte(shard, place)
         splits.append(split)
-    return splits
+    if version == 1:
+        return splits, 0
+    generation = number_at(data, shard, 20 + 8 * len(splits), 8)
+    if generation == 0:
+        raise at_byte(shard, 20 + 8 * len(splits))
+    return splits, generation
+
+
+def is_in_use(side):
+    return side[:1] == b"C" and len(side) >= 28
+
+
+def is_newer(one, other):
+    """Generations go round: behind the greatest comes 1."""
+    ends = {1, LAST_GENERATION}
+    return one < other if {one, other} == ends else one > other
+
+
+def chosen(sides, shard, agreed):
+    """Of both files the one that is the log, its splits, and where its header ends. Version 1 stands in the first file, whatever the second one holds."""
+    if sides[0][:8] == MAGICS[1]:
+        splits, _ = read_header(sides[0], 1, shard, agreed)
+        return sides[0], splits, 20 + 8 * len(splits)
+    found = []
+    for side in filter(is_in_use, sides):
+        found.append((side, *read_header(side, 2, shard, found[0][1] if found else agreed)))
+    generations = [it[2] for it in found]
+    if len(set(generations)) != len(found) or not found:
+        raise at_byte(shard, 0)
+    newer = 1 if len(found) == 2 and is_newer(generations[1], generations[0]) else 0
+    side, splits, _ = found[newer]
+    return side, splits, 28 + 8 * len(splits)
 
 
 def read_batch(data, shard, splits, place, end):
@@ -234,10 +271,10 @@ def read_batch(data, shard, splits, place, end):
     return records
 
 
-def read_log(data, shard, agreed):
-    """The splits and the batches of records of one file. `agreed` are the splits of shard 0; None for shard 0 itself."""
-    splits = read_header(data, shard, agreed)
-    place, batches = 20 + 8 * len(splits), []
+def read_log(files, shard, agreed):
+    """The splits and the batches of records of a shard's files. `agreed` are the splits of shard 0; None for shard 0 itself."""
+    data, splits, place = chosen(files if isinstance(files, tuple) else (files, b""), shard, agreed)
+    batches = []
     while number_at(data, shard, place, 1) == 1:
         length = number_at(data, shard, place + 1, 4)
         end = place + 5 + length

@@ -101,6 +101,8 @@ COMMANDS = [
     ("audit", (10, 20), ONE_PUT, ("audit",), DONE.encode()),
     ("an audit that says no", (10, 20), SPREAD, ("audit",), DONE.encode()),
     ("an audit of no report", (10,), ONE_PUT, ("audit",), b"[5,10]\n"),
+    ("standby", (10, 20), SPREAD, ("standby",), b""),
+    ("a standby of first records", (10, 20), SPREAD, ("standby", "4", "4"), b""),
     ("load", (50,), b"", LOAD, b""),
     ("make", None, b"", ("make", "10"), b""),
     ("wrong words", (), b"", ("run", "--tries", "0"), b""),
@@ -160,8 +162,8 @@ class Command:
 
     def wrong_after(self, folder, got, after):
         """What is wrong in what stands after a run, if anything."""
-        if self.words[0] == "audit":
-            return None if folder.logs() == self.start and got.out in ("", self.plain.out) else "audit wrote to the logs, or told something else"
+        if self.words[0] in ("audit", "standby"):
+            return None if folder.logs() == self.start and got.out in ("", self.plain.out) else f"{self.words[0]} wrote to the logs, or told something else"
         if self.words[0] == "show":
             return None if after == self.before and got.out in ("", self.plain.out) else "show changed it, or told something else"
         if self.words[0] == "load":

@@ -42,6 +42,17 @@ def end_all(started):
         os.killpg(started.pid, signal.SIGKILL)
 
 
+SIDES = ("log", "alt")
+
+
+def bytes_of(path):
+    """The bytes of a file; none where it is missing."""
+    if not os.path.isfile(path):
+        return b""
+    with open(path, "rb") as file:
+        return file.read()
+
+
 class Folder:
     """A folder with logs; it is gone at the end."""
 
@@ -80,15 +91,16 @@ class Folder:
             return Ran(None, (out or b"").decode("latin-1"), (err or b"").decode("latin-1"))
         return Ran(started.returncode, (out or b"").decode("latin-1"), (err or b"").decode("latin-1"))
 
-    def log(self, shard):
-        return os.path.join(self.path, f"shard-{shard:02}.log")
+    def log(self, shard, side="log"):
+        """The file of a shard: the first one, or the second one, whose side is `alt`."""
+        return os.path.join(self.path, f"shard-{shard:02}.{side}")
 
     def logs(self):
-        """The bytes of all logs, by rising shards."""
+        """The bytes of all shards, by rising numbers: of the first file alone, or of both, where the second one has any."""
         found = []
         while os.path.isfile(self.log(len(found))):
-            with open(self.log(len(found)), "rb") as file:
-                found.append(file.read())
+            sides = [bytes_of(self.log(len(found), side)) for side in SIDES]
+            found.append(tuple(sides) if sides[1] else sides[0])
         return found
 
     def size(self):
@@ -96,14 +108,15 @@ class Folder:
         return sum(entry.stat().st_size for entry in os.scandir(self.path) if entry.name.startswith("shard-"))
 
     def put(self, logs):
-        """Puts these logs in place of those that are there; none for a file that is missing."""
-        for shard in range(16):
-            if os.path.lexists(self.log(shard)):
-                os.remove(self.log(shard))
+        """Puts these logs in place of those that are there; none for a file that is missing. A pair are both files of a shard."""
+        for path in [self.log(shard, side) for shard in range(16) for side in SIDES]:
+            if os.path.lexists(path):
+                os.remove(path)
         for shard, data in enumerate(logs):
-            if data is not None:
-                with open(self.log(shard), "wb") as file:
-                    file.write(data)
+            for side, one in zip(SIDES, data if isinstance(data, tuple) else (data,)):
+                if one is not None:
+                    with open(self.log(shard, side), "wb") as file:
+                        file.write(one)
 
 
 class Checks:

@@ -17,14 +17,14 @@ TOP = os.path.dirname(os.path.dirname(os.path.abspath(__file__)))
 LAST = (1 << 64) - 1
 LONGEST_SCRIPT = 16777216
 SECONDS = 120
-USAGE = "usage: clv_shell make [SPLIT].. | run [--tries N] | show | load --seed S --sessions N --accounts A --transfers T | serve [--sessions N] | audit"
+USAGE = "usage: clv_shell make [SPLIT].. | run [--tries N] | show | load --seed S --sessions N --accounts A --transfers T | serve [--sessions N] | audit | standby [N].."
 ONE_PUT = b"session\nbegin\nput 5 10\ncommit\n"
 NOTHING_DONE = '{"aborted":0,"acknowledged":0,"unsettled":0}\n'
 
 # The log after `make`, and after a run of ONE_PUT.
-MADE = bytes.fromhex("434c564c4f473031 01000000 00000000 01000000 00")
+MADE = bytes.fromhex("434c564c4f473032 02000000 00000000 01000000 0100000000000000 00")
 WORKED = bytes.fromhex(
-    "434c564c4f473031 01000000 00000000 01000000"
+    "434c564c4f473032 02000000 00000000 01000000 0100000000000000"
     "01 0d000000 07 01000000 0000000000000000"
     "01 38000000 01 01000000 01000000 0100000000000000 0500000000000000 00 01 0a00000000000000"
     "04 01000000 01000000 0100000000000000 00000000"
@@ -254,6 +254,8 @@ REFUSED_WORDS = [
     "show --tries 5",
     "audit 1",
     "audit --tries 5",
+    "standby x",
+    "standby --tries 5",
     "make x",
     "make 01",
     "make -1",
@@ -285,33 +287,37 @@ def makes_logs(checks, program):
         got = folder.run("make")
         checks.check("make", got.is_fine() and got.out == "" and folder.logs() == [MADE], (got, folder.logs()))
         got = folder.run("make")
-        checks.check("make again", got.is_refused(10, "shard 0: length 21, not 0") and folder.logs() == [MADE], got)
+        checks.check("make again", got.is_refused(10, "shard 0: length 29, not 0") and folder.logs() == [MADE], got)
     with Folder(program) as folder:
         folder.put([b"", b"x"])
         got = folder.run("make", "10")
         checks.check("make over a byte", got.is_refused(10, "shard 1: length 1, not 0") and folder.logs() == [b"", b"x"], got)
+    with Folder(program) as folder:
+        folder.put([b"", (b"", b"xyz")])
+        got = folder.run("make", "10")
+        checks.check("make over bytes of the second file", got.is_refused(10, "shard 1: length 3, not 0") and folder.logs() == [b"", (b"", b"xyz")], got)
     for splits in ((10,), tuple(range(1, 16)), (0, LAST), tuple(range(10, 150, 10))):
         with Folder(program) as folder:
             got = folder.run("make", *map(str, splits))
             want = [logs.header(shard, splits) + b"\0" for shard in range(len(splits) + 1)]
             checks.check(f"make with splits {splits}", got.is_fine() and folder.logs() == want, (got, folder.logs()))
             lengths = {len(it) for it in folder.logs()}
-            checks.check(f"length of each log with splits {splits}", lengths == {21 + 8 * len(splits)}, lengths)
+            checks.check(f"length of each log with splits {splits}", lengths == {29 + 8 * len(splits)}, lengths)
 
 
 def writes_the_worked_log(checks, program):
     with Folder(program) as folder:
         folder.run("make")
         folder.run("run")
-        checks.check("the log of no session", folder.logs() == [WORKED[:38] + b"\0"], folder.logs())
+        checks.check("the log of no session", folder.logs() == [WORKED[:46] + b"\0"], folder.logs())
     with Folder(program) as folder:
         folder.run("make")
         folder.run("run", script=ONE_PUT)
         checks.check("the log of one put", folder.logs() == [WORKED], folder.logs())
         got = folder.run("show")
         checks.check("show of one put", got.is_fine() and got.out == "[5,10]\n", got)
-        want = WORKED[:99] + logs.batch(logs.spell(("RESTART", 2, 0))) + b"\0"
-        checks.check("the log of one put after show", folder.logs() == [want] and len(want) == 118, folder.logs())
+        want = WORKED[:107] + logs.batch(logs.spell(("RESTART", 2, 0))) + b"\0"
+        checks.check("the log of one put after show", folder.logs() == [want] and len(want) == 126, folder.logs())
 
 
 def commits_over_two_shards(checks, program):
@@ -443,13 +449,13 @@ def replaced_logs(program):
 
 def refuses_logs(checks, program):
     """The worked log, damaged; logs that break an order rule, of the last run, and apart."""
-    closed = WORKED[:38] + b"\0" + WORKED[39:]
+    closed = WORKED[:46] + b"\0" + WORKED[47:]
     broken, last = [("RESTART", 1, 0), ("UPDATE", (1, 1, 1), 5, 7, 8)], [("RESTART", 4294967295, 0)]
     rows = [
         ("a closed gate before the batch", [closed], 0, ""),
-        ("a closed gate, and cut behind it", [closed[:60]], 0, ""),
-        ("cut in the batch", [WORKED[:60]], 7, "shard 0: not a log at byte 39"),
-        ("cut before the last gate", [WORKED[:99]], 7, "shard 0: not a log at byte 99"),
+        ("a closed gate, and cut behind it", [closed[:68]], 0, ""),
+        ("cut in the batch", [WORKED[:68]], 7, "shard 0: not a log at byte 47"),
+        ("cut before the last gate", [WORKED[:107]], 7, "shard 0: not a log at byte 107"),
         ("an empty file", [b""], 7, "shard 0: not a log at byte 0"),
         ("no file", [], 7, "shard 0: not a log at byte 0"),
         ("a value before that isn't the key's", [logs.log(0, [], [broken])], 7, "shard 0: not a log at record 1"),
@@ -586,8 +592,8 @@ def follows_the_format(checks, program):
         text = file.read()
     shown = bytes_of_table(text, "## A worked log")
     checks.check("docs/FORMAT.md: the worked log", shown == WORKED, shown)
-    magic, version, shard, count = struct.unpack("<8sIII", WORKED[:20])
-    checks.check("docs/FORMAT.md: the header", (magic, version, shard, count) == (b"CLVLOG01", 1, 0, 1))
+    magic, version, shard, count, generation = struct.unpack("<8sIIIQ", WORKED[:28])
+    checks.check("docs/FORMAT.md: the header", (magic, version, shard, count, generation) == (b"CLVLOG02", 2, 0, 1, 1))
     found = logs.opened([WORKED])[1][0].records
     want = [("RESTART", 1, 0), ("UPDATE", (1, 1, 1), 5, None, 10), ("COMMIT", (1, 1, 1), ())]
     checks.check("docs/FORMAT.md: its records", found == want, found)

@@ -8,24 +8,21 @@ use Rattle.clv_base.specs.declared.logs.LogRecord.{LogRecord}
 use Rattle.clv_base.specs.declared.logs.LogRecord.TheVariants.{Update, Clr, Prepare, Commit, Abort, End, Restart, Add, Unadd, Forgotten, Check}
 use Rattle.clv_base.specs.Orders.{tx_same}
 use Rattle.clv_base.specs.Logs.{StandingUpdate, is_commit_of, is_prepare_of, is_abort_of, committed_in, prepared_in, aborted_in, prepare_of, has_standing, standing, standing_from, standing_after, without_newest}
-use Rattle.clv_base.specs.LogRules.{disorder, may_follow, commit_by_prepare, some_parts}
+use Rattle.clv_base.specs.LogRules.{may_follow, commit_by_prepare, some_parts, disorder}
 use Rattle.clv_base.specs.Checkpoints.{is_away}
 use Rattle.law_base.proofs.Bools.{not_true}
 use Rattle.law_base.proofs.Lists.{all_append}
 use Rattle.law_base.proofs.Standing.{standing_append, all_without}
 use Rattle.protocol_laws.specs.Order.{Open_at, moves, Tidy, Unprepared, Sealed, LieOnThese}
 use Rattle.protocol_laws.proofs.LogsInOrder.{sealed_in_order, tidy_in_order, lie_in_order}
-use Rattle.shard_laws.proofs.Order.RecordByRecord.{Follows, from_disorder, to_disorder, follows_front}
+use Rattle.law_base.specs.Coming.{Follows}
+use Rattle.law_base.proofs.Parts.{in_order_cut, whole_part}
 use Rattle.shard_laws.proofs.Keeping.ChangesKeepPrepared.{sealed_later}
 use Rattle.shard_laws.proofs.Cuts.WhatCutsHold.{tidy_later}
-use Rattle.log_checkpoint.specs.Laws.{IsFirst, Begins, GoesOn, LieOn}
+use Rattle.log_checkpoint.specs.Laws.{IsFirst, GoesOn, LieOn}
 use Rattle.log_checkpoint.proofs.StayingAlike.{first_of, prepare_more, unprepared_write, old_standing, stays_alike}
-use Rattle.checkpoint_laws.proofs.InOrder.{begins, once}
+use Rattle.checkpoint_laws.proofs.InOrder.{begins, once, rising}
 use Rattle.checkpoint_laws.specs.Laws.{LogsInOrderStayAlike}
-
-follows_later : (shard : ℕ) (before xs ys : List LogRecord) → Follows shard before (xs ++ ys) → Follows shard (before ++ xs) ys
-follows_later shard before [] ys f = subst (λ l. Follows shard l ys) (sym (append-nil before)) f
-follows_later shard before (x ∷ xs) ys f = subst (λ l. Follows shard l ys) (append_assoc before (x ∷ []) xs) (follows_later shard (before ++ x ∷ []) xs ys f.1)
 
 was_none : (test : LogRecord → Bool) (log mid : List LogRecord) → list_any test (log ++ mid) ≡ false → list_any test log ≡ false
 was_none test log mid e = (or_parts (list_any test log) (list_any test mid) (sym (list_any-append test log mid) ∙ e)).0
@@ -114,22 +111,29 @@ module _ (shard : ℕ) (first : LogRecord) (later : List LogRecord) (is_first : 
   lie_from n [] ws all lie = lie
   lie_from n (r ∷ rs) ws all lie = lie_from (suc n) rs (standing_after n r ws) all.1 (lie_after n r ws all.0 lie)
 
-lie_same : (these : TxId → Bool) (ws : List StandingUpdate) → LieOnThese these ws → LieOn these ws
+pub lie_same : (these : TxId → Bool) (ws : List StandingUpdate) → LieOnThese these ws → LieOn these ws
 lie_same these [] lie = tt
 lie_same these (w ∷ ws) lie = (lie.0, lie_same these ws lie.1)
 
-pub stay_alike : LogsInOrderStayAlike
-stay_alike shard [] more d rise = refl
-stay_alike shard (r ∷ rs) more d rise =
+-- the records that come behind a log in order, as long as it stays so
+pub later_go : (shard : ℕ) (first : LogRecord) (later more : List LogRecord) → disorder shard (first ∷ later) ≡ None → disorder shard (first ∷ later ++ more) ≡ None → AllByRecursion (GoesOn shard (first ∷ later)) more
+later_go shard r rs more own d =
     let log : List LogRecord = r ∷ rs in
-    let f : Follows shard [] (log ++ more) = from_disorder shard 0 [] (log ++ more) d in
-    let own : Follows shard [] log = follows_front shard [] log more f in
-    let dl : disorder shard log ≡ None = to_disorder shard 0 [] log own in
-    let b : Begins log = begins shard log own in
     let nil : log ++ [] ≡ log = append-nil log in
-    let goes : AllByRecursion (GoesOn shard log) more =
-    all_go shard r rs b [] more tt (subst (λ l. Follows shard l more) (sym nil) (follows_later shard [] log more f))
+    all_go shard r rs (begins shard log own) [] more tt (subst (λ l. Follows shard l more) (sym nil) (in_order_cut shard log more (whole_part shard log own) d).1)
     (subst (λ l. Sealed l more) (sym nil) (sealed_later [] log more (sealed_in_order shard (log ++ more) d)))
-    (subst (λ l. Tidy l more) (sym nil) (tidy_later [] log more (tidy_in_order shard (log ++ more) d))) in
-    stays_alike shard log more b (once [] log (sealed_in_order shard log dl)) rise goes
-    (subst (LieOn (committed_in log)) (sym (standing_append 0 log more [])) (lie_from shard r rs b (0 + length log) more (standing log) goes (lie_same (committed_in log) (standing log) (lie_in_order shard log dl))))
+    (subst (λ l. Tidy l more) (sym nil) (tidy_later [] log more (tidy_in_order shard (log ++ more) d)))
+
+pub later_lie : (shard : ℕ) (first : LogRecord) (later more : List LogRecord) → disorder shard (first ∷ later) ≡ None → AllByRecursion (GoesOn shard (first ∷ later)) more
+    → LieOn (committed_in (first ∷ later)) (standing (first ∷ later ++ more))
+later_lie shard r rs more own goes =
+    let log : List LogRecord = r ∷ rs in
+    subst (LieOn (committed_in log)) (sym (standing_append 0 log more []))
+    (lie_from shard r rs (begins shard log own) (0 + length log) more (standing log) goes (lie_same (committed_in log) (standing log) (lie_in_order shard log own)))
+
+pub stay_alike : LogsInOrderStayAlike
+stay_alike shard [] more own d = refl
+stay_alike shard (r ∷ rs) more own d =
+    let log : List LogRecord = r ∷ rs in
+    let goes : AllByRecursion (GoesOn shard log) more = later_go shard r rs more own d in
+    stays_alike shard log more (begins shard log own) (once [] log (sealed_in_order shard log own)) (rising shard log own) goes (later_lie shard r rs more own goes)

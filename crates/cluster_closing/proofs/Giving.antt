@@ -5,7 +5,7 @@ use Rattle.std.specs.List.{All}
 use Rattle.std.proofs.lemmas.List.Elements.{All-cons, All-nil}
 use Rattle.clv_base.specs.declared.logs.LogRecord.{LogRecord}
 use Rattle.clv_base.specs.State.{Shard}
-use Rattle.io_model.specs.Story.{Story}
+use Rattle.io_model.specs.Sides.{Stories}
 use Rattle.log_gate.specs.Header.{Layout}
 use Rattle.turn_lock.specs.Journals.{GrownBy}
 use Rattle.turn_lock.specs.declared.pass.TurnLock.{TurnLock}
@@ -66,7 +66,7 @@ no_entries w (Err Up) s t added h = ap entries_in h.2
 no_entries w (Err Away) s t added h = ap entries_in h.2
 
 -- what the pass has then seen
-module _ {T D : Type 0} (story : D → Option Story) (faults : D → ℕ) where
+module _ {T D : Type 0} (story : D → Option Stories) (faults : D → ℕ) where
   pub pass_taken : (w : ℕ) (q : Pass T Note Origin) (o : Origin) (s t : Shard) (before after added : List Note) (r : Result (Taken D) FetchError) → FetchTold w r s t added → after ≡ before ++ added → IsLegal o after t → seen q ≡ after → pass_origin q ≡ Some o
       → IfOk r (λ f. (f.shard ≡ s.shard) × DiskFits (layout_of o) s (story f.disk) (faults f.disk) × (s.local.epoch ≡ f.epoch)) → (r ≡ Err Away → is_some (holder_of before) ≡ true) → PassTaken story faults w q r
   pass_taken w q o s t before after added (Ok f) told is l sees from disk away = record {
@@ -82,7 +82,7 @@ module _ {T D : Type 0} (story : D → Option Story) (faults : D → ℕ) where
   pass_taken w q o s t before after added (Err Away) told is l sees from disk away = ap (λ ns. is_some (holder_of ns)) (sees ∙ is ∙ ap (λ a. before ++ a) told.2 ∙ append-nil before) ∙ away refl
 
 -- the shard whose disk it is
-module _ {T D : Type 0} (story : D → Option Story) (faults : D → ℕ) (splits : List ℕ) (founds : List (List LogRecord)) (locks : List (TurnLock T Note Origin)) (w n : ℕ) (q : Pass T Note Origin) (at : IsPassAt splits founds locks w n q) where
+module _ {T D : Type 0} (story : D → Option Stories) (faults : D → ℕ) (splits : List ℕ) (founds : List (List LogRecord)) (locks : List (TurnLock T Note Origin)) (w n : ℕ) (q : Pass T Note Origin) (at : IsPassAt splits founds locks w n q) where
   taken_of : (f : Taken D) → PassTaken story faults w q (Ok f) → (f.shard ≡ n) × Holds w (λ layout. IsDiskOf faults f) q
   taken_of f h =
       let same : h.origin ≡ at.origin = some_inj h.origin at.origin (sym h.has_origin ∙ at.has_origin) in (

@@ -7,7 +7,7 @@ use mathlib.Core.Logic.{dite}
 use native.Mathlib.Decide.{ℕ_discrete}
 use Rattle.clv_base.specs.declared.logs.LogRecord.{LogRecord}
 use Rattle.clv_base.specs.State.{Shard}
-use Rattle.io_model.specs.Story.{Story}
+use Rattle.io_model.specs.Sides.{Stories}
 use Rattle.log_gate.specs.Header.{Layout}
 use Rattle.turn_lock.specs.Journals.{StartsWith, GrownByOthers, entries_by}
 use Rattle.turn_lock.specs.Passes.{seen, own}
@@ -82,7 +82,7 @@ no_gate : {G : Type 0} (shut : G → Bool) (counts whose : G → ℕ) (logs : G 
 no_gate shut counts whose logs s w None down stands = refl
 no_gate shut counts whose logs s w (Some g) down stands = absurd (both_ways true (gate_of_down s (Some w) false down stands.0) refl)
 
-pub disks_are_found : (M S : Type 0) {G D : Type 0} (shut : G → Bool) (counts whose : G → ℕ) (logs : G → Layout → Option (List LogRecord) → Type 0) (story : D → Option Story) (faults : D → ℕ) → DisksAreFound M S shut counts whose logs story faults
+pub disks_are_found : (M S : Type 0) {G D : Type 0} (shut : G → Bool) (counts whose : G → ℕ) (logs : G → Layout → Option (List LogRecord) → Type 0) (story : D → Option Stories) (faults : D → ℕ) → DisksAreFound M S shut counts whose logs story faults
 disks_are_found M S {G} {D} shut counts whose logs story faults walkers n o notes s gate fetched c legal stands away have = ⊎_elim by_disk by_gate (among fetched n)
   where
     by_gate : IsNotAmong n fetched → EndsWith story faults n (layout_of o) s gate fetched
@@ -116,14 +116,14 @@ disks_are_found M S {G} {D} shut counts whose logs story faults walkers n o note
         a_disk j low (no_gate shut counts whose (λ h. logs h (layout_of o)) s v.number gate down (subst (λ (x : Option ℕ). GateStands shut counts whose (λ h. logs h (layout_of o)) s x gate) held stands)) down
         (λ x. (is x, subst (λ y. HasDisk story faults y (layout_of o) s) (get_or_default fetched j f x low) (subst (λ u. HasDisk story faults (get_or fetched j f) (layout_of o) u) (sym rests.1) (subst (λ (z : Origin). HasDisk story faults (get_or fetched j f) (layout_of z) q.s) from q.holds))))
 
-pub no_disks_are_held : (M S G : Type 0) {D : Type 0} (story : D → Option Story) (faults : D → ℕ) → NoDisksAreHeld M S G story faults
+pub no_disks_are_held : (M S G : Type 0) {D : Type 0} (story : D → Option Stories) (faults : D → ℕ) → NoDisksAreHeld M S G story faults
 no_disks_are_held M S G story faults walkers none = record {
   each = λ j f l. absurd (omega arith);
   apart = λ i j f l m. absurd (omega arith);
   no_other = λ k d low n p had held. absurd (none k d low n p had (λ e. absurd (let i : Some n ≡ None = e in cc)) held);
 }
 
-pub fetched_are_held : (T : Type 0) {D : Type 0} (story : D → Option Story) (faults : D → ℕ) → FetchedAreHeld T story faults
+pub fetched_are_held : (T : Type 0) {D : Type 0} (story : D → Option Stories) (faults : D → ℕ) → FetchedAreHeld T story faults
 fetched_are_held T story faults n w f passes (p, had, h) = (
   p,
   had,

@@ -5,7 +5,7 @@ use Rattle.clv_base.specs.declared.logs.LogRecord.{LogRecord}
 use Rattle.clv_base.specs.State.{Shard}
 use Rattle.clv_base.specs.Restarts.{FailedRestarts, untouched, failed_first, restart_records, log_after_restart, log_left, next_epoch}
 use Rattle.clv_base.specs.Journals.{MayLeave}
-use Rattle.io_model.specs.Story.{Story, reads}
+use Rattle.io_model.specs.Sides.{Stories, reads_both}
 use Rattle.shard_recovery.specs.Recovering.{IsBegun}
 use Rattle.log_gate.specs.View.{Only, logs_told}
 use Rattle.log_gate.specs.Header.{Layout}
@@ -36,7 +36,7 @@ module _ (n run epoch : ℕ) (found : List LogRecord) (logs : Option (List LogRe
       (length R, only log has ∙ ap (λ l. Some l) (is ∙ ap (λ l. found ++ l) (sym (take_all (length R) R (omega arith)))))
 
 -- the gate's logs are those of its disk
-pub under : (n : ℕ) (layout : Layout) (run epoch whose : ℕ) (found : List LogRecord) (logs : Option (List LogRecord) → Type 0) (story : Option Story) → whose ≡ n → ((log : Option (List LogRecord)) → logs_told story whose layout log → logs log) → HasBegun n run epoch found logs
+pub under : (n : ℕ) (layout : Layout) (run epoch whose : ℕ) (found : List LogRecord) (logs : Option (List LogRecord) → Type 0) (story : Option Stories) → whose ≡ n → ((log : Option (List LogRecord)) → logs_told story whose layout log → logs log) → HasBegun n run epoch found logs
     → HasBegun n run epoch found (logs_told story n layout)
 under n layout run epoch whose found logs story own told b log has = b log (told log (subst (λ (m : ℕ). logs_told story m layout log) (sym own) has))
 
@@ -54,7 +54,7 @@ pub still_stands : LeftMayStand
 still_stands s layout t before now down tells may (unwritten same) log has = may log (same log has)
 still_stands s layout t before now down tells may (begun found read left) log has =
     let k = read t tells in
-    let stood : logs_told before s.shard layout (Some found) = subst (λ b. logs_told b s.shard layout (Some found)) (sym tells) (reads t, inl refl, under_from s.shard layout found (reads t) k.0 k.1) in
+    let stood : logs_told before s.shard layout (Some found) = subst (λ b. logs_told b s.shard layout (Some found)) (sym tells) (reads_both t, (inl refl, inl refl), under_from s.shard layout found (reads_both t) k.0 k.1) in
     let l = left log has in
     let m = may (Some found) stood in
     (found ++ take l.0 (restart_records s.shard found s.run (next_epoch s found)), l.1, still_leaves s found l.0 down (subst (MayLeave s) (some_same (sym m.1)) m.2))

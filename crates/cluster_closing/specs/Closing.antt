@@ -3,7 +3,7 @@ use Rattle.std.specs.Prelude.{◌≡◌, ℕ, ◌<◌, Bool, true, false, List, 
 use Rattle.clv_base.specs.declared.logs.LogRecord.{LogRecord}
 use Rattle.clv_base.specs.declared.events.Entry.{Entry}
 use Rattle.clv_base.specs.State.{Shard}
-use Rattle.io_model.specs.Story.{Story}
+use Rattle.io_model.specs.Sides.{Stories}
 use Rattle.io_model.specs.Disk.{Rose, Adds}
 use Rattle.clv_base.specs.Journals.{MayLeave}
 use Rattle.log_gate.specs.Header.{Layout}
@@ -34,20 +34,20 @@ pub record IsLeft (s : Shard) (logs : Option (List LogRecord) → Type 0) : Type
 
 -- the disk of shard n, which is in this state, is in its house again: its count was added, and each log that it tells, behind a header of this layout, is
 -- there and one that the shard may leave; no more than a flush left, where no walker had fetched it
-pub record IsBack {D : Type 0} (s : Shard) (n : ℕ) (layout : Layout) (fetched : List (Fetched D)) (before now : ℕ) (out : Bool) (story : Option Story) : Type 0 where
-  pub is_in : out ≡ false
+pub record IsBack {D : Type 0} (s : Shard) (n : ℕ) (layout : Layout) (fetched : List (Fetched D)) (before now : ℕ) (out : Bool × Bool) (story : Option Stories) : Type 0 where
+  pub is_in : out ≡ (false, false)
   pub counted : CountsBack s.journal before now
   pub leaves : EachLog (MayLeave s) (logs_told story n layout)
   pub left : IsNotAmong n fetched → IsLeft s (logs_told story n layout)
 
 -- a disk is in again, with its count added
-pub record Returned {D : Type 0} (story : D → Option Story) (faults : D → ℕ) (disk : D) (before now : ℕ) (out : Bool) (story' : Option Story) : Type 0 where
+pub record Returned {D : Type 0} (story : D → Option Stories) (faults : D → ℕ) (disk : D) (before now : ℕ) (out : Bool × Bool) (story' : Option Stories) : Type 0 where
   pub adds : Adds before (faults disk) now
-  pub is_in : out ≡ false
+  pub is_in : out ≡ (false, false)
   pub story_is : story' ≡ story disk
 
 -- a disk that came out of a gate is in again: with the gate's count added, and no log that isn't the gate's
-pub record CameFrom (counts whose : ℕ) (logs : Layout → Option (List LogRecord) → Type 0) (before now : ℕ) (out : Bool) (story : Option Story) : Type 0 where
+pub record CameFrom (counts whose : ℕ) (logs : Layout → Option (List LogRecord) → Type 0) (before now : ℕ) (out : Bool × Bool) (story : Option Stories) : Type 0 where
   pub adds : Adds before counts now
-  pub is_in : out ≡ false
+  pub is_in : out ≡ (false, false)
   pub logs_are : (layout : Layout) (log : Option (List LogRecord)) → logs_told story whose layout log → logs layout log

@@ -2,7 +2,7 @@
 use Rattle.std.specs.Prelude.{◌≡◌, ⊤, ℕ, ◌≤◌, true, false, List, [], ◌∷◌, Option, Some, Result, Ok, Err, is_some, slice_index_or}
 use Rattle.clv_base.specs.State.{Shard}
 use Rattle.clv_base.specs.Journals.{MayLeave}
-use Rattle.io_model.specs.Story.{Story}
+use Rattle.io_model.specs.Sides.{Stories}
 use Rattle.log_gate.specs.Header.{Layout}
 use Rattle.log_gate.specs.View.{logs_told}
 use Rattle.turn_lock.specs.declared.pass.Pass.{Pass}
@@ -17,7 +17,7 @@ use Rattle.cluster_closing.specs.declared.fetching.FetchError.TheVariants.{Up, A
 use Rattle.cluster_closing.specs.declared.fetching.Fetched.{Fetched}
 
 -- the disk has failed, and each log that it may have is one that the shard may leave
-pub record DiskFits (layout : Layout) (s : Shard) (story : Option Story) (faults : ℕ) : Type 0 where
+pub record DiskFits (layout : Layout) (s : Shard) (story : Option Stories) (faults : ℕ) : Type 0 where
   pub failed : 1 ≤ faults
   pub leaves : EachLog (MayLeave s) (logs_told story s.shard layout)
 
@@ -47,7 +47,7 @@ module _ {T : Type 0} where
   abbrev pub HoldsAt : ℕ → ℕ → (Layout → Shard → Type 0) → List (Option (Pass T Note Origin)) → Type 0
   HoldsAt n w P passes = (p : Pass T Note Origin) × ((d : Option (Pass T Note Origin)) → slice_index_or passes n d ≡ Some p) × Holds w P p
 
-  module _ {D : Type 0} (story : D → Option Story) (faults : D → ℕ) where
+  module _ {D : Type 0} (story : D → Option Stories) (faults : D → ℕ) where
     -- what a disk that was fetched is, and what refused it, as the pass has seen it
     abbrev pub PassTaken : ℕ → Pass T Note Origin → Result (Fetched D) FetchError → Type 0
     PassTaken w p (Ok f) = Holds w (λ layout s. (f.shard ≡ s.shard) × DiskFits layout s (story f.disk) (faults f.disk) × (s.local.epoch ≡ f.epoch)) p

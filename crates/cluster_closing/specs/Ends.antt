@@ -3,7 +3,7 @@ use Rattle.std.specs.Prelude.{◌≡◌, ◌≢◌, ℕ, ◌<◌, ◌≤◌, Boo
 use Rattle.clv_base.specs.declared.logs.LogRecord.{LogRecord}
 use Rattle.clv_base.specs.State.{Shard}
 use Rattle.clv_base.specs.Journals.{MayLeave}
-use Rattle.io_model.specs.Story.{Story}
+use Rattle.io_model.specs.Sides.{Stories}
 use Rattle.log_gate.specs.Header.{Layout}
 use Rattle.log_gate.specs.View.{logs_told}
 use Rattle.turn_lock.specs.declared.pass.Pass.{Pass}
@@ -31,7 +31,7 @@ module _ {D : Type 0} where
   abbrev pub IsNotAmong : ℕ → List (Fetched D) → Type 0
   IsNotAmong n fetched = (j : ℕ) (f : Fetched D) → j < length fetched → shard_at fetched j f ≢ n
 
-  module _ (story : D → Option Story) (faults : D → ℕ) where
+  module _ (story : D → Option Stories) (faults : D → ℕ) where
     -- the disk of the shard in this state: it has failed, and each log that it tells is one that the shard may leave
     pub record HasDisk (f : Fetched D) (layout : Layout) (s : Shard) : Type 0 where
       pub shard : f.shard ≡ s.shard
@@ -59,18 +59,18 @@ module _ {M S G : Type 0} where
     pub landed : HasLanded v.number v.passes.items
 
 -- at the end of a cluster whose walkers have no gate, each shard has its own, or a walker has its disk
-abbrev pub DisksAreFound : (M S : Type 0) {G D : Type 0} → (G → Bool) → (G → ℕ) → (G → ℕ) → (G → Layout → Option (List LogRecord) → Type 0) → (D → Option Story) → (D → ℕ) → Type 0
+abbrev pub DisksAreFound : (M S : Type 0) {G D : Type 0} → (G → Bool) → (G → ℕ) → (G → ℕ) → (G → Layout → Option (List LogRecord) → Type 0) → (D → Option Stories) → (D → ℕ) → Type 0
 DisksAreFound M S {G} {D} shut counts whose logs story faults =
     (walkers : List (Walker M S G)) (n : ℕ) (o : Origin) (notes : List Note) (s : Shard) (gate : Option G) (fetched : List (Fetched D)) → ClosedAt walkers n o notes → IsLegal o notes s
     → GateStands shut counts whose (λ h. logs h (layout_of o)) s (holder_of notes) gate → ((k : ℕ) (d : Walker M S G) → k < length walkers → HasNoGate n (slice_index_or walkers k d)) → HaveDisks story faults walkers fetched → EndsWith story faults n (layout_of o) s gate fetched
 
 -- walkers that have no disk have none of these
-abbrev pub NoDisksAreHeld : (M S G : Type 0) {D : Type 0} → (D → Option Story) → (D → ℕ) → Type 0
+abbrev pub NoDisksAreHeld : (M S G : Type 0) {D : Type 0} → (D → Option Stories) → (D → ℕ) → Type 0
 NoDisksAreHeld M S G story faults =
     (walkers : List (Walker M S G)) → ((k : ℕ) (d : Walker M S G) → k < length walkers → HoldsNone (slice_index_or walkers k d).number (slice_index_or walkers k d).passes.items) → HaveDisks story faults walkers []
 
 -- a disk that a fetch gave is one that the walker has
-abbrev pub FetchedAreHeld : (T : Type 0) {D : Type 0} → (D → Option Story) → (D → ℕ) → Type 0
+abbrev pub FetchedAreHeld : (T : Type 0) {D : Type 0} → (D → Option Stories) → (D → ℕ) → Type 0
 FetchedAreHeld T {D} story faults = (n w : ℕ) (f : Fetched D) (passes : List (Option (Pass T Note Origin))) → DiskTaken story faults n w passes (Ok f) → HoldsAt n w (HasDisk story faults f) passes
 
 -- a shard of which no walker ever took the disk was never restarted

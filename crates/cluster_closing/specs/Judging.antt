@@ -3,7 +3,7 @@ use Rattle.std.specs.Prelude.{◌≡◌, ℕ, ◌≤◌, ◌-◌, ◌^◌, List,
 use Rattle.clv_base.specs.declared.logs.LogRecord.{LogRecord}
 use Rattle.clv_base.specs.LogRules.{disorder}
 use Rattle.clv_base.specs.Restarts.{first_barred, greatest_epoch}
-use Rattle.io_model.specs.Story.{Story, reads}
+use Rattle.io_model.specs.Sides.{Stories, reads_both}
 use Rattle.io_model.specs.Disk.{Rose}
 use Rattle.cluster_opening.specs.declared.error.At.TheVariants.{Byte, Record}
 use Rattle.shard_recovery.specs.declared.recovering.RecoverError.{RecoverError}
@@ -31,9 +31,9 @@ Bars n run own log (Worn at) = ⊥
 Bars n run own log Memory = Unit {0}
 
 -- why a disk is
-abbrev pub RefusesDisk : List ℕ → ℕ → ℕ → ℕ → Option Story → RestartError → Type 0
+abbrev pub RefusesDisk : List ℕ → ℕ → ℕ → ℕ → Option Stories → RestartError → Type 0
 RefusesDisk splits n run own story Failed = Unit {0}
-RefusesDisk splits n run own story (NotLog (Byte offset)) = IfSome story (λ s. checked_log n (Some splits) (reads s) ≡ Err offset)
+RefusesDisk splits n run own story (NotLog (Byte offset)) = IfSome story (λ s. checked_log n (Some splits) (reads_both s) ≡ Err offset)
 RefusesDisk splits n run own story (NotLog (Record lsn)) = (log : List LogRecord) × WasRead story n (record { splits = splits }) log × BarsAt n run own log lsn
 RefusesDisk splits n run own story (Worn at) = ⊥
 RefusesDisk splits n run own story Memory = Unit {0}

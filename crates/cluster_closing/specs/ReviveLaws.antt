@@ -1,6 +1,6 @@
 -- What a fetch, a restart and a look leave of a walker.
 use Rattle.std.specs.Prelude.{ℕ, Bool, List, Option, Some, Result, Ok, Err}
-use Rattle.io_model.specs.Story.{Story}
+use Rattle.io_model.specs.Sides.{Stories}
 use Rattle.turn_lock.specs.declared.pass.Pass.{Pass}
 use Rattle.machine_laws.specs.declared.notes.Note.{Note}
 use Rattle.machine_laws.specs.declared.notes.Origin.{Origin}
@@ -22,7 +22,7 @@ module _ (T D : Type 0) (P : ℕ → ℕ → List (Option (Pass T Note Origin)) 
 
   abbrev pub StaysThroughRestarts : Type 0
   StaysThroughRestarts =
-      (story : D → Option Story) (splits : List ℕ) (run : ℕ) (f : Fetched D) (w clock : ℕ) (before : List (Option (Pass T Note Origin))) (r : Result ℕ (RestartError × Fetched D)) (clock' : ℕ) (after : List (Option (Pass T Note Origin)))
+      (story : D → Option Stories) (splits : List ℕ) (run : ℕ) (f : Fetched D) (w clock : ℕ) (before : List (Option (Pass T Note Origin))) (r : Result ℕ (RestartError × Fetched D)) (clock' : ℕ) (after : List (Option (Pass T Note Origin)))
       → RestartTold story splits run f w clock before r clock' after → P w clock before → P w clock' after
 
 -- and through a look at whether a shard is settled
@@ -57,5 +57,5 @@ HoldsAfter n w (Err e) passes = HoldsNoneBut (Some n) w passes
 
 abbrev pub RestartsEndHolding : Type 0 → Type 0 → Type 0
 RestartsEndHolding T D =
-    (story : D → Option Story) (splits : List ℕ) (run : ℕ) (f : Fetched D) (w clock : ℕ) (before : List (Option (Pass T Note Origin))) (r : Result ℕ (RestartError × Fetched D)) (clock' : ℕ) (after : List (Option (Pass T Note Origin)))
+    (story : D → Option Stories) (splits : List ℕ) (run : ℕ) (f : Fetched D) (w clock : ℕ) (before : List (Option (Pass T Note Origin))) (r : Result ℕ (RestartError × Fetched D)) (clock' : ℕ) (after : List (Option (Pass T Note Origin)))
     → RestartTold story splits run f w clock before r clock' after → HoldsNoneBut (Some f.shard) w before → HoldsAfter f.shard w r after

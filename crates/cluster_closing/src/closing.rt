@@ -5,6 +5,7 @@ ghost use Rattle.clv_base.specs.declared.logs.LogRecord.{LogRecord};
 ghost use Rattle.clv_base.specs.Shards.{shard_count};
 ghost use Rattle.clv_base.specs.LogRules.{log_of};
 ghost use Rattle.clv_base.specs.Journals.{MayLeave};
+ghost use Rattle.io_model.specs.Sides.{sides_out, sides_told};
 ghost use Rattle.history_replay.specs.Entries.{entries_of};
 ghost use Rattle.journal_laws.specs.Gathered.{MakesHistory};
 ghost use Rattle.turn_lock.specs.Passes.{passes_of};
@@ -18,13 +19,14 @@ ghost use Rattle.cluster_closing.specs.Ending.{ClosedAt};
 ghost use Rattle.cluster_closing.specs.Legal.{AreShards, state_at, views_of};
 ghost use Rattle.cluster_closing.specs.Room.{HasRoom};
 ghost use Rattle.cluster_closing.specs.Closing.{IsBack, IsLowestDown, lists};
+ghost use Rattle.machine_calls.specs.Disks.{stories_of, faults_of};
 
 use crate::leaving::Closed;
 use crate::parting::{Lists, lowest_down, part_all};
 use crate::returning::give_back_held;
 use crate::{Fetched, Room};
 use cluster_turns::{Shards, Walker};
-use io_model::House;
+use io_model::{House, Sides};
 use machine_calls::{Machine, OverDisks};
 use ordered_store::Store;
 use std::snapshot::Snapshot;
@@ -39,7 +41,7 @@ pub fn close<H: House, M: OverDisks<H::Disk>>(
     house: &mut H,
     shards: Shards<M>,
     walkers: Vec<Walker<M>>,
-    fetched: Vec<Fetched<H::Disk>>,
+    fetched: Vec<Fetched<Sides<H::Disk>>>,
     room: Room<M>,
 ) -> Closed<M>
     requires shards { AreShards shards }
@@ -47,9 +49,9 @@ pub fn close<H: House, M: OverDisks<H::Disk>>(
     requires walkers { (k : ℕ) (d : _) → k < length walkers.items → IsWalker shards (slice_index_or walkers.items k d) }
     requires all { All (λ l. passes_of l ≡ vec_len walkers) shards.locks.items }
     requires landed { (k : ℕ) (d : _) → k < length walkers.items → HasLanded (slice_index_or walkers.items k d).number (slice_index_or walkers.items k d).passes.items }
-    requires fetched { HaveDisks H.Disk.story H.Disk.faults walkers.items fetched.items }
+    requires fetched { HaveDisks (stories_of H.Disk.story) (faults_of H.Disk.faults) walkers.items fetched.items }
     requires room { HasRoom (vec_len shards.locks) (vec_len walkers) room }
-    requires out { (n : ℕ) → n < vec_len shards.locks → H.is_out house.old n ≡ true }
+    requires out { (n : ℕ) → n < vec_len shards.locks → sides_out (H.is_out house.old) n ≡ (true, true) }
     ensures len { (vec_len result.ends.value ≡ vec_len shards.locks) × (vec_len result.journals ≡ vec_len shards.locks) × (vec_len result.maps ≡ vec_len shards.locks) }
     ensures shard { (n : ℕ) (d : _) → n < vec_len shards.locks → (M.shard (slice_index_or result.ends.value.items n d).machine).shard ≡ n }
     ensures closed { (n : ℕ) (d : _) → n < vec_len shards.locks → ClosedAt walkers.items n (slice_index_or result.ends.value.items n d).origin (notes_of (M.shard (slice_index_or result.ends.value.items n d).machine).journal (slice_index_or result.ends.value.items n d).marks.items) }
@@ -65,8 +67,8 @@ pub fn close<H: House, M: OverDisks<H::Disk>>(
         → MakesHistory shards.splits (founds_of shards) after (lists result.journals.items) (state_at (λ h. M.shard h.machine) (founds_of shards) result.ends.value.items) (λ w. entries_of (views_of walkers.items w)) }
 
     // All disks are in again.
-    ensures disks { (n : ℕ) (d : _) → n < vec_len shards.locks → IsBack (M.shard (slice_index_or result.ends.value.items n d).machine) n (record { splits = shards.splits }) fetched.items (H.faults house.old n) (H.faults house.new n) (H.is_out house.new n) (H.story house.new n) }
-    ensures others { (n : ℕ) → vec_len shards.locks ≤ n → (H.faults house.new n ≡ H.faults house.old n) × (H.is_out house.new n ≡ H.is_out house.old n) × (H.story house.new n ≡ H.story house.old n) }
+    ensures disks { (n : ℕ) (d : _) → n < vec_len shards.locks → IsBack (M.shard (slice_index_or result.ends.value.items n d).machine) n (record { splits = shards.splits }) fetched.items (H.faults house.old n) (H.faults house.new n) (sides_out (H.is_out house.new) n) (sides_told (H.story house.new) n) }
+    ensures others { (n : ℕ) → vec_len shards.locks ≤ n → (H.faults house.new n ≡ H.faults house.old n) × (sides_out (H.is_out house.new) n ≡ sides_out (H.is_out house.old) n) × (sides_told (H.story house.new) n ≡ sides_told (H.story house.old) n) }
 {
     let Room {
         passes,

@@ -1,7 +1,7 @@
 // Whether a restart may go on from a log.
 ghost use Rattle.std.specs.Prelude.{◌≡◌, ◌∷◌, ℕ, suc, None, List, IfOk, IfErr, OnOk};
 ghost use Rattle.clv_base.specs.declared.logs.LogRecord.{LogRecord as RecordIs};
-ghost use Rattle.clv_base.specs.LogRules.{disorder as first_disorder};
+ghost use Rattle.clv_base.specs.LogRules.{upto_of, disorder as first_disorder};
 ghost use Rattle.clv_base.specs.Restarts.{bars_restart, first_barred as barred_in, greatest_epoch};
 ghost use Rattle.log_analysis.specs.Facts.{Knows};
 ghost use Rattle.cluster_closing.specs.Judging.{Bars};
@@ -68,8 +68,9 @@ fn greatest(run: u32, own: u64, log: &[LogRecord]) -> u64
     so_far
 }
 
-// What a log that is in order says of each transaction.
+// What a log without a checkpoint that is in order says of each transaction.
 fn facts_of(alloc: Global, log: &[LogRecord], shard: u32) -> Result<LogFacts, RestartError>
+    requires plain { upto_of log.now ≡ 0 }
     ensures in_order { OnOk result (first_disorder shard log.now ≡ None) }
     ensures knows { IfOk result (λ facts. Knows facts log.now) }
     ensures fault { IfErr result (λ error. (run own : ℕ) → Bars shard run own log.now error) }
@@ -92,6 +93,7 @@ pub(crate) fn judge(
     run: u32,
     own: u64,
 ) -> Result<(u64, LogFacts), RestartError>
+    requires plain { upto_of log.now ≡ 0 }
     ensures epoch { IfOk result (λ r. r.0 ≡ suc (greatest_epoch run own log.now)) }
     ensures knows { IfOk result (λ r. Knows r.1 log.now) }
     ensures in_order { OnOk result (first_disorder shard log.now ≡ None) }

@@ -1,10 +1,11 @@
 // The parts of the shards at the end.
 ghost use Rattle.std.specs.Prelude.{◌≡◌, ◌≢◌, ◌<◌, ◌≤◌, ℕ, true, Some, None, length, vec_len, vec_capacity, slice_index_or};
+ghost use Rattle.io_model.specs.Sides.{sides_out, sides_told};
 ghost use Rattle.cluster_closing.specs.Closing.{CameFrom, IsLowestDown};
 
 use cluster_turns::Home;
 use clv_base::events::Entry;
-use io_model::House;
+use io_model::{House, give_sides};
 use log_gate::Gate;
 use machine_calls::{Machine, OverDisks, Parts};
 use ordered_store::Store;
@@ -42,10 +43,10 @@ fn part_home<H: House, M: OverDisks<H::Disk>>(
     shard: u32,
 ) -> Parted<M::Store>
     requires shard { shard < 16 }
-    requires out { H.is_out house.old shard ≡ true }
-    ensures back { (gate : _) → M.gate home.machine ≡ Some gate → CameFrom (M.Gate.faults gate) (M.Gate.shard gate) (M.Gate.logs gate) (H.faults house.old shard) (H.faults house.new shard) (H.is_out house.new shard) (H.story house.new shard) }
-    ensures away { M.gate home.machine ≡ None → (H.faults house.new shard ≡ H.faults house.old shard) × (H.is_out house.new shard ≡ true) }
-    ensures others { (other : ℕ) → other ≢ shard → (H.faults house.new other ≡ H.faults house.old other) × (H.is_out house.new other ≡ H.is_out house.old other) × (H.story house.new other ≡ H.story house.old other) }
+    requires out { sides_out (H.is_out house.old) shard ≡ (true, true) }
+    ensures back { (gate : _) → M.gate home.machine ≡ Some gate → CameFrom (M.Gate.faults gate) (M.Gate.shard gate) (M.Gate.logs gate) (H.faults house.old shard) (H.faults house.new shard) (sides_out (H.is_out house.new) shard) (sides_told (H.story house.new) shard) }
+    ensures away { M.gate home.machine ≡ None → (H.faults house.new shard ≡ H.faults house.old shard) × (sides_out (H.is_out house.new) shard ≡ (true, true)) }
+    ensures others { (other : ℕ) → other ≢ shard → (H.faults house.new other ≡ H.faults house.old other) × (sides_out (H.is_out house.new) other ≡ sides_out (H.is_out house.old) other) × (sides_told (H.story house.new) other ≡ sides_told (H.story house.old) other) }
     ensures journal { result.journal.items ≡ (M.shard home.machine).journal }
     ensures map { M.Store.records result.map ≡ (M.shard home.machine).local.records }
 {
@@ -60,7 +61,7 @@ fn part_home<H: House, M: OverDisks<H::Disk>>(
         journal,
     } = machine.into_inner().into_parts();
     if let Some(gate) = gate {
-        house.give_back(shard, M::disk_under(gate));
+        give_sides(house, shard, M::sides_under(gate));
     }
     Parted {
         journal,
@@ -75,12 +76,12 @@ pub(crate) fn part_all<H: House, M: OverDisks<H::Disk>>(
     room: Lists<M::Store>,
 ) -> Lists<M::Store>
     requires few { vec_len homes ≤ 16 }
-    requires out { (n : ℕ) → n < vec_len homes → H.is_out house.old n ≡ true }
+    requires out { (n : ℕ) → n < vec_len homes → sides_out (H.is_out house.old) n ≡ (true, true) }
     requires journals { (vec_len room.journals ≡ 0) × (vec_len homes ≤ vec_capacity room.journals) }
     requires maps { (vec_len room.maps ≡ 0) × (vec_len homes ≤ vec_capacity room.maps) }
-    ensures back { (n : ℕ) (d : _) (gate : _) → n < vec_len homes → M.gate (slice_index_or homes.items n d).machine ≡ Some gate → CameFrom (M.Gate.faults gate) (M.Gate.shard gate) (M.Gate.logs gate) (H.faults house.old n) (H.faults house.new n) (H.is_out house.new n) (H.story house.new n) }
-    ensures away { (n : ℕ) (d : _) → n < vec_len homes → M.gate (slice_index_or homes.items n d).machine ≡ None → (H.faults house.new n ≡ H.faults house.old n) × (H.is_out house.new n ≡ true) }
-    ensures others { (n : ℕ) → vec_len homes ≤ n → (H.faults house.new n ≡ H.faults house.old n) × (H.is_out house.new n ≡ H.is_out house.old n) × (H.story house.new n ≡ H.story house.old n) }
+    ensures back { (n : ℕ) (d : _) (gate : _) → n < vec_len homes → M.gate (slice_index_or homes.items n d).machine ≡ Some gate → CameFrom (M.Gate.faults gate) (M.Gate.shard gate) (M.Gate.logs gate) (H.faults house.old n) (H.faults house.new n) (sides_out (H.is_out house.new) n) (sides_told (H.story house.new) n) }
+    ensures away { (n : ℕ) (d : _) → n < vec_len homes → M.gate (slice_index_or homes.items n d).machine ≡ None → (H.faults house.new n ≡ H.faults house.old n) × (sides_out (H.is_out house.new) n ≡ (true, true)) }
+    ensures others { (n : ℕ) → vec_len homes ≤ n → (H.faults house.new n ≡ H.faults house.old n) × (sides_out (H.is_out house.new) n ≡ sides_out (H.is_out house.old) n) × (sides_told (H.story house.new) n ≡ sides_told (H.story house.old) n) }
     ensures len { (vec_len result.journals ≡ vec_len homes) × (vec_len result.maps ≡ vec_len homes) }
     ensures journals { (n : ℕ) (d : _) (e : _) → n < vec_len homes → (slice_index_or result.journals.items n d).items ≡ (M.shard (slice_index_or homes.items n e).machine).journal }
     ensures maps { (n : ℕ) (d : _) (e : _) → n < vec_len homes → M.Store.records (slice_index_or result.maps.items n d) ≡ (M.shard (slice_index_or homes.items n e).machine).local.records }

@@ -1,6 +1,7 @@
 // What leaves a walker without a disk. `T` is what lies in the locks.
 ghost use Rattle.cluster_closing.specs.Laws.{NewWalkersHoldNone, TurnsHoldNone, DrainsHoldNone, LooksHoldNone, NewWalkersFetchedNone, TurnsFetchNone, DrainsFetchNone, FetchesHoldOne, HeldDisksStay};
 ghost use Rattle.cluster_closing.specs.Ends.{DisksAreFound, NoDisksAreHeld, FetchedAreHeld, UnfetchedNeverRestart};
+ghost use Rattle.machine_calls.specs.Disks.{stories_of, faults_of};
 
 use io_model::Disk;
 use log_gate::Gate;
@@ -52,18 +53,18 @@ pub fn held_disks_stay<T, D>()
 
 /// A disk that a fetch gave is one that the walker has.
 pub fn fetched_are_held<T, D: Disk>()
-    ensures { FetchedAreHeld T D.story D.faults }
+    ensures { FetchedAreHeld T (stories_of D.story) (faults_of D.faults) }
 {}
 
 /// At the end of a cluster whose walkers have no gate each shard has its own, or a walker has its disk. `M` and `S` are a machine and
 /// its store.
 pub fn disks_are_found<M, S, G: Gate, D: Disk>()
-    ensures { DisksAreFound M S G.is_shut G.faults G.shard G.logs D.story D.faults }
+    ensures { DisksAreFound M S G.is_shut G.faults G.shard G.logs (stories_of D.story) (faults_of D.faults) }
 {}
 
 /// Walkers that have the disk of no shard have no disks.
 pub fn no_disks_are_held<M, S, G, D: Disk>()
-    ensures { NoDisksAreHeld M S G D.story D.faults }
+    ensures { NoDisksAreHeld M S G (stories_of D.story) (faults_of D.faults) }
 {}
 
 /// A shard of which no walker ever took the disk was never restarted.

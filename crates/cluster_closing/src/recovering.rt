@@ -10,13 +10,14 @@ ghost use Rattle.log_gate.specs.View.{Only};
 ghost use Rattle.cluster_closing.specs.Judging.{RefusesDisk, CountsRestart, IsRecoveryError, opening_error, recovery_error};
 ghost use Rattle.cluster_closing.specs.Left.{IsLeftBy, HasBegun, WasRead};
 ghost use Rattle.cluster_closing.specs.Readied.{IsReady, HasGate};
+ghost use Rattle.machine_calls.specs.Disks.{stories_of, faults_of};
 
 use crate::error::RestartError;
 use crate::judging::judge;
 use cluster_opening::At;
 use clv_base::logs::LogRecord;
 use clv_base::splits::Splits;
-use io_model::Disk;
+use io_model::{Disk, Sides};
 use log_analysis::LogFacts;
 use log_gate::{Gate, Header, OpenLogError};
 use machine_calls::{Machine, Reopener};
@@ -107,39 +108,39 @@ fn recover_log<M: Reopener>(
 /// Recovers the disk of a shard that is down, whose own epoch this is: its log is read again, which begins with a header of these splits, it is judged, and
 /// what a restart of the run adds to it is made durable.
 ///
-/// An `Err` gives the disk back: `NotLog` names the first place or record by which its log is none that a restart goes on from, `Failed` comes where the
+/// An `Err` gives both sides back: `NotLog` names the first place or record by which its log is none that a restart goes on from, `Failed` comes where the
 /// disk failed. The shard isn't touched, and the disk may be tried again.
 pub fn recover_disk<M: Reopener>(
     alloc: Global,
-    disk: M::Disk,
+    sides: Sides<M::Disk>,
     shard: u32,
     run: u32,
     own: u64,
     splits: &Splits,
-) -> Result<Ready<M::Store, M::Gate>, (RestartError, M::Disk)>
+) -> Result<Ready<M::Store, M::Gate>, (RestartError, Sides<M::Disk>)>
     requires run { 1 ≤ run }
     ensures ready { IfOk result (λ r. IsReady shard run r.epoch r.found.value.items (M.Store.records r.store) r.recovered) }
-    ensures gate { IfOk result (λ r. HasGate shard (M.Disk.faults disk) r.recovered (M.Gate.is_shut r.gate) (M.Gate.shard r.gate) (M.Gate.faults r.gate) (M.Gate.logs r.gate (record { splits = splits.now }))) }
+    ensures gate { IfOk result (λ r. HasGate shard (faults_of M.Disk.faults sides) r.recovered (M.Gate.is_shut r.gate) (M.Gate.shard r.gate) (M.Gate.faults r.gate) (M.Gate.logs r.gate (record { splits = splits.now }))) }
     ensures epoch { IfOk result (λ r. r.epoch ≡ suc (greatest_epoch run own r.found.value.items)) }
     ensures free { IfOk result (λ r. first_barred run r.found.value.items ≡ None) }
 
     // So had what a read gave before.
-    ensures read { IfOk result (λ r. WasRead (M.Disk.story disk) shard (record { splits = splits.now }) r.found.value.items) }
-    ensures refused { IfErr result (λ e. RefusesDisk splits.now shard run own (M.Disk.story disk) e.0) }
-    ensures left { IfErr result (λ e. IsLeftBy shard (record { splits = splits.now }) run own (M.Disk.story disk) (M.Disk.story e.1)) }
-    ensures counts { IfErr result (λ e. CountsRestart (M.Disk.faults disk) (M.Disk.faults e.1) e.0) }
+    ensures read { IfOk result (λ r. WasRead (stories_of M.Disk.story sides) shard (record { splits = splits.now }) r.found.value.items) }
+    ensures refused { IfErr result (λ e. RefusesDisk splits.now shard run own (stories_of M.Disk.story sides) e.0) }
+    ensures left { IfErr result (λ e. IsLeftBy shard (record { splits = splits.now }) run own (stories_of M.Disk.story sides) (stories_of M.Disk.story e.1)) }
+    ensures counts { IfErr result (λ e. CountsRestart (faults_of M.Disk.faults sides) (faults_of M.Disk.faults e.1) e.0) }
 {
     let header = header_of(shard, splits);
-    let (gate, log) = match M::open_gate(alloc, disk, shard, &header) {
+    let (gate, log) = match M::open_gate(alloc, sides, shard, &header) {
         Ok(opened) => opened,
-        Err((error, disk)) => return Err((told_as(error), disk)),
+        Err((error, sides)) => return Err((told_as(error), sides)),
     };
     let (epoch, facts) = match judge(alloc, &log, shard, run, own) {
         Ok(judged) => judged,
-        Err(error) => return Err((error, M::disk_of(gate))),
+        Err(error) => return Err((error, M::sides_of(gate))),
     };
     match recover_log::<M>(alloc, gate, log, facts, shard, run, epoch) {
         Ok(ready) => Ok(ready),
-        Err((error, gate)) => Err((error, M::disk_of(gate))),
+        Err((error, gate)) => Err((error, M::sides_of(gate))),
     }
 }

@@ -7,11 +7,12 @@ ghost use Rattle.cluster_closing.specs.EndHeld.{HoldsAt, IsDiskOf};
 ghost use Rattle.cluster_closing.specs.Restarts.{Recovers};
 ghost use Rattle.cluster_closing.specs.Revived.{IsReadyFor, ReviveTold, IsSameSeen};
 ghost use Rattle.cluster_closing.specs.Restarted.{RestartTold};
+ghost use Rattle.machine_calls.specs.Disks.{stories_of, faults_of};
 
 use crate::turns::take_up;
 use crate::{Fetched, Ready, RestartError, recover_disk};
 use cluster_turns::{Shards, Walker};
-use io_model::Disk;
+use io_model::{Disk, Sides};
 use log_gate::Gate;
 use machine_calls::{Machine, Reopener};
 use ordered_store::Store;
@@ -62,19 +63,19 @@ pub fn restart<M: Reopener, R: Wait>(
     alloc: Global,
     shards: &Shards<M>,
     walker: &mut Walker<M>,
-    fetched: Fetched<M::Disk>,
-) -> Result<u64, (RestartError, Fetched<M::Disk>)>
+    fetched: Fetched<Sides<M::Disk>>,
+) -> Result<u64, (RestartError, Fetched<Sides<M::Disk>>)>
     requires walker { IsWalker shards.now walker.old }
     requires shard { fetched.shard < length shards.now.locks.items }
-    requires held { HoldsAt fetched.shard walker.old.number (λ layout. IsDiskOf M.Disk.faults fetched) walker.old.passes.items }
+    requires held { HoldsAt fetched.shard walker.old.number (λ layout. IsDiskOf (faults_of M.Disk.faults) fetched) walker.old.passes.items }
     ensures walker { IsWalker shards.now walker.new × IsSameWalker walker.old walker.new }
-    ensures restart { RestartTold M.Disk.story shards.now.splits shards.now.run fetched walker.old.number walker.old.clock walker.old.passes.items result walker.new.clock walker.new.passes.items }
+    ensures restart { RestartTold (stories_of M.Disk.story) shards.now.splits shards.now.run fetched walker.old.number walker.old.clock walker.old.passes.items result walker.new.clock walker.new.passes.items }
 
     // After an error the walker still has the disk.
-    ensures held { IfErr result (λ e. HoldsAt e.1.shard walker.old.number (λ layout. IsDiskOf M.Disk.faults e.1) walker.new.passes.items) }
+    ensures held { IfErr result (λ e. HoldsAt e.1.shard walker.old.number (λ layout. IsDiskOf (faults_of M.Disk.faults) e.1) walker.new.passes.items) }
     ensures back { IfErr result (λ e. (e.1.shard ≡ fetched.shard) × (e.1.epoch ≡ fetched.epoch)) }
-    ensures left { IfErr result (λ e. IsLeftBy fetched.shard (record { splits = shards.now.splits }) shards.now.run fetched.epoch (M.Disk.story fetched.disk) (M.Disk.story e.1.disk)) }
-    ensures counts { IfErr result (λ e. CountsRestart (M.Disk.faults fetched.disk) (M.Disk.faults e.1.disk) e.0) }
+    ensures left { IfErr result (λ e. IsLeftBy fetched.shard (record { splits = shards.now.splits }) shards.now.run fetched.epoch (stories_of M.Disk.story fetched.disk) (stories_of M.Disk.story e.1.disk)) }
+    ensures counts { IfErr result (λ e. CountsRestart (faults_of M.Disk.faults fetched.disk) (faults_of M.Disk.faults e.1.disk) e.0) }
 {
     let Fetched { shard, epoch, disk } = fetched;
     let ready = match recover_disk::<M>(alloc, disk, shard, shards.run, epoch, &shards.splits) {
@@ -84,7 +85,7 @@ pub fn restart<M: Reopener, R: Wait>(
     match bring_back(rt, alloc, shards, walker, shard, ready) {
         Ok(epoch) => Ok(epoch),
         Err((error, gate)) => {
-            let disk = M::disk_of(gate);
+            let disk = M::sides_of(gate);
             Err((error, Fetched { shard, epoch, disk }))
         }
     }

@@ -9,7 +9,7 @@ use Rattle.clv_base.specs.declared.logs.LogRecord.{LogRecord}
 use Rattle.clv_base.specs.Shards.{shard_count}
 use Rattle.clv_base.specs.LogRules.{log_of, disorder, apart, all_logs_from}
 use Rattle.clv_base.specs.FileRules.{log_passes, passes_file_rules}
-use Rattle.io_model.specs.Story.{Story, reads}
+use Rattle.io_model.specs.Sides.{Stories, reads_both}
 use Rattle.log_gate.specs.Image.{checked_log, HasLog, HasHeader}
 use Rattle.cluster_opening.specs.declared.error.At.TheVariants.{Byte, Record}
 use Rattle.cluster_opening.specs.declared.error.OpenError.{OpenError}
@@ -17,12 +17,12 @@ use Rattle.cluster_opening.specs.declared.error.OpenError.TheVariants.{Failed, N
 use Rattle.cluster_opening.specs.Logs.{HoldsLog, LogsBelow, LogsOfAll}
 use Rattle.cluster_opening.specs.Opening.{Refuses}
 use Rattle.cluster_opening.specs.Accepted.{AreGoodLogs, IsOfNoLog, GoodLogsAreNotRefused}
-use Rattle.cluster_opening.proofs.Unagreed.{read_unagreed}
+use Rattle.cluster_opening.proofs.Agreed.{read_unagreed}
 use Rattle.cluster_opening.proofs.Checked.{checked}
 use Rattle.law_base.proofs.Logs.{passes_at, splits_in}
 
-abbrev Reads : ℕ → Option (List ℕ) → Result (List ℕ × List LogRecord) ℕ → Story → Type 0
-Reads n agreed r s = checked_log n agreed (reads s) ≡ r
+abbrev Reads : ℕ → Option (List ℕ) → Result (List ℕ × List LogRecord) ℕ → Stories → Type 0
+Reads n agreed r s = checked_log n agreed (reads_both s) ≡ r
 
 abbrev log_in : Result (List ℕ × List LogRecord) ℕ → Option (List LogRecord)
 log_in (Ok x) = Some x.1
@@ -43,26 +43,26 @@ module _ (n : ℕ) where
   no_log sp log at e = cc
 
   -- it reads so with the splits of its header and with none
-  one_log : (story : Option Story) (sp sp' : List ℕ) (log log' : List LogRecord) → IsSome story → IfSome story (Reads n (Some sp) (is_log sp log)) → IfSome story (Reads n (Some sp') (is_log sp' log')) → is_log sp log ≡ is_log sp' log'
+  one_log : (story : Option Stories) (sp sp' : List ℕ) (log log' : List LogRecord) → IsSome story → IfSome story (Reads n (Some sp) (is_log sp log)) → IfSome story (Reads n (Some sp') (is_log sp' log')) → is_log sp log ≡ is_log sp' log'
   one_log None sp sp' log log' some h k = absurd cc
-  one_log (Some s) sp sp' log log' some h k = sym (read_unagreed n (reads s) sp sp log h) ∙ read_unagreed n (reads s) sp' sp' log' k
+  one_log (Some s) sp sp' log log' some h k = sym (read_unagreed n (reads_both s) sp sp log h) ∙ read_unagreed n (reads_both s) sp' sp' log' k
 
-  reads_any : (story : Option Story) (sp : List ℕ) (log : List LogRecord) (at : ℕ) → IsSome story → IfSome story (Reads n (Some sp) (is_log sp log)) → IfSome story (Reads n None (Err at)) → ⊥
+  reads_any : (story : Option Stories) (sp : List ℕ) (log : List LogRecord) (at : ℕ) → IsSome story → IfSome story (Reads n (Some sp) (is_log sp log)) → IfSome story (Reads n None (Err at)) → ⊥
   reads_any None sp log at some h k = absurd cc
-  reads_any (Some s) sp log at some h k = no_log sp log at (sym (read_unagreed n (reads s) sp sp log h) ∙ k)
+  reads_any (Some s) sp log at some h k = no_log sp log at (sym (read_unagreed n (reads_both s) sp sp log h) ∙ k)
 
-  reads_own : (story : Option Story) (sp : List ℕ) (log : List LogRecord) (at : ℕ) → IsSome story → IfSome story (Reads n (Some sp) (is_log sp log)) → IfSome story (Reads n (Some sp) (Err at)) → ⊥
+  reads_own : (story : Option Stories) (sp : List ℕ) (log : List LogRecord) (at : ℕ) → IsSome story → IfSome story (Reads n (Some sp) (is_log sp log)) → IfSome story (Reads n (Some sp) (Err at)) → ⊥
   reads_own None sp log at some h k = absurd cc
   reads_own (Some s) sp log at some h k = no_log sp log at (sym h ∙ k)
 
   -- a disk that is read as a log whose records pass
-  is_told : (story : Option Story) (sp : List ℕ) (log : List LogRecord) → IsSomeAnd story (λ s. HasLog n log (reads s) × HasHeader n sp (reads s)) → IsSome story
+  is_told : (story : Option Stories) (sp : List ℕ) (log : List LogRecord) → IsSomeAnd story (λ s. HasLog n log (reads_both s) × HasHeader n sp (reads_both s)) → IsSome story
   is_told None sp log h = absurd h
   is_told (Some s) sp log h = refl
 
-  was_checked : (story : Option Story) (sp : List ℕ) (log : List LogRecord) → IsSomeAnd story (λ s. HasLog n log (reads s) × HasHeader n sp (reads s)) → list_all (passes_file_rules sp n) log ≡ true → IfSome story (Reads n (Some sp) (is_log sp log))
+  was_checked : (story : Option Stories) (sp : List ℕ) (log : List LogRecord) → IsSomeAnd story (λ s. HasLog n log (reads_both s) × HasHeader n sp (reads_both s)) → list_all (passes_file_rules sp n) log ≡ true → IfSome story (Reads n (Some sp) (is_log sp log))
   was_checked None sp log h fits = absurd h
-  was_checked (Some s) sp log h fits = checked n sp log (reads s) h.0 h.1 fits
+  was_checked (Some s) sp log h fits = checked n sp log (reads_both s) h.0 h.1 fits
 
 -- ---- lists of logs
 
@@ -86,7 +86,7 @@ agree (Some y) x e f = cc
 
 -- ---- each refusal
 
-module _ (stories : ℕ → Option Story) (good : AreGoodLogs stories) where
+module _ (stories : ℕ → Option Stories) (good : AreGoodLogs stories) where
   first_is : 0 < shard_count good.splits
   first_is = omega arith
 

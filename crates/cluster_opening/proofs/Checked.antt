@@ -6,12 +6,14 @@ use Rattle.std.proofs.lemmas.List.Folds.{list_all-append}
 use Rattle.byteorder.specs.Endian.{little_number}
 use Rattle.clv_base.specs.declared.logs.LogRecord.{LogRecord}
 use Rattle.clv_base.specs.FileRules.{passes_file_rules}
+use Rattle.io_model.specs.Sides.{Images}
 use Rattle.log_records.specs.Reading.{record_at}
 use Rattle.log_gate.specs.Header.{header_size}
-use Rattle.log_gate.specs.Image.{with_record, record_then, records_at, records_in, records_of, with_header, behind_header, checked_log, HasLog, HasHeader}
+use Rattle.log_gate.specs.Sides.{image_of}
+use Rattle.log_gate.specs.Image.{with_record, record_then, records_at, records_in, records_of, with_header, behind_chosen, checked_log, HasLog, HasHeader}
 use Rattle.log_gate.specs.Payloads.{holds_batch}
 use Rattle.log_gate.specs.Records.{both, records_from, record_log}
-use Rattle.cluster_opening.proofs.Headers.{read_with_own}
+use Rattle.cluster_opening.proofs.Agreed.{read_with_own}
 
 abbrev Reading : Type 0
 Reading = Result (List LogRecord) ℕ
@@ -41,6 +43,9 @@ parts_of (Err place) two log e = absurd (let k : ◌≡◌ {A = Reading} (Err pl
 
 abbrev was_read : List LogRecord → Reading
 was_read log = Ok log
+
+abbrev was_found : List ℕ → List LogRecord → Result (List ℕ × List LogRecord) ℕ
+was_found splits log = Ok (splits, log)
 
 -- the payload behind an open gate, and what is read behind it
 abbrev payload : List ℕ → List ℕ
@@ -100,9 +105,11 @@ found_log splits (Ok records) log e = let k : ◌≡◌ {A = Option (List LogRec
 found_log splits (Err place) log e = absurd (let k : ◌≡◌ {A = Option (List LogRecord)} None (Some log) = e in cc)
 
 -- a log whose records pass the rules of its shard is read so where its splits are agreed on
-pub checked : (n : ℕ) (splits : List ℕ) (log : List LogRecord) (image : List ℕ) → HasLog n log image → HasHeader n splits image → list_all (passes_file_rules splits n) log ≡ true → checked_log n (Some splits) image ≡ Ok (splits, log)
-checked n splits log image has header fits =
-    let found : record_log (records_in (λ r. true)) (header_size splits) image ≡ Ok log =
-    found_log splits (record_log (records_in (λ r. true)) (header_size splits) image) log (sym (ap (λ h. records_of (behind_header (λ s r. true) image h)) header) ∙ has) in
-    read_with_own n image splits log
-    (ap (behind_header (λ s. passes_file_rules s n) image) header ∙ ap (with_header splits) (passing_log (passes_file_rules splits n) (header_size splits) image log found fits))
+pub checked : (n : ℕ) (splits : List ℕ) (log : List LogRecord) (images : Images) → HasLog n log images → HasHeader n splits images → list_all (passes_file_rules splits n) log ≡ true → checked_log n (Some splits) images ≡ Ok (splits, log)
+checked n splits log images has (c, is, same) fits =
+    let found : record_log (records_in (λ r. true)) (header_size c.splits c.generation) (image_of images c.side) ≡ Ok log =
+    found_log c.splits (record_log (records_in (λ r. true)) (header_size c.splits c.generation) (image_of images c.side)) log (sym (ap (λ h. records_of (behind_chosen (λ splits r. true) images h)) is) ∙ has) in
+    let own : list_all (passes_file_rules c.splits n) log ≡ true = subst (λ (l : List ℕ). list_all (passes_file_rules l n) log ≡ true) (sym same) fits in
+    read_with_own n images splits log
+    (ap (behind_chosen (λ s. passes_file_rules s n) images) is ∙ ap (with_header c.splits) (passing_log (passes_file_rules c.splits n) (header_size c.splits c.generation) (image_of images c.side) log found own)
+    ∙ ap (λ (l : List ℕ). was_found l log) same)

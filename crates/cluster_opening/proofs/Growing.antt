@@ -9,7 +9,7 @@ use Rattle.clv_base.specs.Shards.{shard_count, are_splits}
 use Rattle.clv_base.specs.LogRules.{log_of, all_logs_from, disorder, apart}
 use Rattle.clv_base.specs.FileRules.{has_spelling, passes_file_rules, log_passes}
 use Rattle.clv_base.specs.Restarts.{run_after}
-use Rattle.io_model.specs.Story.{Story}
+use Rattle.io_model.specs.Sides.{Stories}
 use Rattle.log_gate.specs.View.{View}
 use Rattle.cluster_opening.specs.Logs.{HoldsLog, IsGateAt, LogsOfAll, IsFound}
 use Rattle.cluster_opening.specs.Houses.{WentOut, AreGates}
@@ -28,10 +28,10 @@ pub log_last : (logs : List (List LogRecord)) (log : List LogRecord) → log_of 
 log_last [] log = refl
 log_last (x ∷ xs) log = log_last xs log
 
-pub no_gates : (splits : List ℕ) (stories : ℕ → Option Story) → AreGates splits [] [] stories
+pub no_gates : (splits : List ℕ) (stories : ℕ → Option Stories) → AreGates splits [] [] stories
 no_gates splits stories = record { count = refl; each = λ n d l. absurd (omega arith) }
 
-pub grown : (splits : List ℕ) (logs : List (List LogRecord)) (gates : List View) (stories : ℕ → Option Story) (log : List LogRecord) (g : View) (k : ℕ) → length logs ≡ k → AreGates splits logs gates stories
+pub grown : (splits : List ℕ) (logs : List (List LogRecord)) (gates : List View) (stories : ℕ → Option Stories) (log : List LogRecord) (g : View) (k : ℕ) → length logs ≡ k → AreGates splits logs gates stories
     → IsGateAt splits k log (stories k) g → AreGates splits (logs ++ log ∷ []) (gates ++ g ∷ []) stories
 grown splits logs gates stories log g k is a last =
     let more = length_push logs log in
@@ -43,11 +43,11 @@ grown splits logs gates stories log g k is a last =
           (subst (λ (x : List LogRecord). IsGateAt splits (length logs) x (stories (length logs)) g) (sym (log_last logs log)) new) n d (omega arith);
     }
 
-module _ (f f1 f2 : ℕ → ℕ) (o o1 o2 : ℕ → Bool) (s s1 s2 : ℕ → Option Story) where
+module _ (f f1 f2 : ℕ → ℕ) (o o1 o2 : ℕ → Bool × Bool) (s s1 s2 : ℕ → Option Stories) where
   pub none_out : WentOut 0 f f o o s s
   none_out = record { first = λ n l. absurd (omega arith); rest = λ n l. (refl, refl); counts = λ n. refl }
 
-  pub one_out : (k : ℕ) → WentOut k f f1 o o1 s s1 → o2 k ≡ true → f2 k ≡ f1 k → ((n : ℕ) → n ≢ k → (f2 n ≡ f1 n) × (o2 n ≡ o1 n) × (s2 n ≡ s1 n)) → WentOut (k + 1) f f2 o o2 s s2
+  pub one_out : (k : ℕ) → WentOut k f f1 o o1 s s1 → o2 k ≡ (true, true) → f2 k ≡ f1 k → ((n : ℕ) → n ≢ k → (f2 n ≡ f1 n) × (o2 n ≡ o1 n) × (s2 n ≡ s1 n)) → WentOut (k + 1) f f2 o o2 s s2
   one_out k w out same others = record {
     first = λ n l. dite (ℕ_discrete n k) (λ is. ap o2 is ∙ out) (λ other. (others n other).1 ∙ w.first n (omega arith));
     rest = λ n l. (let other : n ≢ k = (λ is. absurd (omega arith)) in let t = others n other in let r = w.rest n (omega arith) in (t.1 ∙ r.0, t.2 ∙ r.1));
@@ -63,10 +63,10 @@ each_log test (x ∷ xs) h = and_true (test x) (list_all test xs) (h 0 (omega ar
 no_view : View
 no_view = record { story = None; faults = 0; shard = 0; is_shut = true }
 
-pub holds_each : (splits : List ℕ) (logs : List (List LogRecord)) (gates : List View) (stories : ℕ → Option Story) → AreGates splits logs gates stories → (n : ℕ) → n < length logs → HoldsLog splits n (log_of logs n) (stories n)
+pub holds_each : (splits : List ℕ) (logs : List (List LogRecord)) (gates : List View) (stories : ℕ → Option Stories) → AreGates splits logs gates stories → (n : ℕ) → n < length logs → HoldsLog splits n (log_of logs n) (stories n)
 holds_each splits logs gates stories a n l = (a.each n no_view l).holds
 
-module _ (splits : List ℕ) (logs : List (List LogRecord)) (gates : List View) (stories : ℕ → Option Story) (rise : are_splits splits ≡ true) (a : AreGates splits logs gates stories) (long : length logs ≡ shard_count splits) where
+module _ (splits : List ℕ) (logs : List (List LogRecord)) (gates : List View) (stories : ℕ → Option Stories) (rise : are_splits splits ≡ true) (a : AreGates splits logs gates stories) (long : length logs ≡ shard_count splits) where
   pub logs_of_all : LogsOfAll splits logs stories
   logs_of_all = record { splits_rise = rise; count = long; each = λ n l. holds_each splits logs gates stories a n (omega arith) }
 

@@ -3,13 +3,13 @@ pub mod Taking
 pub mod Columns
 pub mod Back
 pub mod Stopping
-pub mod Headers
+pub mod Agreed
 pub mod Growing
 pub mod DisksStopping
 pub mod OneDisk
 pub mod Disks
-pub mod Unagreed
 pub mod Checked
 pub mod Accepting
 pub mod Laws
 pub mod Reading
+pub mod Testing

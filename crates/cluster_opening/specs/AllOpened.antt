@@ -4,7 +4,7 @@ use Rattle.std.specs.List.{list_all}
 use Rattle.clv_base.specs.declared.logs.LogRecord.{LogRecord}
 use Rattle.clv_base.specs.LogRules.{log_of, disorder}
 use Rattle.clv_base.specs.FileRules.{has_spelling}
-use Rattle.io_model.specs.Story.{Story}
+use Rattle.io_model.specs.Sides.{Stories}
 use Rattle.shard_recovery.specs.declared.recovering.RecoverError.{RecoverError}
 use Rattle.log_gate.specs.Header.{Layout}
 use Rattle.log_gate.specs.View.{Only}
@@ -40,9 +40,9 @@ module _ {G : Type 0} (shut : G → Bool) (faults whose : G → ℕ) (logs : G �
     pub count : length gates ≡ length founds
     pub each : (n : ℕ) (d : G) → n < length founds → IsOpenGate layout n (log_of founds n) (slice_index_or gates n d)
 
-module _ {G : Type 0} (told : G → Option Story) where
+module _ {G : Type 0} (told : G → Option Stories) where
   -- opening stopped at a shard whose disk is left so, and the gates of the shards above it, the last one first, are those that were given
-  pub record StoppedAt (layout : Layout) (run : ℕ) (logs : List (List LogRecord)) (gates : List G) (shard : ℕ) (e : RecoverError) (story : Option Story) (faults : ℕ) (rest : List G) : Type 0 where
+  pub record StoppedAt (layout : Layout) (run : ℕ) (logs : List (List LogRecord)) (gates : List G) (shard : ℕ) (e : RecoverError) (story : Option Stories) (faults : ℕ) (rest : List G) : Type 0 where
     pub is_shard : shard < length gates
     pub left : (d : G) → IsLeft shard layout (log_of logs shard) run (told (slice_index_or gates shard d)) story
     pub counts : CountsLeft 0 faults e

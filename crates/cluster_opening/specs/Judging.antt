@@ -3,7 +3,7 @@ use Rattle.std.specs.Prelude.{◌≡◌, ◌≢◌, ◌≤◌, ◌^◌, ℕ, Lis
 use Rattle.clv_base.specs.declared.logs.LogRecord.{LogRecord}
 use Rattle.clv_base.specs.LogRules.{disorder, apart}
 use Rattle.clv_base.specs.Restarts.{run_after}
-use Rattle.io_model.specs.Story.{Story, reads}
+use Rattle.io_model.specs.Sides.{Stories, reads_both}
 use Rattle.io_model.specs.Disk.{Rose}
 use Rattle.log_gate.specs.declared.error.OpenLogError.{OpenLogError}
 use Rattle.log_gate.specs.declared.error.OpenLogError.TheVariants as logs
@@ -37,11 +37,11 @@ Faults shard agreed splits log (Worn at) = ⊥
 Faults shard agreed splits log Memory = Unit {0}
 
 -- why one disk is refused
-abbrev pub RefusesOne : ℕ → Option (List ℕ) → Option Story → OpenError → Type 0
+abbrev pub RefusesOne : ℕ → Option (List ℕ) → Option Stories → OpenError → Type 0
 RefusesOne shard agreed story (Failed s) = s ≡ shard
-RefusesOne shard agreed story (NotLog s (Byte offset)) = (s ≡ shard) × IfSome story (λ t. checked_log shard agreed (reads t) ≡ Err offset)
+RefusesOne shard agreed story (NotLog s (Byte offset)) = (s ≡ shard) × IfSome story (λ t. checked_log shard agreed (reads_both t) ≡ Err offset)
 RefusesOne shard agreed story (NotLog s (Record lsn)) =
-    (s ≡ shard) × ((splits : List ℕ) × (log : List LogRecord) × Agrees agreed splits × IfSome story (λ t. checked_log shard agreed (reads t) ≡ Ok (splits, log)) × (disorder shard log ≡ Some lsn))
+    (s ≡ shard) × ((splits : List ℕ) × (log : List LogRecord) × Agrees agreed splits × IfSome story (λ t. checked_log shard agreed (reads_both t) ≡ Ok (splits, log)) × (disorder shard log ≡ Some lsn))
 RefusesOne shard agreed story (Apart tx) = ⊥
 RefusesOne shard agreed story (Worn at) = ⊥
 RefusesOne shard agreed story Memory = Unit {0}

@@ -1,42 +1,43 @@
 -- What making the logs of all shards leaves on their disks, and when it is refused.
-use Rattle.std.specs.Prelude.{◌≡◌, ◌≢◌, ◌⊎◌, ◌<◌, ◌≤◌, ℕ, List, [], ◌∷◌, ◌++◌, length, Option, IfSome, IsSome, Result, Ok, Err}
-use Rattle.io_model.specs.Story.{Story, reads}
+use Rattle.std.specs.Prelude.{◌≡◌, ◌≢◌, ◌⊎◌, ◌<◌, ◌≤◌, ℕ, List, Option, IfSome, IsSome, Result, Ok, Err}
+use Rattle.io_model.specs.Sides.{Stories, reads_both}
 use Rattle.io_model.specs.Disk.{Tells, Rose}
 use Rattle.log_gate.specs.Gate.{EachNow}
 use Rattle.log_gate.specs.Header.{header_bytes}
+use Rattle.log_gate.specs.Make.{AreEmpty, HasSome, IsMadeOf}
 use Rattle.log_gate.specs.Opening.{IsUnchanged}
 use Rattle.log_gate.specs.declared.error.MakeError.{MakeError as OneError}
 use Rattle.log_gate.specs.declared.error.MakeError.TheVariants as one
 use Rattle.cluster_opening.specs.declared.making_error.MakeError.{MakeError}
 use Rattle.cluster_opening.specs.declared.making_error.MakeError.TheVariants.{Exists, Failed, Memory}
 
--- a disk that tells its bytes has none
-abbrev pub IsEmpty : Option Story → Type 0
-IsEmpty story = IfSome story (λ s. reads s ≡ [])
+-- both sides are empty, where they tell their bytes
+abbrev pub IsEmpty : Option Stories → Type 0
+IsEmpty story = IfSome story (λ s. AreEmpty (reads_both s))
 
--- an empty disk got the header of shard n and a closed gate: what a read gives and each image that a crash now may leave is just that
-abbrev pub IsMade : List ℕ → ℕ → Story → Story → Type 0
-IsMade splits n s t = (reads s ≡ []) × EachNow (λ bytes. bytes ≡ header_bytes n splits ++ 0 ∷ []) t
+-- of two empty sides the first one got the header of shard n and a closed gate: what a read gives and each image that a crash now may leave is just that
+abbrev pub IsMade : List ℕ → ℕ → Stories → Stories → Type 0
+IsMade splits n s t = AreEmpty (reads_both s) × EachNow (IsMadeOf (header_bytes n splits 1)) t
 
--- a disk with bytes was not written
-abbrev pub Spares : Story → Story → Type 0
-Spares s t = (reads s ≡ []) ⊎ IsUnchanged s t
+-- where a side has bytes none was written
+abbrev pub Spares : Stories → Stories → Type 0
+Spares s t = AreEmpty (reads_both s) ⊎ IsUnchanged s t
 
--- a disk that tells its bytes has so many, and some
-abbrev pub HasBytes : ℕ → Option Story → Type 0
-HasBytes len story = IfSome story (λ s. (len ≡ length (reads s)) × (len ≢ 0))
+-- the first side with bytes has so many, where they tell them
+abbrev pub HasBytes : ℕ → Option Stories → Type 0
+HasBytes len story = IfSome story (λ s. HasSome len (reads_both s))
 
-abbrev pub AreUnchanged : (ℕ → Option Story) → (ℕ → Option Story) → Type 0
+abbrev pub AreUnchanged : (ℕ → Option Stories) → (ℕ → Option Stories) → Type 0
 AreUnchanged before now = (n : ℕ) → Tells (before n) (now n) IsUnchanged
 
 -- the shard is the lowest whose disk isn't empty, and no disk was written, where that one tells its bytes
-pub record ExistsAt (count shard len : ℕ) (before now : ℕ → Option Story) : Type 0 where
+pub record ExistsAt (count shard len : ℕ) (before now : ℕ → Option Stories) : Type 0 where
   pub is_shard : shard < count
   pub below : (n : ℕ) → n < shard → IsEmpty (before n)
   pub here : HasBytes len (before shard)
   pub unwritten : IsSome (before shard) → AreUnchanged before now
 
-abbrev pub Refuses : ℕ → (ℕ → Option Story) → (ℕ → Option Story) → MakeError → Type 0
+abbrev pub Refuses : ℕ → (ℕ → Option Stories) → (ℕ → Option Stories) → MakeError → Type 0
 Refuses count before now (Exists shard len) = ExistsAt count shard len before now
 Refuses count before now (Failed shard) = shard < count
 Refuses count before now Memory = Unit {0}
@@ -54,7 +55,7 @@ CountsMaking before now (Err Memory) = Stand before now
 
 -- ---- one disk
 
-abbrev pub RefusesOne : ℕ → Option Story → MakeError → Type 0
+abbrev pub RefusesOne : ℕ → Option Stories → MakeError → Type 0
 RefusesOne shard story (Exists s len) = (s ≡ shard) × HasBytes len story
 RefusesOne shard story (Failed s) = s ≡ shard
 RefusesOne shard story Memory = Unit {0}

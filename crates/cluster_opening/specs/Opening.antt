@@ -3,7 +3,7 @@ use Rattle.std.specs.Prelude.{◌≡◌, ◌≢◌, ◌≤◌, ◌^◌, ℕ, zer
 use Rattle.clv_base.specs.declared.logs.LogRecord.{LogRecord}
 use Rattle.clv_base.specs.LogRules.{disorder, apart}
 use Rattle.clv_base.specs.Restarts.{run_after}
-use Rattle.io_model.specs.Story.{Story, reads}
+use Rattle.io_model.specs.Sides.{Stories, reads_both}
 use Rattle.io_model.specs.Disk.{Rose}
 use Rattle.log_gate.specs.Image.{checked_log}
 use Rattle.cluster_opening.specs.declared.error.At.TheVariants.{Byte, Record}
@@ -17,13 +17,13 @@ agreed_for zero splits = None
 agreed_for (suc n) splits = Some splits
 
 -- this is the first refusal, where disks are opened in rising order, then all logs are judged together, then the next run
-abbrev pub Refuses : (ℕ → Option Story) → OpenError → Type 0
+abbrev pub Refuses : (ℕ → Option Stories) → OpenError → Type 0
 Refuses stories (Failed shard) = (splits : List ℕ) × (logs : List (List LogRecord)) × LogsBelow splits logs shard stories
 Refuses stories (NotLog shard (Byte offset)) =
-    (splits : List ℕ) × (logs : List (List LogRecord)) × LogsBelow splits logs shard stories × IfSome (stories shard) (λ s. checked_log shard (agreed_for shard splits) (reads s) ≡ Err offset)
+    (splits : List ℕ) × (logs : List (List LogRecord)) × LogsBelow splits logs shard stories × IfSome (stories shard) (λ s. checked_log shard (agreed_for shard splits) (reads_both s) ≡ Err offset)
 Refuses stories (NotLog shard (Record lsn)) =
     (splits : List ℕ) × (logs : List (List LogRecord)) × LogsBelow splits logs shard stories
-    × ((log : List LogRecord) × IfSome (stories shard) (λ s. checked_log shard (Some splits) (reads s) ≡ Ok (splits, log)) × (disorder shard log ≡ Some lsn))
+    × ((log : List LogRecord) × IfSome (stories shard) (λ s. checked_log shard (Some splits) (reads_both s) ≡ Ok (splits, log)) × (disorder shard log ≡ Some lsn))
 Refuses stories (Apart tx) = (splits : List ℕ) × (logs : List (List LogRecord)) × LogsOfAll splits logs stories × (apart logs ≡ Some tx)
 Refuses stories (Worn at) = (splits : List ℕ) × (logs : List (List LogRecord)) × LogsOfAll splits logs stories × (apart logs ≡ None) × (run_after logs ≡ 2 ^ 32) × (at ≡ 2 ^ 32)
 Refuses stories Memory = Unit {0}

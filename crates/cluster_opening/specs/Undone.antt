@@ -3,7 +3,7 @@ use Rattle.std.specs.Prelude.{◌≡◌, ◌≢◌, ℕ, ◌<◌, ◌≤◌, Boo
 use Rattle.std.specs.Global.{Global}
 use Rattle.clv_base.specs.declared.logs.LogRecord.{LogRecord}
 use Rattle.clv_base.specs.LogRules.{log_of}
-use Rattle.io_model.specs.Story.{Story}
+use Rattle.io_model.specs.Sides.{Stories}
 use Rattle.io_model.specs.Disk.{Rose, Adds}
 use Rattle.shard_recovery.specs.declared.recovering.RecoverError.{RecoverError}
 use Rattle.shard_recovery.specs.declared.recovering.RecoverError.TheVariants.{Failed, Memory}
@@ -26,17 +26,17 @@ module _ {G : Type 0} (faults : G → ℕ) where
   abbrev pub AreFine : List G → Type 0
   AreFine gates = (n : ℕ) (d : G) → n < length gates → faults (slice_index_or gates n d) ≡ 0
 
-module _ {G : Type 0} (told : G → Option Story) where
+module _ {G : Type 0} (told : G → Option Stories) where
   -- all disks of the gates are in again: none was written but by what a restart adds to its log
-  pub record AreBack (layout : Layout) (run : ℕ) (logs : List (List LogRecord)) (gates : List G) (out' : ℕ → Bool) (stories' : ℕ → Option Story) : Type 0 where
-    pub are_in : (n : ℕ) → n < length gates → out' n ≡ false
+  pub record AreBack (layout : Layout) (run : ℕ) (logs : List (List LogRecord)) (gates : List G) (out' : ℕ → Bool × Bool) (stories' : ℕ → Option Stories) : Type 0 where
+    pub are_in : (n : ℕ) → n < length gates → out' n ≡ (false, false)
     pub left : (n : ℕ) (d : G) → n < length gates → IsLeft n layout (log_of logs n) run (told (slice_index_or gates n d)) (stories' n)
 
-module _ {G : Type 0} (told : G → Option Story) (faults : G → ℕ) where
+module _ {G : Type 0} (told : G → Option Stories) (faults : G → ℕ) where
   -- the disk under a gate came back
-  pub record CameBack (g : G) (before now : ℕ) (out' : Bool) (story' : Option Story) : Type 0 where
+  pub record CameBack (g : G) (before now : ℕ) (out' : Bool × Bool) (story' : Option Stories) : Type 0 where
     pub adds : Adds before (faults g) now
-    pub is_in : out' ≡ false
+    pub is_in : out' ≡ (false, false)
     pub story_is : story' ≡ told g
 
 -- the house's counts: that of the shard rose where its disk failed, and all others stand

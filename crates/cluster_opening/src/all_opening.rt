@@ -3,12 +3,13 @@ ghost use Rattle.std.specs.Prelude.{◌≡◌, ◌<◌, ◌≤◌, ℕ, [], map,
 ghost use Rattle.clv_base.specs.LogRules.{log_of};
 ghost use Rattle.log_analysis.specs.Facts.{KnowAll};
 ghost use Rattle.cluster_opening.specs.AllOpened.{IsOpenedAt, AreOpenGates, StoppedAt};
+ghost use Rattle.machine_calls.specs.Disks.{stories_of, faults_of};
 
 use crate::open_shard;
 use cluster_turns::Home;
 use clv_base::logs::LogRecord;
 use clv_base::splits::Splits;
-use io_model::Disk;
+use io_model::{Disk, Sides};
 use log_analysis::LogFacts;
 use log_gate::Gate;
 use machine_calls::OverDisks;
@@ -17,11 +18,11 @@ use shard_recovery::RecoverError;
 use std::alloc::Global;
 use turn_lock::{Pass, TurnLock};
 
-/// Where opening stopped: the shard, with its disk, and the gates of those above it, the last one first.
+/// Where opening stopped: the shard, with both its sides, and the gates of those above it, the last one first.
 pub struct Stopped<D: Disk, G: Gate> {
     pub shard: u32,
     pub error: RecoverError,
-    pub disk: D,
+    pub sides: Sides<D>,
     pub rest: Vec<G>,
 }
 
@@ -48,7 +49,7 @@ pub fn open_shards<D: Disk, M: OverDisks<D>>(
     ensures all { OnOk result (length locks.new.items ≡ vec_len gates) }
     ensures len { length passes.new.items ≡ length locks.new.items }
     ensures opened { (n : ℕ) (d : _) (e : _) → n < length locks.new.items → IsOpenedAt (record { splits = splits.now }) run walkers n (log_of (map (λ l. l.items) logs.items) n) (slice_index_or locks.new.items n d) (slice_index_or passes.new.items n e).items }
-    ensures stopped { IfErr result (λ s. (length locks.new.items ≡ s.shard) × StoppedAt M.story (record { splits = splits.now }) run (map (λ l. l.items) logs.items) gates.items s.shard s.error (D.story s.disk) (D.faults s.disk) s.rest.items) }
+    ensures stopped { IfErr result (λ s. (length locks.new.items ≡ s.shard) × StoppedAt M.story (record { splits = splits.now }) run (map (λ l. l.items) logs.items) gates.items s.shard s.error (stories_of D.story s.sides) (faults_of D.faults s.sides) s.rest.items) }
 {
     let count = gates.len() as u32;
     let mut rest = gates;
@@ -65,11 +66,11 @@ pub fn open_shards<D: Disk, M: OverDisks<D>>(
                 locks.push_reserved(lock);
                 passes.push_reserved(mine);
             }
-            Err((error, disk)) => {
+            Err((error, sides)) => {
                 return Err(Stopped {
                     shard,
                     error,
-                    disk,
+                    sides,
                     rest,
                 });
             }

@@ -3,6 +3,7 @@
 ghost use Rattle.std.specs.Prelude.{◌≡◌, ◌<◌, ◌≤◌, ℕ, false, [], map, length, vec_capacity, IfOk, IfErr, OnErr};
 ghost use Rattle.clv_base.specs.Shards.{shard_count};
 ghost use Rattle.io_model.specs.Disk.{Tells};
+ghost use Rattle.io_model.specs.Sides.{sides_out, sides_told};
 ghost use Rattle.log_analysis.specs.Facts.{KnowAll};
 ghost use Rattle.log_gate.specs.Opening.{IsUnchanged};
 ghost use Rattle.cluster_opening.specs.Logs.{IsFound};
@@ -46,16 +47,16 @@ pub(crate) fn open_logs<H: House>(
     logs: &mut Vec<Vec<LogRecord>>,
     facts: &mut Vec<LogFacts>,
 ) -> Result<Header, OpenError>
-    requires inside { (n : ℕ) → n < 16 → H.is_out house.old n ≡ false }
+    requires inside { (n : ℕ) → n < 16 → sides_out (H.is_out house.old) n ≡ (false, false) }
     requires empty { (gates.old.items ≡ []) × (logs.old.items ≡ []) }
     requires no_facts { facts.old.items ≡ [] }
     requires room { (16 ≤ vec_capacity gates.old) × (16 ≤ vec_capacity logs.old) }
     requires room_of_facts { 16 ≤ vec_capacity facts.old }
     ensures known { IfOk result (λ h. KnowAll facts.new.items (map (λ l. l.items) logs.new.items)) }
-    ensures gates { IfOk result (λ h. AreGates h.splits (map (λ l. l.items) logs.new.items) gates.new.items (H.story house.old)) }
+    ensures gates { IfOk result (λ h. AreGates h.splits (map (λ l. l.items) logs.new.items) gates.new.items (sides_told (H.story house.old))) }
     ensures count { IfOk result (λ h. length logs.new.items ≡ shard_count h.splits) }
-    ensures out { IfOk result (λ h. WentOut (shard_count h.splits) (H.faults house.old) (H.faults house.new) (H.is_out house.old) (H.is_out house.new) (H.story house.old) (H.story house.new)) }
-    ensures stopped { IfErr result (IsStopped gates.new.items (H.faults house.old) (H.faults house.new) (H.is_out house.new) (H.story house.old) (H.story house.new)) }
+    ensures out { IfOk result (λ h. WentOut (shard_count h.splits) (H.faults house.old) (H.faults house.new) (sides_out (H.is_out house.old)) (sides_out (H.is_out house.new)) (sides_told (H.story house.old)) (sides_told (H.story house.new))) }
+    ensures stopped { IfErr result (IsStopped gates.new.items (H.faults house.old) (H.faults house.new) (sides_out (H.is_out house.new)) (sides_told (H.story house.old)) (sides_told (H.story house.new))) }
     ensures unworn { IfErr result IsNotWorn }
 {
     let (gate, header, log, said) = match open_one(alloc, house, 0, None) {
@@ -86,15 +87,15 @@ fn open_and_judge<H: House>(
     logs: &mut Vec<Vec<LogRecord>>,
     facts: &mut Vec<LogFacts>,
 ) -> Result<(Splits, u32), OpenError>
-    requires inside { (n : ℕ) → n < 16 → H.is_out house.old n ≡ false }
+    requires inside { (n : ℕ) → n < 16 → sides_out (H.is_out house.old) n ≡ (false, false) }
     requires empty { (gates.old.items ≡ []) × (logs.old.items ≡ []) }
     requires no_facts { facts.old.items ≡ [] }
     requires room { (16 ≤ vec_capacity gates.old) × (16 ≤ vec_capacity logs.old) }
     requires room_of_facts { 16 ≤ vec_capacity facts.old }
     ensures known { IfOk result (λ r. KnowAll facts.new.items (map (λ l. l.items) logs.new.items)) }
-    ensures found { IfOk result (λ r. IsFound r.0 (map (λ l. l.items) logs.new.items) r.1 gates.new.items (H.story house.old)) }
-    ensures out { IfOk result (λ r. WentOut (shard_count r.0) (H.faults house.old) (H.faults house.new) (H.is_out house.old) (H.is_out house.new) (H.story house.old) (H.story house.new)) }
-    ensures stopped { IfErr result (IsStopped gates.new.items (H.faults house.old) (H.faults house.new) (H.is_out house.new) (H.story house.old) (H.story house.new)) }
+    ensures found { IfOk result (λ r. IsFound r.0 (map (λ l. l.items) logs.new.items) r.1 gates.new.items (sides_told (H.story house.old))) }
+    ensures out { IfOk result (λ r. WentOut (shard_count r.0) (H.faults house.old) (H.faults house.new) (sides_out (H.is_out house.old)) (sides_out (H.is_out house.new)) (sides_told (H.story house.old)) (sides_told (H.story house.new))) }
+    ensures stopped { IfErr result (IsStopped gates.new.items (H.faults house.old) (H.faults house.new) (sides_out (H.is_out house.new)) (sides_told (H.story house.old)) (sides_told (H.story house.new))) }
 {
     let header = match open_logs(alloc, house, gates, logs, facts) {
         Ok(header) => header,
@@ -114,17 +115,17 @@ fn open_and_judge<H: House>(
 ///
 /// An `Err` is the first refusal; then every disk is back.
 pub fn open_disks<H: House>(alloc: Global, house: &mut H) -> Result<Found<H::Disk>, OpenError>
-    requires inside { (n : ℕ) → n < 16 → H.is_out house.old n ≡ false }
+    requires inside { (n : ℕ) → n < 16 → sides_out (H.is_out house.old) n ≡ (false, false) }
 
     // The gate of each shard is open over its disk, whose log is the one found; the logs may be opened together.
-    ensures found { IfOk result (λ f. IsFound f.splits (map (λ l. l.items) f.logs.items) f.run f.gates.items (H.story house.old)) }
+    ensures found { IfOk result (λ f. IsFound f.splits (map (λ l. l.items) f.logs.items) f.run f.gates.items (sides_told (H.story house.old))) }
     ensures known { IfOk result (λ f. KnowAll f.facts.items (map (λ l. l.items) f.logs.items)) }
-    ensures out { IfOk result (λ f. WentOut (shard_count f.splits) (H.faults house.old) (H.faults house.new) (H.is_out house.old) (H.is_out house.new) (H.story house.old) (H.story house.new)) }
+    ensures out { IfOk result (λ f. WentOut (shard_count f.splits) (H.faults house.old) (H.faults house.new) (sides_out (H.is_out house.old)) (sides_out (H.is_out house.new)) (sides_told (H.story house.old)) (sides_told (H.story house.new))) }
 
     // Where the disks are refused.
-    ensures refused { IfErr result (Refuses (H.story house.old)) }
-    ensures back { OnErr result ((n : ℕ) → n < 16 → H.is_out house.new n ≡ false) }
-    ensures unchanged { OnErr result ((n : ℕ) → Tells (H.story house.old n) (H.story house.new n) IsUnchanged) }
+    ensures refused { IfErr result (Refuses (sides_told (H.story house.old))) }
+    ensures back { OnErr result ((n : ℕ) → n < 16 → sides_out (H.is_out house.new) n ≡ (false, false)) }
+    ensures unchanged { OnErr result ((n : ℕ) → Tells (sides_told (H.story house.old) n) (sides_told (H.story house.new) n) IsUnchanged) }
     ensures cause { IfErr result (CountsOpen (H.faults house.old) (H.faults house.new)) }
 {
     let Ok(mut logs) = Vec::with_capacity(alloc, SHARDS) else {

@@ -1,14 +1,16 @@
 // An opening that stopped.
 ghost use Rattle.std.specs.Prelude.{◌≡◌, ◌<◌, ◌≤◌, ◌+◌, ℕ, suc, true, List, vec_len};
 ghost use Rattle.clv_base.specs.declared.logs.LogRecord.{LogRecord};
+ghost use Rattle.io_model.specs.Sides.{sides_out, sides_told};
 ghost use Rattle.log_gate.specs.Header.{Layout};
 ghost use Rattle.cluster_opening.specs.AllOpened.{StoppedAt};
 ghost use Rattle.cluster_opening.specs.Undone.{AreOpened, AreFine, AreBack, CountsBack};
+ghost use Rattle.machine_calls.specs.Disks.{stories_of, faults_of};
 
 use crate::Stopped;
 use crate::giving::{give_back_above, give_back_locks};
 use cluster_turns::Home;
-use io_model::House;
+use io_model::{House, give_sides};
 use log_gate::Gate;
 use machine_calls::OverDisks;
 use machine_laws::{Note, Origin};
@@ -27,22 +29,22 @@ pub fn undo<H: House, M: OverDisks<H::Disk>>(
     requires locks { vec_len locks ≡ stopped.shard }
     requires len { vec_len passes ≡ vec_len locks }
     requires opened { (layout : Layout) × (run : ℕ) × (walkers : ℕ) × (logs : List (List LogRecord)) × (0 < walkers) × AreOpened layout run walkers logs locks.items passes.items }
-    requires out { (n : ℕ) → n < stopped.shard + suc (vec_len stopped.rest) → H.is_out house.old n ≡ true }
+    requires out { (n : ℕ) → n < stopped.shard + suc (vec_len stopped.rest) → sides_out (H.is_out house.old) n ≡ (true, true) }
     ensures error { result ≡ stopped.error }
 
     // Whatever the logs and gates were that stopped so; the counts where no disk of a gate had failed.
-    ensures back { (layout : Layout) (run walkers : ℕ) (logs : List (List LogRecord)) (gates : List _) → AreOpened layout run walkers logs locks.items passes.items → StoppedAt M.story layout run logs gates stopped.shard stopped.error (H.Disk.story stopped.disk) (H.Disk.faults stopped.disk) stopped.rest.items → AreBack M.story layout run logs gates (H.is_out house.new) (H.story house.new) }
-    ensures counts { (layout : Layout) (run : ℕ) (logs : List (List LogRecord)) (gates : List _) → AreFine M.Gate.faults gates → StoppedAt M.story layout run logs gates stopped.shard stopped.error (H.Disk.story stopped.disk) (H.Disk.faults stopped.disk) stopped.rest.items → CountsBack stopped.shard (H.faults house.old) (H.faults house.new) stopped.error }
-    ensures others { (n : ℕ) → stopped.shard + suc (vec_len stopped.rest) ≤ n → (H.faults house.new n ≡ H.faults house.old n) × (H.is_out house.new n ≡ H.is_out house.old n) × (H.story house.new n ≡ H.story house.old n) }
+    ensures back { (layout : Layout) (run walkers : ℕ) (logs : List (List LogRecord)) (gates : List _) → AreOpened layout run walkers logs locks.items passes.items → StoppedAt M.story layout run logs gates stopped.shard stopped.error (stories_of H.Disk.story stopped.sides) (faults_of H.Disk.faults stopped.sides) stopped.rest.items → AreBack M.story layout run logs gates (sides_out (H.is_out house.new)) (sides_told (H.story house.new)) }
+    ensures counts { (layout : Layout) (run : ℕ) (logs : List (List LogRecord)) (gates : List _) → AreFine M.Gate.faults gates → StoppedAt M.story layout run logs gates stopped.shard stopped.error (stories_of H.Disk.story stopped.sides) (faults_of H.Disk.faults stopped.sides) stopped.rest.items → CountsBack stopped.shard (H.faults house.old) (H.faults house.new) stopped.error }
+    ensures others { (n : ℕ) → stopped.shard + suc (vec_len stopped.rest) ≤ n → (H.faults house.new n ≡ H.faults house.old n) × (sides_out (H.is_out house.new) n ≡ sides_out (H.is_out house.old) n) × (sides_told (H.story house.new) n ≡ sides_told (H.story house.old) n) }
 {
     let Stopped {
         shard,
         error,
-        disk,
+        sides,
         rest,
     } = stopped;
     give_back_locks::<H, M>(house, locks, passes);
-    house.give_back(shard, disk);
+    give_sides(house, shard, sides);
     give_back_above::<H, M>(house, rest, shard + 1);
     error
 }

@@ -5,7 +5,7 @@ use Rattle.std.proofs.lemmas.List.{length-set}
 use Rattle.std.proofs.lemmas.Option.{slice_get_cases}
 use Rattle.clv_base.specs.State.{Shard}
 use Rattle.clv_base.specs.Journals.{History, own}
-use Rattle.io_model.specs.Story.{Story}
+use Rattle.io_model.specs.Sides.{Stories}
 use Rattle.history_replay.specs.Entries.{Kept, entries_of}
 use Rattle.cluster_turns.specs.declared.home.Home.{Home}
 use Rattle.cluster_turns.specs.declared.shards.Shards.{Shards}
@@ -70,7 +70,7 @@ are_books h w (b ∷ bs) each =
 
 -- in the history
 pub have_books :
-    {M S G D : Type 0} (shard : M → Shard) (sh : Shards M S G) (walkers : List (Walker M S G)) (homes : List (Home M S G)) (kept : Kept) (down : Option ℕ) (counts counts_now : ℕ → ℕ) (out out_now : ℕ → Bool) (before now : ℕ → Option Story) (books : List Book)
+    {M S G D : Type 0} (shard : M → Shard) (sh : Shards M S G) (walkers : List (Walker M S G)) (homes : List (Home M S G)) (kept : Kept) (down : Option ℕ) (counts counts_now : ℕ → ℕ) (out out_now : ℕ → Bool × Bool) (before now : ℕ → Option Stories) (books : List Book)
     → IsClosedRun D shard sh walkers homes kept down counts counts_now out out_now before now → ((k : ℕ) (d : Walker M S G) → k < length walkers → (get_or walkers k d).number ≡ k)
     → Walker M S G → WalkersHaveBooks walkers books → HasBooks (entries_of kept.journals) books
 have_books {M = M} {S = S} {G = G} {D = D} shard sh walkers homes kept down counts counts_now out out_now before now books closed numbers d b = record {

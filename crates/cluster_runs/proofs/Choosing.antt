@@ -6,35 +6,35 @@ use Rattle.clv_base.specs.LogRules.{log_of}
 use Rattle.clv_base.specs.Restarts.{log_left}
 use Rattle.clv_base.specs.State.{Shard}
 use Rattle.clv_base.specs.Journals.{logs_left_from}
-use Rattle.io_model.specs.Story.{Story, reads}
+use Rattle.io_model.specs.Sides.{Stories, reads_both}
 use Rattle.log_gate.specs.Gate.{EachNow}
 use Rattle.log_gate.specs.Image.{HasLog, HasHeader}
 use Rattle.history_laws.proofs.Laws.{left_at}
 use Rattle.cluster_runs.specs.Disks.{HoldsLog}
 
 -- by whether the records in flight are there, this log of shard n is what its disk reads as
-pub record Reads (splits : List ℕ) (s : Shard) (n : ℕ) (now : Option Story) (in_flight : Bool) : Type 0 where
-  pub read : IfSome now (λ t. HasLog n (log_left s in_flight) (reads t) × HasHeader n splits (reads t))
+pub record Reads (splits : List ℕ) (s : Shard) (n : ℕ) (now : Option Stories) (in_flight : Bool) : Type 0 where
+  pub read : IfSome now (λ t. HasLog n (log_left s in_flight) (reads_both t) × HasHeader n splits (reads_both t))
   pub untold : now ≡ None → in_flight ≡ false
 
-abbrev pub Picked : List ℕ → Shard → ℕ → Option Story → Type 0
+abbrev pub Picked : List ℕ → Shard → ℕ → Option Stories → Type 0
 Picked splits s n now = (in_flight : Bool) × Reads splits s n now in_flight
 
-some_none : {X : Type 0} (t : Story) → Some t ≡ None → X
+some_none : {X : Type 0} (t : Stories) → Some t ≡ None → X
 some_none t h = absurd cc
 
-pub picked : (splits : List ℕ) (b : Bool) (s : Shard) (n : ℕ) (now : Option Story) → IfSome now (EachNow (HoldsLog splits b s n)) → Picked splits s n now
+pub picked : (splits : List ℕ) (b : Bool) (s : Shard) (n : ℕ) (now : Option Stories) → IfSome now (EachNow (HoldsLog splits b s n)) → Picked splits s n now
 picked splits b s n None h = (false, record { read = tt; untold = λ none. refl })
 picked splits false s n (Some t) h = (false, record { read = h.read; untold = λ none. refl })
 picked splits true s n (Some t) h = at h.read.0
   where
-    at : HasLog n (log_left s false) (reads t) ⊎ HasLog n (log_left s true) (reads t) → Picked splits s n (Some t)
+    at : HasLog n (log_left s false) (reads_both t) ⊎ HasLog n (log_left s true) (reads_both t) → Picked splits s n (Some t)
     at (inl r) = (false, record { read = (r, h.read.1); untold = λ none. refl })
     at (inr r) = (true, record { read = (r, h.read.1); untold = λ none. some_none t none })
 
 -- ---- all shards
 
-module _ (splits : List ℕ) (count : ℕ) (states : ℕ → Shard) (now : ℕ → Option Story) (picks : (n : ℕ) → n < count → Picked splits (states n) n (now n)) where
+module _ (splits : List ℕ) (count : ℕ) (states : ℕ → Shard) (now : ℕ → Option Stories) (picks : (n : ℕ) → n < count → Picked splits (states n) n (now n)) where
   abbrev chosen : (n : ℕ) (b : Bool) → nat_lt n count ≡ b → Bool
   chosen n true is = (picks n (ltb-true n count is)).0
   chosen n false is = false

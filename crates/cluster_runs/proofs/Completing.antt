@@ -233,4 +233,4 @@ sessions_have_ended splits before now counts counts_now most script went kept k 
     (λ e tx cause m tells. let s = split e (entries kept) m in
     aborts_are_deaths splits kept.found (entries kept) keeps.left s.so_far s.rest e tx cause (record { opens = opens; legal = legal }) (λ n low. begins_settled n kept (p.on n low) (drained n low)) s.whole tells)
     (suc k) most some bodies
-    (subst (λ x. SessionWent splits (run_after kept.found) (suc k) most bodies x (own (suc k) (entries kept))) through ((p.sessions).each k bodies at))
+    (subst (λ x. SessionWent splits (run_after kept.found) (suc k) most bodies x (own (suc k) (entries kept))) through ((p.sessions).each k bodies at)).follows

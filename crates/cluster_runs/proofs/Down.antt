@@ -12,7 +12,7 @@ use Rattle.clv_base.specs.State.{Shard}
 use Rattle.clv_base.specs.Events.{with_durable}
 use Rattle.clv_base.specs.Journals.{History, FlushMay, flush_state, start_of}
 use Rattle.clv_base.specs.Machines.{BecomesBy, Runs}
-use Rattle.io_model.specs.Story.{Story}
+use Rattle.io_model.specs.Sides.{Stories}
 use Rattle.io_model.specs.Disk.{Rose}
 use Rattle.history_replay.specs.Entries.{Kept}
 use Rattle.protocol_laws.specs.Growth.{is_restart}
@@ -127,7 +127,7 @@ down_stays s t more runs on down = ap (λ u. u.is_up) (sym (ends_there s t more 
 -- ---- what the disks counted
 
 module _
-    (splits : List ℕ) (before now : ℕ → Option Story) (counts counts_now : ℕ → ℕ) (kept : Kept) (states : ℕ → Shard) (own_of : ℕ → History) (ended : ClusterEnded splits before now counts counts_now kept states own_of) where
+    (splits : List ℕ) (before now : ℕ → Option Stories) (counts counts_now : ℕ → ℕ) (kept : Kept) (states : ℕ → Shard) (own_of : ℕ → History) (ended : ClusterEnded splits before now counts counts_now kept states own_of) where
   stands_up : (n : ℕ) → n < shard_count splits → (states n).is_up ≡ true → counts_now n ≡ counts n
   stands_up n l up = ended.stands n l ((falls (start_of kept.found n) (states n) (journal_at kept.journals n) (ended.runs n l) (ended.on n l) refl).failed ∙ ap not up)
 

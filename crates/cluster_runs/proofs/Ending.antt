@@ -16,7 +16,7 @@ use Rattle.clv_base.specs.State.{Shard}
 use Rattle.clv_base.specs.Restarts.{run_after, log_left, opened}
 use Rattle.clv_base.specs.Journals.{History, own, journal_of, start_of, logs_left_from}
 use Rattle.clv_base.specs.Machines.{Runs}
-use Rattle.io_model.specs.Story.{Story, reads}
+use Rattle.io_model.specs.Sides.{Stories, reads_both}
 use Rattle.io_model.specs.Disk.{Rose}
 use Rattle.log_gate.specs.Header.{Layout}
 use Rattle.log_gate.specs.Image.{HasHeader, HasLog}
@@ -80,7 +80,7 @@ inside (y ∷ xs) zero x h = omega arith
 inside (y ∷ xs) (suc n) x h = let l = inside xs n x h in omega arith
 
 -- a disk that came back where none was fetched
-pub none_fetched : {D : Type 0} (s : Shard) (n : ℕ) (layout : Layout) (fetched : List (Fetched D)) (before now : ℕ) (out : Bool) (story : Option Story) → length fetched ≡ 0 → IsBack s n layout fetched before now out story → IsBack {D = D} s n layout [] before now out story
+pub none_fetched : {D : Type 0} (s : Shard) (n : ℕ) (layout : Layout) (fetched : List (Fetched D)) (before now : ℕ) (out : Bool × Bool) (story : Option Stories) → length fetched ≡ 0 → IsBack s n layout fetched before now out story → IsBack {D = D} s n layout [] before now out story
 none_fetched s n layout [] before now out story none back = back
 none_fetched s n layout (f ∷ fs) before now out story none back = absurd (omega arith)
 
@@ -145,7 +145,7 @@ pub record DrainedBy (clock n : ℕ) (kept : Kept) : Type 0 where
 -- ---- the end of a cluster
 
 module _
-    {M S G D : Type 0} (shard : M → Shard) (sh : Shards M S G) (walkers : List (Walker M S G)) (homes : List (Home M S G)) (kept : Kept) (down : Option ℕ) (counts counts_now : ℕ → ℕ) (out out_now : ℕ → Bool) (before now : ℕ → Option Story)
+    {M S G D : Type 0} (shard : M → Shard) (sh : Shards M S G) (walkers : List (Walker M S G)) (homes : List (Home M S G)) (kept : Kept) (down : Option ℕ) (counts counts_now : ℕ → ℕ) (out out_now : ℕ → Bool × Bool) (before now : ℕ → Option Stories)
     (r : IsClosedRun D shard sh walkers homes kept down counts counts_now out out_now before now) where
   abbrev count : ℕ
   count = shard_count sh.splits
@@ -212,7 +212,7 @@ module _
 
   pub ended : ClusterEnded sh.splits before now counts counts_now kept states (walked_by walkers)
   ended = record {
-    found = λ n l. subst (λ logs. IfSome (before n) (λ s. HasLog n (log_of logs n) (reads s) × HasHeader n sh.splits (reads s))) (sym r.closed.founds_are) (r.begun.held.each n l).read_as;
+    found = λ n l. subst (λ logs. IfSome (before n) (λ s. HasLog n (log_of logs n) (reads_both s) × HasHeader n sh.splits (reads_both s))) (sym r.closed.founds_are) (r.begun.held.each n l).read_as;
     opens = ap (may_open sh.splits) r.closed.founds_are ∙ r.begun.may;
     legal = λ left many leaves. subst (λ logs. MakesHistory sh.splits logs left kept.journals states (walked_by walkers)) (sym r.closed.founds_are) (r.closed.legal left many leaves);
     holds = λ n l. holds_at n l (home n l);
@@ -228,10 +228,10 @@ module _
       let b = r.went_out.rest n past in
       (a.2 ∙ b.1, a.0 ∙ r.went_out.counts n)
 
-  pub is_in : ((n : ℕ) → n < 16 → out n ≡ false) → (n : ℕ) → n < 16 → out_now n ≡ false
+  pub is_in : ((n : ℕ) → n < 16 → out n ≡ (false, false)) → (n : ℕ) → n < 16 → out_now n ≡ (false, false)
   is_in were n few = at (nat_lt n count) refl
     where
-      at : (b : Bool) → nat_lt n count ≡ b → out_now n ≡ false
+      at : (b : Bool) → nat_lt n count ≡ b → out_now n ≡ (false, false)
       at true is = let l = ltb-true n count is in (back n l (home n l)).is_in
       at false is =
           let past = ltb-false n count is in
@@ -455,7 +455,7 @@ module _ {M S G : Type 0} where
 
 -- the entries of a walker in the history are those that it kept
 pub own_is_kept :
-    {M S G D : Type 0} (shard : M → Shard) (sh : Shards M S G) (walkers : List (Walker M S G)) (homes : List (Home M S G)) (kept : Kept) (down : Option ℕ) (counts counts_now : ℕ → ℕ) (out out_now : ℕ → Bool) (before now : ℕ → Option Story)
+    {M S G D : Type 0} (shard : M → Shard) (sh : Shards M S G) (walkers : List (Walker M S G)) (homes : List (Home M S G)) (kept : Kept) (down : Option ℕ) (counts counts_now : ℕ → ℕ) (out out_now : ℕ → Bool × Bool) (before now : ℕ → Option Stories)
     → IsClosedRun D shard sh walkers homes kept down counts counts_now out out_now before now → ((k : ℕ) (d : Walker M S G) → k < length walkers → (get_or walkers k d).number ≡ k)
     → (k : ℕ) (d : Walker M S G) → k < length walkers → own k (entries_of kept.journals) ≡ kept_by (get_or walkers k d).passes.items
 own_is_kept {D = D} shard sh walkers homes kept down counts counts_now out out_now before now r numbers k d l =
@@ -464,7 +464,7 @@ own_is_kept {D = D} shard sh walkers homes kept down counts counts_now out out_n
 
 -- and there are none of others
 pub others_own_none :
-    {M S G D : Type 0} (shard : M → Shard) (sh : Shards M S G) (walkers : List (Walker M S G)) (homes : List (Home M S G)) (kept : Kept) (down : Option ℕ) (counts counts_now : ℕ → ℕ) (out out_now : ℕ → Bool) (before now : ℕ → Option Story)
+    {M S G D : Type 0} (shard : M → Shard) (sh : Shards M S G) (walkers : List (Walker M S G)) (homes : List (Home M S G)) (kept : Kept) (down : Option ℕ) (counts counts_now : ℕ → ℕ) (out out_now : ℕ → Bool × Bool) (before now : ℕ → Option Stories)
     → IsClosedRun D shard sh walkers homes kept down counts counts_now out out_now before now → ((k : ℕ) (d : Walker M S G) → k < length walkers → (get_or walkers k d).number ≡ k)
     → (w : ℕ) → length walkers ≤ w → own w (entries_of kept.journals) ≡ []
 others_own_none {D = D} shard sh walkers homes kept down counts counts_now out out_now before now r numbers w past =
@@ -478,7 +478,7 @@ all_below top (w ∷ ws) all = let a = all 0 w (omega arith) in let b = all_belo
 
 -- all that walkers have seen is in the history
 pub seen_in_history :
-    {M S G D : Type 0} (shard : M → Shard) (sh : Shards M S G) (walkers : List (Walker M S G)) (homes : List (Home M S G)) (kept : Kept) (down : Option ℕ) (counts counts_now : ℕ → ℕ) (out out_now : ℕ → Bool) (before now : ℕ → Option Story)
+    {M S G D : Type 0} (shard : M → Shard) (sh : Shards M S G) (walkers : List (Walker M S G)) (homes : List (Home M S G)) (kept : Kept) (down : Option ℕ) (counts counts_now : ℕ → ℕ) (out out_now : ℕ → Bool × Bool) (before now : ℕ → Option Stories)
     → IsClosedRun D shard sh walkers homes kept down counts counts_now out out_now before now → seen_by_all walkers ≤ last_stamp (entries_of kept.journals)
 seen_in_history {D = D} shard sh walkers homes kept down counts counts_now out out_now before now r =
     all_below (last_stamp (entries_of kept.journals)) walkers (walker_below {D = D} shard sh walkers homes kept down counts counts_now out out_now before now r)
@@ -495,7 +495,7 @@ begun_by_sessions script (w ∷ ws) h many counted same =
     omega arith
 
 worn_by :
-    {M S G D : Type 0} (shard : M → Shard) (sh : Shards M S G) (walkers : List (Walker M S G)) (homes : List (Home M S G)) (kept : Kept) (down : Option ℕ) (counts counts_now : ℕ → ℕ) (out out_now : ℕ → Bool) (before now : ℕ → Option Story)
+    {M S G D : Type 0} (shard : M → Shard) (sh : Shards M S G) (walkers : List (Walker M S G)) (homes : List (Home M S G)) (kept : Kept) (down : Option ℕ) (counts counts_now : ℕ → ℕ) (out out_now : ℕ → Bool × Bool) (before now : ℕ → Option Stories)
     (script : List (List Body)) → IsClosedRun D shard sh walkers homes kept down counts counts_now out out_now before now → ((k : ℕ) (d : Walker M S G) → k < length walkers → (get_or walkers k d).number ≡ k) → length walkers ≡ suc (length script)
     → AreCounted script walkers → 2 ^ 48 - 1 ≤ seen_by_all walkers + begun_by_all walkers → AreWorn script (entries_of kept.journals)
 worn_by {D = D} shard sh walkers homes kept down counts counts_now out out_now before now script r numbers many counted worn =

@@ -3,15 +3,15 @@ use Rattle.std.proofs.Common.{◌≡◌, ℕ, ◌<◌, Bool, false, List, get_or
 use Rattle.clv_base.specs.declared.logs.LogRecord.{LogRecord}
 use Rattle.clv_base.specs.Shards.{shard_count}
 use Rattle.clv_base.specs.LogRules.{log_of}
-use Rattle.io_model.specs.Story.{Story}
+use Rattle.io_model.specs.Sides.{Stories}
 use Rattle.log_gate.specs.View.{View, logs_of}
 use Rattle.log_gate.proofs.Laws.{only_from}
 use Rattle.cluster_opening.specs.Logs.{IsFound}
 use Rattle.cluster_opening.specs.Houses.{WentOut}
 use Rattle.cluster_runs.specs.Begun.{AreFound}
 
-pub found_in : (splits : List ℕ) (logs : List (List LogRecord)) (run : ℕ) (gates : List View) (f f' : ℕ → ℕ) (o o' : ℕ → Bool) (s s' : ℕ → Option Story) → IsFound splits logs run gates s → WentOut (shard_count splits) f f' o o' s s'
-    → ((n : ℕ) → n < 16 → o n ≡ false) → AreFound (λ (g : View). g.is_shut) (λ (g : View). g.faults) (λ (g : View). g.shard) logs_of (λ (g : View). g.story) splits logs run gates f f' o o' s s'
+pub found_in : (splits : List ℕ) (logs : List (List LogRecord)) (run : ℕ) (gates : List View) (f f' : ℕ → ℕ) (o o' : ℕ → Bool × Bool) (s s' : ℕ → Option Stories) → IsFound splits logs run gates s → WentOut (shard_count splits) f f' o o' s s'
+    → ((n : ℕ) → n < 16 → o n ≡ (false, false)) → AreFound (λ (g : View). g.is_shut) (λ (g : View). g.faults) (λ (g : View). g.shard) logs_of (λ (g : View). g.story) splits logs run gates f f' o o' s s'
 found_in splits logs run gates f f' o o' s s' found went inside =
     let many = found.count in let each = found.logs_are.count in record {
       went = went;

@@ -133,5 +133,5 @@ requests_are_told splits before now counts counts_now most script went kept p go
         seek : ((bodies : List Body) × (k < length script) × (slice_get script k ≡ Some bodies) × (get_or script k bodies ≡ bodies)) ⊎ ((length script ≤ k) × (slice_get script k ≡ None)) → (acknowledged_in h t ≡ true) ⊎ (aborted_in_history h t ≡ true)
         seek (inl (bodies, low, is, read)) =
             in_walker splits (run_after kept.found) (suc k) most bodies h x t
-            (subst (λ z. SessionWent splits (run_after kept.found) (suc k) most bodies z (own (suc k) h)) (gone k low) ((p.sessions).each k bodies is)) (subst Found (sym same) found) some
+            (subst (λ z. SessionWent splits (run_after kept.found) (suc k) most bodies z (own (suc k) h)) (gone k low) ((p.sessions).each k bodies is)).follows (subst Found (sym same) found) some
         seek (inr (past, is)) = nowhere (suc k) (subst Found (sym same) found) ((p.sessions).others (suc k) (inr (omega arith)))

@@ -10,7 +10,7 @@ use Rattle.clv_base.specs.State.{Shard}
 use Rattle.clv_base.specs.Events.{with_durable}
 use Rattle.clv_base.specs.Journals.{final_of, after_entry, flush_state, FlushMay}
 use Rattle.clv_base.specs.Machines.{BecomesBy}
-use Rattle.io_model.specs.Story.{Story, reads}
+use Rattle.io_model.specs.Sides.{Stories, Images, reads_both}
 use Rattle.history_cases.proofs.Durability.{framed_finish, Counted}
 use Rattle.journal_laws.specs.Notes.{Note as Told, made, fetched, MayNotes, after_notes, entries_of_notes}
 use Rattle.log_gate.specs.Header.{Layout}
@@ -77,11 +77,11 @@ at_least : (s : Shard) (f : Option ℕ) → Counted s → s.flight ≡ f → s.d
 at_least s None c e = omega arith
 at_least s (Some n) c e = (c.flying n e).0
 
-only_durable : (splits : List ℕ) (b : Bool) (s : Shard) (n : ℕ) (image : List ℕ) → HasHeader n splits image → HasLog n (durable_records s) image → HoldsLog splits b s n image
+only_durable : (splits : List ℕ) (b : Bool) (s : Shard) (n : ℕ) (image : Images) → HasHeader n splits image → HasLog n (durable_records s) image → HoldsLog splits b s n image
 only_durable splits true s n image header h = (inl h, header)
 only_durable splits false s n image header h = (h, header)
 
-holds_image : (splits : List ℕ) (o : Origin) (notes : List Note) (s : Shard) (story : Option Story) (n : ℕ) → IsLegal o notes s → IsLeft s (logs_told story n (record { splits = splits })) → (image : List ℕ)
+holds_image : (splits : List ℕ) (o : Origin) (notes : List Note) (s : Shard) (story : Option Stories) (n : ℕ) → IsLegal o notes s → IsLeft s (logs_told story n (record { splits = splits })) → (image : Images)
     → logs_told story n (record { splits = splits }) (log_under n (record { splits = splits }) image) → HoldsLog splits (flush_failed s.journal) s n image
 holds_image splits o notes s story n l left image has = at s.is_up refl
   where
@@ -100,8 +100,8 @@ holds_image splits o notes s story n l left image has = at s.is_up refl
 pub left_disks_hold : LeftDisksHold
 left_disks_hold splits n o notes s None l left = tt
 left_disks_hold splits n o notes s (Some t) l left = record {
-  read = holds_image splits o notes s (Some t) n l left (reads t) (reads t, inl refl, refl);
-  images = λ image is. holds_image splits o notes s (Some t) n l left image (image, inr is, refl);
+  read = holds_image splits o notes s (Some t) n l left (reads_both t) (reads_both t, (inl refl, inl refl), refl);
+  images = λ image is. holds_image splits o notes s (Some t) n l left image (image, is, refl);
 }
 
 pub closed_disks_hold : ClosedDisksHold

@@ -6,3 +6,5 @@ pub use Rattle.cluster_runs.proofs.Gone.{new_rest, all_rest, each_rest, here_fir
 pub use Rattle.cluster_runs.proofs.Seeing.{sees_settled, rest_still, worn_later}
 pub use Rattle.cluster_runs.proofs.Wearing.{seen_at, begun_at, session_worn, drain_worn, worn_still, one_worn}
 pub use Rattle.cluster_runs.proofs.Sending.{script_row_send}
+pub use Rattle.cluster_runs.proofs.Scripted.{whole_acts}
+pub use Rattle.cluster_runs.proofs.Entries.{from_session, from_own}

@@ -7,7 +7,7 @@ use Rattle.clv_base.specs.State.{Shard}
 use Rattle.clv_base.specs.Shards.{shard_count}
 use Rattle.clv_base.specs.FileRules.{may_open}
 use Rattle.clv_base.specs.Journals.{journal_of}
-use Rattle.io_model.specs.Story.{Story}
+use Rattle.io_model.specs.Sides.{Stories}
 use Rattle.cluster_opening.specs.Logs.{LogsOfAll}
 use Rattle.history_replay.specs.Entries.{Kept, entries_of}
 use Rattle.turn_lock.specs.declared.pass.Pass.{Pass}
@@ -47,7 +47,7 @@ use Rattle.cluster_runs.specs.Ran.{AllEnded, StopTold, RanAll}
 use Rattle.law_base.proofs.Lists.{elem_at as some_elem}
 
 -- where all was fine each transaction has ended
-module _ (ends : SessionsHaveEnded) (splits : List ℕ) (before now : ℕ → Option Story) (counts counts_now : ℕ → ℕ) (most : Option ℕ) (script : List (List Body)) (went : ℕ → Went) (kept : Kept)
+module _ (ends : SessionsHaveEnded) (splits : List ℕ) (before now : ℕ → Option Stories) (counts counts_now : ℕ → ℕ) (most : Option ℕ) (script : List (List Body)) (went : ℕ → Went) (kept : Kept)
     (opens : may_open splits kept.found ≡ true) (promised : RunPromised splits before now counts counts_now most script went kept)
     (drained : (k : ℕ) (cause : Option StopCause) → k < length script → went k ≡ Begun cause → (n : ℕ) → n < shard_count splits → WasDrained n kept) where
   all_ended : (shards : ℕ) (status : Status) → StatusTold shards counts counts_now script (entries_of kept.journals) went status → AllEnded splits most script kept status
@@ -106,8 +106,8 @@ worn_end None (Err stop.Memory) at h = absurd cc
 worn_end None (Err (stop.Down n)) at h = absurd cc
 worn_end None (Err (stop.Unsettled n)) at h = absurd cc
 
-pub ran_all : {M S G : Type 0} → SessionsHaveEnded → (D : Type 0) (shard : M → Shard) (sh : Shards M S G) (walkers : List (Walker M S G)) (homes : List (Home M S G)) (kept : Kept) (down : Option ℕ) (counts counts_now : ℕ → ℕ) (out out_now : ℕ → Bool)
-    (before now : ℕ → Option Story) (most : Option ℕ) (start : Start) (script : List (List Body)) (went : ℕ → Went) (end : End) (status : Status)
+pub ran_all : {M S G : Type 0} → SessionsHaveEnded → (D : Type 0) (shard : M → Shard) (sh : Shards M S G) (walkers : List (Walker M S G)) (homes : List (Home M S G)) (kept : Kept) (down : Option ℕ) (counts counts_now : ℕ → ℕ) (out out_now : ℕ → Bool × Bool)
+    (before now : ℕ → Option Stories) (most : Option ℕ) (start : Start) (script : List (List Body)) (went : ℕ → Went) (end : End) (status : Status)
     → IsClosedRun D shard sh walkers homes kept down counts counts_now out out_now before now → length walkers ≡ suc (length script)
     → SessionsGone sh most script walkers went end → AreDrained sh (length script) walkers went → ((k : ℕ) (d : Walker M S G) → k < length walkers → IsAtRest sh k (get_or walkers k d)) → (IsOk end → SeeQuiet sh walkers) → (start ≡ FirstAlone → AreAlone sh most script (λ k d. get_or walkers (suc k) d)) → AreCounted script walkers → HasWornLast walkers end → status ≡ status_by down end → RanAll before now counts counts_now most start script kept status
 ran_all {M = M} {S = S} {G = G} ends D shard sh walkers homes kept down counts counts_now out out_now before now most start script went end status ended many gone drains rest seen_so apart counted worn is =

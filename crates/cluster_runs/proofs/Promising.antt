@@ -8,7 +8,7 @@ use Rattle.clv_base.specs.Restarts.{log_left, run_after}
 use Rattle.clv_base.specs.Sessions.{is_of_session, is_session_number}
 use Rattle.clv_base.specs.Journals.{History, own, journal_of}
 use Rattle.journal_laws.specs.Gathered.{journal_at}
-use Rattle.io_model.specs.Story.{reads}
+use Rattle.io_model.specs.Sides.{reads_both}
 use Rattle.log_gate.specs.Gate.{EachNow}
 use Rattle.log_gate.specs.Image.{HasHeader, HasLog}
 use Rattle.history_replay.specs.Entries.{entries_of}
@@ -61,7 +61,7 @@ clusters_are_promised splits before now counts counts_now kept states own_of end
             legal =
                 record {
                   found = ended.found;
-                  left_is_read = λ n l. subst (λ log. IfSome (now n) (λ s. HasLog n log (reads s) × HasHeader n splits (reads s))) (sym (is n l)) (reads_so n l).read;
+                  left_is_read = λ n l. subst (λ log. IfSome (now n) (λ s. HasLog n log (reads_both s) × HasHeader n splits (reads_both s))) (sym (is n l)) (reads_so n l).read;
                   untold = λ n l none. is n l ∙ ap (λ b. log_left (states n) b) ((reads_so n l).untold none) ∙ ap (λ s. log_left s false) (sym (made.same_states n l));
                   legal = made.legal;
                 };

@@ -204,7 +204,7 @@ members_are_of_script splits before now counts counts_now most script went kept 
             seek : ((bodies : List Body) × (k < length script) × (slice_get script k ≡ Some bodies) × (get_or script k bodies ≡ bodies)) ⊎ ((length script ≤ k) × (slice_get script k ≡ None)) → Wanted
             seek (inl (bodies, low, is, read)) =
                 let d = in_walker splits kept.found left h (((p.keeps).legal).legal) (suc k) most bodies t
-                (subst (λ z. SessionWent splits (run_after kept.found) (suc k) most bodies z (own (suc k) h)) (gone k low) ((p.sessions).each k bodies is))
+                (subst (λ z. SessionWent splits (run_after kept.found) (suc k) most bodies z (own (suc k) h)) (gone k low) ((p.sessions).each k bodies is)).follows
                 (any_of (λ e. is_acknowledgement t (e.1).event (e.1).outcome) x (session_entries (own (suc k) h)) (subst Found (sym same) found) tells) in
                 record { told = refl; session = k; bodies = bodies; session_is = is; number = d.number; body = d.body; body_is = d.body_is; acts = d.acts; all = d.all; parts = d.parts }
             seek (inr (past, is)) = nowhere (suc k) (subst Found (sym same) found) ((p.sessions).others (suc k) (inr (omega arith)))

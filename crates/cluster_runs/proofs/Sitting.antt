@@ -7,7 +7,7 @@ use Rattle.cluster_turns.specs.declared.shards.Walker.{Walker}
 use Rattle.script_lang.specs.Bodies.{Body}
 use Rattle.script_lang.specs.Laws.{is_narrow_body}
 use Rattle.script_lang.specs.Savepoints.{Savepoints}
-use Rattle.script_runs.specs.Ran.{stop_in, FollowsFrom}
+use Rattle.script_runs.specs.Ran.{stop_in, Rise, stamps, FollowsFrom}
 use Rattle.command_line.specs.Running.{End}
 use Rattle.session_api.specs.declared.progress.Progress.{Progress}
 use Rattle.session_api.specs.Standing.{Holds, seen_in, standing_of}
@@ -26,6 +26,10 @@ use Rattle.cluster_runs.specs.Books.{IsBlank}
 use Rattle.cluster_runs.specs.Sessions.{IsSeated, HasSat, base_from}
 use Rattle.law_base.proofs.Bools.{and_first, and_second}
 
+rise_from : (lo lo' hi : ℕ) (ns : List ℕ) → lo ≤ lo' → Rise lo' ns hi → Rise lo ns hi
+rise_from lo lo' hi [] l r = omega arith
+rise_from lo lo' hi (n ∷ ns) l r = (let low = r.0 in omega arith, r.1)
+
 module _ {M S G : Type 0} where
   pub sat : {saves : List ℕ} {marks : Savepoints} (sh old new : Shards M S G) (clock base : ℕ) (w v : Walker M S G) (a b : Point) (s t : Progress) (bodies : List Body) (most : Option ℕ) (script : List (List Body)) (k : ℕ) (end : End)
       → IsSeated sh clock script k old w s saves marks bodies → Holds new v t → new ≡ old → FollowsFrom base (HasMissed v) bodies most (stop_in end) (seen_in old w a s) (seen_in new v b t) → IfErr end (Grounds v) → HasSat sh clock base most script k v end
@@ -39,8 +43,10 @@ module _ {M S G : Type 0} where
       let none = (seat.new).none_begun in
       record {
         rest = record { walker = r.walker; number_is = told.0; landed = r.landed; fetched = r.fetched; disks = r.disks };
-        went = λ wanted at. (scripts_follow M S G sh (suc k) clock base w v a b (standing_of s) (standing_of t) wanted most (stop_in end) seat.new
-            (subst (λ z. FollowsFrom base (HasMissed v) z most (stop_in end) (seen_in sh w a s) (seen_in sh v b t)) (seat.bodies wanted at) f)).1.0;
+        went = λ wanted at.
+            (let g = (scripts_follow M S G sh (suc k) clock base w v a b (standing_of s) (standing_of t) wanted most (stop_in end) seat.new
+            (subst (λ z. FollowsFrom base (HasMissed v) z most (stop_in end) (seen_in sh w a s) (seen_in sh v b t)) (seat.bodies wanted at) f)).1 in
+            record { follows = g.0; clock = v.clock; births = rise_from 0 clock v.clock (stamps (g.0).transactions) (omega arith) g.1; counted = g.2 });
         dated = (let d = (f.2).dated in omega arith);
         few = λ wanted at.
             (let t = session_tries_are_few sh.splits sh.run w.number most bodies (f.1).transactions (stop_in end) (f.1).in_order in

@@ -27,7 +27,7 @@ use Rattle.history_cases.proofs.Merging.{Among, in_own}
 use Rattle.history_laws.proofs.Laws.{left_at}
 use Rattle.history_replay.specs.Entries.{Kept}
 use Rattle.history_replay.specs.Replayed.{acknowledged_acts, acts_at, replayed}
-use Rattle.io_model.specs.Story.{Story}
+use Rattle.io_model.specs.Sides.{Stories}
 use Rattle.journal_laws.specs.Gathered.{MakesHistory}
 use Rattle.headline_laws.specs.Shares.{in_turn}
 use Rattle.headline_laws.proofs.Laws.{promise}
@@ -134,7 +134,7 @@ quiet s both =
 -- ---- the end of a cluster
 
 module _
-    (splits : List ℕ) (before now : ℕ → Option Story) (counts counts_now : ℕ → ℕ) (kept : Kept) (states : ℕ → Shard) (own_of : ℕ → History) (ended : ClusterEnded splits before now counts counts_now kept states own_of)
+    (splits : List ℕ) (before now : ℕ → Option Stories) (counts counts_now : ℕ → ℕ) (kept : Kept) (states : ℕ → Shard) (own_of : ℕ → History) (ended : ClusterEnded splits before now counts counts_now kept states own_of)
     (told : AreTold (entries kept)) (at_rest : (n : ℕ) → n < shard_count splits → is_quiet (states n) ≡ true) where
   abbrev count : ℕ
   count = shard_count splits
@@ -169,8 +169,8 @@ module _
 
 -- ---- a run
 
-pub stores_hold : {M S G : Type 0} → SessionsHaveEnded → (D : Type 0) (shard : M → Shard) (sh : Shards M S G) (walkers : List (Walker M S G)) (homes : List (Home M S G)) (kept : Kept) (down : Option ℕ) (counts counts_now : ℕ → ℕ) (out out_now : ℕ → Bool)
-    (before now : ℕ → Option Story) (most : Option ℕ) (start : Start) (script : List (List Body)) (went : ℕ → Went) (end : End) (status : Status) {X : Type 0} (records : X → Records) (xs : List X)
+pub stores_hold : {M S G : Type 0} → SessionsHaveEnded → (D : Type 0) (shard : M → Shard) (sh : Shards M S G) (walkers : List (Walker M S G)) (homes : List (Home M S G)) (kept : Kept) (down : Option ℕ) (counts counts_now : ℕ → ℕ) (out out_now : ℕ → Bool × Bool)
+    (before now : ℕ → Option Stories) (most : Option ℕ) (start : Start) (script : List (List Body)) (went : ℕ → Went) (end : End) (status : Status) {X : Type 0} (records : X → Records) (xs : List X)
     → IsClosedRun D shard sh walkers homes kept down counts counts_now out out_now before now → length walkers ≡ suc (length script)
     → SessionsGone sh most script walkers went end → AreDrained sh (length script) walkers went → ((k : ℕ) (d : Walker M S G) → k < length walkers → IsAtRest sh k (get_or walkers k d)) → (IsOk end → SeeQuiet sh walkers) → (start ≡ FirstAlone → AreAlone sh most script (λ k d. get_or walkers (suc k) d)) → AreCounted script walkers → HasWornLast walkers end → status ≡ status_by down end
     → length xs ≡ sh.locks.len → ((n : ℕ) (d : X) (e : Home M S G) → n < sh.locks.len → records (get_or xs n d) ≡ (shard (get_or homes n e).machine).local.records) → status ≡ Fine → live_in_turn (map records xs) ≡ replayed kept

@@ -6,7 +6,7 @@ use Rattle.clv_base.specs.Shards.{shard_count}
 use Rattle.clv_base.specs.LogRules.{log_of}
 use Rattle.clv_base.specs.FileRules.{may_open}
 use Rattle.clv_base.specs.Restarts.{run_after}
-use Rattle.io_model.specs.Story.{Story}
+use Rattle.io_model.specs.Sides.{Stories}
 use Rattle.io_model.specs.Disk.{Tells}
 use Rattle.shard_recovery.specs.declared.recovering.RecoverError.{RecoverError}
 use Rattle.shard_recovery.specs.declared.recovering.RecoverError.TheVariants as recovery
@@ -28,7 +28,7 @@ use Rattle.cluster_opening.specs.AllOpened.{AreOpenGates}
 
 module _ {M S G : Type 0} where
   -- the shards in their locks, with so many passes each: the logs found are those that the disks held, and may be opened together by the run
-  pub record AreLocked (walkers : ℕ) (stories : ℕ → Option Story) (sh : Shards M S G) : Type 0 where
+  pub record AreLocked (walkers : ℕ) (stories : ℕ → Option Stories) (sh : Shards M S G) : Type 0 where
     pub shards : AreShards sh
     pub held : LogsOfAll sh.splits (founds_of sh) stories
     pub may : may_open sh.splits (founds_of sh) ≡ true
@@ -51,17 +51,17 @@ told_as shard recovery.Memory = Memory
 -- ---- what is left of the disks
 
 -- none was written
-abbrev pub AreUnchanged : (ℕ → Option Story) → (ℕ → Option Story) → Type 0
+abbrev pub AreUnchanged : (ℕ → Option Stories) → (ℕ → Option Stories) → Type 0
 AreUnchanged stories stories' = (n : ℕ) → Tells (stories n) (stories' n) IsUnchanged
 
 -- shard n's disk, which held this log, was not written, or what a read gives and each image that a crash now may leave has this log with some first
 -- records of those that a restart of the run adds, where the disk tells its bytes
-pub data IsLeftAt (n : ℕ) (layout : Layout) (found : List LogRecord) (run : ℕ) (before now : Option Story) : Type 0 where
+pub data IsLeftAt (n : ℕ) (layout : Layout) (found : List LogRecord) (run : ℕ) (before now : Option Stories) : Type 0 where
   unchanged : Tells before now IsUnchanged → IsLeftAt n layout found run before now
   begun : IfSome now (EachNow (HasBegun n layout found run)) → IsLeftAt n layout found run before now
 
 -- all disks held logs that may be opened together, and are left so
-pub record AreLeft (stories stories' : ℕ → Option Story) : Type 0 where
+pub record AreLeft (stories stories' : ℕ → Option Stories) : Type 0 where
   pub splits : List ℕ
   pub logs : List (List LogRecord)
   pub held : LogsOfAll splits logs stories
@@ -71,12 +71,12 @@ pub record AreLeft (stories stories' : ℕ → Option Story) : Type 0 where
   pub others : (n : ℕ) → shard_count splits ≤ n → Tells (stories n) (stories' n) IsUnchanged
 
 -- before logs were found that may be opened together, or while they were recovered
-pub data MayBeLeft (stories stories' : ℕ → Option Story) : Type 0 where
+pub data MayBeLeft (stories stories' : ℕ → Option Stories) : Type 0 where
   before : AreUnchanged stories stories' → MayBeLeft stories stories'
   meanwhile : AreLeft stories stories' → MayBeLeft stories stories'
 
 -- what an opening that was refused so leaves
-abbrev pub LeavesDisks : (ℕ → Option Story) → (ℕ → Option Story) → OpenError → Type 0
+abbrev pub LeavesDisks : (ℕ → Option Stories) → (ℕ → Option Stories) → OpenError → Type 0
 LeavesDisks stories stories' (Failed shard) = MayBeLeft stories stories'
 LeavesDisks stories stories' (NotLog shard at) = AreUnchanged stories stories'
 LeavesDisks stories stories' (Apart tx) = AreUnchanged stories stories'
@@ -84,20 +84,20 @@ LeavesDisks stories stories' (Worn at) = AreUnchanged stories stories'
 LeavesDisks stories stories' Memory = MayBeLeft stories stories'
 
 -- this is the first refusal, the counts tell of it, and all disks are in again
-pub record IsTakenBack (faults faults' : ℕ → ℕ) (out' : ℕ → Bool) (stories stories' : ℕ → Option Story) (e : OpenError) : Type 0 where
+pub record IsTakenBack (faults faults' : ℕ → ℕ) (out' : ℕ → Bool × Bool) (stories stories' : ℕ → Option Stories) (e : OpenError) : Type 0 where
   pub refuses : Refuses stories e
   pub counts : CountsOpen faults faults' e
-  pub are_in : (n : ℕ) → n < 16 → out' n ≡ false
+  pub are_in : (n : ℕ) → n < 16 → out' n ≡ (false, false)
   pub left : LeavesDisks stories stories' e
 
 -- ---- what the disks were found to hold
 
-module _ {G : Type 0} (shut : G → Bool) (faults whose : G → ℕ) (logs : G → Layout → Option (List LogRecord) → Type 0) (told : G → Option Story) where
+module _ {G : Type 0} (shut : G → Bool) (faults whose : G → ℕ) (logs : G → Layout → Option (List LogRecord) → Type 0) (told : G → Option Stories) where
   -- in a house whose disks were all in, those of the shards went out; they held these logs, which may be opened together by the run, and each gate is over its
   -- shard's disk, to which nothing was written
-  pub record AreFound (splits : List ℕ) (founds : List (List LogRecord)) (run : ℕ) (gates : List G) (count count' : ℕ → ℕ) (out out' : ℕ → Bool) (stories stories' : ℕ → Option Story) : Type 0 where
+  pub record AreFound (splits : List ℕ) (founds : List (List LogRecord)) (run : ℕ) (gates : List G) (count count' : ℕ → ℕ) (out out' : ℕ → Bool × Bool) (stories stories' : ℕ → Option Stories) : Type 0 where
     pub went : WentOut (shard_count splits) count count' out out' stories stories'
-    pub inside : (n : ℕ) → n < 16 → out n ≡ false
+    pub inside : (n : ℕ) → n < 16 → out n ≡ (false, false)
     pub held : LogsOfAll splits founds stories
     pub may : may_open splits founds ≡ true
     pub run_is : run ≡ run_after founds

@@ -4,7 +4,7 @@ use Rattle.clv_base.specs.declared.logs.LogRecord.{LogRecord}
 use Rattle.clv_base.specs.Shards.{shard_count}
 use Rattle.clv_base.specs.State.{Shard}
 use Rattle.clv_base.specs.Journals.{History, journal_of, final_of}
-use Rattle.io_model.specs.Story.{Story}
+use Rattle.io_model.specs.Sides.{Stories}
 use Rattle.log_gate.specs.Gate.{EachNow}
 use Rattle.log_gate.specs.View.{logs_told}
 use Rattle.machine_laws.specs.declared.notes.Note.{Note}
@@ -20,10 +20,10 @@ DownAfterFailed = (o : Origin) (notes : List Note) (s : Shard) → IsLegal o not
 -- a disk that has what its shard may leave holds what the promise of a run says, by the shard's state and journal
 abbrev pub LeftDisksHold : Type 0
 LeftDisksHold =
-    (splits : List ℕ) (n : ℕ) (o : Origin) (notes : List Note) (s : Shard) (story : Option Story) → IsLegal o notes s → IsLeft s (logs_told story n (record { splits = splits })) → IfSome story (EachNow (HoldsLog splits (flush_failed s.journal) s n))
+    (splits : List ℕ) (n : ℕ) (o : Origin) (notes : List Note) (s : Shard) (story : Option Stories) → IsLegal o notes s → IsLeft s (logs_told story n (record { splits = splits })) → IfSome story (EachNow (HoldsLog splits (flush_failed s.journal) s n))
 
 -- s is the state of shard n at the end of the history, by its notes too, and its disk has what the shard may leave
-pub record IsEnd (splits : List ℕ) (n : ℕ) (found : List (List LogRecord)) (h : History) (left : List (List LogRecord)) (story : Option Story) (s : Shard) : Type 0 where
+pub record IsEnd (splits : List ℕ) (n : ℕ) (found : List (List LogRecord)) (h : History) (left : List (List LogRecord)) (story : Option Stories) (s : Shard) : Type 0 where
   pub final : final_of found h left n ≡ s
   pub journal : journal_of n h ≡ s.journal
   pub origin : Origin
@@ -34,5 +34,5 @@ pub record IsEnd (splits : List ℕ) (n : ℕ) (found : List (List LogRecord)) (
 -- where each shard is at its end so, the disks hold what the promise of a run says
 abbrev pub ClosedDisksHold : Type 0
 ClosedDisksHold =
-    (splits : List ℕ) (found : List (List LogRecord)) (h : History) (left : List (List LogRecord)) (now : ℕ → Option Story) (ends : ℕ → Shard) → ((n : ℕ) → n < shard_count splits → IsEnd splits n found h left (now n) (ends n))
+    (splits : List ℕ) (found : List (List LogRecord)) (h : History) (left : List (List LogRecord)) (now : ℕ → Option Stories) (ends : ℕ → Shard) → ((n : ℕ) → n < shard_count splits → IsEnd splits n found h left (now n) (ends n))
     → DisksHold splits found h left now

@@ -7,7 +7,7 @@ use Rattle.clv_base.specs.FileRules.{may_open}
 use Rattle.clv_base.specs.Shards.{shard_count}
 use Rattle.clv_base.specs.Journals.{History, own}
 use Rattle.clv_base.specs.History.{acknowledged_in, acts_in}
-use Rattle.io_model.specs.Story.{Story}
+use Rattle.io_model.specs.Sides.{Stories}
 use Rattle.history_replay.specs.Entries.{Kept}
 use Rattle.script_lang.specs.declared.actions.Ending.TheVariants as line
 use Rattle.script_lang.specs.Bodies.{Body}
@@ -59,6 +59,6 @@ IsWanted (Some n) = 1 ≤ n
 -- where a session of a run went through, behind a drain that settled each shard, each of its transactions has ended
 abbrev pub SessionsHaveEnded : Type 0
 SessionsHaveEnded =
-    (splits : List ℕ) (before now : ℕ → Option Story) (counts counts_now : ℕ → ℕ) (most : Option ℕ) (script : List (List Body)) (went : ℕ → Went) (kept : Kept) (k : ℕ) (bodies : List Body)
+    (splits : List ℕ) (before now : ℕ → Option Stories) (counts counts_now : ℕ → ℕ) (most : Option ℕ) (script : List (List Body)) (went : ℕ → Went) (kept : Kept) (k : ℕ) (bodies : List Body)
     → IsWanted most → may_open splits kept.found ≡ true → RunPromised splits before now counts counts_now most script went kept
     → slice_get script k ≡ Some bodies → went k ≡ Begun None → ((n : ℕ) → n < shard_count splits → WasDrained n kept) → SessionEnded splits (entries kept) (suc k) most bodies

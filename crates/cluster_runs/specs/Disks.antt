@@ -13,7 +13,7 @@ use Rattle.clv_base.specs.State.{Shard}
 use Rattle.clv_base.specs.LogRules.{log_of}
 use Rattle.clv_base.specs.Restarts.{log_left}
 use Rattle.clv_base.specs.Journals.{History, journal_of, final_of}
-use Rattle.io_model.specs.Story.{Story, reads}
+use Rattle.io_model.specs.Sides.{Stories, Images, reads_both}
 use Rattle.log_gate.specs.Image.{HasLog, HasHeader}
 use Rattle.log_gate.specs.Gate.{EachNow}
 
@@ -32,23 +32,23 @@ flush_failed_from so_far (e ∷ es) = flush_failed_from (flush_after so_far e.ev
 abbrev pub flush_failed : List Entry → Bool
 flush_failed journal = flush_failed_from false journal
 
--- these bytes of shard n's disk begin with its header, with these splits, and their log is the shard's durable records, or these with the records in
+-- the log of these bytes of shard n's sides has its header, with these splits, and is the shard's durable records, or these with the records in
 -- flight where its last flush failed
-abbrev pub HoldsLog : List ℕ → Bool → Shard → ℕ → List ℕ → Type 0
-HoldsLog splits false s n bytes = HasLog n (log_left s false) bytes × HasHeader n splits bytes
-HoldsLog splits true s n bytes = (HasLog n (log_left s false) bytes ⊎ HasLog n (log_left s true) bytes) × HasHeader n splits bytes
+abbrev pub HoldsLog : List ℕ → Bool → Shard → ℕ → Images → Type 0
+HoldsLog splits false s n images = HasLog n (log_left s false) images × HasHeader n splits images
+HoldsLog splits true s n images = (HasLog n (log_left s false) images ⊎ HasLog n (log_left s true) images) × HasHeader n splits images
 
 -- what a read of each disk gives, and each image that a crash now may leave of it, has such a log by the history
-abbrev pub DisksHold : List ℕ → List (List LogRecord) → History → List (List LogRecord) → (ℕ → Option Story) → Type 0
+abbrev pub DisksHold : List ℕ → List (List LogRecord) → History → List (List LogRecord) → (ℕ → Option Stories) → Type 0
 DisksHold splits found h left now =
     (n : ℕ) → n < shard_count splits → IfSome (now n) (EachNow (HoldsLog splits (flush_failed (journal_of n h)) (final_of found h left n) n))
 
 -- each disk that tells its bytes reads as a log of these, behind a header with these splits
-abbrev pub DisksRead : List ℕ → (ℕ → Option Story) → List (List LogRecord) → Type 0
-DisksRead splits now logs = (n : ℕ) → n < shard_count splits → IfSome (now n) (λ s. HasLog n (log_of logs n) (reads s) × HasHeader n splits (reads s))
+abbrev pub DisksRead : List ℕ → (ℕ → Option Stories) → List (List LogRecord) → Type 0
+DisksRead splits now logs = (n : ℕ) → n < shard_count splits → IfSome (now n) (λ s. HasLog n (log_of logs n) (reads_both s) × HasHeader n splits (reads_both s))
 
 -- of a disk that doesn't tell its bytes, the log at the end is the durable records of the shard
-abbrev pub UntoldAreDurable : List ℕ → List (List LogRecord) → History → List (List LogRecord) → (ℕ → Option Story) → Type 0
+abbrev pub UntoldAreDurable : List ℕ → List (List LogRecord) → History → List (List LogRecord) → (ℕ → Option Stories) → Type 0
 UntoldAreDurable splits found h left now =
     (n : ℕ) → n < shard_count splits → now n ≡ None → log_of left n ≡ log_left (final_of found h left n) false
 

@@ -7,7 +7,7 @@ use Rattle.clv_base.specs.State.{Shard}
 use Rattle.clv_base.specs.Restarts.{opened}
 use Rattle.clv_base.specs.Journals.{History}
 use Rattle.clv_base.specs.Machines.{Runs}
-use Rattle.io_model.specs.Story.{Story}
+use Rattle.io_model.specs.Sides.{Stories}
 use Rattle.io_model.specs.Disk.{Rose}
 use Rattle.history_replay.specs.Entries.{Kept}
 use Rattle.machine_laws.specs.Homes.{has_failed}
@@ -37,5 +37,5 @@ IsLowestFault counts counts_now count (Some m) = (m < count) × Rose (counts m) 
 -- at the end of a cluster they are the same
 abbrev pub LowestDownIsFault : Type 0
 LowestDownIsFault =
-    (splits : List ℕ) (before now : ℕ → Option Story) (counts counts_now : ℕ → ℕ) (kept : Kept) (states : ℕ → Shard) (own_of : ℕ → History) (down : Option ℕ)
+    (splits : List ℕ) (before now : ℕ → Option Stories) (counts counts_now : ℕ → ℕ) (kept : Kept) (states : ℕ → Shard) (own_of : ℕ → History) (down : Option ℕ)
     → ClusterEnded splits before now counts counts_now kept states own_of → IsLowestDown states (shard_count splits) down → IsLowestFault counts counts_now (shard_count splits) down

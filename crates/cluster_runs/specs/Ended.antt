@@ -9,7 +9,7 @@ use Rattle.clv_base.specs.LogRules.{log_of}
 use Rattle.clv_base.specs.FileRules.{may_open}
 use Rattle.clv_base.specs.Journals.{History, start_of, MayLeave}
 use Rattle.clv_base.specs.Machines.{Runs}
-use Rattle.io_model.specs.Story.{Story}
+use Rattle.io_model.specs.Sides.{Stories}
 use Rattle.io_model.specs.Disk.{Rose}
 use Rattle.log_gate.specs.Gate.{EachNow}
 use Rattle.history_replay.specs.Entries.{Kept}
@@ -24,7 +24,7 @@ runs_on journal = list_all (λ e. not (is_stop e.event) && not (is_restart e.eve
 
 -- the disks held logs that may be opened together. From these to any logs that the shards may leave, what the shards kept is a legal history, in which
 -- the entries of each walker are its own
-pub record ClusterEnded (splits : List ℕ) (before now : ℕ → Option Story) (counts counts_now : ℕ → ℕ) (kept : Kept) (states : ℕ → Shard) (own_of : ℕ → History) : Type 0 where
+pub record ClusterEnded (splits : List ℕ) (before now : ℕ → Option Stories) (counts counts_now : ℕ → ℕ) (kept : Kept) (states : ℕ → Shard) (own_of : ℕ → History) : Type 0 where
   pub found : DisksRead splits before kept.found
   pub opens : may_open splits kept.found ≡ true
   pub legal :

@@ -5,7 +5,7 @@ use Rattle.clv_base.specs.Shards.{shard_count}
 use Rattle.clv_base.specs.LogRules.{log_of}
 use Rattle.clv_base.specs.State.{Shard}
 use Rattle.clv_base.specs.Journals.{History, MayLeave}
-use Rattle.io_model.specs.Story.{Story}
+use Rattle.io_model.specs.Sides.{Stories}
 use Rattle.history_replay.specs.Entries.{Kept, entries_of}
 use Rattle.journal_laws.specs.Gathered.{MakesHistory}
 use Rattle.machine_laws.specs.Notes.{notes_of}
@@ -31,7 +31,7 @@ module _ {M S G : Type 0} (D : Type 0) (shard : M → Shard) where
   end_of sh homes = state_at (λ h. shard h.machine) (founds_of sh) homes
 
   -- what a close tells that was given no fetched disk, of a cluster none of whose walkers ever took one. D is what a disk is
-  pub record IsClosed (sh : Shards M S G) (walkers : List (Walker M S G)) (homes : List (Home M S G)) (kept : Kept) (down : Option ℕ) (counts counts_now : ℕ → ℕ) (out out_now : ℕ → Bool) (before now : ℕ → Option Story) : Type 0 where
+  pub record IsClosed (sh : Shards M S G) (walkers : List (Walker M S G)) (homes : List (Home M S G)) (kept : Kept) (down : Option ℕ) (counts counts_now : ℕ → ℕ) (out out_now : ℕ → Bool × Bool) (before now : ℕ → Option Stories) : Type 0 where
     pub len : length homes ≡ vec_len sh.locks
     pub shard_is : (n : ℕ) (d : Home M S G) → n < vec_len sh.locks → (shard (slice_index_or homes n d).machine).shard ≡ n
     pub noted :
@@ -53,11 +53,11 @@ module _ {M S G : Type 0} (D : Type 0) (shard : M → Shard) where
     pub others : (n : ℕ) → vec_len sh.locks ≤ n → (counts_now n ≡ counts n) × (out_now n ≡ out n) × (now n ≡ before n)
 
   -- the cluster was opened over the disks of a house, and closed so; between both the house stayed as it was
-  pub record IsClosedRun (sh : Shards M S G) (walkers : List (Walker M S G)) (homes : List (Home M S G)) (kept : Kept) (down : Option ℕ) (counts counts_now : ℕ → ℕ) (out out_now : ℕ → Bool) (before now : ℕ → Option Story) : Type 0 where
+  pub record IsClosedRun (sh : Shards M S G) (walkers : List (Walker M S G)) (homes : List (Home M S G)) (kept : Kept) (down : Option ℕ) (counts counts_now : ℕ → ℕ) (out out_now : ℕ → Bool × Bool) (before now : ℕ → Option Stories) : Type 0 where
     pub passes : ℕ
     pub counts_open : ℕ → ℕ
-    pub out_open : ℕ → Bool
-    pub open_now : ℕ → Option Story
+    pub out_open : ℕ → Bool × Bool
+    pub open_now : ℕ → Option Stories
     pub begun : AreLocked passes before sh
     pub went_out : WentOut (shard_count sh.splits) counts counts_open out out_open before open_now
     pub closed : IsClosed sh walkers homes kept down counts_open counts_now out_open out_now open_now now

@@ -4,7 +4,7 @@ use Rattle.std.specs.List.{AllByRecursion}
 use Rattle.clv_base.specs.FileRules.{may_open}
 use Rattle.clv_base.specs.Journals.{History}
 use Rattle.clv_base.specs.History.{Member, acts_in}
-use Rattle.io_model.specs.Story.{Story}
+use Rattle.io_model.specs.Sides.{Stories}
 use Rattle.history_replay.specs.Entries.{Kept}
 use Rattle.script_lang.specs.Bodies.{Body}
 use Rattle.script_lang.specs.Following.{all_acts}
@@ -32,6 +32,6 @@ pub record IsOfScript (splits : List ℕ) (script : List (List Body)) (h : Histo
 -- each member is so, whatever a crash keeps of what is in flight
 abbrev pub MembersAreOfScript : Type 0
 MembersAreOfScript =
-    (splits : List ℕ) (before now : ℕ → Option Story) (counts counts_now : ℕ → ℕ) (most : Option ℕ) (script : List (List Body)) (went : ℕ → Went) (kept : Kept) (choice : ℕ → Bool)
+    (splits : List ℕ) (before now : ℕ → Option Stories) (counts counts_now : ℕ → ℕ) (most : Option ℕ) (script : List (List Body)) (went : ℕ → Went) (kept : Kept) (choice : ℕ → Bool)
     → may_open splits kept.found ≡ true → (p : RunPromised splits before now counts counts_now most script went kept) → HaveGone script went
     → AllByRecursion (IsOfScript splits script (entries kept)) (members_by splits kept (p.keeps).left choice)

@@ -4,7 +4,7 @@ use Rattle.clv_base.specs.Shards.{shard_count}
 use Rattle.clv_base.specs.State.{Shard}
 use Rattle.clv_base.specs.Restarts.{run_after}
 use Rattle.clv_base.specs.Journals.{History, journal_of, own}
-use Rattle.io_model.specs.Story.{Story}
+use Rattle.io_model.specs.Sides.{Stories}
 use Rattle.io_model.specs.Disk.{Rose}
 use Rattle.history_replay.specs.Entries.{Kept}
 use Rattle.machine_laws.specs.Homes.{has_failed}
@@ -16,7 +16,7 @@ use Rattle.cluster_runs.specs.PromisedSessions.{Went, SessionsWent, SessionsFoll
 
 -- ---- whatever its sessions did
 
-pub record ClusterPromised (splits : List ℕ) (before now : ℕ → Option Story) (counts counts_now : ℕ → ℕ) (kept : Kept) (own_of : ℕ → History) : Type 0 where
+pub record ClusterPromised (splits : List ℕ) (before now : ℕ → Option Stories) (counts counts_now : ℕ → ℕ) (kept : Kept) (own_of : ℕ → History) : Type 0 where
   -- the history is legal, from the logs that the disks held to those that they hold; each disk holds its shard's records in each image that a crash may
   -- leave; and whatever a crash keeps of what is in flight, the history keeps the whole promise
   pub keeps : Keeps splits before now kept
@@ -32,12 +32,12 @@ pub record ClusterPromised (splits : List ℕ) (before now : ℕ → Option Stor
 -- the end of a cluster keeps it
 abbrev pub ClustersArePromised : Type 0
 ClustersArePromised =
-    (splits : List ℕ) (before now : ℕ → Option Story) (counts counts_now : ℕ → ℕ) (kept : Kept) (states : ℕ → Shard) (own_of : ℕ → History)
+    (splits : List ℕ) (before now : ℕ → Option Stories) (counts counts_now : ℕ → ℕ) (kept : Kept) (states : ℕ → Shard) (own_of : ℕ → History)
     → ClusterEnded splits before now counts counts_now kept states own_of → ClusterPromised splits before now counts counts_now kept own_of
 
 -- ---- of a script's sessions
 
-pub record RunPromised (splits : List ℕ) (before now : ℕ → Option Story) (counts counts_now : ℕ → ℕ) (most : Option ℕ) (script : List (List Body)) (went : ℕ → Went) (kept : Kept) : Type 0 where
+pub record RunPromised (splits : List ℕ) (before now : ℕ → Option Stories) (counts counts_now : ℕ → ℕ) (most : Option ℕ) (script : List (List Body)) (went : ℕ → Went) (kept : Kept) : Type 0 where
   -- the history is legal, from the logs that the disks held to those that they hold; each disk holds its shard's records in each image that a crash may
   -- leave; and whatever a crash keeps of what is in flight, the history keeps the whole promise
   pub keeps : Keeps splits before now kept
@@ -52,6 +52,6 @@ pub record RunPromised (splits : List ℕ) (before now : ℕ → Option Story) (
 -- the end of a cluster, with how its sessions went, is such a run
 abbrev pub RunsArePromised : Type 0
 RunsArePromised =
-    (splits : List ℕ) (before now : ℕ → Option Story) (counts counts_now : ℕ → ℕ) (most : Option ℕ) (script : List (List Body)) (went : ℕ → Went) (kept : Kept) (states : ℕ → Shard) (own_of : ℕ → History)
+    (splits : List ℕ) (before now : ℕ → Option Stories) (counts counts_now : ℕ → ℕ) (most : Option ℕ) (script : List (List Body)) (went : ℕ → Went) (kept : Kept) (states : ℕ → Shard) (own_of : ℕ → History)
     → ClusterEnded splits before now counts counts_now kept states own_of → SessionsWent splits (run_after kept.found) most script went own_of
     → RunPromised splits before now counts counts_now most script went kept

@@ -4,7 +4,7 @@ use Rattle.clv_base.specs.Shards.{shard_count}
 use Rattle.clv_base.specs.FileRules.{may_open}
 use Rattle.clv_base.specs.Journals.{journal_of}
 use Rattle.clv_base.specs.Restarts.{run_after}
-use Rattle.io_model.specs.Story.{Story}
+use Rattle.io_model.specs.Sides.{Stories}
 use Rattle.cluster_opening.specs.Logs.{LogsOfAll}
 use Rattle.history_replay.specs.Entries.{Kept}
 use Rattle.machine_laws.specs.Homes.{has_failed}
@@ -36,7 +36,7 @@ StopTold shards failed (Begun (Some (Unsettled n))) = (n < shards) × (failed n 
 StopTold shards failed (Begun (Some (Worn at))) = at ≡ 2 ^ 48
 StopTold shards failed went = Unit {0}
 
-pub record RanAll (before now : ℕ → Option Story) (counts counts_now : ℕ → ℕ) (most : Option ℕ) (start : Start) (script : List (List Body)) (kept : Kept) (status : Status) : Type 0 where
+pub record RanAll (before now : ℕ → Option Stories) (counts counts_now : ℕ → ℕ) (most : Option ℕ) (start : Start) (script : List (List Body)) (kept : Kept) (status : Status) : Type 0 where
   pub splits : List ℕ
   pub went : ℕ → Went
   -- the logs found are those that the disks held, under these splits, and may be opened together

@@ -3,7 +3,7 @@ ghost use Rattle.std.specs.Prelude.{◌≡◌, ◌<◌, ◌≤◌, ◌+◌, ℕ,
 ghost use Rattle.std.specs.List.{All};
 ghost use Rattle.clv_base.specs.Shards.{shard_count};
 ghost use Rattle.cluster_turns.specs.Walkers.{founds_of};
-ghost use Rattle.io_model.specs.Story.{Story};
+ghost use Rattle.io_model.specs.Sides.{Stories, sides_out, sides_told};
 ghost use Rattle.log_analysis.specs.Facts.{KnowAll};
 ghost use Rattle.cluster_opening.specs.Houses.{WentOut};
 ghost use Rattle.cluster_opening.specs.Opening.{Refuses, CountsOpen};
@@ -18,6 +18,7 @@ use cluster_opening::{Found, OpenError, give_back_locks, make_walkers, open_disk
 use cluster_turns::{Home, Shards, Walker};
 use clv_base::logs::LogRecord;
 use io_model::House;
+use lean_machine::LeanMachine;
 use lock_table::Locks;
 use log_gate::LogGate;
 use machine_calls::{Machine, OverDisks};
@@ -55,17 +56,17 @@ fn begin<H: House, M: OverDisks<H::Disk>>(
     locks: Vec<TurnLock<Home<M>>>,
     passes: Vec<Vec<Pass<Home<M>, Note, Origin>>>,
 ) -> Result<Begun<M>, OpenError>
-    requires found { (c : ℕ → ℕ) × (o : ℕ → Bool) × (s : ℕ → Option Story) × AreFound M.Gate.is_shut M.Gate.faults M.Gate.shard M.Gate.logs M.story found.splits (map (λ l. l.items) found.logs.items) found.run found.gates.items c (H.faults house.old) o (H.is_out house.old) s (H.story house.old) }
+    requires found { (c : ℕ → ℕ) × (o : ℕ → Bool × Bool) × (s : ℕ → Option Stories) × AreFound M.Gate.is_shut M.Gate.faults M.Gate.shard M.Gate.logs M.story found.splits (map (λ l. l.items) found.logs.items) found.run found.gates.items c (H.faults house.old) o (sides_out (H.is_out house.old)) s (sides_told (H.story house.old)) }
     requires known { KnowAll found.facts.items (map (λ l. l.items) found.logs.items) }
     requires some { (0 < walkers) × (walkers ≤ 65) }
     requires empty { (vec_len locks ≡ 0) × (vec_len passes ≡ 0) }
     requires room { (16 ≤ vec_capacity locks) × (16 ≤ vec_capacity passes) }
-    ensures locked { IfOk result (λ b. (c : ℕ → ℕ) (o : ℕ → Bool) (s : ℕ → Option Story) → AreFound M.Gate.is_shut M.Gate.faults M.Gate.shard M.Gate.logs M.story found.splits (map (λ l. l.items) found.logs.items) found.run found.gates.items c (H.faults house.old) o (H.is_out house.old) s (H.story house.old) → AreLocked walkers s b.shards) }
+    ensures locked { IfOk result (λ b. (c : ℕ → ℕ) (o : ℕ → Bool × Bool) (s : ℕ → Option Stories) → AreFound M.Gate.is_shut M.Gate.faults M.Gate.shard M.Gate.logs M.story found.splits (map (λ l. l.items) found.logs.items) found.run found.gates.items c (H.faults house.old) o (sides_out (H.is_out house.old)) s (sides_told (H.story house.old)) → AreLocked walkers s b.shards) }
     ensures founds { IfOk result (λ b. founds_of b.shards ≡ map (λ l. l.items) found.logs.items) }
     ensures walkers { IfOk result (λ b. (vec_len b.walkers ≡ walkers) × ((k : ℕ) (d : _) → k < walkers → IsNewWalker b.shards k first (slice_index_or b.walkers.items k d))) }
     ensures passes { IfOk result (λ b. (vec_len b.passes ≡ vec_len b.shards.locks) × All (λ r. (vec_len r ≡ 0) × (walkers ≤ vec_capacity r)) b.passes.items) }
-    ensures out { IfOk result (λ b. (b.shards.splits ≡ found.splits) × ((n : ℕ) → (H.faults house.new n ≡ H.faults house.old n) × (H.is_out house.new n ≡ H.is_out house.old n) × (H.story house.new n ≡ H.story house.old n))) }
-    ensures taken_back { IfErr result (λ e. (c : ℕ → ℕ) (o : ℕ → Bool) (s : ℕ → Option Story) → AreFound M.Gate.is_shut M.Gate.faults M.Gate.shard M.Gate.logs M.story found.splits (map (λ l. l.items) found.logs.items) found.run found.gates.items c (H.faults house.old) o (H.is_out house.old) s (H.story house.old) → IsTakenBack c (H.faults house.new) (H.is_out house.new) s (H.story house.new) e) }
+    ensures out { IfOk result (λ b. (b.shards.splits ≡ found.splits) × ((n : ℕ) → (H.faults house.new n ≡ H.faults house.old n) × (sides_out (H.is_out house.new) n ≡ sides_out (H.is_out house.old) n) × (sides_told (H.story house.new) n ≡ sides_told (H.story house.old) n))) }
+    ensures taken_back { IfErr result (λ e. (c : ℕ → ℕ) (o : ℕ → Bool × Bool) (s : ℕ → Option Stories) → AreFound M.Gate.is_shut M.Gate.faults M.Gate.shard M.Gate.logs M.story found.splits (map (λ l. l.items) found.logs.items) found.run found.gates.items c (H.faults house.old) o (sides_out (H.is_out house.old)) s (sides_told (H.story house.old)) → IsTakenBack c (H.faults house.new) (sides_out (H.is_out house.new)) s (sides_told (H.story house.new)) e) }
 {
     let (shards, mut passes) = match lock_all::<H, M>(alloc, house, found, walkers, locks, passes) {
         Ok(locked) => locked,
@@ -106,19 +107,19 @@ fn open_and_begin<S: Store + Drop, L: Locks + Drop, H: House>(
     house: &mut H,
     walkers: usize,
     first: u64,
-    locks: Vec<TurnLock<Home<ShardMachine<S, L, LogGate<H::Disk>>>>>,
-    passes: Vec<Vec<Pass<Home<ShardMachine<S, L, LogGate<H::Disk>>>, Note, Origin>>>,
-) -> Result<Began<ShardMachine<S, L, LogGate<H::Disk>>>, OpenError>
-    requires inside { (n : ℕ) → n < 16 → H.is_out house.old n ≡ false }
+    locks: Vec<TurnLock<Home<LeanMachine<ShardMachine<S, L, LogGate<H::Disk>>>>>>,
+    passes: Vec<Vec<Pass<Home<LeanMachine<ShardMachine<S, L, LogGate<H::Disk>>>>, Note, Origin>>>,
+) -> Result<Began<LeanMachine<ShardMachine<S, L, LogGate<H::Disk>>>>, OpenError>
+    requires inside { (n : ℕ) → n < 16 → sides_out (H.is_out house.old) n ≡ (false, false) }
     requires some { (0 < walkers) × (walkers ≤ 65) }
     requires empty { (vec_len locks ≡ 0) × (vec_len passes ≡ 0) }
     requires room { (16 ≤ vec_capacity locks) × (16 ≤ vec_capacity passes) }
-    ensures locked { IfOk result (λ b. AreLocked walkers (H.story house.old) b.begun.shards) }
+    ensures locked { IfOk result (λ b. AreLocked walkers (sides_told (H.story house.old)) b.begun.shards) }
     ensures founds { IfOk result (λ b. map (λ l. l.items) b.found.value.items ≡ founds_of b.begun.shards) }
     ensures walkers { IfOk result (λ b. (vec_len b.begun.walkers ≡ walkers) × ((k : ℕ) (d : _) → k < walkers → IsNewWalker b.begun.shards k first (slice_index_or b.begun.walkers.items k d))) }
     ensures passes { IfOk result (λ b. (vec_len b.begun.passes ≡ vec_len b.begun.shards.locks) × All (λ r. (vec_len r ≡ 0) × (walkers ≤ vec_capacity r)) b.begun.passes.items) }
-    ensures out { IfOk result (λ b. WentOut (shard_count b.begun.shards.splits) (H.faults house.old) (H.faults house.new) (H.is_out house.old) (H.is_out house.new) (H.story house.old) (H.story house.new)) }
-    ensures taken_back { IfErr result (IsTakenBack (H.faults house.old) (H.faults house.new) (H.is_out house.new) (H.story house.old) (H.story house.new)) }
+    ensures out { IfOk result (λ b. WentOut (shard_count b.begun.shards.splits) (H.faults house.old) (H.faults house.new) (sides_out (H.is_out house.old)) (sides_out (H.is_out house.new)) (sides_told (H.story house.old)) (sides_told (H.story house.new))) }
+    ensures taken_back { IfErr result (IsTakenBack (H.faults house.old) (H.faults house.new) (sides_out (H.is_out house.new)) (sides_told (H.story house.old)) (sides_told (H.story house.new))) }
 {
     let opened = match open_disks(alloc, house) {
         Ok(opened) => opened,
@@ -142,7 +143,7 @@ fn open_and_begin<S: Store + Drop, L: Locks + Drop, H: House>(
         facts,
         run,
     };
-    match begin::<H, ShardMachine<S, L, LogGate<H::Disk>>>(
+    match begin::<H, LeanMachine<ShardMachine<S, L, LogGate<H::Disk>>>>(
         alloc, house, logs, walkers, first, locks, passes,
     ) {
         Ok(begun) => Ok(Began { begun, found }),
@@ -161,26 +162,27 @@ pub fn open_all<S: Store + Drop, L: Locks + Drop, H: House>(
     house: &mut H,
     walkers: usize,
     first: u64,
-) -> Result<Opened<ShardMachine<S, L, LogGate<H::Disk>>>, OpenError>
-    requires inside { (n : ℕ) → n < 16 → H.is_out house.old n ≡ false }
+) -> Result<Opened<LeanMachine<ShardMachine<S, L, LogGate<H::Disk>>>>, OpenError>
+    requires inside { (n : ℕ) → n < 16 → sides_out (H.is_out house.old) n ≡ (false, false) }
     requires few { walkers ≤ 64 }
 
     // The shards are in their locks, over the logs that the disks held.
-    ensures shards { IfOk result (λ o. AreLocked (walkers + 1) (H.story house.old) o.shards) }
+    ensures shards { IfOk result (λ o. AreLocked (walkers + 1) (sides_told (H.story house.old)) o.shards) }
     ensures walkers { IfOk result (λ o. (vec_len o.walkers ≡ walkers + 1) × ((k : ℕ) (d : _) → k < walkers + 1 → IsNewWalker o.shards k first (slice_index_or o.walkers.items k d))) }
     ensures founds { IfOk result (λ o. map (λ l. l.items) o.found.value.items ≡ founds_of o.shards) }
     ensures room { IfOk result (λ o. HasRoom (vec_len o.shards.locks) (walkers + 1) o.room) }
 
     // The disks of the shards are out, and else the house is as it was.
-    ensures out { IfOk result (λ o. WentOut (shard_count o.shards.splits) (H.faults house.old) (H.faults house.new) (H.is_out house.old) (H.is_out house.new) (H.story house.old) (H.story house.new)) }
+    ensures out { IfOk result (λ o. WentOut (shard_count o.shards.splits) (H.faults house.old) (H.faults house.new) (sides_out (H.is_out house.old)) (sides_out (H.is_out house.new)) (sides_told (H.story house.old)) (sides_told (H.story house.new))) }
 
     // Where it is refused.
-    ensures refused { IfErr result (Refuses (H.story house.old)) }
+    ensures refused { IfErr result (Refuses (sides_told (H.story house.old))) }
     ensures counts { IfErr result (CountsOpen (H.faults house.old) (H.faults house.new)) }
-    ensures back { OnErr result ((n : ℕ) → n < 16 → H.is_out house.new n ≡ false) }
-    ensures left { IfErr result (LeavesDisks (H.story house.old) (H.story house.new)) }
+    ensures back { OnErr result ((n : ℕ) → n < 16 → sides_out (H.is_out house.new) n ≡ (false, false)) }
+    ensures left { IfErr result (LeavesDisks (sides_told (H.story house.old)) (sides_told (H.story house.new))) }
 {
-    let Ok((room, locks)) = take_rooms::<ShardMachine<S, L, LogGate<H::Disk>>>(alloc) else {
+    let Ok((room, locks)) = take_rooms::<LeanMachine<ShardMachine<S, L, LogGate<H::Disk>>>>(alloc)
+    else {
         return Err(OpenError::Memory);
     };
     let Room {

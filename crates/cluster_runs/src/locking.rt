@@ -1,7 +1,7 @@
 // All shards, from their logs into their locks.
 ghost use Rattle.std.specs.Prelude.{◌≡◌, ◌<◌, ◌≤◌, ℕ, Bool, List, Option, map, vec_len, vec_capacity, IfOk, IfErr};
 ghost use Rattle.clv_base.specs.Shards.{shard_count};
-ghost use Rattle.io_model.specs.Story.{Story};
+ghost use Rattle.io_model.specs.Sides.{Stories, sides_out, sides_told};
 ghost use Rattle.log_analysis.specs.Facts.{KnowAll};
 ghost use Rattle.cluster_turns.specs.Walkers.{founds_of};
 ghost use Rattle.cluster_opening.specs.Houses.{WentOut};
@@ -56,18 +56,18 @@ pub(crate) fn lock_all<H: House, M: OverDisks<H::Disk>>(
     mut locks: Vec<TurnLock<Home<M>>>,
     mut passes: Vec<Vec<Pass<Home<M>, Note, Origin>>>,
 ) -> Result<(Shards<M>, Vec<Vec<Pass<Home<M>, Note, Origin>>>), OpenError>
-    requires found { (c : ℕ → ℕ) × (o : ℕ → Bool) × (s : ℕ → Option Story) × AreFound M.Gate.is_shut M.Gate.faults M.Gate.shard M.Gate.logs M.story found.splits (map (λ l. l.items) found.logs.items) found.run found.gates.items c (H.faults house.old) o (H.is_out house.old) s (H.story house.old) }
+    requires found { (c : ℕ → ℕ) × (o : ℕ → Bool × Bool) × (s : ℕ → Option Stories) × AreFound M.Gate.is_shut M.Gate.faults M.Gate.shard M.Gate.logs M.story found.splits (map (λ l. l.items) found.logs.items) found.run found.gates.items c (H.faults house.old) o (sides_out (H.is_out house.old)) s (sides_told (H.story house.old)) }
     requires known { KnowAll found.facts.items (map (λ l. l.items) found.logs.items) }
     requires some { 0 < walkers }
     requires empty { (vec_len locks ≡ 0) × (vec_len passes ≡ 0) }
     requires room { (16 ≤ vec_capacity locks) × (16 ≤ vec_capacity passes) }
 
     // However the house was before the disks were found to be so.
-    ensures locked { IfOk result (λ r. (c : ℕ → ℕ) (o : ℕ → Bool) (s : ℕ → Option Story) → AreFound M.Gate.is_shut M.Gate.faults M.Gate.shard M.Gate.logs M.story found.splits (map (λ l. l.items) found.logs.items) found.run found.gates.items c (H.faults house.old) o (H.is_out house.old) s (H.story house.old) → AreLocked walkers s r.0) }
+    ensures locked { IfOk result (λ r. (c : ℕ → ℕ) (o : ℕ → Bool × Bool) (s : ℕ → Option Stories) → AreFound M.Gate.is_shut M.Gate.faults M.Gate.shard M.Gate.logs M.story found.splits (map (λ l. l.items) found.logs.items) found.run found.gates.items c (H.faults house.old) o (sides_out (H.is_out house.old)) s (sides_told (H.story house.old)) → AreLocked walkers s r.0) }
     ensures founds { IfOk result (λ r. founds_of r.0 ≡ map (λ l. l.items) found.logs.items) }
     ensures opened { IfOk result (λ r. (vec_len r.1 ≡ vec_len r.0.locks) × AreOpened (record { splits = r.0.splits }) r.0.run walkers (founds_of r.0) r.0.locks.items r.1.items) }
-    ensures out { IfOk result (λ r. (r.0.splits ≡ found.splits) × ((n : ℕ) → (H.faults house.new n ≡ H.faults house.old n) × (H.is_out house.new n ≡ H.is_out house.old n) × (H.story house.new n ≡ H.story house.old n))) }
-    ensures taken_back { IfErr result (λ e. (c : ℕ → ℕ) (o : ℕ → Bool) (s : ℕ → Option Story) → AreFound M.Gate.is_shut M.Gate.faults M.Gate.shard M.Gate.logs M.story found.splits (map (λ l. l.items) found.logs.items) found.run found.gates.items c (H.faults house.old) o (H.is_out house.old) s (H.story house.old) → IsTakenBack c (H.faults house.new) (H.is_out house.new) s (H.story house.new) e) }
+    ensures out { IfOk result (λ r. (r.0.splits ≡ found.splits) × ((n : ℕ) → (H.faults house.new n ≡ H.faults house.old n) × (sides_out (H.is_out house.new) n ≡ sides_out (H.is_out house.old) n) × (sides_told (H.story house.new) n ≡ sides_told (H.story house.old) n))) }
+    ensures taken_back { IfErr result (λ e. (c : ℕ → ℕ) (o : ℕ → Bool × Bool) (s : ℕ → Option Stories) → AreFound M.Gate.is_shut M.Gate.faults M.Gate.shard M.Gate.logs M.story found.splits (map (λ l. l.items) found.logs.items) found.run found.gates.items c (H.faults house.old) o (sides_out (H.is_out house.old)) s (sides_told (H.story house.old)) → IsTakenBack c (H.faults house.new) (sides_out (H.is_out house.new)) s (sides_told (H.story house.new)) e) }
 {
     let Logs {
         splits,

@@ -1,6 +1,7 @@
 // A run, from the disks to the disks.
 ghost use Rattle.std.specs.Prelude.{◌≡◌, ◌<◌, ◌≤◌, ℕ, true, false, map, length, IfOk, IfErr};
 ghost use Rattle.std.specs.List.{AllByRecursion, list_all};
+ghost use Rattle.io_model.specs.Sides.{sides_out, sides_told};
 ghost use Rattle.history_replay.specs.Replayed.{replayed};
 ghost use Rattle.script_lang.specs.Laws.{is_narrow_body};
 ghost use Rattle.cluster_opening.specs.Opening.{Refuses, CountsOpen};
@@ -20,6 +21,7 @@ use cluster_opening::OpenError;
 use command_line::running_status;
 use history_replay::History;
 use io_model::{House, Pace};
+use lean_machine::LeanMachine;
 use lock_table::Locks;
 use log_gate::LogGate;
 use ordered_store::Store;
@@ -47,17 +49,17 @@ pub fn run_script<
 >(rt: &R, alloc: Global, house: &mut H, pace: &P, plan: Plan<'_>) -> Result<Ran<S>, OpenError>
 where
     H::Disk: Send,
-    requires inside { (n : ℕ) → n < 16 → H.is_out house.old n ≡ false }
+    requires inside { (n : ℕ) → n < 16 → sides_out (H.is_out house.old) n ≡ (false, false) }
     requires few { length plan.sessions.now ≤ 64 }
     requires narrow { list_all (list_all is_narrow_body) plan.sessions.now ≡ true }
-    ensures ran { IfOk result (λ r. RanAll (H.story house.old) (H.story house.new) (H.faults house.old) (H.faults house.new) plan.entry.most plan.entry.start plan.entry.sessions.now r.history r.status) }
+    ensures ran { IfOk result (λ r. RanAll (sides_told (H.story house.old)) (sides_told (H.story house.new)) (H.faults house.old) (H.faults house.new) plan.entry.most plan.entry.start plan.entry.sessions.now r.history r.status) }
     ensures books { IfOk result (λ r. HasBooks (entries r.history) r.books.items) }
     ensures keeps { IfOk result (λ r. AllByRecursion (λ b. b.keeps ≡ plan.entry.keeps_rows) r.books.items) }
     ensures maps { IfOk result (λ r. r.status ≡ Fine → live_in_turn (map (λ m. S.records m) r.maps.items) ≡ replayed r.history) }
-    ensures back { (n : ℕ) → n < 16 → H.is_out house.new n ≡ false }
-    ensures refused { IfErr result (Refuses (H.story house.old)) }
+    ensures back { (n : ℕ) → n < 16 → sides_out (H.is_out house.new) n ≡ (false, false) }
+    ensures refused { IfErr result (Refuses (sides_told (H.story house.old))) }
     ensures counts { IfErr result (CountsOpen (H.faults house.old) (H.faults house.new)) }
-    ensures left { IfErr result (LeavesDisks (H.story house.old) (H.story house.new)) }
+    ensures left { IfErr result (LeavesDisks (sides_told (H.story house.old)) (sides_told (H.story house.new))) }
 {
     sessions_have_ended();
     let Ok(mut books) = Vec::with_capacity(alloc, plan.sessions.len()) else {
@@ -74,7 +76,7 @@ where
         found,
     } = opened;
     let end = run_over(rt, alloc, &shards, pace, &mut walkers, plan, &mut books);
-    let closed = close_run::<H, ShardMachine<S, L, LogGate<H::Disk>>>(
+    let closed = close_run::<H, LeanMachine<ShardMachine<S, L, LogGate<H::Disk>>>>(
         alloc, house, shards, walkers, room,
     );
     let Closed {

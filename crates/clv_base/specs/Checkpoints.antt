@@ -1,16 +1,15 @@
--- Checkpoints: the log that a log may be exchanged for, its rules, and how a file's records are a log.
-use Rattle.std.specs.Prelude.{◌≡◌, ℕ, zero, suc, ◌+◌, ◌-◌, ◌^◌, Bool, true, false, cond, not, ◌&&◌, ◌||◌, ◌==◌, nat_lt, nat_le, List, [], ◌∷◌, ◌++◌, map, length, take, drop, replicate, Option, Some, None, unwrap_or, is_some, Result, Ok, Err}
-use Rattle.std.specs.List.{filter, list_any, list_all}
+-- Checkpoints: the log that a log may be exchanged for, and how a file's records are a log.
+use Rattle.std.specs.Prelude.{◌≡◌, ℕ, zero, suc, ◌-◌, Bool, true, false, cond, not, ◌&&◌, ◌||◌, ◌==◌, nat_lt, nat_le, List, [], ◌∷◌, ◌++◌, map, length, take, drop, replicate, Option, Some, None, unwrap_or, Result, Ok, Err}
+use Rattle.std.specs.List.{filter, list_any}
 use Rattle.clv_base.specs.declared.names.TxId.{TxId}
 use Rattle.clv_base.specs.declared.logs.LogRecord.{LogRecord}
 use Rattle.clv_base.specs.declared.logs.LogRecord.TheVariants.{Update, Clr, Prepare, Commit, Abort, End, Restart, Add, Unadd, Forgotten, Check}
 use Rattle.clv_base.specs.declared.shard_log.FileRecord.{FileRecord}
 use Rattle.clv_base.specs.declared.shard_log.FileRecord.TheVariants.{Plain, Begin, Base, Keep, Checked}
-use Rattle.clv_base.specs.Values.{same_list, same_optional_value}
-use Rattle.clv_base.specs.Orders.{tx_same, tx_in, nat_in}
-use Rattle.clv_base.specs.Maps.{KeyMap, is_number}
-use Rattle.clv_base.specs.Logs.{StandingUpdate, own_tx, is_record_of, has_standing, committed_in, prepared_in, aborted_in, ended_in, prepare_of, commit_parts, standing, value_in, fold_writes, base_of}
-use Rattle.clv_base.specs.LogRules.{same_record, last_restart, some_parts, may_set, may_add, writes_below, disorder_from}
+use Rattle.clv_base.specs.Values.{same_list}
+use Rattle.clv_base.specs.Maps.{KeyMap}
+use Rattle.clv_base.specs.Logs.{StandingUpdate, has_standing, committed_in, prepare_of, standing, fold_writes, base_of}
+use Rattle.clv_base.specs.LogRules.{same_record, last_restart, some_parts}
 
 -- ---- the checkpoint of a log
 
@@ -73,86 +72,6 @@ are_alike shard a b = same_list same_record (check shard a) (check shard b)
 
 abbrev pub Alike : ℕ → List LogRecord → List LogRecord → Type 0
 Alike shard a b = check shard a ≡ check shard b
-
--- ---- the rules of a checkpoint's records
-
--- whether some of the records is the transaction's, a COMMIT of it, or a PREPARE
-abbrev pub is_known : List LogRecord → TxId → Bool
-is_known kept tx = list_any (is_record_of tx) kept
-
--- of a transaction with a COMMIT: a PREPARE for another home and then a COMMIT without parts, or a COMMIT with parts and then perhaps an END
-abbrev pub may_keep_committed : ℕ → List LogRecord → LogRecord → Bool
-may_keep_committed shard so_far (Prepare tx home predecessors) =
-    not (home == shard) && elim predecessors [ [] ↦ true | p ∷ ps ↦ false ] && not (prepared_in so_far tx) && not (committed_in so_far tx)
-may_keep_committed shard so_far (Commit tx []) = prepared_in so_far tx && not (committed_in so_far tx)
-may_keep_committed shard so_far (Commit tx (p ∷ ps)) = not (nat_in shard (p ∷ ps)) && not (prepared_in so_far tx) && not (committed_in so_far tx)
-may_keep_committed shard so_far (End tx) = not (ended_in so_far tx) && elim (commit_parts so_far tx) [ Some ps ↦ some_parts ps | None ↦ false ]
-may_keep_committed shard so_far _ = false
-
--- the transaction has no PREPARE, COMMIT or ABORT
-abbrev pub is_unclosed : List LogRecord → TxId → Bool
-is_unclosed log tx = not (prepared_in log tx) && not (committed_in log tx) && not (aborted_in log tx)
-
--- whose run is the checkpoint's, or an earlier one where a PREPARE of it is kept; it isn't closed or aborted
-abbrev pub may_have_written : ℕ → List LogRecord → List LogRecord → TxId → Bool
-may_have_written run kept so_far tx = ((tx.run == run) || prepared_in kept tx) && is_unclosed so_far tx
-
--- one that a kept PREPARE may list: none of its records is kept, as if it were aborted; or it could be listed in a log
-abbrev pub may_list_kept : List LogRecord → List LogRecord → TxId → TxId → Bool
-may_list_kept kept so_far tx p =
-    not (is_known kept p) || (not (tx_same p tx) && prepared_in so_far p && not (committed_in so_far p) && not (aborted_in so_far p))
-
--- of one without a COMMIT: what a log may have, but for the run
-abbrev pub may_keep_open : ℕ → List LogRecord → List LogRecord → LogRecord → Bool
-may_keep_open run kept so_far (Update tx key before after) =
-    may_have_written run kept so_far tx && same_optional_value before (value_in so_far key) && (is_some before || is_some after) && may_set so_far tx key (standing so_far)
-may_keep_open run kept so_far (Add tx key by) = may_have_written run kept so_far tx && is_number (value_in so_far key) && may_add so_far tx key (standing so_far)
-may_keep_open run kept so_far (Prepare tx home predecessors) =
-    has_standing so_far tx && is_unclosed so_far tx && list_all (λ p. nat_le p.run run && may_list_kept kept so_far tx p) predecessors
-    && list_all (λ w. committed_in so_far w.tx || tx_in w.tx predecessors) (writes_below tx (standing so_far))
-may_keep_open run kept so_far (Abort tx) = has_standing so_far tx && not (committed_in so_far tx) && not (aborted_in so_far tx)
-may_keep_open run kept so_far _ = false
-
--- whether a transaction's record may be kept after these, by all that are kept
-abbrev pub may_keep : ℕ → ℕ → List LogRecord → List LogRecord → LogRecord → Option TxId → Bool
-may_keep shard run kept so_far r None = false
-may_keep shard run kept so_far r (Some tx) =
-    nat_le tx.run run && cond (committed_in kept tx) (may_keep_committed shard so_far r) (may_keep_open run kept so_far r)
-
--- the place in the file of the first kept record that breaks its rule; forgotten places aren't in the file
-abbrev pub kept_disorder : ℕ → ℕ → List LogRecord → ℕ → List LogRecord → List LogRecord → Option ℕ
-kept_disorder shard run kept place so_far [] = None
-kept_disorder shard run kept place so_far (Forgotten ∷ rs) = kept_disorder shard run kept place (so_far ++ Forgotten ∷ []) rs
-kept_disorder shard run kept place so_far (r ∷ rs) =
-    elim (may_keep shard run kept so_far r (own_tx r)) [ true ↦ kept_disorder shard run kept (suc place) (so_far ++ r ∷ []) rs | false ↦ Some place ]
-
--- the first of two places
-abbrev pub or_place : Option ℕ → Option ℕ → Option ℕ
-or_place None later = later
-or_place (Some n) later = Some n
-
--- the checkpoint's own records, and how many more than places stand in the file before the later ones: CHECK, the pairs, the kept ones and CHECKED
-abbrev pub is_there : LogRecord → Bool
-is_there Forgotten = false
-is_there _ = true
-
-abbrev pub part_records : KeyMap → List LogRecord → ℕ
-part_records base kept = 2 + length base + length (filter is_there kept)
-
-abbrev pub after_part : ℕ → ℕ → Option ℕ → Option ℕ
-after_part records upto None = None
-after_part records upto (Some n) = Some (records + (n - upto))
-
--- the place in the file of the first record that breaks the rules of its log: those of the checkpoint, where there is one, then those of the later records
-abbrev pub checked_disorder : ℕ → LogRecord → ℕ → ℕ → KeyMap → List LogRecord → Option ℕ
-checked_disorder shard c run upto base rs =
-    or_place (cond (nat_lt upto (2 ^ 63)) None (Some 0))
-    (or_place (kept_disorder shard run (take (upto - 1) rs) (1 + length base) (c ∷ []) (take (upto - 1) rs))
-    (after_part (part_records base (take (upto - 1) rs)) upto (disorder_from shard upto (c ∷ take (upto - 1) rs) (drop (upto - 1) rs))))
-
-abbrev pub file_disorder : ℕ → List LogRecord → Option ℕ
-file_disorder shard (Check run epoch upto base ∷ rs) = checked_disorder shard (Check run epoch upto base) run upto base rs
-file_disorder shard log = disorder_from shard 0 [] log
 
 -- ---- the log that a file's records are, or the place of the first that stands where none of its kind may
 

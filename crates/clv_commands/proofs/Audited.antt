@@ -3,7 +3,7 @@ use Rattle.std.proofs.Common.{◌≡◌, refl, inl, inr, sym, subst, ℕ, List, 
 use Rattle.clv_base.specs.declared.logs.LogRecord.{LogRecord}
 use Rattle.clv_base.specs.Logs.{stands}
 use Rattle.clv_base.specs.LogRules.{apart}
-use Rattle.io_model.specs.Story.{Story}
+use Rattle.io_model.specs.Sides.{Stories}
 use Rattle.cluster_opening.specs.Logs.{LogsOfAll}
 use Rattle.cluster_opening.specs.Opening.{Refuses, CountsOpen, IsNotWorn, Stand}
 use Rattle.cluster_opening.specs.declared.error.OpenError.{OpenError}
@@ -28,7 +28,7 @@ use Rattle.clv_commands.specs.Audited.{status_by, verdict_text, Writes, IsJudged
 use Rattle.law_base.proofs.Numbers.{below_differs as below}
 
 -- what an ended audit's status tells
-pub record Audits (left left' : Option (List ℕ)) (stories : ℕ → Option Story) (source source' sink sink' : ℕ) (taken taken' : Option (List ℕ)) (counts counts' : ℕ → ℕ) (status : Status) : Type 0 where
+pub record Audits (left left' : Option (List ℕ)) (stories : ℕ → Option Stories) (source source' sink sink' : ℕ) (taken taken' : Option (List ℕ)) (counts counts' : ℕ → ℕ) (status : Status) : Type 0 where
   pub kind : IsOfAudit status
   pub audited : IsAudited left stories sink sink' taken taken' status
   pub took : TookVerdict status taken taken'
@@ -41,7 +41,7 @@ pub record Audits (left left' : Option (List ℕ)) (stories : ℕ → Option Sto
 
 -- the verdict on a report that was read, by logs that were
 pub judged :
-    (left left' : Option (List ℕ)) (r : Reported) (stories : ℕ → Option Story) (splits : List ℕ) (logs : List (List LogRecord)) (v : Verdict) → IsReadAs left left' r → LogsOfAll splits logs stories → apart logs ≡ None → IsVerdict r (stands logs) v
+    (left left' : Option (List ℕ)) (r : Reported) (stories : ℕ → Option Stories) (splits : List ℕ) (logs : List (List LogRecord)) (v : Verdict) → IsReadAs left left' r → LogsOfAll splits logs stories → apart logs ≡ None → IsVerdict r (stands logs) v
     → IsJudged left stories v
 judged None left' r stories splits logs v read held agree is = record { splits = splits; logs = logs; held = held; agree = agree; verdict = tt }
 judged (Some bytes) left' r stories splits logs v (told, ends, report) held agree is =
@@ -49,7 +49,7 @@ judged (Some bytes) left' r stories splits logs v (told, ends, report) held agre
 
 -- ---- the report was read
 
-module _ (left left' : Option (List ℕ)) (r : Reported) (stories : ℕ → Option Story) (source source' : ℕ) (counts counts' : ℕ → ℕ) (read : IsReadAs left left' r) (counted : source' ≡ source) where
+module _ (left left' : Option (List ℕ)) (r : Reported) (stories : ℕ → Option Stories) (source source' : ℕ) (counts counts' : ℕ → ℕ) (read : IsReadAs left left' r) (counted : source' ≡ source) where
   module _ (sink sink' : ℕ) (taken taken' : Option (List ℕ)) (stand : Stand counts counts') where
     by_verdict : (v : Verdict) (written : Result (Unit {0}) ReportError) → IsJudged left stories v → TakesText taken taken' (verdict_text v) written → Causes sink sink' written
         → Audits left left' stories source source' sink sink' taken taken' counts counts' (with_text (status_by v) written)
@@ -87,7 +87,7 @@ module _ (left left' : Option (List ℕ)) (r : Reported) (stories : ℕ → Opti
 
 -- ---- it wasn't
 
-pub by_reading : (left left' : Option (List ℕ)) (stories : ℕ → Option Story) (source source' sink : ℕ) (taken : Option (List ℕ)) (counts : ℕ → ℕ) (status : Status) → ReportFault left status → CountsSource source source' status
+pub by_reading : (left left' : Option (List ℕ)) (stories : ℕ → Option Stories) (source source' sink : ℕ) (taken : Option (List ℕ)) (counts : ℕ → ℕ) (status : Status) → ReportFault left status → CountsSource source source' status
     → Audits left left' stories source source' sink sink taken taken counts counts status
 by_reading left left' stories source source' sink taken counts Fine fault cause = absurd fault
 by_reading left left' stories source source' sink taken counts Usage fault cause = absurd fault

@@ -1,13 +1,14 @@
 -- A command that is completed.
-use Rattle.std.proofs.Common.{◌≡◌, ap, ◌∙◌, subst, ℕ, List, [], length, Option, Some, None}
+use Rattle.std.proofs.Common.{ap, ◌∙◌, subst, inl, inr, ℕ, List, length, Option, Some, None}
 use Rattle.std.specs.Prelude.{IsSomeAnd}
-use Rattle.io_model.specs.Story.{Story, reads}
+use Rattle.io_model.specs.Sides.{Stories, reads_both}
 use Rattle.io_model.specs.Disk.{Rose}
+use Rattle.log_gate.specs.Make.{AreEmpty}
 use Rattle.cluster_opening.specs.Making.{HasBytes}
 use Rattle.cluster_opening.specs.declared.error.OpenError.TheVariants as opening
 use Rattle.cluster_opening.specs.Accepted.{GoodLogsAreNotRefused}
 use Rattle.command_line.specs.declared.commands.Command.{Command}
-use Rattle.command_line.specs.declared.commands.Command.TheVariants.{Make, Run, Show, Load, Serve, Audit}
+use Rattle.command_line.specs.declared.commands.Command.TheVariants.{Make, Run, Show, Load, Serve, Audit, Standby}
 use Rattle.history_replay.specs.Entries.{Kept}
 use Rattle.report_reading.specs.Faults.{ReportsHaveNoFault}
 use Rattle.script_lang.specs.Laws.{ScriptsAreNotRefused}
@@ -18,10 +19,11 @@ use Rattle.clv_commands.specs.Causes as causes
 use Rattle.clv_commands.specs.Causes.{BreaksBy, BreaksScript, BreaksReport, BreaksSource, CountsSourceBy, CountsSinkBy, CountsDisks}
 use Rattle.clv_commands.specs.Completing.{TellsScript, TellsReport, IsAccepted, NoneRose, IsCompleted}
 
--- a disk without bytes has none
-no_bytes : (story : Option Story) (len : ℕ) → IsSomeAnd story (λ s. reads s ≡ []) → HasBytes len story → ⊥
+-- sides without bytes have none
+no_bytes : (story : Option Stories) (len : ℕ) → IsSomeAnd story (λ s. AreEmpty (reads_both s)) → HasBytes len story → ⊥
 no_bytes None len empty has = empty
-no_bytes (Some s) len empty has = has.1 (has.0 ∙ ap length empty)
+no_bytes (Some s) len empty (some, inl long) = some (long ∙ ap length empty.0)
+no_bytes (Some s) len empty (some, inr (none, long)) = some (long ∙ ap length empty.1)
 
 refused_line : ScriptsAreNotRefused → (left : Option (List ℕ)) (line : ℕ) → TellsScript left → BreaksScript (Script line) left → ⊥
 refused_line law left line (bytes, script, is, told) breaks = law bytes script line told (subst (λ (l : Option (List ℕ)). BreaksScript (Script line) l) is breaks)
@@ -39,7 +41,7 @@ sink_rose sessions None count count' h = h
 sink_rose sessions (Some kept) count count' h = h
 
 module _
-    (scripts : ScriptsAreNotRefused) (reports : ReportsHaveNoFault) (logs : GoodLogsAreNotRefused) (history : Option Kept) (left : Option (List ℕ)) (stories stories' : ℕ → Option Story) (source source' sink sink' : ℕ) (disks disks' : ℕ → ℕ)
+    (scripts : ScriptsAreNotRefused) (reports : ReportsHaveNoFault) (logs : GoodLogsAreNotRefused) (history : Option Kept) (left : Option (List ℕ)) (stories stories' : ℕ → Option Stories) (source source' sink sink' : ℕ) (disks disks' : ℕ → ℕ)
     (none : NoneRose source source' sink sink' disks disks') where
   pub completed : (c : Command) (status : Status) → IsOfCommand c status → causes.HasBytes c status stories stories' → BreaksBy c status history stories → BreaksSource c status left
       → CountsSourceBy c history source source' status → CountsSinkBy c history sink sink' status → CountsDisks history disks disks' status → IsAccepted c left stories → IsCompleted c status
@@ -127,3 +129,17 @@ module _
   completed Audit (WrongTransaction place) kind has breaks line_is s k d ok = tt
   completed Audit (WrongMap key) kind has breaks line_is s k d ok = tt
   completed Audit (Unsettled count) kind has breaks line_is s k d ok = tt
+  completed (Standby counts) Fine kind has breaks line_is s k d ok = tt
+  completed (Standby counts) Usage kind has breaks line_is s k d ok = absurd kind
+  completed (Standby counts) (Script line) kind has breaks line_is s k d ok = absurd kind
+  completed (Standby counts) ReadFault kind has breaks line_is s k d ok = absurd kind
+  completed (Standby counts) WriteFault kind has breaks line_is s k d ok = absurd (none.of_sink k)
+  completed (Standby counts) (DiskFault shard) kind has breaks line_is s k d ok = absurd (none.of_disks shard d.0)
+  completed (Standby counts) (NotLog shard at) kind has breaks line_is s k d ok = absurd (logs stories (opening.NotLog shard at) ok breaks)
+  completed (Standby counts) Memory kind has breaks line_is s k d ok = tt
+  completed (Standby counts) (Worn at) kind has breaks line_is s k d ok = absurd kind
+  completed (Standby counts) (Exists shard len) kind has breaks line_is s k d ok = absurd kind
+  completed (Standby counts) (Apart tx) kind has breaks line_is s k d ok = absurd (logs stories (opening.Apart tx) ok breaks)
+  completed (Standby counts) (WrongTransaction place) kind has breaks line_is s k d ok = absurd kind
+  completed (Standby counts) (WrongMap key) kind has breaks line_is s k d ok = absurd kind
+  completed (Standby counts) (Unsettled count) kind has breaks line_is s k d ok = absurd kind

@@ -2,7 +2,7 @@
 use Rattle.std.proofs.Common.{◌≡◌, refl, sym, subst, ⊎_elim, ℕ, ◌<◌, ◌≤◌, List, Option, Some, None, Result, Ok, Err}
 use Rattle.std.proofs.lemmas.Bool.{cases_lt}
 use Rattle.clv_base.specs.Shards.{shard_count}
-use Rattle.io_model.specs.Story.{Story}
+use Rattle.io_model.specs.Sides.{Stories}
 use Rattle.cluster_opening.specs.declared.error.OpenError.{OpenError}
 use Rattle.cluster_opening.specs.declared.error.OpenError.TheVariants as opening
 use Rattle.cluster_runs.specs.Begun.{LeavesDisks}
@@ -30,7 +30,7 @@ use Rattle.law_base.proofs.Numbers.{below_differs as below}
 -- ---- the shards were opened
 
 -- what an ended command's status tells by itself
-pub record Tells (counts counts_now : ℕ → ℕ) (stories : ℕ → Option Story) (kept : Kept) (left : Option (List ℕ)) (faults faults' : ℕ) (status : Status) : Type 0 where
+pub record Tells (counts counts_now : ℕ → ℕ) (stories : ℕ → Option Stories) (kept : Kept) (left : Option (List ℕ)) (faults faults' : ℕ) (status : Status) : Type 0 where
   pub runs : IsOfRun status
   pub shows : IsOfShow status
   pub logs : BreaksLogs status (Some kept) stories
@@ -41,7 +41,7 @@ pub record Tells (counts counts_now : ℕ → ℕ) (stories : ℕ → Option Sto
 pub stand : (shards : ℕ) (counts counts_now : ℕ → ℕ) → ((n : ℕ) → n < shards → counts_now n ≡ counts n) → ((n : ℕ) → shards ≤ n → counts_now n ≡ counts n) → Stand counts counts_now
 stand shards counts counts_now below above n = ⊎_elim (λ l. below n l) (λ l. above n l) (cases_lt n shards)
 
-module _ (counts counts_now : ℕ → ℕ) (stories : ℕ → Option Story) (kept : Kept) (left : Option (List ℕ)) (faults faults' : ℕ) (shards : ℕ) (script : List (List Body)) (h : History) (went : ℕ → Went) where
+module _ (counts counts_now : ℕ → ℕ) (stories : ℕ → Option Stories) (kept : Kept) (left : Option (List ℕ)) (faults faults' : ℕ) (shards : ℕ) (script : List (List Body)) (h : History) (went : ℕ → Went) where
   tells : (running : Status) (written : Result (Unit {0}) ReportError) → StatusTold shards counts counts_now script h went running → ((n : ℕ) → shards ≤ n → counts_now n ≡ counts n) → faults' ≡ faults
       → Tells counts counts_now stories kept left faults faults' (with_text running written)
   tells Fine (Ok a) told above e = record { runs = tt; shows = tt; logs = tt; script = tt; source = e; disks = stand shards counts counts_now told.0 above }
@@ -67,7 +67,7 @@ module _ (counts counts_now : ℕ → ℕ) (stories : ℕ → Option Story) (kep
   tells (WrongMap key) written told above e = absurd told
   tells (Unsettled count) written told above e = absurd told
 
-pub ended_so : (before now : ℕ → Option Story) (counts counts_now : ℕ → ℕ) (most : Option ℕ) (start : Start) (script : List (List Body)) (kept : Kept) (left : Option (List ℕ)) (faults faults' : ℕ) (running status : Status)
+pub ended_so : (before now : ℕ → Option Stories) (counts counts_now : ℕ → ℕ) (most : Option ℕ) (start : Start) (script : List (List Body)) (kept : Kept) (left : Option (List ℕ)) (faults faults' : ℕ) (running status : Status)
     → RanAll before now counts counts_now most start script kept running → EndsAs running status → faults' ≡ faults → Tells counts counts_now before kept left faults faults' status
 ended_so before now counts counts_now most start script kept left faults faults' running status r (written, is) e =
     subst (Tells counts counts_now before kept left faults faults') (sym is)
@@ -75,7 +75,7 @@ ended_so before now counts counts_now most start script kept left faults faults'
 
 -- ---- they were not
 
-pub record Refused (counts counts_now : ℕ → ℕ) (stories stories' : ℕ → Option Story) (left : Option (List ℕ)) (faults faults' taken : ℕ) (status : Status) : Type 0 where
+pub record Refused (counts counts_now : ℕ → ℕ) (stories stories' : ℕ → Option Stories) (left : Option (List ℕ)) (faults faults' taken : ℕ) (status : Status) : Type 0 where
   pub runs : IsOfRun status
   pub shows : IsOfShow status
   pub opened : Opened None status
@@ -86,7 +86,7 @@ pub record Refused (counts counts_now : ℕ → ℕ) (stories stories' : ℕ →
   pub sink : CountsSink None taken taken status
   pub disks : CountsDisks None counts counts_now status
 
-pub refusals_close : (e : OpenError) (stories stories' : ℕ → Option Story) → LeavesDisks stories stories' e → Closes (of_opening e) stories stories'
+pub refusals_close : (e : OpenError) (stories stories' : ℕ → Option Stories) → LeavesDisks stories stories' e → Closes (of_opening e) stories stories'
 refusals_close (opening.Failed shard) stories stories' left = left
 refusals_close (opening.NotLog shard at) stories stories' left = left
 refusals_close (opening.Apart tx) stories stories' left = left

@@ -9,3 +9,4 @@ mod Summing
 pub mod Loaded
 pub mod Completing
 pub mod Audited
+pub mod Standbys

@@ -1,7 +1,7 @@
 -- How live sessions end, by what became of disks, input and output.
 use Rattle.std.proofs.Common.{◌≡◌, sym, subst, ℕ, ◌<◌, ◌≤◌, List, Option, Some, Result, Ok, Err}
 use Rattle.io_model.specs.Disk.{Rose}
-use Rattle.io_model.specs.Story.{Story}
+use Rattle.io_model.specs.Sides.{Stories}
 use Rattle.io_model.specs.Streams.{CountsReading}
 use Rattle.io_model.specs.declared.whole.ReadError.{ReadError}
 use Rattle.io_model.specs.declared.whole.ReadError.TheVariants as reading
@@ -67,14 +67,14 @@ module _ (counts counts_now : ℕ → ℕ) (before now shards : ℕ) (above : (n
   input_told (Unsettled count) read told counts_so = absurd told
 
 -- what the status tells by itself
-pub record Serves (counts counts_now : ℕ → ℕ) (stories : ℕ → Option Story) (kept : Kept) (source source' sink sink' : ℕ) (status : Status) : Type 0 where
+pub record Serves (counts counts_now : ℕ → ℕ) (stories : ℕ → Option Stories) (kept : Kept) (source source' sink sink' : ℕ) (status : Status) : Type 0 where
   pub kind : IsOfServe status
   pub logs : BreaksLogs status (Some kept) stories
   pub of_source : CountsServedSource source source' status
   pub of_sink : CountsServedSink sink sink' status
   pub disks : CountsDisks (Some kept) counts counts_now status
 
-module _ (counts counts_now : ℕ → ℕ) (stories : ℕ → Option Story) (kept : Kept) (source source' sink sink' : ℕ) where
+module _ (counts counts_now : ℕ → ℕ) (stories : ℕ → Option Stories) (kept : Kept) (source source' sink sink' : ℕ) where
   output_told : (status : Status) (written : Result (Unit {0}) ReportError) → InputTold counts counts_now source source' status → Causes sink sink' written → Serves counts counts_now stories kept source source' sink sink' (with_text status written)
   output_told Fine (Ok a) told causes = record { kind = tt; logs = tt; of_source = told.1; of_sink = causes; disks = told.0 }
   output_told Fine (Err text.Memory) told causes = record { kind = tt; logs = tt; of_source = tt; of_sink = tt; disks = tt }
@@ -101,7 +101,7 @@ module _ (counts counts_now : ℕ → ℕ) (stories : ℕ → Option Story) (kep
   output_told (WrongMap key) written told causes = absurd told
   output_told (Unsettled count) written told causes = absurd told
 
-pub served_so : (before now : ℕ → Option Story) (counts counts_now : ℕ → ℕ) (sessions : ℕ) (left left' taken taken' : Option (List ℕ)) (read : Result (Unit {0}) ReadError) (written : Result (Unit {0}) ReportError) (kept : Kept) (running status : Status) (source source' sink sink' : ℕ)
+pub served_so : (before now : ℕ → Option Stories) (counts counts_now : ℕ → ℕ) (sessions : ℕ) (left left' taken taken' : Option (List ℕ)) (read : Result (Unit {0}) ReadError) (written : Result (Unit {0}) ReportError) (kept : Kept) (running status : Status) (source source' sink sink' : ℕ)
     → ServedAll before now counts counts_now sessions left left' taken taken' read written kept running → CountsReading source source' read → Causes sink sink' written → status ≡ with_text (with_input running read) written
     → Serves counts counts_now before kept source source' sink sink' status
 served_so before now counts counts_now sessions left left' taken taken' read written kept running status source source' sink sink' r reads writes is =

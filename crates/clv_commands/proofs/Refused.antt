@@ -1,12 +1,12 @@
 -- Words that are refused.
 use Rattle.std.proofs.Common.{◌≡◌, refl, sym, subst, inr, ℕ, List, Option, Some, None}
-use Rattle.io_model.specs.Story.{Story}
+use Rattle.io_model.specs.Sides.{Stories}
 use Rattle.io_model.specs.Disk.{Tells}
 use Rattle.log_gate.specs.Opening.{IsUnchanged}
 use Rattle.cluster_runs.specs.Begun.{AreUnchanged, before}
 use Rattle.command_line.specs.Commands.{IsCommand}
 use Rattle.command_line.specs.declared.commands.Command.{Command}
-use Rattle.command_line.specs.declared.commands.Command.TheVariants.{Make, Run, Show, Load, Serve, Audit}
+use Rattle.command_line.specs.declared.commands.Command.TheVariants.{Make, Run, Show, Load, Serve, Audit, Standby}
 use Rattle.command_line.specs.declared.commands.WordsError.{WordsError}
 use Rattle.command_line.specs.declared.commands.WordsError.TheVariants as words
 use Rattle.cluster_opening.specs.Making.{Spares}
@@ -18,6 +18,7 @@ use Rattle.history_replay.specs.Entries.{Kept}
 use Rattle.clv_commands.specs.Disks.{ClosedBy}
 use Rattle.clv_commands.specs.Causes.{BreaksSource, CountsSource, CountsSink, CountsSourceBy, CountsSinkBy}
 use Rattle.clv_commands.specs.Audited.{AuditedBy}
+use Rattle.clv_commands.specs.Standing.{ShownBy}
 use Rattle.clv_commands.specs.Reading.{ReadsBy}
 use Rattle.clv_commands.specs.Completing.{IsCompleted}
 use Rattle.clv_commands.specs.Top.{AreNotServe, IsRefusedWords, HasCommand}
@@ -36,32 +37,34 @@ wanting Show = tt
 wanting (Load s n a t) = tt
 wanting (Serve n) = tt
 wanting Audit = tt
+wanting (Standby counts) = tt
 
 pub kind : (texts : List (List ℕ)) (e : WordsError) (status : Status) → status ≡ of_words e → (e ≡ words.Usage → (c : Command) → IsCommand texts c → ⊥) → HasCommand texts (λ c. IsOfCommand c status)
 kind texts words.Usage status is none c also = absurd (none refl c also)
 kind texts words.Memory status is none c also = subst (IsOfCommand c) (sym is) (wanting c)
 
-pub unwritten : (stories : ℕ → Option Story) → AreUnchanged stories stories
+pub unwritten : (stories : ℕ → Option Stories) → AreUnchanged stories stories
 unwritten stories n = told (stories n)
   where
-    told : (s : Option Story) → Tells s s IsUnchanged
+    told : (s : Option Stories) → Tells s s IsUnchanged
     told None = refl
     told (Some s) = (s, refl, still s)
 
-spared : (s : Option Story) → Tells s s Spares
+spared : (s : Option Stories) → Tells s s Spares
 spared None = refl
 spared (Some s) = (s, refl, inr (still s))
 
-left : (stories : ℕ → Option Story) (c : Command) → ClosedBy c Memory None stories stories
+left : (stories : ℕ → Option Stories) (c : Command) → ClosedBy c Memory None stories stories
 left stories (Make splits) = record { spares = (λ n. spared (stories n)); others = (λ n l. refl) }
 left stories (Run tries) = (λ h. before (unwritten stories))
 left stories Show = (λ h. before (unwritten stories))
 left stories (Load s n a t) = (λ h. before (unwritten stories))
 left stories (Serve n) = (λ h. before (unwritten stories))
 left stories Audit = unwritten stories
+left stories (Standby counts) = unwritten stories
 
 pub closed :
-    (texts : List (List ℕ)) (e : WordsError) (status : Status) (stories : ℕ → Option Story) → status ≡ of_words e → (e ≡ words.Usage → (c : Command) → IsCommand texts c → ⊥)
+    (texts : List (List ℕ)) (e : WordsError) (status : Status) (stories : ℕ → Option Stories) → status ≡ of_words e → (e ≡ words.Usage → (c : Command) → IsCommand texts c → ⊥)
     → HasCommand texts (λ c. ClosedBy c status None stories stories)
 closed texts words.Usage status stories is none c also = absurd (none refl c also)
 closed texts words.Memory status stories is none c also = subst (λ (s : Status). ClosedBy c s None stories stories) (sym is) (left stories c)
@@ -73,6 +76,7 @@ reads_none Show left = refl
 reads_none (Load s n a t) left = refl
 reads_none (Serve n) left = refl
 reads_none Audit left = tt
+reads_none (Standby counts) left = refl
 
 pub unread :
     (texts : List (List ℕ)) (e : WordsError) (status : Status) (left : Option (List ℕ)) → status ≡ of_words e → (e ≡ words.Usage → (c : Command) → IsCommand texts c → ⊥) → HasCommand texts (λ c. ReadsBy c None status left left)
@@ -86,6 +90,7 @@ completes_none Show = tt
 completes_none (Load s n a t) = tt
 completes_none (Serve n) = tt
 completes_none Audit = tt
+completes_none (Standby counts) = tt
 
 -- no line is at fault
 
@@ -102,13 +107,15 @@ breaks_none (Serve n) left words.Usage = tt
 breaks_none (Serve n) left words.Memory = tt
 breaks_none Audit left words.Usage = tt
 breaks_none Audit left words.Memory = tt
+breaks_none (Standby counts) left words.Usage = tt
+breaks_none (Standby counts) left words.Memory = tt
 
 pub unbroken : (texts : List (List ℕ)) (e : WordsError) (status : Status) (left : Option (List ℕ)) → status ≡ of_words e → HasCommand texts (λ c. BreaksSource c status left)
 unbroken texts e status left is c also = subst (λ (s : Status). BreaksSource c s left) (sym is) (breaks_none c left e)
 
 -- there is no verdict
 
-judges_none : (c : Command) (left : Option (List ℕ)) (stories : ℕ → Option Story) (count : ℕ) (taken : Option (List ℕ)) (e : WordsError) → AuditedBy c left stories count count taken taken (of_words e)
+judges_none : (c : Command) (left : Option (List ℕ)) (stories : ℕ → Option Stories) (count : ℕ) (taken : Option (List ℕ)) (e : WordsError) → AuditedBy c left stories count count taken taken (of_words e)
 judges_none (Make splits) left stories count taken e = tt
 judges_none (Run tries) left stories count taken e = tt
 judges_none Show left stories count taken e = tt
@@ -116,10 +123,26 @@ judges_none (Load s n a t) left stories count taken e = tt
 judges_none (Serve n) left stories count taken e = tt
 judges_none Audit left stories count taken words.Usage = tt
 judges_none Audit left stories count taken words.Memory = tt
+judges_none (Standby counts) left stories count taken e = tt
 
-pub unjudged : (texts : List (List ℕ)) (e : WordsError) (status : Status) (left : Option (List ℕ)) (stories : ℕ → Option Story) (count : ℕ) (taken : Option (List ℕ)) → status ≡ of_words e
+pub unjudged : (texts : List (List ℕ)) (e : WordsError) (status : Status) (left : Option (List ℕ)) (stories : ℕ → Option Stories) (count : ℕ) (taken : Option (List ℕ)) → status ≡ of_words e
     → HasCommand texts (λ c. AuditedBy c left stories count count taken taken status)
 unjudged texts e status left stories count taken is c also = subst (λ (s : Status). AuditedBy c left stories count count taken taken s) (sym is) (judges_none c left stories count taken e)
+
+-- nothing is shown
+
+shows_none : (c : Command) (stories : ℕ → Option Stories) (taken : Option (List ℕ)) (e : WordsError) → ShownBy c stories taken taken (of_words e)
+shows_none (Make splits) stories taken e = tt
+shows_none (Run tries) stories taken e = tt
+shows_none Show stories taken e = tt
+shows_none (Load s n a t) stories taken e = tt
+shows_none (Serve n) stories taken e = tt
+shows_none Audit stories taken e = tt
+shows_none (Standby counts) stories taken words.Usage = refl
+shows_none (Standby counts) stories taken words.Memory = refl
+
+pub unshown : (texts : List (List ℕ)) (e : WordsError) (status : Status) (stories : ℕ → Option Stories) (taken : Option (List ℕ)) → status ≡ of_words e → HasCommand texts (λ c. ShownBy c stories taken taken status)
+unshown texts e status stories taken is c also = subst (λ (s : Status). ShownBy c stories taken taken s) (sym is) (shows_none c stories taken e)
 
 pub completed_not : (texts : List (List ℕ)) (e : WordsError) (status : Status) → status ≡ of_words e → (e ≡ words.Usage → (c : Command) → IsCommand texts c → ⊥) → HasCommand texts (λ c. IsCompleted c status)
 completed_not texts words.Usage status is none c also = absurd (none refl c also)
@@ -140,6 +163,8 @@ stands_source (Serve n) words.Usage count = refl
 stands_source (Serve n) words.Memory count = refl
 stands_source Audit words.Usage count = refl
 stands_source Audit words.Memory count = refl
+stands_source (Standby counts) words.Usage count = refl
+stands_source (Standby counts) words.Memory count = refl
 
 stands_sink : (c : Command) (e : WordsError) (count : ℕ) → CountsSinkBy c None count count (of_words e)
 stands_sink (Make splits) words.Usage count = refl
@@ -154,6 +179,8 @@ stands_sink (Serve n) words.Usage count = refl
 stands_sink (Serve n) words.Memory count = refl
 stands_sink Audit words.Usage count = refl
 stands_sink Audit words.Memory count = refl
+stands_sink (Standby counts) words.Usage count = refl
+stands_sink (Standby counts) words.Memory count = refl
 
 pub source_stands : (texts : List (List ℕ)) (e : WordsError) (status : Status) (count : ℕ) → status ≡ of_words e → HasCommand texts (λ c. CountsSourceBy c None count count status)
 source_stands texts e status count is c also = subst (λ (s : Status). CountsSourceBy c None count count s) (sym is) (stands_source c e count)
@@ -177,6 +204,7 @@ source_but texts Show history count count' status is h other = h
 source_but texts (Load s n a t) history count count' status is h other = h
 source_but texts (Serve n) history count count' status is h other = absurd (other n is)
 source_but texts Audit history count count' status is h other = h
+source_but texts (Standby counts) history count count' status is h other = h
 
 pub sink_but : (texts : List (List ℕ)) (c : Command) (history : Option Kept) (count count' : ℕ) (status : Status) → IsCommand texts c → CountsSinkBy c history count count' status → AreNotServe texts → CountsSink history count count' status
 sink_but texts (Make splits) history count count' status is h other = h
@@ -185,6 +213,7 @@ sink_but texts Show history count count' status is h other = h
 sink_but texts (Load s n a t) history count count' status is h other = h
 sink_but texts (Serve n) history count count' status is h other = absurd (other n is)
 sink_but texts Audit history count count' status is h other = h
+sink_but texts (Standby counts) history count count' status is h other = h
 
 -- none ends so
 never : (c : Command) → IsOfCommand c Usage → ⊥
@@ -194,6 +223,7 @@ never Show is = is
 never (Load s n a t) is = is
 never (Serve n) is = is
 never Audit is = is
+never (Standby counts) is = is
 
 pub taken : (texts : List (List ℕ)) (c : Command) (status : Status) → IsCommand texts c → ((d : Command) → IsCommand texts d → IsOfCommand d status) → IsRefusedWords texts status
 taken texts c Fine is kind = (c, is)

@@ -10,7 +10,7 @@ use Rattle.clv_base.specs.Journals.{History}
 use Rattle.clv_base.specs.History.{Member, answers_given, serial_acts, serial_answers, acknowledged_in, acts_in}
 use Rattle.clv_base.proofs.SameNames.{tx_true}
 use Rattle.law_base.proofs.Lists.{all_mono}
-use Rattle.io_model.specs.Story.{Story}
+use Rattle.io_model.specs.Sides.{Stories}
 use Rattle.history_replay.specs.Entries.{Kept}
 use Rattle.cluster_runs.specs.Ran.{RanAll}
 use Rattle.command_line.specs.declared.status.Status.TheVariants.{Fine}
@@ -25,7 +25,7 @@ use Rattle.script_lang.specs.declared.actions.Action.{Action}
 use Rattle.script_lang.specs.Bodies.{Body}
 use Rattle.script_lang.specs.Grammar.{body}
 use Rattle.script_lang.specs.Following.{all_acts}
-use Rattle.script_lang.specs.Loads.{fill, transfer, session, load}
+use Rattle.script_lang.specs.Loads.{fill, session, load}
 use Rattle.script_runs.specs.Sessions.{Transaction}
 use Rattle.session_books.specs.Done.{Done}
 use Rattle.script_runs.specs.Acts.{acts_of, answers_in, next_of, numbered}
@@ -116,7 +116,7 @@ all_kept : ℕ → Bool
 all_kept n = true
 
 module _
-    (are : MembersAreOfScript) (seed sessions accounts count : ℕ) (before now : ℕ → Option Story) (counts counts_now : ℕ → ℕ) (kept : Kept) (some : 1 ≤ sessions) (two : 2 ≤ accounts)
+    (are : MembersAreOfScript) (seed sessions accounts count : ℕ) (before now : ℕ → Option Stories) (counts counts_now : ℕ → ℕ) (kept : Kept) (some : 1 ≤ sessions) (two : 2 ≤ accounts)
     (r : RanAll before now counts counts_now None FirstAlone (load seed sessions accounts count) kept Fine) where
   abbrev ms : List Member
   ms = members_by r.splits kept ((r.promised).keeps).left all_kept

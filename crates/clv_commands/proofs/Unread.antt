@@ -1,14 +1,17 @@
 -- A script, or a report, that isn't read.
 use Rattle.std.proofs.Common.{◌≡◌, refl, sym, subst, ℕ, ◌<◌, List, length, Option, Some, None, IfSome, Result, Err, Vec, Global}
+use Rattle.io_model.specs.Streams.{Ends}
 use Rattle.io_model.specs.declared.whole.ReadError.{ReadError}
 use Rattle.io_model.specs.declared.whole.ReadError.TheVariants as reading
-use Rattle.script_lang.specs.Grammar.{too_long}
+use Rattle.script_lang.specs.Bodies.{Body}
+use Rattle.script_lang.specs.Grammar.{IsScript, too_long}
 use Rattle.report_reading.specs.Faults.{too_long as no_report}
 use Rattle.command_line.specs.Refusals.{of_source}
 use Rattle.command_line.specs.declared.status.Status.{Status}
 use Rattle.command_line.specs.declared.status.Status.TheVariants.{Script}
 use Rattle.clv_commands.specs.Causes.{ScriptFault, ReportFault, CountsSink, CountsDisks}
 use Rattle.clv_commands.specs.Reading.{ReadsScript}
+use Rattle.clv_commands.specs.Runs.{HasScript}
 
 too_many : (left : Option (List ℕ)) → IfSome left (λ bytes. 16777216 < length bytes) → ScriptFault left (Script 0)
 too_many None h = tt
@@ -33,3 +36,11 @@ pub record Unopened (left left' : Option (List ℕ)) (faults : ℕ) (counts : �
   pub read : ReadsScript None status left left'
   pub sink : CountsSink None faults faults status
   pub disks : CountsDisks None counts counts status
+
+told_bytes : (left now : Option (List ℕ)) (bytes : List ℕ) → Ends left now bytes → IfSome left (λ told. told ≡ bytes)
+told_bytes None now bytes e = tt
+told_bytes (Some told) now bytes e = e.1
+
+-- what was read to the end is the script's text
+pub has_script : (left now : Option (List ℕ)) (all bytes : List ℕ) (script : List (List Body)) → Ends left now all → bytes ≡ all → IsScript bytes script → HasScript left script
+has_script left now all bytes script ends same is = (all, subst (λ z. IsScript z script) same is, told_bytes left now all ends)

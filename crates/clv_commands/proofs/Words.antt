@@ -3,7 +3,7 @@ use Rattle.std.proofs.Common.{◌≡◌, refl, sym, ap, subst, ◌∙◌, ℕ, L
 use Rattle.clap.specs.Words.{Row, Text}
 use Rattle.command_line.specs.Commands.{IsGiven, IsUpTo, Says, IsCommand}
 use Rattle.command_line.specs.declared.commands.Command.{Command}
-use Rattle.command_line.specs.declared.commands.Command.TheVariants.{Make, Run, Show, Load, Serve, Audit}
+use Rattle.command_line.specs.declared.commands.Command.TheVariants.{Make, Run, Show, Load, Serve, Audit, Standby}
 use Rattle.clv_commands.specs.Top.{HasCommand}
 use Rattle.law_base.proofs.Numbers.{below_differs as less}
 use Rattle.script_lang.proofs.Laws.{number_once}
@@ -17,7 +17,7 @@ up_to_once : (most otherwise : ℕ) (o : Option Text) (m n : ℕ) → IsUpTo mos
 up_to_once most otherwise None m n p q = p ∙ sym q
 up_to_once most otherwise (Some word) m n p q = number_once word m n p.0 q.0
 
--- the first letter of each command's name differs, but for two, whose second one does
+-- the first letter of each command's name differs, but for three, whose second one does
 abbrev first_letter : List ℕ → ℕ
 first_letter [] = 0
 first_letter (letter ∷ letters) = letter
@@ -68,6 +68,19 @@ says_once name rows (Run b) Audit p q = absurd (less 97 114 (omega arith) (ap fi
 says_once name rows Show Audit p q = absurd (less 97 115 (omega arith) (ap first_letter (sym q ∙ p)))
 says_once name rows (Load s n k t) Audit p q = absurd (less 97 108 (omega arith) (ap first_letter (sym q ∙ p.0)))
 says_once name rows (Serve e) Audit p q = absurd (less 97 115 (omega arith) (ap first_letter (sym q ∙ p.0)))
+says_once name rows (Standby a) (Standby b) p q = ap Standby (numbers_once _ a b p.1 q.1)
+says_once name rows (Standby f) (Make a) p q = absurd (less 109 115 (omega arith) (ap first_letter (sym q.0 ∙ p.0)))
+says_once name rows (Make a) (Standby f) p q = absurd (less 109 115 (omega arith) (ap first_letter (sym p.0 ∙ q.0)))
+says_once name rows (Standby f) (Run b) p q = absurd (less 114 115 (omega arith) (ap first_letter (sym q.0 ∙ p.0)))
+says_once name rows (Run b) (Standby f) p q = absurd (less 114 115 (omega arith) (ap first_letter (sym p.0 ∙ q.0)))
+says_once name rows (Standby f) (Load s n k t) p q = absurd (less 108 115 (omega arith) (ap first_letter (sym q.0 ∙ p.0)))
+says_once name rows (Load s n k t) (Standby f) p q = absurd (less 108 115 (omega arith) (ap first_letter (sym p.0 ∙ q.0)))
+says_once name rows (Standby f) Audit p q = absurd (less 97 115 (omega arith) (ap first_letter (sym q ∙ p.0)))
+says_once name rows Audit (Standby f) p q = absurd (less 97 115 (omega arith) (ap first_letter (sym p ∙ q.0)))
+says_once name rows (Standby f) Show p q = absurd (less 104 116 (omega arith) (ap second_letter (sym q ∙ p.0)))
+says_once name rows Show (Standby f) p q = absurd (less 104 116 (omega arith) (ap second_letter (sym p ∙ q.0)))
+says_once name rows (Standby f) (Serve e) p q = absurd (less 101 116 (omega arith) (ap second_letter (sym q.0 ∙ p.0)))
+says_once name rows (Serve e) (Standby f) p q = absurd (less 101 116 (omega arith) (ap second_letter (sym p.0 ∙ q.0)))
 
 abbrev says : Option (Text × List Row) → Command → Type 0
 says None c = ⊥

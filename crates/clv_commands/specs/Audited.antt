@@ -3,7 +3,7 @@ use Rattle.std.specs.Prelude.{◌≡◌, ℕ, List, ◌∷◌, [], ◌++◌, tak
 use Rattle.clv_base.specs.declared.logs.LogRecord.{LogRecord}
 use Rattle.clv_base.specs.Logs.{stands}
 use Rattle.clv_base.specs.LogRules.{apart}
-use Rattle.io_model.specs.Story.{Story}
+use Rattle.io_model.specs.Sides.{Stories}
 use Rattle.io_model.specs.Streams.{Grows}
 use Rattle.cluster_opening.specs.Logs.{LogsOfAll}
 use Rattle.clv_audit.specs.declared.verdict.Verdict.{Verdict}
@@ -40,7 +40,7 @@ Writes before now old new v status =
     (written : Result (Unit {0}) ReportError) × TakesText old new (verdict_text v) written × Causes before now written × (status ≡ with_text (status_by v) written)
 
 -- this is the verdict on the bytes of the source, by logs that the disks hold and that agree
-pub record IsJudged (left : Option (List ℕ)) (stories : ℕ → Option Story) (v : Verdict) : Type 0 where
+pub record IsJudged (left : Option (List ℕ)) (stories : ℕ → Option Stories) (v : Verdict) : Type 0 where
   pub splits : List ℕ
   pub logs : List (List LogRecord)
   pub held : LogsOfAll splits logs stories
@@ -49,7 +49,7 @@ pub record IsJudged (left : Option (List ℕ)) (stories : ℕ → Option Story) 
 
 -- fine: the report is true, and the sink took its line, or a front of it where the sink failed; else the status is that of the verdict, and the sink took
 -- its line, or where it failed a front of it
-abbrev pub IsAudited : Option (List ℕ) → (ℕ → Option Story) → ℕ → ℕ → Option (List ℕ) → Option (List ℕ) → Status → Type 0
+abbrev pub IsAudited : Option (List ℕ) → (ℕ → Option Stories) → ℕ → ℕ → Option (List ℕ) → Option (List ℕ) → Status → Type 0
 IsAudited left stories before now old new Fine = (count : ℕ) × IsJudged left stories (verdicts.Yes count) × Grows old new (verdict_text (verdicts.Yes count))
 IsAudited left stories before now old new WriteFault =
     (count : ℕ) × IsJudged left stories (verdicts.Yes count) × ((n : ℕ) × Grows old new (take n (verdict_text (verdicts.Yes count))))
@@ -59,6 +59,6 @@ IsAudited left stories before now old new (WrongMap key) = IsJudged left stories
 IsAudited left stories before now old new (Unsettled count) = IsJudged left stories (verdicts.Open count) × TookText (verdict_text (verdicts.Open count)) before now old new
 IsAudited left stories before now old new status = Unit {0}
 
-abbrev pub AuditedBy : Command → Option (List ℕ) → (ℕ → Option Story) → ℕ → ℕ → Option (List ℕ) → Option (List ℕ) → Status → Type 0
+abbrev pub AuditedBy : Command → Option (List ℕ) → (ℕ → Option Stories) → ℕ → ℕ → Option (List ℕ) → Option (List ℕ) → Status → Type 0
 AuditedBy Audit left stories before now old new status = IsAudited left stories before now old new status
 AuditedBy command left stories before now old new status = Unit {0}

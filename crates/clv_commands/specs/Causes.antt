@@ -3,7 +3,7 @@ use Rattle.std.specs.Prelude.{◌≡◌, ℕ, ◌<◌, List, Option, Some, None,
 use Rattle.clv_base.specs.Shards.{shard_count}
 use Rattle.command_line.specs.declared.commands.Command.{Command}
 use Rattle.command_line.specs.declared.commands.Command.TheVariants.{Make, Serve, Audit}
-use Rattle.io_model.specs.Story.{Story}
+use Rattle.io_model.specs.Sides.{Stories}
 use Rattle.io_model.specs.Disk.{Rose}
 use Rattle.cluster_opening.specs.Making.{ExistsAt}
 use Rattle.cluster_opening.specs.Opening.{Refuses}
@@ -15,12 +15,12 @@ use Rattle.command_line.specs.declared.status.Status.{Status}
 use Rattle.command_line.specs.declared.status.Status.TheVariants.{Fine, Script, ReadFault, WriteFault, DiskFault, NotLog, Memory, Worn, Exists, Apart, WrongTransaction, WrongMap, Unsettled}
 
 -- the shard's disk is the lowest that isn't empty, and no disk was written
-abbrev pub HasBytes : Command → Status → (ℕ → Option Story) → (ℕ → Option Story) → Type 0
+abbrev pub HasBytes : Command → Status → (ℕ → Option Stories) → (ℕ → Option Stories) → Type 0
 HasBytes (Make splits) (Exists shard len) before now = ExistsAt (shard_count splits) shard len before now
 HasBytes command status before now = Unit {0}
 
 -- the logs of the disks are refused so, and this is the first refusal; worn by it are only runs, and a disk failed in it, before the shards were opened
-abbrev pub BreaksLogs : Status → Option Kept → (ℕ → Option Story) → Type 0
+abbrev pub BreaksLogs : Status → Option Kept → (ℕ → Option Stories) → Type 0
 BreaksLogs (NotLog shard at) history before = Refuses before (opening.NotLog shard at)
 BreaksLogs (Apart tx) history before = Refuses before (opening.Apart tx)
 BreaksLogs (Worn at) None before = Refuses before (opening.Worn at)
@@ -28,7 +28,7 @@ BreaksLogs (DiskFault shard) None before = Refuses before (opening.Failed shard)
 BreaksLogs status history before = Unit {0}
 
 -- `make` opens no logs
-abbrev pub BreaksBy : Command → Status → Option Kept → (ℕ → Option Story) → Type 0
+abbrev pub BreaksBy : Command → Status → Option Kept → (ℕ → Option Stories) → Type 0
 BreaksBy (Make splits) status history before = Unit {0}
 BreaksBy command status history before = BreaksLogs status history before
 

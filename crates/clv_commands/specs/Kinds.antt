@@ -1,6 +1,6 @@
 -- The statuses that each command may end with.
 use Rattle.command_line.specs.declared.commands.Command.{Command}
-use Rattle.command_line.specs.declared.commands.Command.TheVariants.{Make, Run, Show, Load, Serve, Audit}
+use Rattle.command_line.specs.declared.commands.Command.TheVariants.{Make, Run, Show, Load, Serve, Audit, Standby}
 use Rattle.command_line.specs.declared.status.Status.{Status}
 use Rattle.command_line.specs.declared.status.Status.TheVariants.{Fine, Usage, Script, ReadFault, DiskFault, Memory, Worn, Exists, WrongTransaction, WrongMap, Unsettled}
 
@@ -47,6 +47,18 @@ IsOfAudit (Exists shard len) = ⊥
 IsOfAudit (Worn at) = ⊥
 IsOfAudit status = Unit {0}
 
+-- `standby` reads no source, and asks for no run
+abbrev pub IsOfStandby : Status → Type 0
+IsOfStandby Usage = ⊥
+IsOfStandby (Exists shard len) = ⊥
+IsOfStandby (Script line) = ⊥
+IsOfStandby ReadFault = ⊥
+IsOfStandby (Worn at) = ⊥
+IsOfStandby (WrongTransaction place) = ⊥
+IsOfStandby (WrongMap key) = ⊥
+IsOfStandby (Unsettled count) = ⊥
+IsOfStandby status = Unit {0}
+
 abbrev pub IsOfCommand : Command → Status → Type 0
 IsOfCommand (Make splits) status = IsOfMake status
 IsOfCommand (Run tries) status = IsOfRun status
@@ -54,6 +66,7 @@ IsOfCommand Show status = IsOfShow status
 IsOfCommand (Load seed sessions accounts transfers) status = IsOfShow status
 IsOfCommand (Serve sessions) status = IsOfServe status
 IsOfCommand Audit status = IsOfAudit status
+IsOfCommand (Standby counts) status = IsOfStandby status
 
 -- the statuses of shards that were opened, before any text is written
 abbrev pub IsOfShards : Status → Type 0

@@ -9,3 +9,4 @@ pub mod Completing
 pub mod Top
 pub mod Statuses
 pub mod Audited
+pub mod Standing

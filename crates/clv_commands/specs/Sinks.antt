@@ -2,7 +2,7 @@
 use Rattle.std.specs.Prelude.{◌≡◌, ◌⊎◌, ℕ, ◌+◌, ◌*◌, List, take, Option, Some}
 use Rattle.clv_base.specs.Logs.{stands}
 use Rattle.command_line.specs.declared.commands.Command.{Command}
-use Rattle.command_line.specs.declared.commands.Command.TheVariants.{Run, Show, Load, Serve, Audit}
+use Rattle.command_line.specs.declared.commands.Command.TheVariants.{Run, Show, Load, Serve, Audit, Standby}
 use Rattle.io_model.specs.Disk.{Rose}
 use Rattle.history_replay.specs.Entries.{Kept}
 use Rattle.io_model.specs.Streams.{Grows}
@@ -47,7 +47,8 @@ abbrev pub Took : Command → Status → Option Kept → ℕ → ℕ → Option 
 Took (Run tries) status (Some kept) before now old new = TookReport (report (entries kept)) status before now old new
 Took Show status (Some kept) before now old new = TookPairs (pairs_text (stands kept.found)) status old new
 Took (Load seed sessions accounts transfers) status (Some kept) before now old new = TookPairs (line_of sessions accounts transfers) status old new
--- what `serve` writes stands in a clause of its own
+-- what `serve` and `standby` write stands in clauses of their own
+Took (Standby counts) status history before now old new = Unit {0}
 Took (Serve sessions) status (Some kept) before now old new = Unit {0}
 Took Audit status history before now old new = TookVerdict status old new
 Took command status history before now old new = new ≡ old

@@ -1,6 +1,7 @@
 // The command `audit`.
 
 ghost use Rattle.std.specs.Prelude.{◌≡◌, ◌<◌, ℕ, None, false, string_bytes, IfOk, IfErr};
+ghost use Rattle.io_model.specs.Sides.{sides_out, sides_told};
 ghost use Rattle.report_text.specs.Sinks.{TakesText, Causes};
 ghost use Rattle.cluster_runs.specs.Begun.{AreUnchanged};
 ghost use Rattle.clv_commands.specs.Kinds.{IsOfAudit};
@@ -85,18 +86,18 @@ pub fn audit<S: Source, K: Sink, H: House>(
     sink: &mut K,
     house: &mut H,
 ) -> Status
-    requires inside { (n : ℕ) → n < 16 → H.is_out house.old n ≡ false }
+    requires inside { (n : ℕ) → n < 16 → sides_out (H.is_out house.old) n ≡ (false, false) }
     ensures kind { IsOfAudit result }
-    ensures audited { IsAudited (S.left source.old) (H.story house.old) (K.faults sink.old) (K.faults sink.new) (K.taken sink.old) (K.taken sink.new) result }
+    ensures audited { IsAudited (S.left source.old) (sides_told (H.story house.old)) (K.faults sink.old) (K.faults sink.new) (K.taken sink.old) (K.taken sink.new) result }
     ensures took { TookVerdict result (K.taken sink.old) (K.taken sink.new) }
-    ensures unchanged { AreUnchanged (H.story house.old) (H.story house.new) }
+    ensures unchanged { AreUnchanged (sides_told (H.story house.old)) (sides_told (H.story house.new)) }
     ensures read { ReadsReport result (S.left source.old) (S.left source.new) }
-    ensures logs { BreaksLogs result None (H.story house.old) }
+    ensures logs { BreaksLogs result None (sides_told (H.story house.old)) }
     ensures report { BreaksReport result (S.left source.old) }
     ensures source { CountsSource (S.faults source.old) (S.faults source.new) result }
     ensures sink { CountsSink None (K.faults sink.old) (K.faults sink.new) result }
     ensures disks { CountsDisks None (H.faults house.old) (H.faults house.new) result }
-    ensures back { (n : ℕ) → n < 16 → H.is_out house.new n ≡ false }
+    ensures back { (n : ℕ) → n < 16 → sides_out (H.is_out house.new) n ≡ (false, false) }
 {
     let reported = match read_source(alloc, source) {
         Ok(reported) => reported,

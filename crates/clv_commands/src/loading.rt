@@ -3,6 +3,7 @@
 ghost use Rattle.std.specs.Prelude.{◌≡◌, ◌<◌, ◌≤◌, ◌+◌, ◌*◌, ◌^◌, ℕ, Some, None, false, true, length, map, IfSome, IfOk, IfErr};
 ghost use Rattle.std.specs.List.{list_all};
 ghost use Rattle.clv_base.specs.Maps.{map_between};
+ghost use Rattle.io_model.specs.Sides.{sides_out, sides_told};
 ghost use Rattle.history_replay.specs.Entries.{Kept};
 ghost use Rattle.ordered_store.specs.InTurn.{live_in_turn};
 ghost use Rattle.command_line.specs.declared.commands.Command.TheVariants as commands;
@@ -170,19 +171,19 @@ pub fn load<R: Threads + Wait + Sync, K: Sink, H: House, P: Pace + Sync>(
 ) -> Ended
 where
     H::Disk: Send,
-    requires inside { (n : ℕ) → n < 16 → H.is_out house.old n ≡ false }
+    requires inside { (n : ℕ) → n < 16 → sides_out (H.is_out house.old) n ≡ (false, false) }
     requires sessions { (1 ≤ work.sessions) × (work.sessions ≤ 64) }
     requires accounts { (2 ≤ work.accounts) × (work.accounts ≤ 10000) }
     requires transfers { work.transfers ≤ 1000 }
     ensures kind { IsOfShow result.status }
-    ensures promised { IfSome result.history (λ kept. HasLoaded work.accounts (script_by work.seed work.sessions work.accounts work.transfers) (H.story house.old) (H.story house.new) (H.faults house.old) (H.faults house.new) kept result.status) }
+    ensures promised { IfSome result.history (λ kept. HasLoaded work.accounts (script_by work.seed work.sessions work.accounts work.transfers) (sides_told (H.story house.old)) (sides_told (H.story house.new)) (H.faults house.old) (H.faults house.new) kept result.status) }
     ensures opened { Opened result.history result.status }
     ensures took { Took (commands.Load work.seed work.sessions work.accounts work.transfers) result.status result.history (K.faults sink.old) (K.faults sink.new) (K.taken sink.old) (K.taken sink.new) }
-    ensures closed { result.history ≡ None → Closes result.status (H.story house.old) (H.story house.new) }
-    ensures logs { BreaksLogs result.status result.history (H.story house.old) }
+    ensures closed { result.history ≡ None → Closes result.status (sides_told (H.story house.old)) (sides_told (H.story house.new)) }
+    ensures logs { BreaksLogs result.status result.history (sides_told (H.story house.old)) }
     ensures sink { CountsSink result.history (K.faults sink.old) (K.faults sink.new) result.status }
     ensures disks { CountsDisks result.history (H.faults house.old) (H.faults house.new) result.status }
-    ensures back { (n : ℕ) → n < 16 → H.is_out house.new n ≡ false }
+    ensures back { (n : ℕ) → n < 16 → sides_out (H.is_out house.new) n ≡ (false, false) }
 {
     runs_replay();
     loads_keep_their_sum();

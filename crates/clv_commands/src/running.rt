@@ -5,6 +5,7 @@ ghost use Rattle.std.specs.List.{AllByRecursion, list_all};
 ghost use Rattle.command_line.specs.declared.commands.Command.TheVariants as commands;
 ghost use Rattle.clv_base.specs.declared.logs.LogRecord.{LogRecord};
 ghost use Rattle.clv_base.specs.Journals.{History};
+ghost use Rattle.io_model.specs.Sides.{sides_out, sides_told};
 ghost use Rattle.history_replay.specs.Entries.{Kept};
 ghost use Rattle.report_text.specs.Laws.{AreAllBooks};
 ghost use Rattle.report_text.specs.Report.{report};
@@ -81,20 +82,20 @@ pub fn run<R: Threads + Wait + Sync, S: Source, K: Sink, H: House, P: Pace + Syn
 ) -> Ended
 where
     H::Disk: Send,
-    requires inside { (n : ℕ) → n < 16 → H.is_out house.old n ≡ false }
+    requires inside { (n : ℕ) → n < 16 → sides_out (H.is_out house.old) n ≡ (false, false) }
     requires tries { tries ≤ 1000 }
     ensures kind { IsOfRun result.status }
-    ensures promised { IfSome result.history (PromisedBy (commands.Run tries) (S.left source.old) (H.story house.old) (H.story house.new) (H.faults house.old) (H.faults house.new) result.status) }
+    ensures promised { IfSome result.history (PromisedBy (commands.Run tries) (S.left source.old) (sides_told (H.story house.old)) (sides_told (H.story house.new)) (H.faults house.old) (H.faults house.new) result.status) }
     ensures opened { Opened result.history result.status }
     ensures took { Took (commands.Run tries) result.status result.history (K.faults sink.old) (K.faults sink.new) (K.taken sink.old) (K.taken sink.new) }
-    ensures closed { result.history ≡ None → Closes result.status (H.story house.old) (H.story house.new) }
+    ensures closed { result.history ≡ None → Closes result.status (sides_told (H.story house.old)) (sides_told (H.story house.new)) }
     ensures read { ReadsScript result.history result.status (S.left source.old) (S.left source.new) }
-    ensures logs { BreaksLogs result.status result.history (H.story house.old) }
+    ensures logs { BreaksLogs result.status result.history (sides_told (H.story house.old)) }
     ensures script { BreaksScript result.status (S.left source.old) }
     ensures source { CountsSource (S.faults source.old) (S.faults source.new) result.status }
     ensures sink { CountsSink result.history (K.faults sink.old) (K.faults sink.new) result.status }
     ensures disks { CountsDisks result.history (H.faults house.old) (H.faults house.new) result.status }
-    ensures back { (n : ℕ) → n < 16 → H.is_out house.new n ≡ false }
+    ensures back { (n : ℕ) → n < 16 → sides_out (H.is_out house.new) n ≡ (false, false) }
 {
     let script = match read_script(alloc, source) {
         Ok(script) => script,

@@ -1,6 +1,7 @@
 // The command `serve`.
 
 ghost use Rattle.std.specs.Prelude.{◌≡◌, ◌<◌, ◌≤◌, ℕ, None, false, IfSome};
+ghost use Rattle.io_model.specs.Sides.{sides_out, sides_told};
 ghost use Rattle.command_line.specs.declared.commands.Command.TheVariants as commands;
 ghost use Rattle.clv_commands.specs.Kinds.{IsOfServe};
 ghost use Rattle.clv_commands.specs.Disks.{Closes};
@@ -43,19 +44,19 @@ pub fn serve<R: Threads + Wait + Sync, S: Source, K: Sink + Send, H: House, P: P
 ) -> Ended
 where
     H::Disk: Send,
-    requires inside { (n : ℕ) → n < 16 → H.is_out house.old n ≡ false }
+    requires inside { (n : ℕ) → n < 16 → sides_out (H.is_out house.old) n ≡ (false, false) }
     requires few { (1 ≤ sessions) × (sessions ≤ 64) }
     ensures kind { IsOfServe result.status }
-    ensures promised { IfSome result.history (PromisedBy (commands.Serve sessions) (S.left source.old) (H.story house.old) (H.story house.new) (H.faults house.old) (H.faults house.new) result.status) }
-    ensures served { IfSome result.history (ServedBy (commands.Serve sessions) (S.left source.old) (S.left source.new) (K.taken sink.old) (K.taken sink.new) (H.story house.old) (H.story house.new) (H.faults house.old) (H.faults house.new) result.status) }
+    ensures promised { IfSome result.history (PromisedBy (commands.Serve sessions) (S.left source.old) (sides_told (H.story house.old)) (sides_told (H.story house.new)) (H.faults house.old) (H.faults house.new) result.status) }
+    ensures served { IfSome result.history (ServedBy (commands.Serve sessions) (S.left source.old) (S.left source.new) (K.taken sink.old) (K.taken sink.new) (sides_told (H.story house.old)) (sides_told (H.story house.new)) (H.faults house.old) (H.faults house.new) result.status) }
     ensures opened { Opened result.history result.status }
-    ensures closed { result.history ≡ None → Closes result.status (H.story house.old) (H.story house.new) }
+    ensures closed { result.history ≡ None → Closes result.status (sides_told (H.story house.old)) (sides_told (H.story house.new)) }
     ensures nothing { result.history ≡ None → (source.new ≡ source.old) × (sink.new ≡ sink.old) }
-    ensures logs { BreaksLogs result.status result.history (H.story house.old) }
+    ensures logs { BreaksLogs result.status result.history (sides_told (H.story house.old)) }
     ensures source { CountsSourceBy (commands.Serve sessions) result.history (S.faults source.old) (S.faults source.new) result.status }
     ensures sink { CountsSinkBy (commands.Serve sessions) result.history (K.faults sink.old) (K.faults sink.new) result.status }
     ensures disks { CountsDisks result.history (H.faults house.old) (H.faults house.new) result.status }
-    ensures back { (n : ℕ) → n < 16 → H.is_out house.new n ≡ false }
+    ensures back { (n : ℕ) → n < 16 → sides_out (H.is_out house.new) n ≡ (false, false) }
 {
     let ran: Result<LiveRan, OpenError> = serve_all::<BlockStore, HashedLocks, R, H, P, S, K>(
         rt,

@@ -2,6 +2,7 @@
 
 ghost use Rattle.std.specs.Prelude.{◌≡◌, ◌<◌, ℕ, [], map, Some, None, false, IfSome, IfOk};
 ghost use Rattle.clv_base.specs.Logs.{stands as stands_for};
+ghost use Rattle.io_model.specs.Sides.{sides_out, sides_told};
 ghost use Rattle.command_line.specs.declared.commands.Command.TheVariants as commands;
 ghost use Rattle.command_line.specs.declared.status.Status.TheVariants.{Fine};
 ghost use Rattle.ordered_store.specs.InTurn.{live_in_turn};
@@ -83,16 +84,16 @@ pub fn show<R: Threads + Wait + Sync, K: Sink, H: House, P: Pace + Sync>(
 ) -> Ended
 where
     H::Disk: Send,
-    requires inside { (n : ℕ) → n < 16 → H.is_out house.old n ≡ false }
+    requires inside { (n : ℕ) → n < 16 → sides_out (H.is_out house.old) n ≡ (false, false) }
     ensures kind { IsOfShow result.status }
-    ensures promised { IfSome result.history (λ kept. HasRun None [] (H.story house.old) (H.story house.new) (H.faults house.old) (H.faults house.new) kept result.status) }
+    ensures promised { IfSome result.history (λ kept. HasRun None [] (sides_told (H.story house.old)) (sides_told (H.story house.new)) (H.faults house.old) (H.faults house.new) kept result.status) }
     ensures opened { Opened result.history result.status }
     ensures took { Took commands.Show result.status result.history (K.faults sink.old) (K.faults sink.new) (K.taken sink.old) (K.taken sink.new) }
-    ensures closed { result.history ≡ None → Closes result.status (H.story house.old) (H.story house.new) }
-    ensures logs { BreaksLogs result.status result.history (H.story house.old) }
+    ensures closed { result.history ≡ None → Closes result.status (sides_told (H.story house.old)) (sides_told (H.story house.new)) }
+    ensures logs { BreaksLogs result.status result.history (sides_told (H.story house.old)) }
     ensures sink { CountsSink result.history (K.faults sink.old) (K.faults sink.new) result.status }
     ensures disks { CountsDisks result.history (H.faults house.old) (H.faults house.new) result.status }
-    ensures back { (n : ℕ) → n < 16 → H.is_out house.new n ≡ false }
+    ensures back { (n : ℕ) → n < 16 → sides_out (H.is_out house.new) n ≡ (false, false) }
 {
     nothing_is_replayed();
     let ran: Result<Ran<BlockStore>, OpenError> = run_script::<BlockStore, HashedLocks, R, H, P>(

@@ -1,6 +1,7 @@
 // The top call.
 
 ghost use Rattle.std.specs.Prelude.{◌≡◌, ◌<◌, ◌≤◌, ℕ, None, false, map, IfSome};
+ghost use Rattle.io_model.specs.Sides.{sides_out, sides_told};
 ghost use Rattle.clv_commands.specs.Kinds.{IsOfCommand};
 ghost use Rattle.clv_commands.specs.Disks.{ClosedBy, Makes};
 ghost use Rattle.clv_commands.specs.Sinks.{Took};
@@ -8,6 +9,7 @@ ghost use Rattle.clv_commands.specs.Causes.{HasBytes, BreaksBy, BreaksSource, Co
 ghost use Rattle.clv_commands.specs.Runs.{PromisedBy, ServedBy, OpensByCommand};
 ghost use Rattle.clv_commands.specs.Reading.{ReadsBy};
 ghost use Rattle.clv_commands.specs.Audited.{AuditedBy};
+ghost use Rattle.clv_commands.specs.Standing.{ShownBy};
 ghost use Rattle.clv_commands.specs.Completing.{IsAccepted, NoneRose, IsCompleted};
 ghost use Rattle.clv_commands.specs.Top.{AreRefused, AreNotServe, IsRefusedWords, HasCommand, IsWithinBounds};
 
@@ -18,6 +20,7 @@ use crate::making::make_logs;
 use crate::running;
 use crate::serving::serve;
 use crate::showing::show;
+use crate::standing::standby;
 use cluster_opening::opening_laws::good_logs_are_not_refused;
 use command_line::{Command, Status, command_of};
 use io_model::{House, Pace, Sink, Source};
@@ -39,24 +42,25 @@ fn obey<R: Threads + Wait + Sync, S: Source, K: Sink + Send, H: House, P: Pace +
 ) -> Ended
 where
     H::Disk: Send,
-    requires inside { (n : ℕ) → n < 16 → H.is_out house.old n ≡ false }
+    requires inside { (n : ℕ) → n < 16 → sides_out (H.is_out house.old) n ≡ (false, false) }
     requires bounds { IsWithinBounds command }
     ensures kind { IsOfCommand command result.status }
-    ensures promised { IfSome result.history (PromisedBy command (S.left source.old) (H.story house.old) (H.story house.new) (H.faults house.old) (H.faults house.new) result.status) }
-    ensures served { IfSome result.history (ServedBy command (S.left source.old) (S.left source.new) (K.taken sink.old) (K.taken sink.new) (H.story house.old) (H.story house.new) (H.faults house.old) (H.faults house.new) result.status) }
-    ensures audited { AuditedBy command (S.left source.old) (H.story house.old) (K.faults sink.old) (K.faults sink.new) (K.taken sink.old) (K.taken sink.new) result.status }
+    ensures promised { IfSome result.history (PromisedBy command (S.left source.old) (sides_told (H.story house.old)) (sides_told (H.story house.new)) (H.faults house.old) (H.faults house.new) result.status) }
+    ensures served { IfSome result.history (ServedBy command (S.left source.old) (S.left source.new) (K.taken sink.old) (K.taken sink.new) (sides_told (H.story house.old)) (sides_told (H.story house.new)) (H.faults house.old) (H.faults house.new) result.status) }
+    ensures audited { AuditedBy command (S.left source.old) (sides_told (H.story house.old)) (K.faults sink.old) (K.faults sink.new) (K.taken sink.old) (K.taken sink.new) result.status }
+    ensures standby { ShownBy command (sides_told (H.story house.old)) (K.taken sink.old) (K.taken sink.new) result.status }
     ensures opened { OpensByCommand command result.status result.history }
     ensures took { Took command result.status result.history (K.faults sink.old) (K.faults sink.new) (K.taken sink.old) (K.taken sink.new) }
-    ensures closed { ClosedBy command result.status result.history (H.story house.old) (H.story house.new) }
-    ensures made { Makes command result.status (H.story house.old) (H.story house.new) }
+    ensures closed { ClosedBy command result.status result.history (sides_told (H.story house.old)) (sides_told (H.story house.new)) }
+    ensures made { Makes command result.status (sides_told (H.story house.old)) (sides_told (H.story house.new)) }
     ensures read { ReadsBy command result.history result.status (S.left source.old) (S.left source.new) }
-    ensures exists { HasBytes command result.status (H.story house.old) (H.story house.new) }
-    ensures logs { BreaksBy command result.status result.history (H.story house.old) }
+    ensures exists { HasBytes command result.status (sides_told (H.story house.old)) (sides_told (H.story house.new)) }
+    ensures logs { BreaksBy command result.status result.history (sides_told (H.story house.old)) }
     ensures script { BreaksSource command result.status (S.left source.old) }
     ensures source { CountsSourceBy command result.history (S.faults source.old) (S.faults source.new) result.status }
     ensures sink { CountsSinkBy command result.history (K.faults sink.old) (K.faults sink.new) result.status }
     ensures disks { CountsDisks result.history (H.faults house.old) (H.faults house.new) result.status }
-    ensures back { (n : ℕ) → n < 16 → H.is_out house.new n ≡ false }
+    ensures back { (n : ℕ) → n < 16 → sides_out (H.is_out house.new) n ≡ (false, false) }
 {
     match command {
         Command::Make { splits } => Ended {
@@ -84,6 +88,10 @@ where
             status: audit(alloc, source, sink, house),
             history: None,
         },
+        Command::Standby { counts } => Ended {
+            status: standby(alloc, sink, house, &counts),
+            history: None,
+        },
     }
 }
 
@@ -102,7 +110,7 @@ pub fn run<R: Threads + Wait + Sync, S: Source, K: Sink + Send, H: House, P: Pac
 ) -> Ended
 where
     H::Disk: Send,
-    requires inside { (n : ℕ) → n < 16 → H.is_out house.old n ≡ false }
+    requires inside { (n : ℕ) → n < 16 → sides_out (H.is_out house.old) n ≡ (false, false) }
 
     // Usage comes exactly where the words are no command.
     ensures usage { IsRefusedWords (map (λ w. w.now) words.now) result.status }
@@ -115,18 +123,22 @@ where
     // order, and may be opened again. What each session made is its transactions in the script's order, each in its tries, as far as the session
     // came; where all was fine each has ended. The count of a shard's disk rose where a flush of it failed, and else it stands; the status tells
     // the lowest such shard.
-    ensures promised { HasCommand (map (λ w. w.now) words.now) (λ command. IfSome result.history (PromisedBy command (S.left source.old) (H.story house.old) (H.story house.new) (H.faults house.old) (H.faults house.new) result.status)) }
+    ensures promised { HasCommand (map (λ w. w.now) words.now) (λ command. IfSome result.history (PromisedBy command (S.left source.old) (sides_told (H.story house.old)) (sides_told (H.story house.new)) (H.faults house.old) (H.faults house.new) result.status)) }
 
     // Of `serve` the entries of each session are those of the calls that its lines ask for, in order, each with its reply; a reply "committed" is of a transaction
     // that the history acknowledges. Each session took a front of its lines of what was read, and the sink took the lines of replies, of each session's a front; where
     // all was fine every line of the source was taken, and every reply written.
-    ensures served { HasCommand (map (λ w. w.now) words.now) (λ command. IfSome result.history (ServedBy command (S.left source.old) (S.left source.new) (K.taken sink.old) (K.taken sink.new) (H.story house.old) (H.story house.new) (H.faults house.old) (H.faults house.new) result.status)) }
+    ensures served { HasCommand (map (λ w. w.now) words.now) (λ command. IfSome result.history (ServedBy command (S.left source.old) (S.left source.new) (K.taken sink.old) (K.taken sink.new) (sides_told (H.story house.old)) (sides_told (H.story house.new)) (H.faults house.old) (H.faults house.new) result.status)) }
 
     // Of `audit` that came to a verdict: the disks hold logs that agree, and it is the verdict on the bytes of the source by what these stand for. It is told
     // by the status, and by the line that the sink took, or a front of it where the sink failed.
-    ensures audited { HasCommand (map (λ w. w.now) words.now) (λ command. AuditedBy command (S.left source.old) (H.story house.old) (K.faults sink.old) (K.faults sink.new) (K.taken sink.old) (K.taken sink.new) result.status) }
+    ensures audited { HasCommand (map (λ w. w.now) words.now) (λ command. AuditedBy command (S.left source.old) (sides_told (H.story house.old)) (K.faults sink.old) (K.faults sink.new) (K.taken sink.old) (K.taken sink.new) result.status) }
 
-    // Shards were opened where `run`, `show`, `load` or `serve` was fine, and not by `make` or `audit`.
+    // Of `standby` that was fine but for the sink: the disks hold logs that agree, and the sink took what a standby shows that was fed so many of the first records
+    // of each, or a front of it where the sink failed; else it took nothing.
+    ensures standby { HasCommand (map (λ w. w.now) words.now) (λ command. ShownBy command (sides_told (H.story house.old)) (K.taken sink.old) (K.taken sink.new) result.status) }
+
+    // Shards were opened where `run`, `show`, `load` or `serve` was fine, and not by `make`, `audit` or `standby`.
     ensures opened { HasCommand (map (λ w. w.now) words.now) (λ command. OpensByCommand command result.status result.history) }
 
     // The sink took the whole text where all was fine; a front of it where the sink failed; where a disk failed or stamps were worn, of `run` that was
@@ -134,9 +146,9 @@ where
     ensures took { HasCommand (map (λ w. w.now) words.now) (λ command. Took command result.status result.history (K.faults sink.old) (K.faults sink.new) (K.taken sink.old) (K.taken sink.new)) }
 
     // Where no shards were opened no disk was written, but where one failed or memory was wanting; what is left then is opened again. `make`
-    // writes no disk with bytes, and `audit` none at all. What `make` makes.
-    ensures closed { HasCommand (map (λ w. w.now) words.now) (λ command. ClosedBy command result.status result.history (H.story house.old) (H.story house.new)) }
-    ensures made { HasCommand (map (λ w. w.now) words.now) (λ command. Makes command result.status (H.story house.old) (H.story house.new)) }
+    // writes no disk with bytes, and `audit` and `standby` none at all. What `make` makes.
+    ensures closed { HasCommand (map (λ w. w.now) words.now) (λ command. ClosedBy command result.status result.history (sides_told (H.story house.old)) (sides_told (H.story house.new))) }
+    ensures made { HasCommand (map (λ w. w.now) words.now) (λ command. Makes command result.status (sides_told (H.story house.old)) (sides_told (H.story house.new))) }
 
     // Words that are refused do nothing, whatever the status.
     ensures nothing { AreRefused (map (λ w. w.now) words.now) → (result.history ≡ None) × (source.new ≡ source.old) × (sink.new ≡ sink.old) × (house.new ≡ house.old) }
@@ -147,12 +159,12 @@ where
 
     // Over disks and a source that tell what the command wants, and where no count of a fault rose, all was done, or stamps, runs or memory were
     // wanting.
-    ensures completes { HasCommand (map (λ w. w.now) words.now) (λ command. IsAccepted command (S.left source.old) (H.story house.old) → NoneRose (S.faults source.old) (S.faults source.new) (K.faults sink.old) (K.faults sink.new) (H.faults house.old) (H.faults house.new) → IsCompleted command result.status) }
+    ensures completes { HasCommand (map (λ w. w.now) words.now) (λ command. IsAccepted command (S.left source.old) (sides_told (H.story house.old)) → NoneRose (S.faults source.old) (S.faults source.new) (K.faults sink.old) (K.faults sink.new) (H.faults house.old) (H.faults house.new) → IsCompleted command result.status) }
 
     // Each refusal comes only where its cause stands. Of `serve` a fault of the source or the sink may have come, too, where a disk failed, or stamps or memory
     // were wanting.
-    ensures exists { HasCommand (map (λ w. w.now) words.now) (λ command. HasBytes command result.status (H.story house.old) (H.story house.new)) }
-    ensures logs { HasCommand (map (λ w. w.now) words.now) (λ command. BreaksBy command result.status result.history (H.story house.old)) }
+    ensures exists { HasCommand (map (λ w. w.now) words.now) (λ command. HasBytes command result.status (sides_told (H.story house.old)) (sides_told (H.story house.new))) }
+    ensures logs { HasCommand (map (λ w. w.now) words.now) (λ command. BreaksBy command result.status result.history (sides_told (H.story house.old))) }
     ensures script { HasCommand (map (λ w. w.now) words.now) (λ command. BreaksSource command result.status (S.left source.old)) }
     ensures source { AreNotServe (map (λ w. w.now) words.now) → CountsSource (S.faults source.old) (S.faults source.new) result.status }
     ensures sink { AreNotServe (map (λ w. w.now) words.now) → CountsSink result.history (K.faults sink.old) (K.faults sink.new) result.status }
@@ -161,7 +173,7 @@ where
     ensures disks { CountsDisks result.history (H.faults house.old) (H.faults house.new) result.status }
 
     // Every disk is back.
-    ensures back { (n : ℕ) → n < 16 → H.is_out house.new n ≡ false }
+    ensures back { (n : ℕ) → n < 16 → sides_out (H.is_out house.new) n ≡ (false, false) }
 {
     scripts_are_not_refused();
     reports_have_no_fault();

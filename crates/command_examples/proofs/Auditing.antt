@@ -5,7 +5,7 @@ use Rattle.clv_base.specs.declared.logs.LogRecord.{LogRecord}
 use Rattle.clv_base.specs.Shards.{shard_count}
 use Rattle.clv_base.specs.Logs.{stands}
 use Rattle.clv_base.specs.Journals.{History}
-use Rattle.io_model.specs.Story.{Story}
+use Rattle.io_model.specs.Sides.{Stories}
 use Rattle.io_model.specs.Disk.{Tells}
 use Rattle.log_gate.specs.Opening.{IsUnchanged}
 use Rattle.history_replay.specs.Entries.{Kept}
@@ -32,7 +32,7 @@ use Rattle.cluster_runs.specs.Following.{IsFoundAgain, LeftLogsAreFound}
 use Rattle.cluster_runs.specs.PromisedSessions.{Went}
 use Rattle.cluster_runs.specs.Replays.{HaveGone}
 use Rattle.cluster_runs.specs.Statuses.{StatusTold}
-use Rattle.run_audit_laws.specs.Runs.{told_by, ReportsOfRunsAreTrue, CanBeTold, TextsAreReports, ShownIsFound}
+use Rattle.run_audit_laws.specs.Runs.{told_by, ReportsOfRunsAreTrue, TextsAreReports, ShownIsFound}
 use Rattle.clv_commands.specs.Audited.{IsJudged, IsAudited}
 use Rattle.clv_commands.specs.Causes.{BreaksReport}
 use Rattle.clv_commands.specs.Runs.{PromisedBy}
@@ -51,8 +51,8 @@ fine_before s (Err text.Failed) e = after_fine s e
 have_gone : (shards : ℕ) (counts counts' : ℕ → ℕ) (script : List (List Body)) (h : History) (went : ℕ → Went) (s : Status) → s ≡ Fine → StatusTold shards counts counts' script h went s → HaveGone script went
 have_gone shards counts counts' script h went s e told = (subst (StatusTold shards counts counts' script h went) e told).1
 
-told_before : (old new : Option Story) → Tells old new IsUnchanged → IsSome new → IsSome old
-told_before None new t is = let none : IsSome {T = Story} None = subst IsSome t is in absurd cc
+told_before : (old new : Option Stories) → Tells old new IsUnchanged → IsSome new → IsSome old
+told_before None new t is = let none : IsSome {T = Stories} None = subst IsSome t is in absurd cc
 told_before (Some s) new t is = refl
 
 pub each_some : {A : Type 0} (P Q : A → Type 0) (o : Option A) → ((a : A) → P a → Q a) → IfSome o P → IfSome o Q
@@ -61,11 +61,11 @@ each_some P Q (Some a) f h = f a h
 
 module _ (found : LeftLogsAreFound) (true_ : ReportsOfRunsAreTrue) (one : ReportsTellOneThing) (faultless : ReportsHaveNoFault) (alone : VerdictsAreOne) (texts : TextsAreReports) where
   pub confirmed :
-      (tries : ℕ) (script_left left old new : Option (List ℕ)) (before behind now : ℕ → Option Story) (counts counts' : ℕ → ℕ) (faults faults' : ℕ) (status audited : Status) (kept : Kept)
+      (tries : ℕ) (script_left left old new : Option (List ℕ)) (before behind now : ℕ → Option Stories) (counts counts' : ℕ → ℕ) (faults faults' : ℕ) (status audited : Status) (kept : Kept)
       → PromisedBy (Run tries) script_left before behind counts counts' status kept → IsAudited left behind faults faults' old new audited → BreaksReport audited left → AreUnchanged behind now
       → status ≡ Fine → AreToldBy kept now → left ≡ Some (pairs_text (stands kept.found) ++ report (entries kept))
-      → length (pairs_text (stands kept.found) ++ report (entries kept)) ≤ most_bytes → CanBeTold kept → IsNotRefuted audited
-  confirmed tries script_left left old new before behind now counts counts' faults faults' status audited kept (script, has, (running, r, (written, ends))) judged_so breaks unchanged fine told source short can =
+      → length (pairs_text (stands kept.found) ++ report (entries kept)) ≤ most_bytes → IsNotRefuted audited
+  confirmed tries script_left left old new before behind now counts counts' faults faults' status audited kept (script, has, (running, r, (written, ends))) judged_so breaks unchanged fine told source short =
       by audited judged_so breaks
     where
       bytes : List ℕ
@@ -75,7 +75,7 @@ module _ (found : LeftLogsAreFound) (true_ : ReportsOfRunsAreTrue) (one : Report
       gone = have_gone (shard_count r.splits) counts counts' script (entries kept) r.went running (fine_before running written (sym ends ∙ fine)) r.told
 
       is : IsReport bytes (told_by kept)
-      is = texts r.splits before behind counts counts' (Some tries) script r.went kept r.held r.opens r.promised gone can short
+      is = texts r.splits before behind counts counts' (Some tries) script r.went kept has.0 r.held r.opens r.promised gone has.1 short
 
       again : (n : ℕ) → n < shard_count r.splits → IsFoundAgain (behind n) (behind n)
       again n l = found_again (behind n) (told_before (behind n) (now n) (unchanged n) (told n (subst (λ (k : ℕ). n < k) (sym (r.held).count) l)))
@@ -99,7 +99,7 @@ module _ (found : LeftLogsAreFound) (true_ : ReportsOfRunsAreTrue) (one : Report
       by _ a b = tt
 
 pub as_shown :
-    ShownIsFound → (tries : ℕ) (script_left : Option (List ℕ)) (between behind : ℕ → Option Story) (counts counts' : ℕ → ℕ) (status : Status) (kept : Kept)
+    ShownIsFound → (tries : ℕ) (script_left : Option (List ℕ)) (between behind : ℕ → Option Stories) (counts counts' : ℕ → ℕ) (status : Status) (kept : Kept)
     → PromisedBy (Run tries) script_left between behind counts counts' status kept → StandsAsShown between kept
 as_shown law tries script_left between behind counts counts' status kept (script, has, (running, r, ended)) = λ left before one two was shown (running_then, s, ended_then) told.
     law s.splits r.splits before between between one two None s.went shown kept.found s.opens s.promised

@@ -2,7 +2,7 @@
 ghost use Rattle.std.specs.Prelude.{◌≡◌, ◌<◌, ℕ, List, Option, false, map};
 ghost use Rattle.command_line.specs.Commands.{IsCommand};
 ghost use Rattle.command_line.specs.declared.commands.Command.TheVariants as commands;
-ghost use Rattle.io_model.specs.Story.{Story};
+ghost use Rattle.io_model.specs.Sides.{Stories, sides_out, sides_told};
 ghost use Rattle.command_examples.specs.Chains.{AreJoined, IfBoth, Follows};
 
 use cluster_runs::shards_statements::{last_logs_are_found, left_logs_are_good};
@@ -46,9 +46,9 @@ pub fn make_run_twice_and_show<
 ) -> Chain
 where
     H::Disk: Send,
-    requires inside { (n : ℕ) → n < 16 → H.is_out house.old n ≡ false }
-    ensures joined { (splits : List ℕ) (tries : ℕ) → IsCommand (map (λ w. w.now) make_words.now) (commands.Make splits) → IsCommand (map (λ w. w.now) run_words.now) (commands.Run tries) → IsCommand (map (λ w. w.now) show_words.now) commands.Show → AreJoined splits result.made.status (H.story house.old) (H.story house.new) result.first.history result.second.history result.shown.history }
-    ensures back { (n : ℕ) → n < 16 → H.is_out house.new n ≡ false }
+    requires inside { (n : ℕ) → n < 16 → sides_out (H.is_out house.old) n ≡ (false, false) }
+    ensures joined { (splits : List ℕ) (tries : ℕ) → IsCommand (map (λ w. w.now) make_words.now) (commands.Make splits) → IsCommand (map (λ w. w.now) run_words.now) (commands.Run tries) → IsCommand (map (λ w. w.now) show_words.now) commands.Show → AreJoined splits result.made.status (sides_told (H.story house.old)) (sides_told (H.story house.new)) result.first.history result.second.history result.shown.history }
+    ensures back { (n : ℕ) → n < 16 → sides_out (H.is_out house.new) n ≡ (false, false) }
 {
     last_logs_are_found();
     left_logs_are_good();
@@ -90,9 +90,9 @@ pub fn serve_and_show<
 ) -> Shown
 where
     H::Disk: Send,
-    requires inside { (n : ℕ) → n < 16 → H.is_out house.old n ≡ false }
-    ensures joined { (sessions : ℕ) → IsCommand (map (λ w. w.now) serve_words.now) (commands.Serve sessions) → IsCommand (map (λ w. w.now) show_words.now) commands.Show → (between : ℕ → Option Story) × IfBoth result.served.history result.shown.history (Follows (H.story house.old) between (H.story house.new)) }
-    ensures back { (n : ℕ) → n < 16 → H.is_out house.new n ≡ false }
+    requires inside { (n : ℕ) → n < 16 → sides_out (H.is_out house.old) n ≡ (false, false) }
+    ensures joined { (sessions : ℕ) → IsCommand (map (λ w. w.now) serve_words.now) (commands.Serve sessions) → IsCommand (map (λ w. w.now) show_words.now) commands.Show → (between : ℕ → Option Stories) × IfBoth result.served.history result.shown.history (Follows (sides_told (H.story house.old)) between (sides_told (H.story house.new))) }
+    ensures back { (n : ℕ) → n < 16 → sides_out (H.is_out house.new) n ≡ (false, false) }
 {
     last_logs_are_found();
     left_logs_are_good();

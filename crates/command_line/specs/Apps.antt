@@ -39,6 +39,13 @@ serve_app = with_rule (new_app (codes "serve")) (option_rule (codes "sessions") 
 abbrev pub audit_app : App
 audit_app = new_app (codes "audit")
 
+-- [N]..
+abbrev pub count_rule : Rule
+count_rule = record (new_rule (codes "count")) { action = Some Append }
+
+abbrev pub standby_app : App
+standby_app = with_rule (new_app (codes "standby")) count_rule
+
 -- the words are those after the program's name, and a subcommand is wanted
 abbrev pub bare_app : App
 bare_app = record { top = record (new_app (codes "clv_shell")).top { no_binary_name = true; subcommand_required = true }; subs = [] }
@@ -47,6 +54,8 @@ unfoldable pub the_app : App
 the_app =
     with_subcommand
     (with_subcommand
+    (with_subcommand
     (with_subcommand (with_subcommand (with_subcommand (with_subcommand bare_app make_app.top) run_app.top) show_app.top) load_app.top)
     serve_app.top)
-    audit_app.top
+    audit_app.top)
+    standby_app.top

@@ -1,11 +1,11 @@
 -- The commands that words are.
-use Rattle.std.specs.Prelude.{◌≡◌, ◌≤◌, ℕ, true, List, [], ◌∷◌, codes, Option, Some, None}
+use Rattle.std.specs.Prelude.{◌≡◌, ◌≤◌, ℕ, true, List, length, [], ◌∷◌, codes, Option, Some, None}
 use Rattle.clap.specs.Words.{Row, Text, fault_of, subcommand_of, first_of, all_of}
 use Rattle.clv_base.specs.Shards.{are_splits}
 use Rattle.script_lang.specs.Grammar.{IsNumber}
 use Rattle.command_line.specs.Apps.{the_app}
 pub use Rattle.command_line.specs.declared.commands.Command.{Command}
-pub use Rattle.command_line.specs.declared.commands.Command.TheVariants.{Make, Run, Show, Load, Serve, Audit}
+pub use Rattle.command_line.specs.declared.commands.Command.TheVariants.{Make, Run, Show, Load, Serve, Audit, Standby}
 
 -- a value that was given is this number
 abbrev pub IsGiven : Option Text → ℕ → Type 0
@@ -36,7 +36,8 @@ abbrev pub listed : Option (List Text) → List Text
 listed None = []
 listed (Some words) = words
 
--- a subcommand with these rows is this command: splits are at most fifteen and rise, 1 to 64 sessions, 2 to 10000 accounts, at most 1000 transfers
+-- a subcommand with these rows is this command: splits are at most fifteen and rise, 1 to 64 sessions, 2 to 10000 accounts, at most 1000 transfers,
+-- at most sixteen numbers of records
 abbrev pub Says : Text → List Row → Command → Type 0
 Says name rows (Make splits) = (name ≡ codes "make") × AreNumbers (listed (all_of (codes "split") rows)) splits × (are_splits splits ≡ true)
 Says name rows (Run tries) = (name ≡ codes "run") × AreTries (first_of (codes "tries") rows) tries
@@ -47,6 +48,7 @@ Says name rows (Load seed sessions accounts transfers) =
     × (1 ≤ sessions) × (sessions ≤ 64) × (2 ≤ accounts) × (accounts ≤ 10000) × (transfers ≤ 1000)
 Says name rows (Serve sessions) = (name ≡ codes "serve") × AreSessions (first_of (codes "sessions") rows) sessions
 Says name rows Audit = name ≡ codes "audit"
+Says name rows (Standby counts) = (name ≡ codes "standby") × AreNumbers (listed (all_of (codes "count") rows)) counts × (length counts ≤ 16)
 
 -- `clap` finds no fault in the words, and takes them for a subcommand that is this command
 abbrev pub IsCommand : List Text → Command → Type 0

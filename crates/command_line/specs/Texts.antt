@@ -28,7 +28,7 @@ place_text shard (Record n) = codes "shard " ++ (decimal shard ++ (codes ": not 
 -- a line, and none where all is fine
 abbrev pub text_of : Status → List ℕ
 text_of Fine = []
-text_of Usage = codes "usage: clv_shell make [SPLIT].. | run [--tries N] | show | load --seed S --sessions N --accounts A --transfers T | serve [--sessions N] | audit" ++ 10 ∷ []
+text_of Usage = codes "usage: clv_shell make [SPLIT].. | run [--tries N] | show | load --seed S --sessions N --accounts A --transfers T | serve [--sessions N] | audit | standby [N].." ++ 10 ∷ []
 text_of (Script line) = codes "script line " ++ decimal line ++ 10 ∷ []
 text_of ReadFault = codes "read fault" ++ 10 ∷ []
 text_of WriteFault = codes "write fault" ++ 10 ∷ []

@@ -1,5 +1,6 @@
 // What the words may be.
 
+use crate::counts::RecordCounts;
 use clv_base::splits::Splits;
 
 /// A command.
@@ -28,6 +29,10 @@ pub enum Command {
     },
     /// Judges the report of a run.
     Audit,
+    /// Shows what a standby shows that was fed so many of each shard's records.
+    Standby {
+        counts: RecordCounts,
+    },
 }
 
 /// Why words are no command.

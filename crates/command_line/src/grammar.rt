@@ -3,7 +3,7 @@
 ghost use Rattle.std.specs.Prelude.{◌≡◌, ◌≢◌, [], IfOk, IfErr, codes, true, false};
 ghost use Rattle.clap.specs.Words.{app_of, with_subcommand, rule_of, fault_of, subcommand_of, subcommand_rows_of};
 ghost use Rattle.clap.specs.declared.builder.Command.TheViews.{out-Command as fields_of};
-ghost use Rattle.command_line.specs.Apps.{with_required, make_app, run_app, load_app, serve_app, bare_app, the_app};
+ghost use Rattle.command_line.specs.Apps.{with_required, make_app, run_app, load_app, serve_app, standby_app, bare_app, the_app};
 ghost use Rattle.command_line.specs.Steps.{texts};
 
 use crate::commands::WordsError;
@@ -65,6 +65,15 @@ fn with_serve<'a>(alloc: Global, program: Command<'a>) -> Result<Command<'a>, Al
     program.subcommand(serve)
 }
 
+// With one that shows what a standby shows: `standby [N]..`.
+fn with_standby<'a>(alloc: Global, program: Command<'a>) -> Result<Command<'a>, AllocError>
+    ensures { IfOk result (λ c. app_of c ≡ with_subcommand (app_of program.entry) standby_app.top) }
+{
+    let count = Arg::new(alloc, "count").action(ArgAction::Append);
+    let standby = Command::new(alloc, "standby").arg(count)?;
+    program.subcommand(standby)
+}
+
 // The program without its subcommands.
 fn bare<'a>(alloc: Global) -> Command<'a>
     ensures { app_of result ≡ bare_app }
@@ -82,7 +91,8 @@ fn program<'a>(alloc: Global) -> Result<Command<'a>, AllocError>
     let three = two.subcommand(Command::new(alloc, "show"))?;
     let four = with_load(alloc, three)?;
     let five = with_serve(alloc, four)?;
-    five.subcommand(Command::new(alloc, "audit"))
+    let six = five.subcommand(Command::new(alloc, "audit"))?;
+    with_standby(alloc, six)
 }
 
 // What `clap` makes of the words, where it finds no fault in them.

@@ -1,5 +1,5 @@
 //! What the program is told, and how it ends: the words of the command line (`make [SPLIT]..`, `run [--tries N]`, `show`,
-//! `load --seed S --sessions N --accounts A --transfers T`, `serve [--sessions N]`, and `audit`), and the statuses with their numbers and texts.
+//! `load --seed S --sessions N --accounts A --transfers T`, `serve [--sessions N]`, `audit`, and `standby [N]..`), and the statuses with their numbers and texts.
 //!
 //! `command_of` gives exactly the command that the words are, where `clap` takes them for one of these subcommands and their numbers are spelled as
 //! in scripts and within their bounds. A part that refuses before the shards are opened is the status by itself, by `From`; of a run that opened
@@ -9,6 +9,7 @@
 #![tactic(auto)]
 
 mod commands;
+mod counts;
 mod grammar;
 mod meanings;
 mod refusals;
@@ -16,6 +17,7 @@ mod running;
 mod status;
 
 pub use commands::{Command, WordsError};
+pub use counts::RecordCounts;
 pub use meanings::command_of;
 pub use running::{after_text, graver, running_status};
 pub use status::Status;

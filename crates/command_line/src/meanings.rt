@@ -1,6 +1,6 @@
 // What a subcommand with its values says.
 
-ghost use Rattle.std.specs.Prelude.{◌≡◌, ◌≢◌, ◌≤◌, ℕ, List, [], ◌∷◌, ◌++◌, IfOk, IfErr, MatchOption, IsTrue, ◌↔◌, true, codes};
+ghost use Rattle.std.specs.Prelude.{◌≡◌, ◌≢◌, ◌≤◌, ℕ, List, length, [], ◌∷◌, ◌++◌, IfOk, IfErr, MatchOption, IsTrue, ◌↔◌, true, codes};
 ghost use Rattle.clap.specs.Words.{first_of, all_of};
 ghost use Rattle.clv_base.specs.Shards.{are_splits};
 ghost use Rattle.command_line.specs.declared.commands.Command.{Command as ACommand};
@@ -8,6 +8,7 @@ ghost use Rattle.command_line.specs.Commands.{IsGiven, IsUpTo, AreNumbers, liste
 ghost use Rattle.command_line.specs.Steps.{texts, given_rows};
 
 use crate::commands::{Command, WordsError};
+use crate::counts::RecordCounts;
 use crate::grammar::matches_of;
 use clap::ArgMatches;
 use clv_base::splits::Splits;
@@ -126,6 +127,31 @@ fn make_of(alloc: Global, given: &ArgMatches) -> Result<Command, WordsError>
     }
 }
 
+// The command that shows what a standby shows of so many records.
+fn standby_with(alloc: Global, words: &[&str]) -> Result<Command, WordsError>
+    ensures command { IfOk result (λ command. (counts : List ℕ) × (command ≡ Command.Standby counts) × AreNumbers (texts words.now) counts × (length counts ≤ 16)) }
+    ensures usage { IfErr result (λ e. e ≡ WordsError.Usage → (counts : List ℕ) → AreNumbers (texts words.now) counts → length counts ≤ 16 → ⊥) }
+{
+    let list = match numbers_of(alloc, words) {
+        Ok(list) => list,
+        Err(error) => return Err(error),
+    };
+    match RecordCounts::new(&list) {
+        Some(counts) => Ok(Command::Standby { counts }),
+        None => Err(WordsError::Usage),
+    }
+}
+
+fn standby_of(alloc: Global, given: &ArgMatches) -> Result<Command, WordsError>
+    ensures command { IfOk result (Says (codes "standby") (given_rows given.now)) }
+    ensures usage { IfErr result (λ e. e ≡ WordsError.Usage → (command : ACommand) → Says (codes "standby") (given_rows given.now) command → ⊥) }
+{
+    match given.get_strs("count") {
+        Some(words) => standby_with(alloc, words),
+        None => standby_with(alloc, &[]),
+    }
+}
+
 // The command of a subcommand and its values.
 fn read(alloc: Global, name: &str, given: &ArgMatches) -> Result<Command, WordsError>
     ensures command { IfOk result (Says name.now (given_rows given.now)) }
@@ -157,6 +183,9 @@ fn read(alloc: Global, name: &str, given: &ArgMatches) -> Result<Command, WordsE
     }
     if name == "audit" {
         return Ok(Command::Audit);
+    }
+    if name == "standby" {
+        return standby_of(alloc, given);
     }
     Err(WordsError::Usage)
 }

@@ -79,7 +79,7 @@ impl Status {
         match *self {
             Status::Fine => Ok(String::new(alloc)),
             Status::Usage => format!(in alloc;
-                "usage: clv_shell make [SPLIT].. | run [--tries N] | show | load --seed S --sessions N --accounts A --transfers T | serve [--sessions N] | audit\n"
+                "usage: clv_shell make [SPLIT].. | run [--tries N] | show | load --seed S --sessions N --accounts A --transfers T | serve [--sessions N] | audit | standby [N]..\n"
             ),
             Status::Script { line } => format!(in alloc; "script line {line}\n"),
             Status::ReadFault => format!(in alloc; "read fault\n"),

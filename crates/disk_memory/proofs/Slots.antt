@@ -19,4 +19,5 @@ get_other (x ∷ xs) (suc i) (suc k) v other = get_other xs i k v (λ e. other (
 
 -- no disk is there, and none was
 abbrev pub IsEmptyAt : List Slot → ℕ → Type 0
-IsEmptyAt slots shard = (story_at slots shard ≡ None) × (is_out_at slots shard ≡ false) × (faults_at slots shard ≡ 0)
+IsEmptyAt slots shard =
+    (story_at slots shard 0 ≡ None) × (story_at slots shard 1 ≡ None) × (is_out_at slots shard 0 ≡ false) × (is_out_at slots shard 1 ≡ false) × (faults_at slots shard ≡ 0)

@@ -1,25 +1,25 @@
 -- Rows of many requests that are spent: nothing misses them, and they can be put back.
-use Rattle.std.proofs.Common.{◌≡◌, refl, sym, ap, subst, ◌∙◌, ℕ, ◌^◌, Bool, true, false, cond, not, nat_lt, List, [], ◌∷◌, Option, Some, None}
-use Rattle.std.specs.List.{filter, AllByRecursion}
+use Rattle.std.proofs.Common.{◌≡◌, refl, sym, ap, subst, ◌∙◌, ℕ, ◌^◌, Bool, true, false, cond, not, nat_lt, [], ◌∷◌, Option, Some, None}
+use Rattle.std.specs.List.{AllByRecursion}
 use Rattle.std.specs.List.Sorted.{IsStrictlySortedBy}
 use Rattle.std.specs.Map.{keys_of}
 use Rattle.std.specs.declared.cmp.Ordering.{Ordering}
 use Rattle.std.specs.declared.cmp.Ordering.TheVariants.{Less, Equal, Greater}
 use Rattle.std.specs.Ordering.{match_ordering}
-use Rattle.std.proofs.lemmas.Bool.{both_ways, cond-true, cond-false, false_from_ne_true}
+use Rattle.std.proofs.lemmas.Bool.{both_ways, false_from_ne_true}
 use Rattle.clv_base.specs.declared.names.TxId.{TxId}
 use Rattle.clv_base.specs.declared.state.Request.{Request}
 use Rattle.clv_base.specs.declared.events.Event.{Event}
 use Rattle.clv_base.specs.declared.events.Event.TheVariants.{FlushIn}
 use Rattle.clv_base.specs.declared.events.Outcome.{Outcome}
-use Rattle.clv_base.specs.declared.events.Outcome.TheVariants.{Nothing, Down}
+use Rattle.clv_base.specs.declared.events.Outcome.TheVariants.{Down}
 use Rattle.clv_base.specs.Orders.{Table, tx_cmp, tx_same, tx_get, tx_put, tx_drop}
 use Rattle.clv_base.specs.State.{Shard}
-use Rattle.clv_base.specs.Events.{Reply, QuietBeforeWorn, QuietAfterWorn, Does, with_entry, happen, landed, CallAnswer, Quiet, Worn, Enters, next_stamp, stamped, step, land_up, land}
+use Rattle.clv_base.specs.Events.{Reply, QuietBeforeWorn, QuietAfterWorn, Does, with_entry, happen, landed, Quiet, Enters, next_stamp, stamped, step, land_up, land}
 use Rattle.clv_base.proofs.SameNames.{tx_true, tx_eq, cmp_equal}
 use Rattle.law_base.proofs.Sets.{Rise, AllAbove, above_more, less_not_same}
 use Rattle.law_base.proofs.Names.{not_above}
-use Rattle.ended_laws.specs.Requests.{without, forgets, forgetful, IsSpent}
+use Rattle.ended_laws.specs.Requests.{without, forgetful, IsSpent}
 use Rattle.ended_laws.specs.Recalled.{without_all, with_all, forgets_all, AreSpent, forgetting, SpentAreNotMissed}
 use Rattle.ended_laws.proofs.Rows.{put_first}
 use Rattle.ended_laws.proofs.Staying.{over_stays, leaves_same}

@@ -1,5 +1,5 @@
 -- Where its part is finished, nothing at all misses the row of a request that is over and by the log.
-use Rattle.std.proofs.Common.{◌≡◌, ◌⊎◌, inl, inr, ⊎_elim, refl, sym, ap, subst, ◌∙◌, ◌==◌, ℕ, true, false, Bool, [], ◌∷◌, List, Option, Some, None}
+use Rattle.std.proofs.Common.{◌≡◌, inl, inr, refl, sym, ap, subst, ◌∙◌, ◌==◌, ℕ, true, false, Bool, [], ◌∷◌, List, Option, Some, None}
 use Rattle.std.specs.Prelude.{unwrap_or}
 use Rattle.clv_base.specs.declared.names.TxId.{TxId}
 use Rattle.clv_base.specs.declared.names.Birth.{Birth}
@@ -10,19 +10,18 @@ use Rattle.clv_base.specs.declared.causes.Vote.TheVariants.{Yes, Read, No}
 use Rattle.clv_base.specs.declared.events.Event.{Event}
 use Rattle.clv_base.specs.declared.events.Event.TheVariants.{Op as OpEvent, RollTo, Request as RequestEvent, Look, Drop, Send, Deliver, Remind, FlushOut, FlushIn, Stop, Restart}
 use Rattle.clv_base.specs.declared.events.Outcome.{Outcome}
-use Rattle.clv_base.specs.declared.events.Outcome.TheVariants.{Dead, Asked, Durable, Failed, Down}
+use Rattle.clv_base.specs.declared.events.Outcome.TheVariants.{Dead, Asked, Durable, Down}
 use Rattle.clv_base.specs.declared.state.Stage.{Stage}
-use Rattle.clv_base.specs.declared.state.Stage.TheVariants.{Active, Closed, Gone}
+use Rattle.clv_base.specs.declared.state.Stage.TheVariants.{Active, Gone}
 use Rattle.clv_base.specs.declared.state.Request.{Request}
 use Rattle.clv_base.specs.declared.state.Ruling.TheVariants.{Commit as CommitVerdict, Acknowledge, Abort as AbortVerdict, End as EndVerdict}
 use Rattle.clv_base.specs.Orders.{tx_same}
 use Rattle.clv_base.specs.State.{Local, Shard, is_present}
 use Rattle.clv_base.specs.Undo.{stage_of}
 use Rattle.clv_base.specs.Backs.{standing_numbers, count_after}
-use Rattle.clv_base.specs.OneShard.{OpReply, OpDies, OpAnswers, op_by_stage, op_seen, op_reply, seen_fits, rolled_back_if, without_part}
-use Rattle.clv_base.specs.Due.{with_due_done}
+use Rattle.clv_base.specs.OneShard.{OpDies, OpAnswers, op_by_stage, op_seen, op_reply, seen_fits, rolled_back_if, without_part}
 use Rattle.clv_base.specs.Coordinator.{others}
-use Rattle.clv_base.specs.Events.{QuietBeforeWorn, Does, finish, op_event, roll_by_stage, roll_event, is_alone, epoch_in, request_by_stage, request_event, with_durable, put_down, landed, happen_up, happen}
+use Rattle.clv_base.specs.Events.{QuietBeforeWorn, Does, finish, op_event, roll_by_stage, roll_event, is_alone, epoch_in, request_by_stage, request_event, with_durable, put_down, happen_up, happen}
 use Rattle.clv_base.proofs.SameNames.{tx_true}
 use Rattle.std.proofs.lemmas.Bool.{both_ways, false_from_ne_true}
 use Rattle.history_cases.proofs.Stepping.{commits, votes, rules, KeptByDue, settled, Step, op_dies, op_answers, rolls_back, request_closes, drops, prepare_closes, decision_comes, Happens, finishes, stops, happened}

@@ -192,7 +192,7 @@ walk {before} {after} l pre (y ∷ ys) rest n k g q i a =
     subst (λ z. At before after z n) (append_assoc pre (y ∷ []) ys)
     (walk l (pre ++ y ∷ []) ys rest n k g (append_assoc pre (y ∷ []) (ys ++ rest) ∙ q) i (step l pre y (ys ++ rest) n k g q i a))
 
-may_serve : (splits : List ℕ) (before : List (List LogRecord)) (n : ℕ) → may_open splits before ≡ true → n < length before → MayServe n (run_after before) (log_of before n)
+pub may_serve : (splits : List ℕ) (before : List (List LogRecord)) (n : ℕ) → may_open splits before ≡ true → n < length before → MayServe n (run_after before) (log_of before n)
 may_serve splits before n m l = (found_in_order splits before n m l, below_next_run before n)
 
 begins : (splits : List ℕ) (before after : List (List LogRecord)) (n : ℕ) → may_open splits before ≡ true → n < length before → At before after [] n

@@ -5,7 +5,7 @@ use Rattle.clv_base.specs.LogRules.{log_of, disorder}
 use Rattle.clv_base.specs.Restarts.{run_after}
 use Rattle.clv_base.specs.Journals.{final_of}
 use Rattle.protocol_laws.proofs.LogsInOrder.{fronts_in_order}
-use Rattle.shard_laws.proofs.OrderIsKept.{order_is_kept}
+use Rattle.shard_laws.proofs.OrderIsKept.{order_is_kept, part_is_left}
 use Rattle.fate_laws.specs.Leading.{deeds_before, with_found}
 use Rattle.fate_laws.specs.Ordering.{LogsLeftAreInOrder}
 use Rattle.fate_laws.proofs.EachShardLeads.{each_shard_leads}
@@ -16,5 +16,7 @@ logs_left_are_in_order splits before h after choice n l i =
     let s = final_of before h after n in
     let log = log_of before n in
     let e = deeds_before before h after n in
-    let o = order_is_kept n (run_after before) log (with_found n log e) s (each_shard_leads splits before h after h [] n l (append-nil h) i) in
-    subst (λ z. disorder n z ≡ None) (sym (log_now splits before h after choice n i)) (fronts_in_order n (cond (choice n) (unwrap_or s.flight s.durable) s.durable) s.local.log o)
+    let leads = each_shard_leads splits before h after h [] n l (append-nil h) i in
+    let o = order_is_kept n (run_after before) log (with_found n log e) s leads in
+    let c = part_is_left n (run_after before) log (with_found n log e) s (choice n) leads in
+    subst (λ z. disorder n z ≡ None) (sym (log_now splits before h after choice n i)) (fronts_in_order n (cond (choice n) (unwrap_or s.flight s.durable) s.durable) s.local.log c o)

@@ -1,7 +1,7 @@
 -- The logs at the end of a history: what a crash leaves by some choice for each shard, and behind it what failed restarts added.
 pub mod FailedRestartsKeepLogs
 use Rattle.std.proofs.Common.{◌≡◌, ◌⊎◌, inl, inr, ⊎_elim, refl, sym, ap, subst, ◌∙◌, ℕ, ◌+◌, ◌<◌, ◌≤◌, true, false, cond, Bool, ◌||◌, ◌==◌, nat_lt, List, [], ◌∷◌, Option, Some, None, length, arith, append-nil, eqb-true}
-use Rattle.std.specs.Prelude.{is_none, take, drop}
+use Rattle.std.specs.Prelude.{is_none, take, drop, unwrap_or}
 use Rattle.std.specs.List.{list_all}
 use Rattle.std.proofs.lemmas.Bool.{both_ways, and_parts, and_from, or_cases, false_from_ne_true, ltb-true, lt-ltb}
 use Rattle.std.proofs.lemmas.List.{take-append-drop}
@@ -10,7 +10,7 @@ use Rattle.clv_base.specs.declared.logs.LogRecord.{LogRecord}
 use Rattle.clv_base.specs.Orders.{nat_in}
 use Rattle.clv_base.specs.Shards.{shard_count}
 use Rattle.clv_base.specs.Logs.{committed_in, wrote_in, prepared_in, aborted_in, ended_in, has_standing, prepare_of, commit_parts, committed_somewhere, fold_updates, stands}
-use Rattle.clv_base.specs.LogRules.{log_of, all_logs_from, home_is}
+use Rattle.clv_base.specs.LogRules.{upto_of, disorder, log_of, all_logs_from, home_is}
 use Rattle.clv_base.specs.FileRules.{may_open, log_passes, passes_file_rules}
 use Rattle.clv_base.specs.State.{Shard}
 use Rattle.clv_base.specs.Restarts.{run_after, log_left, greatest_run, FailedRestarts}
@@ -23,7 +23,10 @@ use Rattle.law_base.proofs.Standing.{stood_before}
 use Rattle.shard_laws.proofs.Keeping.ChangesKeepPrepared.{prepared_from}
 use Rattle.shard_laws.proofs.Keeping.RecordsAndFrontsKeep.{aborted_append}
 use Rattle.shard_laws.proofs.Keeping.RecordsOfAnUndo.{undo_writes, undo_prepares}
-use Rattle.shard_laws.proofs.Order.RecordByRecord.{Follows, to_disorder, follows_take, greatest_front}
+use Rattle.law_base.proofs.Parts.{in_order_take}
+use Rattle.shard_laws.proofs.Order.RecordByRecord.{Follows, greatest_front}
+use Rattle.shard_laws.proofs.Order.WhoIsListed.{named_cut, old_cut}
+use Rattle.shard_laws.proofs.OrderIsKept.{part_is_left}
 use Rattle.shard_laws.proofs.AnswersAndMap.{held}
 use Rattle.shard_laws.proofs.Order.WritesLieOnListed.{order_of}
 use Rattle.shard_laws.proofs.Restarts.RestartsKeepOrder.{Fine}
@@ -36,7 +39,6 @@ use Rattle.fate_laws.proofs.Logs.WhatAddsNoPrepare.{prepare_more}
 use Rattle.headline_laws.proofs.EndedAreCommitted.{part_below}
 use Rattle.fate_laws.specs.Leading.{deeds_before, with_found}
 use Rattle.fate_laws.proofs.EachShardLeads.{each_shard_leads}
-use Rattle.headline_laws.proofs.AtOpening.EarlierOnesStoodThere.{follows_behind}
 use Rattle.fate_laws.proofs.Homes.FoundCommitsHaveHomes.{home_of}
 use Rattle.headline_laws.proofs.AtOpening.RecordedAreKnown.{doubted}
 use Rattle.headline_laws.specs.Ends.{LogsAtTheEndMayBeOpened, TellTheSame, LogsAtTheEndAreWhatIsLeft}
@@ -98,13 +100,18 @@ module _ {splits : List ℕ} {before after : List (List LogRecord)} {h : History
       let d = deeds_before before h after n in
       let found = log_of before n in
       let b = held n (run_after before) found (with_found n found d) (last n) (each_shard_leads splits before h after h [] n l (append-nil h) i) in
-      ((b.1).order.ordered.follows, (b.1).order.ordered.latest)
+      ((b.1).order.ordered.in_order, (b.1).order.ordered.latest, (b.1).order.ordered.named, (b.1).order.ordered.old)
 
-  fine_left : (n k : ℕ) → n < shard_count splits → Fine (last n) (take k (last n).local.log)
-  fine_left n k i =
+  fine_left : (n k : ℕ) → n < shard_count splits → upto_of (last n).local.log ≤ k → Fine (last n) (take k (last n).local.log)
+  fine_left n k i c =
       let f = fine n i in
       let log = (last n).local.log in
-      (follows_take (last n).shard k [] log f.0, greatest_front (take k log) (drop k log) (last n).run (subst (λ z. greatest_run z ≤ (last n).run) (sym (take-append-drop k log)) f.1))
+      ((in_order_take (last n).shard k log c f.0).0, greatest_front (take k log) (drop k log) (last n).run (subst (λ z. greatest_run z ≤ (last n).run) (sym (take-append-drop k log)) f.1), named_cut (last n).shard (last n).run k log f.0 f.2, old_cut (last n).shard (last n).run k log c f.0 f.3)
+
+  has_part : (n : ℕ) → n < shard_count splits → upto_of (last n).local.log ≤ cond (choice n) (unwrap_or (last n).flight (last n).durable) (last n).durable
+  has_part n i =
+      let found = log_of before n in
+      part_is_left n (run_after before) found (with_found n found (deeds_before before h after n)) (last n) (choice n) (each_shard_leads splits before h after h [] n l (append-nil h) i)
 
   is_shard : (n : ℕ) → n < shard_count splits → (last n).shard ≡ n
   is_shard n i = (((bindings_front l h [] (append-nil h)).fated).counts).shard n i
@@ -128,8 +135,8 @@ module _ {splits : List ℕ} {before after : List (List LogRecord)} {h : History
       passes = subst (Passes splits n) now (left_passes n i)
 
       at : LeavesBy n (choice n) → Stays splits n (cut n) (log_of after n)
-      at (inl e) = subst (Stays splits n (cut n)) (sym e) (stays_same splits n (cut n) (subst (λ k. Follows k [] (cut n)) (is_shard n i) (fine_left n _ i).0) passes)
-      at (inr (d, f)) = subst (λ k. Stays splits k (cut n) (log_of after n)) (is_shard n i) (stays_failed splits (last n) (cut n) (log_of after n) (fine_left n _ i) (subst (λ k. Passes splits k (cut n)) (sym (is_shard n i)) passes) f)
+      at (inl e) = subst (Stays splits n (cut n)) (sym e) (stays_same splits n (cut n) (subst (λ k. disorder k (cut n) ≡ None) (is_shard n i) (fine_left n _ i (has_part n i)).0) passes)
+      at (inr (d, f)) = subst (λ k. Stays splits k (cut n) (log_of after n)) (is_shard n i) (stays_failed splits (last n) (cut n) (log_of after n) (fine_left n _ i (has_part n i)) (subst (λ k. Passes splits k (cut n)) (sym (is_shard n i)) passes) f)
 
   commits : (n : ℕ) (t : TxId) → n < shard_count splits → committed_in (log_of after n) t ≡ committed_in (log_of left n) t
   commits n t i = let g = stays n i in ap (λ z. committed_in z t) (sym g.goes) ∙ same_committed (log_of left n) g.more t g.kinds
@@ -157,7 +164,7 @@ module _ {splits : List ℕ} {before after : List (List LogRecord)} {h : History
     there = committed_there (log_of left home) t ps k.commits
 
     behind : Follows home (log_of left home) (stays home inside).more
-    behind = let g = stays home inside in follows_behind home [] (log_of left home) g.more (subst (Follows home []) (sym g.goes) g.follows)
+    behind = (stays home inside).behind
 
     recorded : (n : ℕ) → n < shard_count splits → Marked (log_of after n) t → Marked (log_of left n) t
     recorded n i m = by_mark m
@@ -169,7 +176,7 @@ module _ {splits : List ℕ} {before after : List (List LogRecord)} {h : History
         none = undo_writes t g.more g.kinds
 
         behind_left : Follows n (log_of left n) g.more
-        behind_left = follows_behind n [] (log_of left n) g.more (subst (Follows n []) (sym g.goes) g.follows)
+        behind_left = g.behind
 
         by_mark : Marked (log_of after n) t → Marked (log_of left n) t
         by_mark (inl w) = inl (stood_before (log_of left n) g.more t none (subst (λ z. has_standing z t ≡ true) (sym g.goes) w))
@@ -188,7 +195,7 @@ module _ {splits : List ℕ} {before after : List (List LogRecord)} {h : History
         away c = subst (λ m. (n == m) ≡ false) (sym p.home) (false_from_ne_true _ (λ e. both_ways _ c (subst (λ m. committed_in (log_of left m) t ≡ true) (sym (eqb-true n home e)) there)))
 
         at : (b : Bool) → committed_in (log_of left n) t ≡ b → aborted_in (log_of after n) t ≡ false
-        at true c = (order_of n (log_of after n) (stays n i).follows).apart t (commits n t i ∙ c)
+        at true c = (order_of n (log_of after n) (stays n i).in_order).apart t (commits n t i ∙ c)
         at false c = (stays n i).spares t (doubted (log_of left n) n (log_of left n) [] t p.listed p.prepare (away c) c p.unaborted p.committed)
 
     part : (n : ℕ) → n < shard_count splits → PartIs (log_of left n) t home → PartIs (log_of after n) t home
@@ -234,7 +241,7 @@ module _ {splits : List ℕ} {before after : List (List LogRecord)} {h : History
       one : (n : ℕ) → n < length after → log_passes splits (0 + n) (log_of after n) ≡ true
       one n i =
           let g = stays n (inside n i) in
-          subst (λ k. log_passes splits k (log_of after n) ≡ true) (omega arith) (and_from _ _ (all_pass splits n (log_of after n) g.passes) (ap is_none (to_disorder n 0 [] (log_of after n) g.follows)))
+          subst (λ k. log_passes splits k (log_of after n) ≡ true) (omega arith) (and_from _ _ (all_pass splits n (log_of after n) g.passes) (ap is_none g.in_order))
 
 pub logs_at_the_end_may_be_opened : LogsAtTheEndMayBeOpened
 logs_at_the_end_may_be_opened splits before h after l = may_open_after l

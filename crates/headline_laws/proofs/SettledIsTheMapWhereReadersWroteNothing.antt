@@ -33,7 +33,7 @@ use Rattle.shard_laws.specs.OneShard.{Deeds, Leads}
 use Rattle.shard_laws.proofs.AnswersAndMap.{held}
 use Rattle.shard_laws.proofs.Keeping.WhatOneShardKeeps.{view_of, Wrote}
 use Rattle.law_base.proofs.Standing.{of_writer, standing_wrote}
-use Rattle.shard_laws.proofs.Order.WhoseWritesStand.{prepared_stands}
+use Rattle.shard_laws.proofs.Order.WhoseWritesStand.{open_stands}
 use Rattle.shard_laws.proofs.QuietIsSettled.{writer_committed}
 use Rattle.history_laws.proofs.LogsLeftPass.{logs_left_pass, left_length}
 use Rattle.history_laws.proofs.Logs.DoubtedAreUndecided.{doubt_prepared, doubt_undecided}
@@ -83,12 +83,12 @@ undoubted : (shard run : ℕ) (before : List LogRecord) (d : Deeds) (s : Shard) 
 undoubted shard run before d s n t leads q i =
     let b = held shard run before d s leads in
     let log = s.local.log in
-    let follows = (b.1).order.ordered.follows in
+    let follows = (b.1).order.ordered.in_order in
     let undecided = doubt_undecided n log t i in
     ⊎_elim
     (λ w. both_ways _ undecided.1 (of_writer (λ u. committed_in log u ≡ true) (standing log) t (all_mono (Wrote (view_of s)) _ (λ w a. writer_committed b.0 s w (b.1).kept q a) (standing log) (b.1).kept.wrote) w))
     (λ a. both_ways _ undecided.2 a)
-    (prepared_stands s.shard log follows t (doubt_prepared n log t i))
+    (open_stands s.shard log follows t (doubt_prepared n log t i) undecided.1)
 
 module _ {splits : List ℕ} {before after : List (List LogRecord)} {h : History} (l : LegalFrom splits before h after) (choice : ℕ → Bool)
     (pass : ReadersWroteNothing splits before h after) (quiet : IsSettled splits before h after) where

@@ -80,9 +80,10 @@ fn fold_lsns(pairs: &mut KeyMap, set: &TxSet, log: &[LogRecord], lsns: &[u64]) -
     Ok(())
 }
 
-// What the log begins with is put; then each UPDATE and ADD that stands and is of a transaction of the set is done, in the log's order.
+/// The pairs that the log begins with are put into the map; then each UPDATE and ADD that stands and is of a transaction of the set is done, in the log's
+/// order.
 #[tactic(auto, using(crate::proofs::Folding::begun))]
-fn fold(alloc: Global, pairs: &mut KeyMap, set: &TxSet, log: &[LogRecord]) -> Result<(), Memory>
+pub fn fold(alloc: Global, pairs: &mut KeyMap, set: &TxSet, log: &[LogRecord]) -> Result<(), Memory>
     ensures { OnOk result (pairs.new ≡ fold_updates (has_member set.now) log.now pairs.old) }
 {
     put_pairs(pairs, pairs_at(log, Some(0)))?;

@@ -1,2 +1,3 @@
+pub mod BothSides
 pub mod Following
 pub mod Laws

@@ -2,10 +2,10 @@
 use Rattle.std.specs.Prelude.{◌≡◌, ◌⊎◌, ℕ, ◌+◌, ◌-◌, ◌≤◌, ◌^◌, min, List, length, take, drop, Option, Some, None, Result, Ok, Err, OnOk, OnErr}
 use Rattle.io_model.specs.Story.{Call, Len, Read, Write, Cut, Sync, Write_failed, Cut_failed, Sync_failed, Story, after, reads, IsTorn, IsCut}
 
--- A disk that tells its story goes on telling it, by R; one that doesn't, doesn't.
-abbrev pub Tells : Option Story → Option Story → (Story → Story → Type 0) → Type 0
+-- What tells its story, as a disk or both sides of a shard, goes on telling it, by R; what doesn't, doesn't.
+abbrev pub Tells : {S : Type 0} → Option S → Option S → (S → S → Type 0) → Type 0
 Tells None new R = new ≡ None
-Tells (Some old) new R = (now : Story) × (new ≡ Some now) × R old now
+Tells {S} (Some old) new R = (now : S) × (new ≡ Some now) × R old now
 
 -- the call was noted, or it left no trace
 abbrev pub MayNote : Call → Story → Story → Type 0

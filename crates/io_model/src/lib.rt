@@ -12,6 +12,7 @@ mod file_house;
 mod house;
 mod memory;
 mod pace;
+mod sides;
 mod streams;
 mod whole;
 
@@ -22,5 +23,6 @@ pub use file_house::FileHouse;
 pub use house::House;
 pub use memory::{MemorySink, MemorySource};
 pub use pace::{NoPace, Pace, Step};
+pub use sides::{Sides, give_sides, open_sides};
 pub use streams::{Sink, Source};
 pub use whole::{ReadError, read_all, write_all};

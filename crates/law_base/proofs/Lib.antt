@@ -24,3 +24,7 @@ pub mod Acts
 pub mod Shards
 pub mod Numbers
 pub mod Logs
+pub mod InOrder
+pub mod Parts
+pub mod LetGo
+pub mod Places

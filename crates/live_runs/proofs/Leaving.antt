@@ -8,7 +8,7 @@ use Rattle.clv_base.specs.Shards.{shard_count}
 use Rattle.clv_base.specs.FileRules.{may_open}
 use Rattle.clv_base.specs.Restarts.{run_after}
 use Rattle.clv_base.specs.Journals.{journal_of, own}
-use Rattle.io_model.specs.Story.{Story}
+use Rattle.io_model.specs.Sides.{Stories}
 use Rattle.io_model.specs.declared.whole.ReadError.{ReadError}
 use Rattle.report_text.specs.declared.texts.ReportError.{ReportError}
 use Rattle.cluster_opening.specs.Logs.{LogsOfAll}
@@ -55,7 +55,7 @@ begun_by_all_lines lives (w ∷ ws) sessions many none few =
     omega arith
 
 module _
-    {M S G : Type 0} (D : Type 0) (shard : M → Shard) (sh : Shards M S G) (walkers : List (Walker M S G)) (homes : List (Home M S G)) (kept : Kept) (down : Option ℕ) (counts counts_now : ℕ → ℕ) (out out_now : ℕ → Bool) (before now : ℕ → Option Story)
+    {M S G : Type 0} (D : Type 0) (shard : M → Shard) (sh : Shards M S G) (walkers : List (Walker M S G)) (homes : List (Home M S G)) (kept : Kept) (down : Option ℕ) (counts counts_now : ℕ → ℕ) (out out_now : ℕ → Bool × Bool) (before now : ℕ → Option Stories)
     (sessions : ℕ) (ended : IsClosedRun D shard sh walkers homes kept down counts counts_now out out_now before now) (many : length walkers ≡ suc sessions) (rest : (k : ℕ) (d : Walker M S G) → k < length walkers → IsAtRest sh k (get_or walkers k d)) where
   numbers : (k : ℕ) (d : Walker M S G) → k < length walkers → (get_or walkers k d).number ≡ k
   numbers k d few = (rest k d few).number_is

@@ -8,7 +8,7 @@ use Rattle.clv_base.specs.History.{acknowledged_in}
 use Rattle.clv_base.specs.FileRules.{may_open}
 use Rattle.clv_base.specs.Restarts.{run_after}
 use Rattle.clv_base.specs.Journals.{History, journal_of, own}
-use Rattle.io_model.specs.Story.{Story}
+use Rattle.io_model.specs.Sides.{Stories}
 use Rattle.io_model.specs.Streams.{Ends, Consumes}
 use Rattle.io_model.specs.Disk.{Rose}
 use Rattle.cluster_opening.specs.Logs.{LogsOfAll}
@@ -49,7 +49,7 @@ pub record Lived (splits : List ℕ) (run walker : ℕ) (life : Life) (es : Hist
   pub entries_are : closed.entries ≡ es
 
 -- the promise of a run, with what its sessions did in the place of a script
-pub record LivesPromised (splits : List ℕ) (before now : ℕ → Option Story) (counts counts_now : ℕ → ℕ) (sessions : ℕ) (lives : ℕ → Life) (kept : Kept) : Type 0 where
+pub record LivesPromised (splits : List ℕ) (before now : ℕ → Option Stories) (counts counts_now : ℕ → ℕ) (sessions : ℕ) (lives : ℕ → Life) (kept : Kept) : Type 0 where
   -- the history is legal, and keeps the whole promise, as of `run`
   pub keeps : Keeps splits before now kept
   pub each : (k : ℕ) → k < sessions → Lived splits (run_after kept.found) (suc k) (lives (suc k)) (session_entries (own (suc k) (entries kept)))
@@ -71,7 +71,7 @@ AnswersAreEntries splits sessions lives kept =
 -- so it is wherever sessions lived so
 abbrev pub RepliesAreInHistory : Type 0
 RepliesAreInHistory =
-    (splits : List ℕ) (before now : ℕ → Option Story) (counts counts_now : ℕ → ℕ) (sessions : ℕ) (lives : ℕ → Life) (kept : Kept) → LivesPromised splits before now counts counts_now sessions lives kept
+    (splits : List ℕ) (before now : ℕ → Option Stories) (counts counts_now : ℕ → ℕ) (sessions : ℕ) (lives : ℕ → Life) (kept : Kept) → LivesPromised splits before now counts counts_now sessions lives kept
     → CommittedAreAcknowledged (run_after kept.found) sessions lives kept × AnswersAreEntries splits sessions lives kept
 
 -- how many lines so many sessions took, from one on
@@ -81,7 +81,7 @@ lines_from first (suc more) lives = length (lives first).asked + lines_from (suc
 
 -- ---- all of it
 
-pub record ServedAll (before now : ℕ → Option Story) (counts counts_now : ℕ → ℕ) (sessions : ℕ) (left left' taken taken' : Option (List ℕ)) (read : Result (Unit {0}) ReadError) (written : Result (Unit {0}) ReportError) (kept : Kept) (status : Status) : Type 0 where
+pub record ServedAll (before now : ℕ → Option Stories) (counts counts_now : ℕ → ℕ) (sessions : ℕ) (left left' taken taken' : Option (List ℕ)) (read : Result (Unit {0}) ReadError) (written : Result (Unit {0}) ReportError) (kept : Kept) (status : Status) : Type 0 where
   pub splits : List ℕ
   pub lives : ℕ → Life
   pub refused : List Refusal

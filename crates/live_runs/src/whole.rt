@@ -3,6 +3,7 @@ ghost use Rattle.std.specs.Prelude.{◌≡◌, ◌<◌, ◌≤◌, ℕ, false, I
 ghost use Rattle.cluster_opening.specs.Opening.{Refuses, CountsOpen};
 ghost use Rattle.cluster_runs.specs.Begun.{LeavesDisks};
 ghost use Rattle.io_model.specs.Streams.{CountsReading};
+ghost use Rattle.io_model.specs.Sides.{sides_out, sides_told};
 ghost use Rattle.report_text.specs.Sinks.{Causes};
 ghost use Rattle.live_runs.specs.Lived.{ServedAll};
 
@@ -14,6 +15,7 @@ use cluster_runs::{Opened, close_run, open_all};
 use command_line::{Status, running_status};
 use history_replay::History;
 use io_model::{House, Pace, ReadError, Sink, Source};
+use lean_machine::LeanMachine;
 use lock_table::Locks;
 use log_gate::LogGate;
 use ordered_store::Store;
@@ -60,15 +62,15 @@ pub fn serve_all<
 ) -> Result<LiveRan, OpenError>
 where
     H::Disk: Send,
-    requires inside { (n : ℕ) → n < 16 → H.is_out house.old n ≡ false }
+    requires inside { (n : ℕ) → n < 16 → sides_out (H.is_out house.old) n ≡ (false, false) }
     requires few { sessions ≤ 64 }
-    ensures served { IfOk result (λ r. ServedAll (H.story house.old) (H.story house.new) (H.faults house.old) (H.faults house.new) sessions (I.left source.old) (I.left source.new) (K.taken sink.old) (K.taken sink.new) r.read r.written r.history r.status) }
+    ensures served { IfOk result (λ r. ServedAll (sides_told (H.story house.old)) (sides_told (H.story house.new)) (H.faults house.old) (H.faults house.new) sessions (I.left source.old) (I.left source.new) (K.taken sink.old) (K.taken sink.new) r.read r.written r.history r.status) }
     ensures source { IfOk result (λ r. CountsReading (I.faults source.old) (I.faults source.new) r.read) }
     ensures sink { IfOk result (λ r. Causes (K.faults sink.old) (K.faults sink.new) r.written) }
-    ensures back { (n : ℕ) → n < 16 → H.is_out house.new n ≡ false }
-    ensures refused { IfErr result (Refuses (H.story house.old)) }
+    ensures back { (n : ℕ) → n < 16 → sides_out (H.is_out house.new) n ≡ (false, false) }
+    ensures refused { IfErr result (Refuses (sides_told (H.story house.old))) }
     ensures counts { IfErr result (CountsOpen (H.faults house.old) (H.faults house.new)) }
-    ensures left { IfErr result (LeavesDisks (H.story house.old) (H.story house.new)) }
+    ensures left { IfErr result (LeavesDisks (sides_told (H.story house.old)) (sides_told (H.story house.new))) }
     ensures nothing { IfErr result (λ e. (source.new ≡ source.old) × (sink.new ≡ sink.old)) }
 {
     replies_are_in_history();
@@ -92,7 +94,7 @@ where
         source,
         sink,
     );
-    let closed = close_run::<H, ShardMachine<S, L, LogGate<H::Disk>>>(
+    let closed = close_run::<H, LeanMachine<ShardMachine<S, L, LogGate<H::Disk>>>>(
         alloc, house, shards, walkers, room,
     );
     let Closed {

@@ -1,7 +1,7 @@
 -- What was handed out, one after another.
 use Rattle.std.proofs.Common.{◌≡◌, refl, sym, ap, ◌∙◌, subst, ℕ, suc, ◌<◌, ◌==◌, Bool, true, false, if◌then◌else◌, List, [], ◌∷◌, ◌++◌, map, slice_index_or, append_assoc, append-nil}
 use Rattle.std.proofs.lemmas.List.{map-append}
-use Rattle.rtrb.specs.Ring.{sent, SameProducer}
+use Rattle.rtrb.specs.Ring.{sent}
 use Rattle.rtrb.specs.declared.producer.Producer.{Producer}
 use Rattle.live_lines.specs.declared.calls.Asked.{Asked}
 use Rattle.live_lines.specs.declared.calls.Reply.{Reply}

@@ -29,7 +29,7 @@ use Rattle.log_checkpoint.proofs.Keeping.{committed_before, same_length}
 abbrev pub of_open : List LogRecord → StandingUpdate → Bool
 of_open log w = not (committed_in log w.tx)
 
-without_open : (log : List LogRecord) (t : TxId) (ws : List StandingUpdate) → committed_in log t ≡ false → without_newest t (filter (of_open log) ws) ≡ filter (of_open log) (without_newest t ws)
+pub without_open : (log : List LogRecord) (t : TxId) (ws : List StandingUpdate) → committed_in log t ≡ false → without_newest t (filter (of_open log) ws) ≡ filter (of_open log) (without_newest t ws)
 without_open log t [] u = refl
 without_open log t (w ∷ ws) u = at (tx_same t w.tx) refl (committed_in log w.tx) refl (without_open log t ws u)
   where
@@ -70,11 +70,11 @@ stands_on shard log more begins all =
 
 -- ---- the value of a key
 
-abbrev fold_by : (TxId → Bool) → ℕ → Option Value → List StandingUpdate → Option Value
+abbrev pub fold_by : (TxId → Bool) → ℕ → Option Value → List StandingUpdate → Option Value
 fold_by keep k v [] = v
 fold_by keep k v (w ∷ ws) = cond (keep w.tx && (k == w.key)) (changed w.change (fold_by keep k v ws)) (fold_by keep k v ws)
 
-get_fold : (keep : TxId → Bool) (k : ℕ) (ws : List StandingUpdate) (m : KeyMap) → map_get k (fold_writes keep ws m) ≡ fold_by keep k (map_get k m) ws
+pub get_fold : (keep : TxId → Bool) (k : ℕ) (ws : List StandingUpdate) (m : KeyMap) → map_get k (fold_writes keep ws m) ≡ fold_by keep k (map_get k m) ws
 get_fold keep k [] m = refl
 get_fold keep k (w ∷ ws) m = at (keep w.tx) (k == w.key) refl (get_fold keep k ws m)
   where
@@ -119,7 +119,7 @@ past keep more c k u (v ∷ ws) all = at (keep v.tx) refl (past keep more c k u 
             add_past v.change _ _ (λ s. both_ways _ e (all.0 (sym (eqb-true k v.key (and_parts (more v.tx) (k == v.key) q).1)) s)) rest
 
 -- where those of one test lie at the bottom, they may be folded first
-bottom : (keep more : TxId → Bool) (k : ℕ) (v : Option Value) (ws : List StandingUpdate) → ((t : TxId) → keep t ≡ true → more t ≡ true) → LieOn keep ws
+pub bottom : (keep more : TxId → Bool) (k : ℕ) (v : Option Value) (ws : List StandingUpdate) → ((t : TxId) → keep t ≡ true → more t ≡ true) → LieOn keep ws
     → fold_by more k v ws ≡ fold_by more k (fold_by keep k v ws) (filter (λ w. not (keep w.tx)) ws)
 bottom keep more k v [] wide lie = refl
 bottom keep more k v (w ∷ ws) wide lie = at (keep w.tx) refl (bottom keep more k v ws wide lie.1)
@@ -138,7 +138,7 @@ bottom keep more k v (w ∷ ws) wide lie = at (keep w.tx) refl (bottom keep more
             ap (changed w.change) rest
             ∙ past keep more w.change k (fold_by keep k v ws) ws (subst (λ j. AllByRecursion (λ x. x.key ≡ j → (is_setting x.change || is_setting w.change) ≡ true → keep x.tx ≡ true) ws) (sym (eqb-true k w.key q)) (lie.0 e))
 
-bottom_first : (keep more : TxId → Bool) (ws : List StandingUpdate) (m : KeyMap) → IsRising m → ((t : TxId) → keep t ≡ true → more t ≡ true) → LieOn keep ws
+pub bottom_first : (keep more : TxId → Bool) (ws : List StandingUpdate) (m : KeyMap) → IsRising m → ((t : TxId) → keep t ≡ true → more t ≡ true) → LieOn keep ws
     → fold_writes more ws m ≡ fold_writes more (filter (λ w. not (keep w.tx)) ws) (fold_writes keep ws m)
 bottom_first keep more ws m rise wide lie =
     same_map (fold_writes more ws m) (fold_writes more (filter (λ w. not (keep w.tx)) ws) (fold_writes keep ws m)) (writes_rise more ws m rise)
@@ -159,7 +159,7 @@ fold_past keep t (w ∷ ws) m out = at (tx_same t w.tx) refl (fold_past keep t w
     at true own rest = sym (ap (λ b. cond b (with_change w.key w.change (fold_writes keep ws m)) (fold_writes keep ws m)) (ap keep (sym (tx_true t w.tx own)) ∙ out))
     at false other rest = ap (λ n. cond (keep w.tx) (with_change w.key w.change n) n) rest
 
-folds_on : (log : List LogRecord) (n : ℕ) (rs : List LogRecord) (ws : List StandingUpdate) (m : KeyMap) → AllByRecursion (Moves log) rs → fold_writes (committed_in log) (standing_from n rs ws) m ≡ fold_writes (committed_in log) ws m
+pub folds_on : (log : List LogRecord) (n : ℕ) (rs : List LogRecord) (ws : List StandingUpdate) (m : KeyMap) → AllByRecursion (Moves log) rs → fold_writes (committed_in log) (standing_from n rs ws) m ≡ fold_writes (committed_in log) ws m
 folds_on log n [] ws m all = refl
 folds_on log n (r ∷ rs) ws m all = folds_on log (suc n) rs (standing_after n r ws) m all.1 ∙ one r all.0
   where

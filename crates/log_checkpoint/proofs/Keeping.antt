@@ -77,7 +77,7 @@ no_first (Restart run epoch) rs none = absurd (none tt)
 no_first (Check run epoch upto base) rs none = absurd (none tt)
 no_first (_) rs none = refl
 
-none_kept : (shard : ℕ) (log : List LogRecord) (n : ℕ) (rs : List LogRecord) → last_restart (kept_from shard log n rs) ≡ None
+pub none_kept : (shard : ℕ) (log : List LogRecord) (n : ℕ) (rs : List LogRecord) → last_restart (kept_from shard log n rs) ≡ None
 none_kept shard log n [] = refl
 none_kept shard log n (r ∷ rs) = no_first (kept_of shard log n r) (kept_from shard log (suc n) rs) (kept_first shard log n r) ∙ none_kept shard log (suc n) rs
 
@@ -88,7 +88,7 @@ same_restart shard (r ∷ rs) =
 
 -- ---- places
 
-kept_length : (shard : ℕ) (log : List LogRecord) (n : ℕ) (rs : List LogRecord) → length (kept_from shard log n rs) ≡ length rs
+pub kept_length : (shard : ℕ) (log : List LogRecord) (n : ℕ) (rs : List LogRecord) → length (kept_from shard log n rs) ≡ length rs
 kept_length shard log n [] = refl
 kept_length shard log n (r ∷ rs) = ap suc (kept_length shard log (suc n) rs)
 

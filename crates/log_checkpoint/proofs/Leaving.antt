@@ -92,7 +92,7 @@ kept_listed : (shard : ℕ) (log : List LogRecord) (tx : TxId) (home : ℕ) (lis
 kept_listed shard log tx home listed true n vs = kept_other _ n (Prepare tx home []) vs refl
 kept_listed shard log tx home listed false n vs = kept_other _ n (Prepare tx home _) vs refl
 
-one_kept : (shard : ℕ) (log : List LogRecord) (n : ℕ) (r : LogRecord) (rs : List LogRecord) (ws : List StandingUpdate) → Falls n ws → standing_from (suc n) rs (standing_after n r ws) ≡ standing log
+pub one_kept : (shard : ℕ) (log : List LogRecord) (n : ℕ) (r : LogRecord) (rs : List LogRecord) (ws : List StandingUpdate) → Falls n ws → standing_from (suc n) rs (standing_after n r ws) ≡ standing log
     → standing_after n (kept_of shard log n r) (filter (stays log) ws) ≡ filter (stays log) (standing_after n r ws)
 one_kept shard log n (Update tx key before after) rs ws falls e =
     kept_write (not (committed_in log tx) && stands_at n (standing log)) n (Update tx key before after) (record { lsn = n; tx = tx; key = key; change = Sets before after }) (filter (stays log) ws) refl

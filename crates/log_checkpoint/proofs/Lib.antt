@@ -1,4 +1,5 @@
 pub mod Leaving
+pub mod StandingAlike
 pub mod Keeping
 pub mod Again
 pub mod Restarting

@@ -47,7 +47,7 @@ abort_stays shard log n (Restart run epoch) t left = refl
 abort_stays shard log n Forgotten t left = refl
 abort_stays shard log n (Check run epoch upto base) t left = refl
 
-aborts_stay : (shard : ℕ) (log : List LogRecord) (n : ℕ) (rs : List LogRecord) (t : TxId) → is_left_open log t ≡ true → aborted_in (kept_from shard log n rs) t ≡ aborted_in rs t
+pub aborts_stay : (shard : ℕ) (log : List LogRecord) (n : ℕ) (rs : List LogRecord) (t : TxId) → is_left_open log t ≡ true → aborted_in (kept_from shard log n rs) t ≡ aborted_in rs t
 aborts_stay shard log n [] t left = refl
 aborts_stay shard log n (r ∷ rs) t left =
     ap (λ b. b || aborted_in (kept_from shard log (suc n) rs) t) (abort_stays shard log n r t left) ∙ ap (λ b. is_abort_of t r || b) (aborts_stay shard log (suc n) rs t left)
@@ -90,7 +90,7 @@ in_writers t (w ∷ ws) =
 
 -- ---- the CLRs of some that are not committed
 
-newest_open : (log : List LogRecord) (ws : List StandingUpdate) (t : TxId) → committed_in log t ≡ false → newest_of t (filter (λ w. not (committed_in log w.tx)) ws) ≡ newest_of t ws
+pub newest_open : (log : List LogRecord) (ws : List StandingUpdate) (t : TxId) → committed_in log t ≡ false → newest_of t (filter (λ w. not (committed_in log w.tx)) ws) ≡ newest_of t ws
 newest_open log [] t u = refl
 newest_open log (w ∷ ws) t u = at (tx_same t w.tx) refl (committed_in log w.tx) refl (newest_open log ws t u)
   where

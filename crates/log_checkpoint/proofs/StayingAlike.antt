@@ -24,7 +24,7 @@ use Rattle.log_checkpoint.proofs.GoingOn.{of_open, stands_on, goes_on}
 
 -- ---- the last RESTART of a longer log
 
-abbrev over : Option (ℕ × ℕ) → Option (ℕ × ℕ) → Option (ℕ × ℕ)
+abbrev pub over : Option (ℕ × ℕ) → Option (ℕ × ℕ) → Option (ℕ × ℕ)
 over None o = o
 over (Some p) o = Some p
 
@@ -37,7 +37,7 @@ over_own p None None c e = ap (λ o. elim o [ Some q ↦ Some q | None ↦ Some 
 over_own p None (Some b) c e = ap (λ o. elim o [ Some q ↦ Some q | None ↦ Some p ]) e
 over_own p (Some a) b c e = ap (λ o. elim o [ Some q ↦ Some q | None ↦ Some p ]) e
 
-last_more : (xs ys : List LogRecord) → last_restart (xs ++ ys) ≡ over (last_restart ys) (last_restart xs)
+pub last_more : (xs ys : List LogRecord) → last_restart (xs ++ ys) ≡ over (last_restart ys) (last_restart xs)
 last_more [] ys = over_none (last_restart ys)
 last_more (Restart run epoch ∷ rs) ys = over_own (run, epoch) (last_restart ys) (last_restart rs) (last_restart (rs ++ ys)) (last_more rs ys)
 last_more (Check run epoch upto base ∷ rs) ys = over_own (run, epoch) (last_restart ys) (last_restart rs) (last_restart (rs ++ ys)) (last_more rs ys)
@@ -47,7 +47,7 @@ own_or : (p : ℕ × ℕ) (o : Option (ℕ × ℕ)) → elim o [ Some q ↦ Some
 own_or p None = refl
 own_or p (Some q) = refl
 
-first_last : (r : LogRecord) (rs : List LogRecord) → IsFirst r → last_restart (r ∷ rs) ≡ Some (no_restart (last_restart (r ∷ rs)))
+pub first_last : (r : LogRecord) (rs : List LogRecord) → IsFirst r → last_restart (r ∷ rs) ≡ Some (no_restart (last_restart (r ∷ rs)))
 first_last (Restart run epoch) rs f = own_or (run, epoch) (last_restart rs)
 first_last (Check run epoch upto base) rs f = own_or (run, epoch) (last_restart rs)
 first_last (Update tx key before after) rs f = absurd f
@@ -115,7 +115,7 @@ homes_stay shard log n (Forgotten ∷ rs) t u left = homes_stay shard log (suc n
 homes_stay shard log n (Check run epoch upto base ∷ rs) t u left = homes_stay shard log (suc n) rs t u left
 
 -- of one that isn't committed, nor left open, none stays
-none_stays : (shard : ℕ) (log : List LogRecord) (n : ℕ) (rs : List LogRecord) (t : TxId) → committed_in log t ≡ false → is_left_open log t ≡ false → prepare_of (kept_from shard log n rs) t ≡ None
+pub none_stays : (shard : ℕ) (log : List LogRecord) (n : ℕ) (rs : List LogRecord) (t : TxId) → committed_in log t ≡ false → is_left_open log t ≡ false → prepare_of (kept_from shard log n rs) t ≡ None
 none_stays shard log n [] t u left = refl
 none_stays shard log n (Prepare tx home listed ∷ rs) t u left = at (tx_same t tx) refl (none_stays shard log (suc n) rs t u left)
   where
@@ -167,11 +167,11 @@ fewer_stand f n (w ∷ ws) e =
     (λ in_ h. ⊎_elim (λ here. or_left _ _ here) (λ later. or_right (w.lsn == n) _ (fewer_stand f n ws later)) (or_cases (w.lsn == n) (stands_at n (filter f ws)) h))
     (λ out h. or_right (w.lsn == n) _ (fewer_stand f n ws h)) e
 
-has_abort : (front : List LogRecord) (tx : TxId) (rest : List LogRecord) → aborted_in (front ++ Abort tx ∷ rest) tx ≡ true
+pub has_abort : (front : List LogRecord) (tx : TxId) (rest : List LogRecord) → aborted_in (front ++ Abort tx ∷ rest) tx ≡ true
 has_abort [] tx rest = or_left _ _ (tx_self tx)
 has_abort (r ∷ rs) tx rest = or_right (is_abort_of tx r) _ (has_abort rs tx rest)
 
-has_prepare : (front : List LogRecord) (tx : TxId) (home : ℕ) (listed : List TxId) (rest : List LogRecord) → prepared_in (front ++ Prepare tx home listed ∷ rest) tx ≡ true
+pub has_prepare : (front : List LogRecord) (tx : TxId) (home : ℕ) (listed : List TxId) (rest : List LogRecord) → prepared_in (front ++ Prepare tx home listed ∷ rest) tx ≡ true
 has_prepare [] tx home listed rest = or_left _ _ (tx_self tx)
 has_prepare (r ∷ rs) tx home listed rest = or_right (is_prepare_of tx r) _ (has_prepare rs tx home listed rest)
 
@@ -195,7 +195,7 @@ module _ (shard : ℕ) (first : LogRecord) (later : List LogRecord) (more : List
   abbrev short : List LogRecord
   short = checked ++ more
 
-  moves_all : AllByRecursion (Moves log) more
+  pub moves_all : AllByRecursion (Moves log) more
   moves_all = all_mono (GoesOn shard log) (Moves log) one more goes
     where
       one : (r : LogRecord) → GoesOn shard log r → Moves log r
@@ -227,7 +227,7 @@ module _ (shard : ℕ) (first : LogRecord) (later : List LogRecord) (more : List
       one Forgotten g = tt
       one (Check run epoch upto base) g = tt
 
-  unaborted_write : AllByRecursion (Writer (aborted_in log)) more
+  pub unaborted_write : AllByRecursion (Writer (aborted_in log)) more
   unaborted_write = all_mono (GoesOn shard log) (Writer (aborted_in log)) one more goes
     where
       one : (r : LogRecord) → GoesOn shard log r → Writer (aborted_in log) r
@@ -279,7 +279,7 @@ module _ (shard : ℕ) (first : LogRecord) (later : List LogRecord) (more : List
 
   -- ---- who is committed, and of whom what stands
 
-  same_commit : (t : TxId) → committed_in log t ≡ false → committed_in short t ≡ committed_in long t
+  pub same_commit : (t : TxId) → committed_in log t ≡ false → committed_in short t ≡ committed_in long t
   same_commit t u =
       list_any-append (is_commit_of t) checked more
       ∙ ap (λ b. b || committed_in more t) (false_from_ne_true (committed_in checked t) (λ c. both_ways _ u (committed_before shard log t c)) ∙ sym u)
@@ -345,7 +345,7 @@ module _ (shard : ℕ) (first : LogRecord) (later : List LogRecord) (more : List
 
   -- ---- PREPAREs
 
-  cut_on : (listed : List TxId) → filter (λ p. not (committed_in short p)) (filter (λ p. not (committed_in log p)) listed) ≡ filter (λ p. not (committed_in long p)) listed
+  pub cut_on : (listed : List TxId) → filter (λ p. not (committed_in short p)) (filter (λ p. not (committed_in log p)) listed) ≡ filter (λ p. not (committed_in long p)) listed
   cut_on [] = refl
   cut_on (p ∷ ps) = at (committed_in log p) refl (cut_on ps)
     where
@@ -357,7 +357,7 @@ module _ (shard : ℕ) (first : LogRecord) (later : List LogRecord) (more : List
           ap (λ b. cond (not b) (p ∷ filter (λ q. not (committed_in short q)) (filter (λ q. not (committed_in log q)) ps)) (filter (λ q. not (committed_in short q)) (filter (λ q. not (committed_in log q)) ps))) (same_commit p u)
           ∙ ap (λ l. cond (not (committed_in long p)) (p ∷ l) l) rest
 
-  list_on : (listed : List TxId) → AllByRecursion (λ p. committed_in log p ≡ false) listed → filter (λ p. not (committed_in short p)) listed ≡ filter (λ p. not (committed_in long p)) listed
+  pub list_on : (listed : List TxId) → AllByRecursion (λ p. committed_in log p ≡ false) listed → filter (λ p. not (committed_in short p)) listed ≡ filter (λ p. not (committed_in long p)) listed
   list_on [] all = refl
   list_on (p ∷ ps) all =
       ap (λ b. cond (not b) (p ∷ filter (λ q. not (committed_in short q)) ps) (filter (λ q. not (committed_in short q)) ps)) (same_commit p all.0)

@@ -3,7 +3,7 @@ use Rattle.std.specs.Prelude.{◌≡◌, ⊤, ℕ, Bool, true, false, not, ◌||
 use Rattle.std.specs.List.{AllByRecursion, filter}
 use Rattle.clv_base.specs.declared.logs.LogRecord.{LogRecord}
 use Rattle.clv_base.specs.declared.logs.LogRecord.TheVariants.{Update, Clr, Prepare, Commit, Restart, Add, Unadd, Check}
-use Rattle.clv_base.specs.Logs.{StandingUpdate, is_setting, committed_in, prepared_in, aborted_in, has_standing, prepare_of, standing, in_doubt, base_of}
+use Rattle.clv_base.specs.Logs.{StandingUpdate, is_setting, committed_in, prepared_in, aborted_in, has_standing, prepare_of, standing, in_doubt, base_of, stands}
 use Rattle.clv_base.specs.LogRules.{last_restart}
 use Rattle.clv_base.specs.declared.names.TxId.{TxId}
 use Rattle.clv_base.specs.Folding.{IsRising}
@@ -28,6 +28,10 @@ abbrev pub CheckpointsKeepTheMap : Type 0
 CheckpointsKeepTheMap =
     (shard : ℕ) (log : List LogRecord) → Begins log
     → (committed_map (check shard log) ≡ committed_map log) × (no_restart (last_restart (check shard log)) ≡ no_restart (last_restart log)) × (length (check shard log) ≡ length log)
+
+abbrev pub CheckpointsStandAlike : Type 0
+CheckpointsStandAlike =
+    (shard : ℕ) (log : List LogRecord) → Begins log → IsRising (base_of log) → stands (check shard log ∷ []) ≡ stands (log ∷ [])
 
 -- behind the first records each PREPARE is its transaction's first
 abbrev pub IsNew : List LogRecord → LogRecord → Type 0

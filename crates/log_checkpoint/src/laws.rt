@@ -1,6 +1,6 @@
 // What a checkpoint keeps.
 
-ghost use Rattle.log_checkpoint.specs.Laws.{CheckpointsLeaveTheOpen, CheckpointsKeepTheMap, CheckpointsCheckOnce, CheckpointsRestartAlike, CheckpointsGoOn, CheckpointsStayAlike};
+ghost use Rattle.log_checkpoint.specs.Laws.{CheckpointsLeaveTheOpen, CheckpointsKeepTheMap, CheckpointsStandAlike, CheckpointsCheckOnce, CheckpointsRestartAlike, CheckpointsGoOn, CheckpointsStayAlike};
 
 /// In the checkpoint of a log the writes of those stand that are not committed in the log, at the same places and in the same order.
 pub fn checkpoints_leave_the_open()
@@ -10,6 +10,11 @@ pub fn checkpoints_leave_the_open()
 /// The map of those committed, and the last RESTART, are a log's and its checkpoint's; and they have as many places.
 pub fn checkpoints_keep_the_map()
     ensures { CheckpointsKeepTheMap }
+{}
+
+/// A log and its checkpoint stand for the same map.
+pub fn checkpoints_stand_alike()
+    ensures { CheckpointsStandAlike }
 {}
 
 /// The checkpoint of a checkpoint is itself.

@@ -6,13 +6,13 @@ use Rattle.io_model.specs.Story.{Story, Write, Sync, Write_failed, Sync_failed, 
 use Rattle.io_model.specs.Crash.{AtEachMoment}
 use Rattle.io_model.proofs.Laws.Moments.{moments_start, moments_call}
 use Rattle.log_gate.specs.Payloads.{IsPayload, batch, opened}
-use Rattle.log_gate.specs.Gate.{Stands, StandsOrMore, EachNow, IsSettled}
+use Rattle.log_gate.specs.Gate.{Stands, StandsOrMore, DiskNow, IsSettled}
 use Rattle.log_gate.specs.Push.{staged, written, opening, pushed, Pushes}
 use Rattle.log_gate.proofs.Places.{torn_behind, put_behind, torn_gate, put_gate}
 use Rattle.log_gate.proofs.Opened.{opened-append, opened-push}
 
 -- what a gate that is settled stands for
-pub settled_now : (front : List ℕ) (at : ℕ) (ps : List (List ℕ)) (s : Story) → IsSettled front at ps s → EachNow (Stands front ps) s
+pub settled_now : (front : List ℕ) (at : ℕ) (ps : List (List ℕ)) (s : Story) → IsSettled front at ps s → DiskNow (Stands front ps) s
 settled_now front at ps s set = record { read = set.stands; images = λ image is. subst (Stands front ps) (sym (set.durable image is)) set.stands }
 
 all-append : (ps : List (List ℕ)) (p : List ℕ) → AllByRecursion IsPayload ps → IsPayload p → AllByRecursion IsPayload (ps ++ p ∷ [])
@@ -98,7 +98,7 @@ module _ (front : List ℕ) (at : ℕ) (ps : List (List ℕ)) (p : List ℕ) (s 
   to_opening : AtEachMoment s (opening at bytes s) P
   to_opening = moments_call s (written at bytes s) (Write at (1 ∷ [])) P to_written opening_images
 
-  pushed_log : EachNow (Stands front (ps ++ p ∷ [])) (pushed at bytes s)
+  pushed_log : DiskNow (Stands front (ps ++ p ∷ [])) (pushed at bytes s)
   pushed_log = settled_now front (at + 1 + length (batch p)) (ps ++ p ∷ []) (pushed at bytes s) push_settled
 
   to_pushed : AtEachMoment s (pushed at bytes s) P

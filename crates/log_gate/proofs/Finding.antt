@@ -1,100 +1,147 @@
 -- What an opening finds, from what its parts find.
-use Rattle.std.proofs.Common.{◌≡◌, ℕ, min, List, length, take, drop, Vec, Option, Some, None, IfSome, Result, Ok, Err, sym, ◌∙◌, ap, subst, arith}
+use Rattle.std.proofs.Common.{◌≡◌, ℕ, zero, suc, ◌-◌, ◌≤◌, List, [], ◌∷◌, take, Vec, Option, Some, None, Bool, true, false, cond, ◌&&◌, Result, Ok, Err, refl, sym, ◌∙◌, ap, subst, arith}
 use Rattle.std.specs.declared.alloc.Global.{Global}
-use Rattle.std.proofs.lemmas.List.{take_min}
+use Rattle.std.proofs.lemmas.List.{take-take, length-take}
 use Rattle.clv_base.specs.declared.logs.LogRecord.{LogRecord}
 use Rattle.clv_base.specs.FileRules.{passes_file_rules}
-use Rattle.io_model.specs.Story.{Story, Len, Sync, Sync_failed, after, reads}
-use Rattle.io_model.specs.Disk.{Tells, MayNote}
-use Rattle.io_model.proofs.Laws.Told.{tells_then, tells_weaker}
-use Rattle.log_gate.specs.declared.header.Header.{Header}
-use Rattle.log_gate.specs.declared.error.ParseError.{ParseError}
-use Rattle.log_gate.specs.declared.error.ParseError.TheVariants as parsing
+use Rattle.io_model.specs.Story.{Sync, after}
+use Rattle.io_model.specs.Sides.{Stories, Images, reads_both}
+use Rattle.log_gate.specs.declared.choosing.Choice.{Choice}
 use Rattle.log_gate.specs.declared.error.OpenLogError.{OpenLogError}
 use Rattle.log_gate.specs.declared.error.OpenLogError.TheVariants.{NotLog, Failed, Memory}
+use Rattle.log_gate.specs.declared.error.ParseError.{ParseError}
+use Rattle.log_gate.specs.declared.error.ParseError.TheVariants as parsing
 use Rattle.log_gate.specs.Errors.{of_parsing}
-use Rattle.log_gate.specs.Header.{header_size, header_of, IsHeader}
-use Rattle.log_gate.specs.Image.{records_in, behind_header, with_header}
-use Rattle.log_gate.specs.Opening.{Looked, Looks, Gives, ParsesAs, FindsHeader, FindsRecords, FindsLog, Finds, IsUnchanged}
-use Rattle.log_gate.proofs.Fronts.{header_in_front, header_of_front}
-use Rattle.log_gate.proofs.Looking.{looked_call, looked_note, looked_then}
-use Rattle.log_gate.proofs.Unchanged.{rested, unsynced}
+use Rattle.log_gate.specs.Header.{magic, same_bytes, header_size, header_of_1, header_of_2}
+use Rattle.log_gate.specs.Sides.{begins_with, is_in_use, is_version_1, Chosen, chosen_by, newer_behind, both_in_use, chosen_by_use, chosen_of, side_of, image_of, MayStandBeside}
+use Rattle.log_gate.specs.Image.{records_in, behind_chosen, with_header}
+use Rattle.log_gate.specs.Gate.{IsDurable}
+use Rattle.log_gate.specs.Opening.{chosen, Gives, Looked, ParsesAs, IsFront, FindsSide, FindsRecords, FindsLog, Finds, DiskUnchanged, IsUnchanged}
+use Rattle.log_gate.proofs.Fronts.{reaches, header_in_front_1, header_in_front_2}
+use Rattle.log_gate.proofs.Agreed.{unagreed_side}
+use Rattle.log_gate.proofs.WhichSide.{beside_chosen}
+use Rattle.log_gate.proofs.Unchanged.{rested, both_unchanged}
 
--- the header, in the front
-module _ (shard : ℕ) (agreed : Option (List ℕ)) (bytes got : List ℕ) (len count : ℕ) (long : length bytes ≡ len) (many : count ≡ min 140 len) (is : got ≡ take count (drop 0 bytes)) where
-  front : got ≡ take 140 bytes
-  front =
-      let all : count ≡ min 140 (length bytes) = omega (arith, many, long) in
-      is ∙ ap (λ (n : ℕ). take n bytes) all ∙ take_min 140 bytes
+-- ---- which side is the log is seen in the first 148 bytes of both
 
-  alike : header_of shard agreed got ≡ header_of shard agreed bytes
-  alike = ap (header_of shard agreed) front ∙ header_in_front shard agreed bytes
+used_in_front : (bytes : List ℕ) → is_in_use (take 148 bytes) ≡ is_in_use bytes
+used_in_front [] = refl
+used_in_front (b ∷ bytes) = ap (λ (t : Bool). begins_with 67 (b ∷ bytes) && t) (reaches 28 148 (b ∷ bytes) (omega arith))
 
-  pub header_good : (header : Header) → header_of shard agreed got ≡ Ok header.splits → IsHeader shard got header.splits → FindsHeader shard agreed (Ok header) bytes
-  header_good header found stands = (sym alike ∙ found, header_of_front shard bytes header.splits (subst (λ (l : List ℕ). IsHeader shard l header.splits) front stands))
+version_in_front : (bytes : List ℕ) → is_version_1 (take 148 bytes) ≡ is_version_1 bytes
+version_in_front bytes = ap (λ (l : List ℕ). same_bytes l (magic 1)) (take-take 8 148 bytes (omega arith))
 
-  pub header_bad : (p : ParseError) (e : OpenLogError) → e ≡ of_parsing p → Gives (λ (h : Header). h.splits) (Err p) (header_of shard agreed got) → FindsHeader shard agreed (Err e) bytes
-  header_bad (parsing.NotLog place) e told bad = subst (λ (x : OpenLogError). FindsHeader shard agreed (Err x) bytes) (sym told) (sym alike ∙ bad)
-  header_bad parsing.Memory e told bad = subst (λ (x : OpenLogError). FindsHeader shard agreed (Err x) bytes) (sym told) tt
+-- the fronts of both
+abbrev pub fronts_of : Images → Images
+fronts_of images = record { side0 = take 148 images.side0; side1 = take 148 images.side1 }
 
--- the log, from its header and its records
-module _ (shard : ℕ) (agreed : Option (List ℕ)) (bytes : List ℕ) where
-  pub no_header : (e : OpenLogError) → FindsHeader shard agreed (Err e) bytes → FindsLog shard agreed (Err e) bytes
-  no_header (NotLog offset) bad = ap (behind_header (λ splits. passes_file_rules splits shard) bytes) bad
-  no_header Failed bad = tt
-  no_header Memory bad = tt
+module _ (shard : ℕ) (agreed : Option (List ℕ)) (images : Images) where
+  by_use : (a b : Bool) → chosen_by_use shard agreed (fronts_of images) a b ≡ chosen_by_use shard agreed images a b
+  by_use true true = ap (both_in_use shard (take 148 images.side1)) (header_in_front_2 shard agreed images.side0) ∙ second (header_of_2 shard agreed images.side0)
+    where
+      second : (r : Result (List ℕ × ℕ) ℕ) → both_in_use shard (take 148 images.side1) r ≡ both_in_use shard images.side1 r
+      second (Ok h) = ap (newer_behind h) (header_in_front_2 shard (Some h.0) images.side1)
+      second (Err place) = refl
+  by_use true false = ap (chosen_by 0) (header_in_front_2 shard agreed images.side0)
+  by_use false true = ap (chosen_by 1) (header_in_front_2 shard agreed images.side1)
+  by_use false false = refl
 
-  pub no_records : (header : Header) (n : ℕ) (e : OpenLogError) → n ≡ shard → FindsHeader shard agreed (Ok header) bytes → FindsRecords (passes_file_rules header.splits n) (header_size header.splits) (Err e) bytes → FindsLog shard agreed (Err e) bytes
-  no_records header n (NotLog offset) same found bad =
-      ap (behind_header (λ splits. passes_file_rules splits shard) bytes) found.0
-      ∙ ap (with_header header.splits) (subst (λ (m : ℕ). FindsRecords (passes_file_rules header.splits m) (header_size header.splits) (Err (NotLog offset)) bytes) same bad)
-  no_records header n Failed same found bad = tt
-  no_records header n Memory same found bad = tt
+  pub chosen_in_front : chosen_of shard agreed (fronts_of images) ≡ chosen_of shard agreed images
+  chosen_in_front =
+      ap (λ (v : Bool). cond v (chosen_by 0 (header_of_1 shard agreed (take 148 images.side0))) (chosen_by_use shard agreed (fronts_of images) (is_in_use (take 148 images.side0)) (is_in_use (take 148 images.side1)))) (version_in_front images.side0)
+      ∙ ap (λ (r : Result (List ℕ × ℕ) ℕ). cond (is_version_1 images.side0) (chosen_by 0 r) (chosen_by_use shard agreed (fronts_of images) (is_in_use (take 148 images.side0)) (is_in_use (take 148 images.side1)))) (header_in_front_1 shard agreed images.side0)
+      ∙ ap (λ (a : Bool). cond (is_version_1 images.side0) (chosen_by 0 (header_of_1 shard agreed images.side0)) (chosen_by_use shard agreed (fronts_of images) a (is_in_use (take 148 images.side1)))) (used_in_front images.side0)
+      ∙ ap (λ (b : Bool). cond (is_version_1 images.side0) (chosen_by 0 (header_of_1 shard agreed images.side0)) (chosen_by_use shard agreed (fronts_of images) (is_in_use images.side0) b)) (used_in_front images.side1)
+      ∙ ap (λ (r : Result Chosen ℕ). cond (is_version_1 images.side0) (chosen_by 0 (header_of_1 shard agreed images.side0)) r) (by_use (is_in_use images.side0) (is_in_use images.side1))
 
-  pub whole_log : (header : Header) (n : ℕ) (records : Vec LogRecord Global) (at : ℕ) → n ≡ shard → FindsHeader shard agreed (Ok header) bytes → FindsRecords (passes_file_rules header.splits n) (header_size header.splits) (Ok (records, at)) bytes
-      → FindsLog shard agreed (Ok (header, records, at)) bytes
-  whole_log header n records at same found parsed =
-      let here = subst (λ (m : ℕ). ParsesAs (passes_file_rules header.splits m) (records_in (passes_file_rules header.splits m)) (header_size header.splits) bytes records.items at) same parsed in
-      record {
-        is = ap (behind_header (λ splits. passes_file_rules splits shard) bytes) found.0 ∙ ap (with_header header.splits) here.is;
-        few = found.1.few;
-        rise = found.1.rise;
-        front = found.1.front;
-        parsed = here;
-      }
+-- a header that stands in the front stands in all
+pub front_in_all : (shard : ℕ) (c : Chosen) (bytes : List ℕ) → IsFront shard c (take 148 bytes) → IsFront shard c bytes
+front_in_all shard c bytes front = record {
+  choice = front.choice;
+  long = omega (arith, front.long, length-take 148 bytes);
+  front = sym (take-take (header_size c.splits c.generation) 148 bytes (omega (arith, front.long, length-take 148 bytes))) ∙ front.front;
+}
 
--- a length that was asked is that of what a read gives
-pub measured : (o n : Option Story) (len : ℕ) → Tells o n (λ s t. (t ≡ after Len s) × (len ≡ length (reads s))) → IfSome n (λ s. length (reads s) ≡ len)
-measured None n len told = subst (λ (v : Option Story). IfSome v (λ s. length (reads s) ≡ len)) (sym told) tt
-measured (Some s) n len (t, is, (noted, long)) =
-    subst (λ (v : Option Story). IfSome v (λ s. length (reads s) ≡ len)) (sym is) (subst (λ (v : Story). length (reads v) ≡ len) (sym noted) (sym long))
+side_front : (side : ℕ) (images : Images) → image_of (fronts_of images) side ≡ take 148 (image_of images side)
+side_front zero images = refl
+side_front (suc n) images = refl
+
+pub side_good : (shard : ℕ) (agreed : Option (List ℕ)) (images fronts : Images) (choice : Choice) → fronts ≡ fronts_of images → chosen_of shard agreed fronts ≡ Ok (chosen choice) → IsFront shard (chosen choice) (image_of fronts choice.side) → FindsSide shard agreed (Ok choice) images
+side_good shard agreed images fronts choice same found front = (
+  sym (ap (chosen_of shard agreed) same ∙ chosen_in_front shard agreed images) ∙ found,
+  front_in_all shard (chosen choice) (image_of images choice.side)
+      (subst (IsFront shard (chosen choice)) (ap (λ (i : Images). image_of i choice.side) same ∙ side_front choice.side images) front),
+)
+
+side_bad : (shard : ℕ) (agreed : Option (List ℕ)) (images fronts : Images) (place : ℕ) → fronts ≡ fronts_of images → chosen_of shard agreed fronts ≡ Err place → FindsSide shard agreed (Err (NotLog place)) images
+side_bad shard agreed images fronts place same bad = sym (ap (chosen_of shard agreed) same ∙ chosen_in_front shard agreed images) ∙ bad
+
+pub side_not : (shard : ℕ) (agreed : Option (List ℕ)) (images fronts : Images) (e : ParseError) → fronts ≡ fronts_of images → Gives {A = Choice} (λ c. chosen c) (Err e) (chosen_of shard agreed fronts) → FindsSide shard agreed (Err (of_parsing e)) images
+side_not shard agreed images fronts (parsing.NotLog place) same bad = side_bad shard agreed images fronts place same bad
+side_not shard agreed images fronts parsing.Memory same bad = tt
+
+-- ---- the log, from its side and its records
+
+module _ (shard : ℕ) (agreed : Option (List ℕ)) (images : Images) where
+  pub no_side : (e : OpenLogError) → FindsSide shard agreed (Err e) images → FindsLog shard agreed (Err e) images
+  no_side (NotLog offset) bad = ap (behind_chosen (λ splits. passes_file_rules splits shard) images) bad
+  no_side Failed bad = tt
+  no_side Memory bad = tt
+
+  module _ (choice : Choice) (n : ℕ) (same : n ≡ shard) (found : FindsSide shard agreed (Ok choice) images) where
+    abbrev head : ℕ
+    head = header_size choice.header.splits choice.generation
+
+    abbrev log_bytes : List ℕ
+    log_bytes = image_of images choice.side
+
+    pub no_records : (e : OpenLogError) → FindsRecords (passes_file_rules choice.header.splits n) head (Err e) log_bytes → FindsLog shard agreed (Err e) images
+    no_records (NotLog offset) bad =
+        ap (behind_chosen (λ splits. passes_file_rules splits shard) images) found.0
+        ∙ ap (with_header choice.header.splits) (subst (λ (m : ℕ). FindsRecords (passes_file_rules choice.header.splits m) head (Err (NotLog offset)) log_bytes) same bad)
+    no_records Failed bad = tt
+    no_records Memory bad = tt
+
+    -- what stands on the other side yields to it
+    other : (c : Chosen) → c.side ≤ 1 → MayStandBeside shard c (side_of images.side1 images.side0 c.side) → MayStandBeside shard c (image_of images (1 - c.side))
+    other c few beside = subst (MayStandBeside shard c) (by c.side few) beside
+      where
+        by : (side : ℕ) → side ≤ 1 → side_of images.side1 images.side0 side ≡ image_of images (1 - side)
+        by zero few = refl
+        by (suc zero) few = refl
+        by (suc (suc n)) few = absurd (omega arith)
+
+    unagreed : (o : Option (List ℕ)) → chosen_of shard o images ≡ Ok (chosen choice) → chosen_of shard None images ≡ Ok (chosen choice)
+    unagreed None is = is
+    unagreed (Some agreed) is = (unagreed_side shard agreed images (chosen choice) is).0
+
+    pub whole_log : (records : Vec LogRecord Global) (at : ℕ) → FindsRecords (passes_file_rules choice.header.splits n) head (Ok (records, at)) log_bytes → FindsLog shard agreed (Ok (choice, records, at)) images
+    whole_log records at parsed =
+        let here = subst (λ (m : ℕ). ParsesAs (passes_file_rules choice.header.splits m) (records_in (passes_file_rules choice.header.splits m)) head log_bytes records.items at) same parsed in
+        record {
+          is = ap (behind_chosen (λ splits. passes_file_rules splits shard) images) found.0 ∙ ap (with_header choice.header.splits) here.is;
+          front = found.1;
+          parsed = here;
+          beside = other (chosen choice) found.1.choice.side (beside_chosen shard images (chosen choice) (unagreed agreed found.0));
+        }
+
+-- ---- both sides are settled, and then looked at
 
 module _ (shard : ℕ) (agreed : Option (List ℕ)) where
-  abbrev Opens : Result (Header × Vec LogRecord Global × ℕ) OpenLogError → Story → Story → Type 0
+  abbrev pub Opens : Result (Choice × Vec LogRecord Global × ℕ) OpenLogError → Stories → Stories → Type 0
   Opens r s t = IsUnchanged s t × Finds shard agreed r s t
 
-  finds : (r : Result (Header × Vec LogRecord Global × ℕ) OpenLogError) (s t : Story) → Looked (after Sync s) t → FindsLog shard agreed r (reads s) → Opens r s t
-  finds (Ok found) s t looked log = ((rested s t looked).0, (log, (rested s t looked).1))
-  finds (Err e) s t looked log = ((rested s t looked).0, log)
-
-  -- a sync, the length, and what was found behind them
-  pub opening_told : (o a b n : Option Story) (len : ℕ) (r : Result (Header × Vec LogRecord Global × ℕ) OpenLogError)
-      → Tells o a (λ s t. t ≡ after Sync s) → Tells a b (λ s t. (t ≡ after Len s) × (len ≡ length (reads s))) → Tells b n (Looks (FindsLog shard agreed r)) → Tells o n (Opens r)
-  opening_told o a b n len r synced asked found =
-      tells_weaker o n _ (Opens r) (λ s t _ _ h. each s h.0 h.1.0 t h.1.1 h.1.2.0 h.2) (tells_then o b n _ (Looks (FindsLog shard agreed r)) (tells_then o a b (λ s t. t ≡ after Sync s) (λ s t. (t ≡ after Len s) × (len ≡ length (reads s))) synced asked) found)
+  -- each side was looked at after a sync, and this is what was found
+  pub opens : (r : Result (Choice × Vec LogRecord Global × ℕ) OpenLogError) (s t : Stories) → Looked (after Sync s.side0) t.side0 → Looked (after Sync s.side1) t.side1 → FindsLog shard agreed r (reads_both s) → Opens r s t
+  opens r s t looked0 looked1 log =
+      let a = rested s.side0 t.side0 looked0 in
+      let b = rested s.side1 t.side1 looked1 in
+      by r log (both_unchanged s t a.0 b.0) a.1 b.1
     where
-      each : (s m b t : Story) → b ≡ after Sync s → m ≡ after Len b → Looks (FindsLog shard agreed r) m t → Opens r s t
-      each s m b t first next looks =
-          let whole : m ≡ after Len (after Sync s) = next ∙ ap (after Len) first in
-          let last = subst (λ (v : Story). Looks (FindsLog shard agreed r) v t) whole looks in
-          finds r s t (looked_then (after Sync s) (after Len (after Sync s)) t (looked_call (after Sync s) Len tt) last.0) last.1
+      by : (r : Result (Choice × Vec LogRecord Global × ℕ) OpenLogError) → FindsLog shard agreed r (reads_both s) → IsUnchanged s t → IsDurable t.side0 → IsDurable t.side1 → Opens r s t
+      by (Ok found) log same firm0 firm1 = (same, (log, firm0, firm1))
+      by (Err e) log same firm0 firm1 = (same, log)
 
-  -- a sync failed, or the length wasn't told
-  pub no_sync : (o n : Option Story) (e : OpenLogError) → e ≡ Failed → Tells o n (MayNote Sync_failed) → Tells o n (Opens (Err e))
-  no_sync o n e is told = tells_weaker o n (MayNote Sync_failed) (Opens (Err e)) (λ s t _ _ h. (unsynced s t h, subst (λ (x : OpenLogError). FindsLog shard agreed (Err x) (reads s)) (sym is) tt)) told
-
-  pub no_length : (o a n : Option Story) (e : OpenLogError) → e ≡ Failed → Tells o a (λ s t. t ≡ after Sync s) → Tells a n (MayNote Len) → Tells o n (Opens (Err e))
-  no_length o a n e is synced asked =
-      tells_weaker o n _ (Opens (Err e))
-      (λ s t _ _ h. (finds (Err e) s t (looked_note (after Sync s) t Len tt (subst (λ (v : Story). MayNote Len v t) h.1 h.2)) (subst (λ (x : OpenLogError). FindsLog shard agreed (Err x) (reads s)) (sym is) tt)))
-      (tells_then o a n (λ s t. t ≡ after Sync s) (MayNote Len) synced asked)
+  -- an error, where neither side was changed
+  pub opens_not : (e : OpenLogError) (s t : Stories) → DiskUnchanged s.side0 t.side0 → DiskUnchanged s.side1 t.side1 → FindsLog shard agreed (Err e) (reads_both s) → Opens (Err e) s t
+  opens_not e s t same0 same1 log = (both_unchanged s t same0 same1, log)

@@ -3,6 +3,12 @@ pub mod Places
 pub mod Parsing
 pub mod Recording
 pub mod Crash
+pub mod WrittenAnew
+pub mod Extending
+pub mod Switching
+pub mod Switched
+pub mod SwitchViews
+pub mod LogStays
 pub mod Numbers
 pub mod Headers
 pub mod Records
@@ -17,8 +23,13 @@ pub mod Pieces
 pub mod Steps
 pub mod Fronts
 pub mod Unchanged
+pub mod Knowing
+pub mod Lengths
 pub mod Finding
+pub mod BothFound
+pub mod Heads
 pub mod Agreed
+pub mod WhichSide
 pub mod ManyLogs
 pub mod ReopenedUnchanged
 pub mod Laws

@@ -1,23 +1,32 @@
--- The header of a shard's log: magic, version 1, the shard, the number of shards, and the splits.
+-- The header of a side of a shard's log: magic, version, the shard, the number of shards, the splits, and in version 2 the generation.
 use Rattle.std.specs.Prelude.{◌≡◌, ℕ, zero, suc, ◌+◌, ◌-◌, ◌*◌, ◌<◌, ◌≤◌, ◌^◌, List, [], ◌∷◌, ◌++◌, length, take, drop, Bool, true, false, ◌&&◌, nat_le, nat_lt, nat_eq, get_or, Option, Some, None, Result, Ok, Err, if◌then◌else◌}
 use Rattle.std.specs.List.{flat_map}
 use Rattle.byteorder.specs.Endian.{little_bytes, little_number}
 
--- the text CLVLOG01
-abbrev pub magic : List ℕ
-magic = 67 ∷ 76 ∷ 86 ∷ 76 ∷ 79 ∷ 71 ∷ 48 ∷ 49 ∷ []
+-- the text CLVLOG01 or CLVLOG02
+abbrev pub magic : ℕ → List ℕ
+magic version = 67 ∷ 76 ∷ 86 ∷ 76 ∷ 79 ∷ 71 ∷ 48 ∷ (48 + version) ∷ []
 
--- the header's bytes, with numbers lowest byte first
-unfoldable pub header_bytes : ℕ → List ℕ → List ℕ
-header_bytes shard splits = magic ++ (little_bytes 4 1 ++ (little_bytes 4 shard ++ (little_bytes 4 (suc (length splits)) ++ flat_map (little_bytes 8) splits)))
+-- the fields that both versions have, with numbers lowest byte first
+unfoldable pub field_bytes : (version shard : ℕ) → List ℕ → List ℕ
+field_bytes version shard splits = magic version ++ (little_bytes 4 version ++ (little_bytes 4 shard ++ (little_bytes 4 (suc (length splits)) ++ flat_map (little_bytes 8) splits)))
+
+abbrev pub fields_size : List ℕ → ℕ
+fields_size splits = 20 + 8 * length splits
+
+-- The header's bytes. Generation 0 stands for version 1, which has none.
+abbrev pub header_bytes : (shard : ℕ) → (splits : List ℕ) → (generation : ℕ) → List ℕ
+header_bytes shard splits zero = field_bytes 1 shard splits
+header_bytes shard splits (suc g) = field_bytes 2 shard splits ++ little_bytes 8 (suc g)
+
+-- how many they are
+abbrev pub header_size : (splits : List ℕ) → (generation : ℕ) → ℕ
+header_size splits zero = fields_size splits
+header_size splits (suc g) = fields_size splits + 8
 
 -- what the headers of all logs of a store say alike
 pub record Layout : Type 0 where
   pub splits : List ℕ
-
--- how many they are
-abbrev pub header_size : List ℕ → ℕ
-header_size splits = 20 + 8 * length splits
 
 abbrev pub same_bytes : List ℕ → List ℕ → Bool
 same_bytes [] [] = true
@@ -61,17 +70,37 @@ has_count agreed bytes =
     && (nat_le 1 (little_number 4 (drop 16 bytes)) && (nat_le (little_number 4 (drop 16 bytes)) 16 && agrees_on_count agreed (little_number 4 (drop 16 bytes) - 1)))
 
 -- what stands behind a field that is as it should be
-abbrev pub behind_field : Bool → ℕ → Result (List ℕ) ℕ → Result (List ℕ) ℕ
+abbrev pub behind_field : {X : Type 0} → Bool → ℕ → Result X ℕ → Result X ℕ
 behind_field holds place rest = if holds then rest else Err place
 
--- the splits of the header of this shard; or the place of the first field that isn't as it should be
-unfoldable pub header_of : (shard : ℕ) → (agreed : Option (List ℕ)) → List ℕ → Result (List ℕ) ℕ
-header_of shard agreed bytes =
-    behind_field (same_bytes (take 8 bytes) magic) 0
-    (behind_field (has_number 8 1 bytes) 8
+-- the splits of the header of this version and shard; or the place of the first field that isn't as it should be
+unfoldable pub fields_of : (version shard : ℕ) → (agreed : Option (List ℕ)) → List ℕ → Result (List ℕ) ℕ
+fields_of version shard agreed bytes =
+    behind_field (same_bytes (take 8 bytes) (magic version)) 0
+    (behind_field (has_number 8 version bytes) 8
     (behind_field (has_number 12 shard bytes) 12
     (behind_field (has_count agreed bytes) 16
     (splits_from agreed (little_number 4 (drop 16 bytes) - 1) 0 0 (drop 20 bytes)))))
+
+-- a generation of at least 1 stands at this place
+abbrev pub has_generation : ℕ → List ℕ → Bool
+has_generation place bytes = nat_le (place + 8) (length bytes) && nat_lt 0 (little_number 8 (drop place bytes))
+
+-- behind the splits, or nothing in version 1
+abbrev pub with_generation : List ℕ → Result (List ℕ) ℕ → Result (List ℕ × ℕ) ℕ
+with_generation bytes (Err place) = Err place
+with_generation bytes (Ok splits) = behind_field (has_generation (fields_size splits) bytes) (fields_size splits) (Ok (splits, little_number 8 (drop (fields_size splits) bytes)))
+
+abbrev pub with_no_generation : Result (List ℕ) ℕ → Result (List ℕ × ℕ) ℕ
+with_no_generation (Err place) = Err place
+with_no_generation (Ok splits) = Ok (splits, 0)
+
+-- the splits and the generation of the header of this shard, by version; or the place of the first field that isn't as it should be
+abbrev pub header_of_1 : (shard : ℕ) → (agreed : Option (List ℕ)) → List ℕ → Result (List ℕ × ℕ) ℕ
+header_of_1 shard agreed bytes = with_no_generation (fields_of 1 shard agreed bytes)
+
+abbrev pub header_of_2 : (shard : ℕ) → (agreed : Option (List ℕ)) → List ℕ → Result (List ℕ × ℕ) ℕ
+header_of_2 shard agreed bytes = with_generation bytes (fields_of 2 shard agreed bytes)
 
 -- the least that the next split may be
 abbrev pub least_after : Option ℕ → ℕ
@@ -83,9 +112,17 @@ abbrev pub Rise : ℕ → List ℕ → Type 0
 Rise least [] = Unit {0}
 Rise least (s ∷ splits) = (least ≤ s) × (s < 2 ^ 64) × Rise (s + 1) splits
 
--- these bytes begin with the header of this shard, with these splits
-pub record IsHeader (shard : ℕ) (bytes splits : List ℕ) : Type 0 where
+-- these bytes begin with the fields of this version and shard, with these splits
+pub record HasFields (version shard : ℕ) (bytes splits : List ℕ) : Type 0 where
   pub few : length splits ≤ 15
   pub rise : Rise 0 splits
-  pub long : header_size splits ≤ length bytes
-  pub front : take (header_size splits) bytes ≡ header_bytes shard splits
+  pub long : fields_size splits ≤ length bytes
+  pub front : take (fields_size splits) bytes ≡ field_bytes version shard splits
+
+-- these bytes begin with the header of this shard, with these splits and this generation
+pub record IsHeader (shard : ℕ) (bytes splits : List ℕ) (generation : ℕ) : Type 0 where
+  pub few : length splits ≤ 15
+  pub rise : Rise 0 splits
+  pub fits : generation < 2 ^ 64
+  pub long : header_size splits generation ≤ length bytes
+  pub front : take (header_size splits generation) bytes ≡ header_bytes shard splits generation

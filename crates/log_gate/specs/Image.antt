@@ -1,4 +1,4 @@
--- The log of an image of a shard's disk: its header's splits, and the records of the batches behind open gates.
+-- The log of images of a shard's sides: its header's splits, and the records of the batches behind open gates.
 use Rattle.std.specs.Prelude.{◌≡◌, ◌⊎◌, ℕ, zero, suc, ◌+◌, ◌-◌, List, [], ◌∷◌, ◌++◌, length, Bool, true, Option, Some, None, Result, Ok, Err, if◌then◌else◌, IsTrue}
 use Rattle.std.specs.List.{flat_map, list_all}
 use Rattle.clv_base.specs.declared.logs.LogRecord.{LogRecord}
@@ -7,7 +7,9 @@ use Rattle.log_records.specs.Spelling.{spelling}
 use Rattle.log_records.specs.Reading.{record_at}
 use Rattle.log_gate.specs.Payloads.{IsPayload}
 use Rattle.log_gate.specs.Records.{record_log}
-use Rattle.log_gate.specs.Header.{Layout, header_size, header_of}
+use Rattle.io_model.specs.Sides.{Images}
+use Rattle.log_gate.specs.Header.{Layout, header_size}
+use Rattle.log_gate.specs.Sides.{Chosen, chosen_of, image_of}
 
 -- these bytes are the spellings of these records, one behind the other
 pub record SpellAll (records : List LogRecord) (payload : List ℕ) : Type 0 where
@@ -46,38 +48,38 @@ abbrev pub with_header : List ℕ → Result (List LogRecord) ℕ → Result (Li
 with_header splits (Ok records) = Ok (splits, records)
 with_header splits (Err place) = Err place
 
--- the records behind a header that was found, where each passes
-abbrev pub behind_header : (List ℕ → LogRecord → Bool) → List ℕ → Result (List ℕ) ℕ → Result (List ℕ × List LogRecord) ℕ
-behind_header passes image (Ok splits) = with_header splits (record_log (records_in (passes splits)) (header_size splits) image)
-behind_header passes image (Err place) = Err place
+-- the records of the side that is the log, where each passes
+abbrev pub behind_chosen : (List ℕ → LogRecord → Bool) → Images → Result Chosen ℕ → Result (List ℕ × List LogRecord) ℕ
+behind_chosen passes images (Ok c) = with_header c.splits (record_log (records_in (passes c.splits)) (header_size c.splits c.generation) (image_of images c.side))
+behind_chosen passes images (Err place) = Err place
 
--- the log of an image of this shard's disk: the splits of its header, and its records; or the first place that breaks the format
-abbrev pub log_of : (shard : ℕ) → (image : List ℕ) → Result (List ℕ × List LogRecord) ℕ
-log_of shard image = behind_header (λ splits r. true) image (header_of shard None image)
+-- the log of images of this shard's sides: the splits of its header, and its records; or the first place that breaks the format
+abbrev pub log_of : (shard : ℕ) → Images → Result (List ℕ × List LogRecord) ℕ
+log_of shard images = behind_chosen (λ splits r. true) images (chosen_of shard None images)
 
 -- The same where splits may be agreed on, and homes, parts and keys must lie within what the header says.
-abbrev pub checked_log : (shard : ℕ) → (agreed : Option (List ℕ)) → (image : List ℕ) → Result (List ℕ × List LogRecord) ℕ
-checked_log shard agreed image = behind_header (λ splits. passes_file_rules splits shard) image (header_of shard agreed image)
+abbrev pub checked_log : (shard : ℕ) → (agreed : Option (List ℕ)) → Images → Result (List ℕ × List LogRecord) ℕ
+checked_log shard agreed images = behind_chosen (λ splits. passes_file_rules splits shard) images (chosen_of shard agreed images)
 
 abbrev pub records_of : Result (List ℕ × List LogRecord) ℕ → Option (List LogRecord)
 records_of (Ok log) = Some log.1
 records_of (Err place) = None
 
--- the log of this image of the shard's disk is these records
-abbrev pub HasLog : ℕ → List LogRecord → List ℕ → Type 0
-HasLog shard records image = records_of (log_of shard image) ≡ Some records
+-- the log of these images of the shard's sides is these records
+abbrev pub HasLog : ℕ → List LogRecord → Images → Type 0
+HasLog shard records images = records_of (log_of shard images) ≡ Some records
 
--- the log of an image of this shard's disk whose header says this; none where it says otherwise
-abbrev pub log_under : (shard : ℕ) → Layout → (image : List ℕ) → Option (List LogRecord)
-log_under shard layout image = records_of (behind_header (λ splits r. true) image (header_of shard (Some layout.splits) image))
+-- the log of images of this shard's sides whose header says this; none where it says otherwise
+abbrev pub log_under : (shard : ℕ) → Layout → Images → Option (List LogRecord)
+log_under shard layout images = records_of (behind_chosen (λ splits r. true) images (chosen_of shard (Some layout.splits) images))
 
 -- it is these records, or these and more
-abbrev pub HasLogOrMore : ℕ → List LogRecord → List LogRecord → List ℕ → Type 0
-HasLogOrMore shard records more image = HasLog shard records image ⊎ HasLog shard (records ++ more) image
+abbrev pub HasLogOrMore : ℕ → List LogRecord → List LogRecord → Images → Type 0
+HasLogOrMore shard records more images = HasLog shard records images ⊎ HasLog shard (records ++ more) images
 
--- the header of this image of the shard's disk has these splits
-abbrev pub HasHeader : ℕ → List ℕ → List ℕ → Type 0
-HasHeader shard splits image = header_of shard None image ≡ Ok splits
+-- the header of the side that is the log has these splits
+abbrev pub HasHeader : ℕ → List ℕ → Images → Type 0
+HasHeader shard splits images = (c : Chosen) × (chosen_of shard None images ≡ Ok c) × (c.splits ≡ splits)
 
 -- the payloads are the spellings of these records
 abbrev pub AllSpelled : List (List ℕ) → List LogRecord → Type 0

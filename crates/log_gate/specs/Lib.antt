@@ -1,6 +1,7 @@
 pub mod Payloads
 pub mod Records
 pub mod Header
+pub mod Sides
 pub mod Image
 pub mod Gate
 pub mod Push
@@ -9,3 +10,4 @@ pub mod Inside
 pub mod Errors
 pub mod Opening
 pub mod Make
+pub mod Switch

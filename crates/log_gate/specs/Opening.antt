@@ -1,26 +1,32 @@
 -- What an opening reads, and the calls of the disk that it makes.
-use Rattle.std.specs.Prelude.{◌≡◌, ◌≢◌, ◌⊎◌, ◌≤◌, ◌+◌, ℕ, List, ◌++◌, length, take, drop, get_or, Bool, true, false, Option, Some, None, Vec, IsTrue, Result, Ok, Err}
+use Rattle.std.specs.Prelude.{◌≡◌, ◌≢◌, ◌⊎◌, ◌≤◌, ◌+◌, ◌-◌, ℕ, List, ◌++◌, length, take, drop, get_or, Bool, true, false, Option, Some, None, Vec, IsTrue, Result, Ok, Err}
 use Rattle.std.specs.List.{list_all, AllByRecursion}
 use Rattle.byteorder.specs.Endian.{little_bytes, little_number}
 use Rattle.std.specs.declared.alloc.Global.{Global}
 use Rattle.clv_base.specs.declared.logs.LogRecord.{LogRecord}
 use Rattle.clv_base.specs.FileRules.{has_spelling, passes_file_rules}
-use Rattle.io_model.specs.Story.{Call, Len, Read, Write, Cut, Sync, Write_failed, Cut_failed, Sync_failed, Story, reads, IsImage}
+use Rattle.io_model.specs.Story.{Call, Len, Read, Write, Cut, Sync, Write_failed, Cut_failed, Sync_failed, Story, after, reads, IsImage}
 use Rattle.io_model.specs.Disk.{Rose}
 use Rattle.io_model.specs.Crash.{AtEachMoment}
 use Rattle.clv_base.specs.Logs.{record_size}
 use Rattle.log_records.specs.Spelling.{BeginsWith}
 use Rattle.log_records.specs.Reading.{record_at}
-use Rattle.log_gate.specs.declared.header.Header.{Header}
+use Rattle.io_model.specs.Sides.{Stories, Images, reads_both}
+use Rattle.log_gate.specs.declared.choosing.Choice.{Choice}
 use Rattle.log_gate.specs.declared.error.ParseError.{ParseError}
 use Rattle.log_gate.specs.declared.error.ParseError.TheVariants as parsing
 use Rattle.log_gate.specs.declared.error.OpenLogError.{OpenLogError}
 use Rattle.log_gate.specs.declared.error.OpenLogError.TheVariants.{NotLog, Failed, Memory}
 use Rattle.log_gate.specs.Payloads.{fits_batch, holds_batch}
-use Rattle.log_gate.specs.Header.{header_bytes, header_size, header_of, Rise, IsHeader}
+use Rattle.log_gate.specs.Header.{header_bytes, header_size}
+use Rattle.log_gate.specs.Sides.{Chosen, chosen_of, image_of, IsChoice, MayStandBeside}
 use Rattle.log_gate.specs.Image.{SpellAll, records_in, checked_log, AllSpelled}
 use Rattle.log_gate.specs.Records.{record_log}
-use Rattle.log_gate.specs.Gate.{StandsAt}
+use Rattle.log_gate.specs.Gate.{StandsAt, IsDurable}
+
+-- what a choice says
+abbrev pub chosen : Choice → Chosen
+chosen c = record { side = c.side; splits = c.header.splits; generation = c.generation }
 
 -- what was read is this; or the first fault was told
 abbrev pub Gives : {A X : Type 0} → (A → X) → Result A ParseError → Result X ℕ → Type 0
@@ -48,13 +54,18 @@ pub record ParsesAs (passes : LogRecord → Bool) (read : ℕ → List ℕ → R
   pub spelled : AllSpelled payloads records
   pub pass : IsTrue (list_all passes records)
 
--- the bytes are a log with these splits and records, whose closed gate stands at this place
-pub record Found (shard : ℕ) (agreed : Option (List ℕ)) (bytes splits : List ℕ) (records : List LogRecord) (at : ℕ) : Type 0 where
-  pub is : checked_log shard agreed bytes ≡ Ok (splits, records)
-  pub few : length splits ≤ 15
-  pub rise : Rise 0 splits
-  pub front : take (header_size splits) bytes ≡ header_bytes shard splits
-  pub parsed : ParsesAs (passes_file_rules splits shard) (records_in (passes_file_rules splits shard)) (header_size splits) bytes records at
+-- the header of this side says this
+pub record IsFront (shard : ℕ) (c : Chosen) (bytes : List ℕ) : Type 0 where
+  pub choice : IsChoice c
+  pub long : header_size c.splits c.generation ≤ length bytes
+  pub front : take (header_size c.splits c.generation) bytes ≡ header_bytes shard c.splits c.generation
+
+-- the sides are a log with these splits and records: this side is the log, its closed gate stands at this place, and the other yields to it
+pub record Found (shard : ℕ) (agreed : Option (List ℕ)) (images : Images) (c : Chosen) (records : List LogRecord) (at : ℕ) : Type 0 where
+  pub is : checked_log shard agreed images ≡ Ok (c.splits, records)
+  pub front : IsFront shard c (image_of images c.side)
+  pub parsed : ParsesAs (passes_file_rules c.splits shard) (records_in (passes_file_rules c.splits shard)) (header_size c.splits c.generation) (image_of images c.side) records at
+  pub beside : MayStandBeside shard c (image_of images (1 - c.side))
 
 -- the length is asked, or bytes are read
 abbrev pub IsLook : Call → Type 0
@@ -117,12 +128,17 @@ pub record AreGood (passes : LogRecord → Bool) (records : List LogRecord) : Ty
   pub spelled : IsTrue (list_all has_spelling records)
   pub pass : IsTrue (list_all passes records)
 
--- the header of this shard's log, or the first fault
-abbrev pub FindsHeader : (shard : ℕ) → (agreed : Option (List ℕ)) → Result Header OpenLogError → List ℕ → Type 0
-FindsHeader shard agreed (Ok header) bytes = (header_of shard agreed bytes ≡ Ok header.splits) × IsHeader shard bytes header.splits
-FindsHeader shard agreed (Err (NotLog offset)) bytes = header_of shard agreed bytes ≡ Err offset
-FindsHeader shard agreed (Err Failed) bytes = Unit {0}
-FindsHeader shard agreed (Err Memory) bytes = Unit {0}
+-- the first 148 bytes were read, or all
+abbrev pub IsFrontOf : {E : Type 0} → List ℕ → Result ℕ E → List ℕ → Type 0
+IsFrontOf front (Ok count) bytes = take count front ≡ take 148 bytes
+IsFrontOf front (Err e) bytes = Unit {0}
+
+-- which side is the log, and what its header says; or the first fault
+abbrev pub FindsSide : (shard : ℕ) → (agreed : Option (List ℕ)) → Result Choice OpenLogError → Images → Type 0
+FindsSide shard agreed (Ok choice) images = (chosen_of shard agreed images ≡ Ok (chosen choice)) × IsFront shard (chosen choice) (image_of images choice.side)
+FindsSide shard agreed (Err (NotLog offset)) images = chosen_of shard agreed images ≡ Err offset
+FindsSide shard agreed (Err Failed) images = Unit {0}
+FindsSide shard agreed (Err Memory) images = Unit {0}
 
 -- the records behind a header of this length, and the place of the closed gate; or the first fault
 abbrev pub FindsRecords : (LogRecord → Bool) → (head : ℕ) → Result (Vec LogRecord Global × ℕ) OpenLogError → List ℕ → Type 0
@@ -132,23 +148,34 @@ FindsRecords passes head (Err Failed) bytes = Unit {0}
 FindsRecords passes head (Err Memory) bytes = Unit {0}
 
 -- the whole log, or the first fault
-abbrev pub FindsLog : (shard : ℕ) → (agreed : Option (List ℕ)) → Result (Header × Vec LogRecord Global × ℕ) OpenLogError → List ℕ → Type 0
-FindsLog shard agreed (Ok found) bytes = Found shard agreed bytes found.0.splits found.1.items found.2
-FindsLog shard agreed (Err (NotLog offset)) bytes = checked_log shard agreed bytes ≡ Err offset
-FindsLog shard agreed (Err Failed) bytes = Unit {0}
-FindsLog shard agreed (Err Memory) bytes = Unit {0}
+abbrev pub FindsLog : (shard : ℕ) → (agreed : Option (List ℕ)) → Result (Choice × Vec LogRecord Global × ℕ) OpenLogError → Images → Type 0
+FindsLog shard agreed (Ok found) images = Found shard agreed images (chosen found.0) found.1.items found.2
+FindsLog shard agreed (Err (NotLog offset)) images = checked_log shard agreed images ≡ Err offset
+FindsLog shard agreed (Err Failed) images = Unit {0}
+FindsLog shard agreed (Err Memory) images = Unit {0}
 
--- the disk isn't changed: at each moment a crash leaves what one before could leave, or what a read gives
-pub record IsUnchanged (s t : Story) : Type 0 where
+-- a disk isn't changed: at each moment a crash leaves what one before could leave, or what a read gives
+pub record DiskUnchanged (s t : Story) : Type 0 where
   pub same : reads t ≡ reads s
   pub moments : AtEachMoment s t (λ image. IsImage s image ⊎ (image ≡ reads s))
 
--- what an opening finds, and where it finds a log, all that a read gives is durable
-abbrev pub Finds : ℕ → Option (List ℕ) → Result (Header × Vec LogRecord Global × ℕ) OpenLogError → Story → Story → Type 0
-Finds shard agreed (Ok found) s t = FindsLog shard agreed (Ok found) (reads s) × ((image : List ℕ) → IsImage t image → image ≡ reads t)
-Finds shard agreed (Err e) s t = FindsLog shard agreed (Err e) (reads s)
+-- neither side is
+pub record IsUnchanged (s t : Stories) : Type 0 where
+  pub same : reads_both t ≡ reads_both s
+  pub side0 : DiskUnchanged s.side0 t.side0
+  pub side1 : DiskUnchanged s.side1 t.side1
 
--- `Failed` is answered only where the disk's count rose, and after every other answer the count stands
+-- a disk was synced, and this is its length; or it isn't changed
+abbrev pub Settles : {E : Type 0} → Result ℕ E → Story → Story → Type 0
+Settles (Ok len) s t = Looked (after Sync s) t × (len ≡ length (reads s))
+Settles (Err e) s t = DiskUnchanged s t
+
+-- what an opening finds, and where it finds a log, all that a read gives is durable
+abbrev pub Finds : ℕ → Option (List ℕ) → Result (Choice × Vec LogRecord Global × ℕ) OpenLogError → Stories → Stories → Type 0
+Finds shard agreed (Ok found) s t = FindsLog shard agreed (Ok found) (reads_both s) × IsDurable t.side0 × IsDurable t.side1
+Finds shard agreed (Err e) s t = FindsLog shard agreed (Err e) (reads_both s)
+
+-- `Failed` is answered only where the disks' count rose, and after every other answer the count stands
 abbrev pub CountsOpening : {A : Type 0} → ℕ → ℕ → Result A OpenLogError → Type 0
 CountsOpening before now (Ok a) = now ≡ before
 CountsOpening before now (Err Failed) = Rose before now × (before ≤ now)

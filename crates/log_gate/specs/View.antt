@@ -1,19 +1,19 @@
 -- What callers see of a gate.
 use Rattle.std.specs.Prelude.{◌≡◌, ◌⊎◌, ℕ, List, ◌++◌, Bool, Option, Some, None, IfSome}
 use Rattle.clv_base.specs.declared.logs.LogRecord.{LogRecord}
-use Rattle.io_model.specs.Story.{Story, reads, IsImage}
+use Rattle.io_model.specs.Sides.{Stories, Images, AreShown}
 use Rattle.log_gate.specs.Header.{Layout}
 use Rattle.log_gate.specs.Image.{log_under, HasLog, HasHeader}
 use Rattle.log_gate.specs.Gate.{EachNow}
 
--- its disk's story, where it is told, and the disk's count of faults; the shard; and whether it is shut
+-- the stories of its two sides, where both are told, and the sum of their counts of faults; the shard; and whether it is shut
 pub record View : Type 0 where
-  pub story : Option Story
+  pub story : Option Stories
   pub faults : ℕ
   pub shard : ℕ
   pub is_shut : Bool
 
--- what a read gives and each image that a crash now may leave have as their log these records, where the disk tells them
+-- what a read gives and each image that a crash now may leave have as their log these records, where the disks tell them
 abbrev pub IsLogOf : View → List LogRecord → Type 0
 IsLogOf g records = IfSome g.story (EachNow (HasLog g.shard records))
 
@@ -21,11 +21,11 @@ IsLogOf g records = IfSome g.story (EachNow (HasLog g.shard records))
 abbrev pub IsHeaderOf : View → List ℕ → Type 0
 IsHeaderOf g splits = IfSome g.story (EachNow (HasHeader g.shard splits))
 
-abbrev pub logs_told : Option Story → ℕ → Layout → Option (List LogRecord) → Type 0
+abbrev pub logs_told : Option Stories → ℕ → Layout → Option (List LogRecord) → Type 0
 logs_told None shard layout log = ⊥
-logs_told (Some s) shard layout log = (image : List ℕ) × ((image ≡ reads s) ⊎ IsImage s image) × (log_under shard layout image ≡ log)
+logs_told (Some s) shard layout log = (images : Images) × AreShown s images × (log_under shard layout images ≡ log)
 
--- its logs, as one of a store with this layout: that of what a read gives, and that of each image that a crash now may leave; none where the disk doesn't tell
+-- its logs, as one of a store with this layout: of each side what a read gives, or what a crash now may leave; none where the disks don't tell
 abbrev pub logs_of : View → Layout → Option (List LogRecord) → Type 0
 logs_of g layout log = logs_told g.story g.shard layout log
 

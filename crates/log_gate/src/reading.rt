@@ -2,7 +2,7 @@
 ghost use Rattle.std.specs.Prelude.{◌≡◌, ◌≤◌, ◌<◌, ◌+◌, ◌-◌, ◌*◌, ◌^◌, ℕ, List, length, take, drop, false, true, MatchOption, IfOk};
 ghost use Rattle.std.specs.Option.{option_map};
 ghost use Rattle.byteorder.specs.Endian.{little_number};
-ghost use Rattle.log_gate.specs.Header.{header_of, IsHeader, splits_from, has_number, has_count, same_bytes, magic, has_split, least_after, agrees_at, agrees_on_count};
+ghost use Rattle.log_gate.specs.Header.{fields_of, fields_size, HasFields, has_generation, splits_from, has_number, has_count, same_bytes, magic, has_split, least_after, agrees_at, agrees_on_count};
 ghost use Rattle.log_gate.specs.Opening.{Gives};
 
 use crate::error::ParseError;
@@ -11,10 +11,14 @@ use byteorder::{ByteOrder, LittleEndian};
 use clv_base::splits::Splits;
 use std::alloc::Global;
 
-fn has_magic(bytes: &[u8]) -> bool
-    ensures { result ≡ same_bytes (take 8 bytes.now) magic }
+fn has_magic(version: u32, bytes: &[u8]) -> bool
+    requires { version ≤ 2 }
+    ensures { result ≡ same_bytes (take 8 bytes.now) (magic version) }
 {
-    matches!(bytes, [67, 76, 86, 76, 79, 71, 48, 49, ..])
+    match bytes {
+        [67, 76, 86, 76, 79, 71, 48, digit, ..] => *digit as u32 == 48 + version,
+        _ => false,
+    }
 }
 
 fn number_is(place: usize, number: u32, bytes: &[u8]) -> bool
@@ -108,18 +112,20 @@ fn read_count(agreed: Option<&Header>, bytes: &[u8]) -> Option<usize>
 }
 
 // The splits of the header of a shard, or the first place that breaks the format.
-fn read_header(
+fn read_fields(
     alloc: Global,
+    version: u32,
     shard: u32,
     agreed: Option<&Header>,
     bytes: &[u8],
 ) -> Result<Vec<u64>, ParseError>
-    ensures { Gives (λ v. v.items) result (header_of shard (option_map (λ h. h.now.splits) agreed.entry) bytes.now) }
+    requires { version ≤ 2 }
+    ensures { Gives (λ v. v.items) result (fields_of version shard (option_map (λ h. h.now.splits) agreed.entry) bytes.now) }
 {
-    if !has_magic(bytes) {
+    if !has_magic(version, bytes) {
         return Err(ParseError::NotLog(0));
     }
-    if !number_is(8, 1, bytes) {
+    if !number_is(8, version, bytes) {
         return Err(ParseError::NotLog(8));
     }
     if !number_is(12, shard, bytes) {
@@ -131,23 +137,39 @@ fn read_header(
     read_splits(alloc, agreed, &bytes[20..], of - 1)
 }
 
-/// The header of a shard, or the first place that breaks the format.
+/// The fields that the headers of both versions have, or the first place that breaks the format.
 pub fn header_at(
     alloc: Global,
+    version: u32,
     shard: u32,
     agreed: Option<&Header>,
     bytes: &[u8],
 ) -> Result<Header, ParseError>
-    ensures reads { Gives (λ h. h.splits) result (header_of shard (option_map (λ h. h.now.splits) agreed.entry) bytes.now) }
+    requires { version ≤ 2 }
+    ensures reads { Gives (λ h. h.splits) result (fields_of version shard (option_map (λ h. h.now.splits) agreed.entry) bytes.now) }
     ensures shard { IfOk result (λ h. h.shard ≡ shard) }
-    ensures found { IfOk result (λ h. IsHeader shard bytes.now h.splits) }
+    ensures found { IfOk result (λ h. HasFields version shard bytes.now h.splits) }
 {
-    let list = match read_header(alloc, shard, agreed, bytes) {
+    let list = match read_fields(alloc, version, shard, agreed, bytes) {
         Ok(list) => list,
         Err(error) => return Err(error),
     };
     match Splits::new(&list) {
         Ok(splits) => Ok(Header { shard, splits }),
         Err(_) => unreachable!(),
+    }
+}
+
+/// The generation at this place, if it is at least 1.
+pub fn generation_at(place: usize, bytes: &[u8]) -> Option<u64>
+    requires { place < 200 }
+    ensures { MatchOption result (has_generation place bytes.now ≡ false) (λ n. (n ≡ little_number 8 (drop place bytes.now)) × (has_generation place bytes.now ≡ true)) }
+{
+    if bytes.len() < place + 8 {
+        return None;
+    }
+    match LittleEndian::read_u64(&bytes[place..]) {
+        0 => None,
+        generation => Some(generation),
     }
 }

@@ -3,7 +3,6 @@ ghost use Rattle.std.specs.Prelude.{◌≡◌, ◌≤◌, ◌<◌, ◌+◌, ◌^
 ghost use Rattle.clv_base.specs.FileRules.{passes_file_rules};
 ghost use Rattle.io_model.specs.Story.{reads};
 ghost use Rattle.io_model.specs.Disk.{Tells, HasCause};
-ghost use Rattle.log_gate.specs.Header.{header_size};
 ghost use Rattle.log_gate.specs.Opening.{Looks, IsPiece, StandsGate, AddsBatch, AreGood, FindsRecords, CountsOpening};
 
 use crate::error::OpenLogError;
@@ -67,24 +66,26 @@ fn add_batch<D: Disk>(
     Ok(())
 }
 
-/// The records behind open gates, and the place of the closed gate, behind which no more than four bytes are read. `NotLog` names the first place that
+/// The records behind a header of so many bytes and open gates, and the place of the closed gate, behind which no more than four bytes are read. `NotLog` names the first place that
 /// breaks the format; `Failed` where the disk failed, and `Memory`.
 pub fn read_batches<D: Disk>(
     alloc: Global,
     disk: &mut D,
     len: u64,
     header: &Header,
+    head: usize,
     scratch: &mut [u8],
 ) -> Result<(Vec<LogRecord>, u64), OpenLogError>
+    requires head { head < 200 }
     requires len { IfSome (D.story disk.old) (λ s. length (reads s) ≡ len) }
     requires room { length scratch.old ≡ 1048581 }
-    ensures told { Tells (D.story disk.old) (D.story disk.new) (Looks (FindsRecords (passes_file_rules header.now.splits header.now.shard) (header_size header.now.splits) result)) }
+    ensures told { Tells (D.story disk.old) (D.story disk.new) (Looks (FindsRecords (passes_file_rules header.now.splits header.now.shard) head result)) }
     ensures good { IfOk result (λ found. AreGood (passes_file_rules header.now.splits header.now.shard) found.0.items) }
     ensures within { IfOk result (λ found. found.1 < 2 ^ 63) }
     ensures cause { CountsOpening (D.faults disk.old) (D.faults disk.new) result }
 {
     let mut records = Vec::new(alloc);
-    let mut at = header.size() as u64;
+    let mut at = head as u64;
     while at < len {
         if at >= FAR {
             return Err(OpenLogError::Memory);

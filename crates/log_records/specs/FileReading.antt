@@ -2,7 +2,6 @@
 use Rattle.std.specs.Prelude.{ℕ, zero, suc, ◌-◌, nat_lt, List, [], ◌∷◌, Option, Some, None, if◌then◌else◌}
 use Rattle.clv_base.specs.declared.shard_log.FileRecord.{FileRecord}
 use Rattle.clv_base.specs.declared.shard_log.FileRecord.TheVariants.{Plain, Begin, Base, Keep, Checked}
-use Rattle.clv_base.specs.declared.logs.LogRecord.{LogRecord}
 use Rattle.clv_base.specs.declared.values.Value.{Value}
 use Rattle.clv_base.specs.FileRules.{file_record_has_spelling}
 use Rattle.log_records.specs.Reading.{◌>>=◌, number_at, optional_at, record_at}
@@ -30,10 +29,12 @@ keep_at bytes = do
   r ← record_at lsn.1
   Some (Keep lsn.0 r.0, r.1)
 
-abbrev pub plain_of : LogRecord × List ℕ → Option (FileRecord × List ℕ)
-plain_of r = Some (Plain r.0, r.1)
+unfoldable pub plain_at : List ℕ → Option (FileRecord × List ℕ)
+plain_at bytes = do
+  r ← record_at bytes
+  Some (Plain r.0, r.1)
 
--- by its kind: 10 to 13 are those of a checkpoint
+-- by its kind, less 10
 unfoldable pub part_fields_at : ℕ → List ℕ → Option (FileRecord × List ℕ)
 part_fields_at zero bytes = check_at bytes
 part_fields_at (suc zero) bytes = base_at bytes
@@ -41,12 +42,10 @@ part_fields_at (suc (suc zero)) bytes = keep_at bytes
 part_fields_at (suc (suc (suc zero))) bytes = Some (Checked, bytes)
 part_fields_at (suc (suc (suc (suc k)))) bytes = None
 
-unfoldable pub file_fields_at : ℕ → List ℕ → Option (FileRecord × List ℕ)
-file_fields_at kind bytes = if nat_lt kind 10 then (record_at (kind ∷ bytes) >>= plain_of) else part_fields_at (kind - 10) bytes
+abbrev pub if_in_bounds_in_file : FileRecord × List ℕ → Option (FileRecord × List ℕ)
+if_in_bounds_in_file x = if file_record_has_spelling x.0 then Some x else None
 
-abbrev pub if_file_record_in_bounds : FileRecord × List ℕ → Option (FileRecord × List ℕ)
-if_file_record_in_bounds x = if file_record_has_spelling x.0 then Some x else None
-
+-- the file's record that is spelled at the front, and the bytes after it: kinds 10 to 13 are those of a checkpoint
 unfoldable pub file_record_at : List ℕ → Option (FileRecord × List ℕ)
 file_record_at [] = None
-file_record_at (kind ∷ bytes) = file_fields_at kind bytes >>= if_file_record_in_bounds
+file_record_at (kind ∷ bytes) = if nat_lt kind 10 then plain_at (kind ∷ bytes) else (part_fields_at (kind - 10) bytes >>= if_in_bounds_in_file)

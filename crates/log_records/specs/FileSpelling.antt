@@ -24,3 +24,8 @@ file_record_size Checked = 1
 pub record SpellsInFile (r : FileRecord) (bytes : List ℕ) : Type 0 where
   pub in_bounds : IsTrue (file_record_has_spelling r)
   pub is : bytes ≡ file_spelling r
+
+-- these bytes begin with its spelling, and those are behind it
+pub record BeginsInFile (r : FileRecord) (behind bytes : List ℕ) : Type 0 where
+  pub in_bounds : IsTrue (file_record_has_spelling r)
+  pub is : bytes ≡ file_spelling r ++ behind

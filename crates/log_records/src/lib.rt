@@ -7,6 +7,9 @@
 
 mod bounds;
 mod error;
+mod file_bounds;
+mod file_reading;
+mod file_writing;
 mod lists;
 mod numbers;
 mod reading;
@@ -15,8 +18,12 @@ mod writing;
 
 pub use bounds::{has_spelling, record_size};
 pub use error::{DecodeError, Memory};
+pub use file_bounds::{file_record_size, has_spelling_in_file};
+pub use file_reading::decode_in_file;
+pub use file_writing::encode_in_file;
 pub use reading::decode;
 pub use spelling::{
-    at_most_one_record, at_most_one_spelling, length_is_size, no_spelling_begins_another,
+    at_most_one_record, at_most_one_record_in_file, at_most_one_spelling, length_is_size,
+    length_is_size_in_file, no_spelling_begins_another, no_spelling_begins_another_in_file,
 };
 pub use writing::encode;

@@ -2,7 +2,7 @@
 
 ghost use Rattle.std.specs.Prelude.{◌≡◌, ◌≤◌, ◌+◌, ◌++◌, [], ◌∷◌, Some, length, vec_len, vec_capacity};
 ghost use Rattle.clv_base.specs.declared.values.Value.{Value as ValueType};
-ghost use Rattle.clv_base.specs.Logs.{optional_size};
+ghost use Rattle.clv_base.specs.Logs.{optional_size, value_size};
 ghost use Rattle.log_records.specs.Reading.{Gives, number_at, optional_at, text_at, transaction_at, undo_next_at};
 ghost use Rattle.log_records.specs.Spelling.{number, optional, transaction, undo_next};
 
@@ -165,6 +165,23 @@ fn put_text(out: &mut Vec<u8>, text: &ByteText)
     put(out, bytes);
 }
 
+/// As a value that may be none is spelled.
+#[tactic(auto, unfolding(crate::specs::Spelling::optional))]
+pub fn put_some(out: &mut Vec<u8>, value: &Value)
+    requires { vec_len out.old + value_size value.now ≤ vec_capacity out.old }
+    ensures items { out.new.items ≡ out.old.items ++ optional (Some value.now) }
+    ensures len { vec_len out.new ≡ vec_len out.old + value_size value.now }
+    ensures room { vec_capacity out.old ≤ vec_capacity out.new }
+{
+    match value {
+        Value::Num(number) => {
+            put_byte(out, 1);
+            put_u64(out, *number);
+        }
+        Value::Bytes(text) => put_text(out, text),
+    }
+}
+
 #[tactic(auto, unfolding(crate::specs::Spelling::optional))]
 pub fn put_value(out: &mut Vec<u8>, value: &Option<Value>)
     requires { vec_len out.old + optional_size value.now ≤ vec_capacity out.old }
@@ -174,11 +191,7 @@ pub fn put_value(out: &mut Vec<u8>, value: &Option<Value>)
 {
     match value {
         None => put_byte(out, 0),
-        Some(Value::Num(number)) => {
-            put_byte(out, 1);
-            put_u64(out, *number);
-        }
-        Some(Value::Bytes(text)) => put_text(out, text),
+        Some(value) => put_some(out, value),
     }
 }
 

@@ -141,7 +141,7 @@ fn fields_of(alloc: Global, kind: u8, bytes: &[u8]) -> Result<(LogRecord, &[u8])
 }
 
 #[tactic(auto, unfolding(crate::specs::Reading::record_at))]
-fn record_of(alloc: Global, bytes: &[u8]) -> Result<(LogRecord, &[u8]), DecodeError>
+pub(crate) fn record_of(alloc: Global, bytes: &[u8]) -> Result<(LogRecord, &[u8]), DecodeError>
     ensures { Gives (λ x. (x.0, x.1.now)) result (record_at bytes.now) }
 {
     let [kind, fields @ ..] = bytes else {

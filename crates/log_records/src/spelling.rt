@@ -1,6 +1,6 @@
 // Laws of spellings.
 
-ghost use Rattle.log_records.specs.Laws.{LengthIsSize, NoneBeginsAnother, SpelledOneWay, SpellsOne};
+ghost use Rattle.log_records.specs.Laws.{LengthIsSize, LengthIsSizeInFile, NoneBeginsAnother, NoneBeginsAnotherInFile, SpelledOneWay, SpellsOne, SpellsOneInFile};
 
 /// A record has at most one spelling.
 pub fn at_most_one_spelling()
@@ -21,4 +21,19 @@ pub fn no_spelling_begins_another()
 /// A spelling is as long as its record's size.
 pub fn length_is_size()
     ensures { LengthIsSize }
+{}
+
+/// No bytes spell two of a file's records.
+pub fn at_most_one_record_in_file()
+    ensures { SpellsOneInFile }
+{}
+
+/// No spelling in a file is the beginning of another.
+pub fn no_spelling_begins_another_in_file()
+    ensures { NoneBeginsAnotherInFile }
+{}
+
+/// A spelling in a file is as long as its record's size.
+pub fn length_is_size_in_file()
+    ensures { LengthIsSizeInFile }
 {}

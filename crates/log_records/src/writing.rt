@@ -121,7 +121,7 @@ fn put_unadd(out: &mut Vec<u8>, tx: TxId, undo_next: Option<u64>, key: u64, by: 
     put_u64(out, by);
 }
 
-fn put_record(out: &mut Vec<u8>, r: &LogRecord)
+pub(crate) fn put_record(out: &mut Vec<u8>, r: &LogRecord)
     requires in_bounds { IsTrue (has_spelling r.now) }
     requires space { vec_len out.old + size_of_record r.now ≤ vec_capacity out.old }
     ensures items { out.new.items ≡ out.old.items ++ spelling r.now }

@@ -1,7 +1,7 @@
 -- What fits behind an index is what may follow its records.
 use Rattle.std.proofs.Common.{◌≡◌, ℕ, Bool, true, false, not, ◌&&◌, ◌||◌, ◌==◌, nat_lt, List, [], ◌∷◌, ◌++◌, length, take, Option, Some, None, is_some, unwrap_or, ⊎_elim, refl, sym, ap, subst, ◌∙◌, eqb-true, arith}
 use Rattle.std.specs.List.{AllByRecursion, list_all}
-use Rattle.std.proofs.lemmas.Bool.{both_ways, or_cases}
+use Rattle.std.proofs.lemmas.Bool.{both_ways, or_cases, false_from_ne_true}
 use Rattle.clv_base.specs.declared.values.Value.{Value as ValueType}
 use Rattle.clv_base.specs.declared.names.TxId.{TxId}
 use Rattle.clv_base.specs.declared.changes.Change.{Change}
@@ -12,7 +12,7 @@ use Rattle.clv_base.specs.Orders.{tx_same, tx_in, nat_in}
 use Rattle.clv_base.specs.Logs.{StandingUpdate, is_setting, is_prepare_of, is_commit_of, wrote_in, has_standing, committed_in, prepared_in, aborted_in, ended_in, prepare_of, commit_parts, standing, newest_of, without_newest, value_in}
 use Rattle.clv_base.specs.Values.{same_optional_value}
 use Rattle.clv_base.specs.Maps.{is_number}
-use Rattle.clv_base.specs.LogRules.{same_option, some_parts, last_restart, above_restarts, before_restart, in_last_run, has_new_standing, may_undo, may_cover, may_set, may_add, may_write as may_write_in, may_follow, writes_below, listed_in, commit_by_prepare, clears, unadds, compensates, next_to_undo}
+use Rattle.clv_base.specs.LogRules.{same_option, some_parts, last_restart, above_restarts, before_restart, in_last_run, is_listed, is_current, has_new_standing, may_undo, may_cover, may_set, may_add, may_write as may_write_in, may_follow, writes_below, listed_in, commit_by_prepare, clears, unadds, compensates, next_to_undo}
 use Rattle.clv_base.proofs.SameNames.{tx_true}
 use Rattle.log_analysis.specs.Lists.{home_at, listed_at, parts_at}
 use Rattle.log_analysis.proofs.Laws.Bools.{and_first, and_second, all_same}
@@ -24,13 +24,14 @@ use Rattle.log_rules.proofs.Below.{below_is, pass_more}
 use Rattle.log_rules.proofs.Doubt.{of_all, nobody_is}
 use Rattle.log_rules.proofs.IndexOf.{IsIndexOf}
 use Rattle.log_rules.proofs.NewWrites.{newest_behind}
-use Rattle.log_rules.proofs.SoundLogs.{Sound, closed_in, may_lie}
+use Rattle.log_rules.proofs.SoundLogs.{Sound, closed_in, may_lie, listed_earlier}
 use Rattle.log_rules.proofs.ShareLists.{asks}
 use Rattle.log_rules.proofs.Standing.{top_set, adds_over, lsn_of, split_newest, left_is, newest_own, top_test, free_test}
 use Rattle.log_rules.proofs.Links.{Linked, link_of, linked_at}
 use Rattle.log_rules.proofs.Walks.{asked_of_all, asked_of_sets, all_clear_is}
 use Rattle.law_base.proofs.Bools.{by_bool as both, not_true, or_false}
 use Rattle.law_base.proofs.Logs.{place_is as is_some_place}
+use Rattle.law_base.proofs.Parts.{unprepared}
 use Rattle.law_base.proofs.Names.{Falls, falls_length}
 use Rattle.law_base.proofs.Standing.{counts_some}
 
@@ -86,6 +87,20 @@ module _ (shard : ℕ) (x : Index) (log : List LogRecord) (s : Sound log) (i : I
   last_run : (tx : TxId) → is_last_run tx.run x.last ≡ in_last_run log tx
   last_run tx = ap (is_last_run tx.run) i.last ∙ run_of tx.run (last_restart log)
 
+  -- one without a PREPARE is listed by nobody
+  unlisted_open : (tx : TxId) → prepared_in log tx ≡ false → is_listed log tx ≡ false
+  unlisted_open tx none = false_from_ne_true _ (λ l. both_ways _ none (listed_earlier [] log tx s.earlier l))
+
+  current_is : (tx : TxId) → in_last_run log tx && not (prepared_in log tx) ≡ is_current log tx && not (prepared_in log tx)
+  current_is tx = at (in_last_run log tx) (is_listed log tx) (prepared_in log tx) (unlisted_open tx)
+    where
+      at : (r l p : Bool) → (p ≡ false → l ≡ false) → r && not p ≡ (r && not l) && not p
+      at true true true h = refl
+      at true false true h = refl
+      at false l true h = refl
+      at true l false h = ap (λ b. (true && not b) && true) (sym (h refl))
+      at false l false h = refl
+
   any_restart : is_some x.last ≡ is_some (last_restart log)
   any_restart = ap is_some i.last
 
@@ -108,8 +123,9 @@ module _ (shard : ℕ) (x : Index) (log : List LogRecord) (s : Sound log) (i : I
 
   may_is : (tx : TxId) → may_write x tx ≡ may_write_in log tx
   may_is tx =
-      let a : is_last_run tx.run x.last && has_no_fate x tx ≡ in_last_run log tx && not (prepared_in log tx) && not (committed_in log tx) && not (aborted_in log tx) =
-      ap (λ b. b && has_no_fate x tx) (last_run tx) ∙ ap (λ b. in_last_run log tx && b) (no_fate tx) ∙ and_assoc4 (in_last_run log tx) (not (prepared_in log tx)) (not (committed_in log tx)) (not (aborted_in log tx)) in
+      let a : is_last_run tx.run x.last && has_no_fate x tx ≡ is_current log tx && not (prepared_in log tx) && not (committed_in log tx) && not (aborted_in log tx) =
+      ap (λ b. b && has_no_fate x tx) (last_run tx) ∙ ap (λ b. in_last_run log tx && b) (no_fate tx) ∙ and_assoc4 (in_last_run log tx) (not (prepared_in log tx)) (not (committed_in log tx)) (not (aborted_in log tx))
+      ∙ ap (λ b. b && not (committed_in log tx) && not (aborted_in log tx)) (current_is tx) in
       rw (a, wrote_before tx) refl
 
   cover_fate : (t : TxId) → (is_some (facts_in x t).prepare || is_some (facts_in x t).commit) && not (facts_in x t).is_aborted ≡ (prepared_in log t || committed_in log t) && not (aborted_in log t)
@@ -259,10 +275,14 @@ no_parts : (parts : List ℕ) → not (some_parts parts) ≡ elim parts [ [] ↦
 no_parts [] = refl
 no_parts (s ∷ ss) = refl
 
-by_home : (shard : ℕ) (log : List LogRecord) (tx : TxId) (parts : List ℕ) (run : Bool) → run ≡ in_last_run log tx → (o : Option (ℕ × List TxId))
+by_home : (shard : ℕ) (log : List LogRecord) (tx : TxId) (parts : List ℕ) (run : Bool) → (prepare_of log tx ≡ None → run ≡ is_current log tx) → (o : Option (ℕ × List TxId)) → prepare_of log tx ≡ o
     → ◌≡◌ {A = Bool} (elim (home_in o) [ None ↦ run | Some home ↦ (home == shard) || not (some_parts parts) ]) (commit_by_prepare shard log tx parts o)
-by_home shard log tx parts run is None = is
-by_home shard log tx parts run is (Some p) = ap (λ b. (p.0 == shard) || b) (no_parts parts)
+by_home shard log tx parts run is None e = is e
+by_home shard log tx parts run is (Some p) e = ap (λ b. (p.0 == shard) || b) (no_parts parts)
+
+unlisted_run : (r l : Bool) → l ≡ false → r ≡ r && not l
+unlisted_run true l e = ap not (sym e)
+unlisted_run false l e = refl
 
 of_parts : (o : Option (List ℕ)) → some_parts (unwrap_or o []) ≡ elim o [ Some ps ↦ some_parts ps | None ↦ false ]
 of_parts None = refl
@@ -279,7 +299,9 @@ module _ (shard : ℕ) (x : Index) (records : List LogRecord) (n : ℕ) (s : Sou
   home_rule tx parts =
       ap (λ o. elim o [ None ↦ is_last_run tx.run x.last | Some home ↦ (home == x.shard) || not (some_parts parts) ]) (homes_is tx)
       ∙ ap (λ h. elim (home_in (prepare_of (take n records) tx)) [ None ↦ is_last_run tx.run x.last | Some home ↦ (home == h) || not (some_parts parts) ]) i.here
-      ∙ by_home shard (take n records) tx parts (is_last_run tx.run x.last) (last_run shard x (take n records) s i tx) (prepare_of (take n records) tx)
+      ∙ by_home shard (take n records) tx parts (is_last_run tx.run x.last)
+      (λ none. last_run shard x (take n records) s i tx ∙ unlisted_run (in_last_run (take n records) tx) (is_listed (take n records) tx) (unlisted_open shard x (take n records) s i tx (unprepared (take n records) tx none)))
+      (prepare_of (take n records) tx) refl
 
   lists_committed : (tx : TxId) → list_all (has_commit x) (listed_at records (facts_in x tx).prepare) ≡ list_all (committed_in (take n records)) (listed_in (take n records) tx)
   lists_committed tx = ap (list_all (has_commit x)) (lists_is tx) ∙ all_same (has_commit x) (committed_in (take n records)) (is_committed shard x (take n records) s i) (listed_in (take n records) tx)

@@ -3,6 +3,7 @@ use Rattle.std.proofs.Common.{◌≡◌, ℕ, ◌+◌, Bool, true, false, cond, 
 use Rattle.std.specs.List.{AllByRecursion, list_any, list_all}
 use Rattle.std.proofs.lemmas.Bool.{both_ways, cond-false, or_cases, or_parts, or_right}
 use Rattle.std.proofs.lemmas.List.{length_push}
+use Rattle.std.proofs.lemmas.List.Folds.{list_any-append}
 use Rattle.clv_base.specs.declared.names.TxId.{TxId}
 use Rattle.clv_base.specs.declared.changes.Change.{Change}
 use Rattle.clv_base.specs.declared.changes.Change.TheVariants.{Sets, Adds}
@@ -11,8 +12,8 @@ use Rattle.clv_base.specs.declared.logs.LogRecord.TheVariants.{Update, Clr, Prep
 use Rattle.clv_base.specs.Orders.{tx_same, tx_in}
 use Rattle.clv_base.specs.Maps.{KeyMap}
 use Rattle.clv_base.specs.Logs.{StandingUpdate, base_of, is_setting, is_commit_of, is_prepare_of, is_abort_of, committed_in, prepared_in, aborted_in, prepare_of, standing, standing_after, newest_of, without_newest, value_in}
-use Rattle.clv_base.specs.LogRules.{before_restart, listed_in, may_cover, may_undo, may_follow}
-use Rattle.clv_base.proofs.SameNames.{tx_true, tx_self}
+use Rattle.clv_base.specs.LogRules.{before_restart, is_listed, listed_in, may_cover, may_undo, may_follow}
+use Rattle.clv_base.proofs.SameNames.{or_left, tx_true, tx_self}
 use Rattle.log_analysis.proofs.Laws.Bools.{and_first, and_second, all_weaker}
 use Rattle.log_analysis.proofs.Laws.Pushes.{any_push}
 use Rattle.log_rules.proofs.Below.{Covers, all_pass, below_is, pass_more, pass_fewer, pass_pushed}
@@ -20,7 +21,7 @@ use Rattle.log_rules.proofs.RuleParts.{Undoes, update_rule, add_rule, prepare_ru
 use Rattle.log_rules.proofs.NewWrites.{some_behind}
 use Rattle.log_rules.proofs.Standing.{top_value, IsClear, ahead, value_step, left_is}
 use Rattle.law_base.specs.Items.{AllLater}
-use Rattle.law_base.proofs.Sets.{same_flip as tx_symmetric}
+use Rattle.law_base.proofs.Sets.{list_all_at, same_flip as tx_symmetric}
 use Rattle.law_base.proofs.Bools.{by_bool as both, or_false}
 use Rattle.law_base.proofs.Lists.{later_mono}
 use Rattle.law_base.proofs.Names.{Falls, falls_weaker, falls_without}
@@ -142,6 +143,15 @@ earlier_push seen (Prepare tx home listed ∷ rs) r so_far one =
     let h : LogRecord = Prepare tx home listed in
     (so_far.0, earlier_push (seen ++ h ∷ []) rs r so_far.1 (subst (λ l. ListsEarlier l (r ∷ [])) (sym (append_assoc seen (h ∷ []) rs)) one))
 earlier_push seen (h ∷ rs) r so_far one = earlier_push (seen ++ h ∷ []) rs r so_far (subst (λ l. ListsEarlier l (r ∷ [])) (sym (append_assoc seen (h ∷ []) rs)) one)
+
+-- whom a PREPARE lists has one
+pub listed_earlier : (seen log : List LogRecord) (t : TxId) → ListsEarlier seen log → is_listed log t ≡ true → prepared_in (seen ++ log) t ≡ true
+listed_earlier seen [] t each e = absurd (both_ways false refl e)
+listed_earlier seen (Prepare tx home listed ∷ rs) t each e =
+    let h : LogRecord = Prepare tx home listed in
+    ⊎_elim (λ i. list_any-append (is_prepare_of t) seen (h ∷ rs) ∙ or_left _ _ (list_all_at (prepared_in seen) t listed each.0 i))
+    (λ r. subst (λ l. prepared_in l t ≡ true) (append_assoc seen (h ∷ []) rs) (listed_earlier (seen ++ h ∷ []) rs t each.1 r)) (or_cases (tx_in t listed) (is_listed rs t) e)
+listed_earlier seen (r ∷ rs) t each e = subst (λ l. prepared_in l t ≡ true) (append_assoc seen (r ∷ []) rs) (listed_earlier (seen ++ r ∷ []) rs t each e)
 
 pub prepare_stays : (log : List LogRecord) (r : LogRecord) (t : TxId) (p : ℕ × List TxId) → prepare_of log t ≡ Some p → prepare_of (log ++ r ∷ []) t ≡ Some p
 prepare_stays [] r t p e = absurd cc

@@ -4,7 +4,7 @@ use Rattle.std.proofs.lemmas.List.{take_more, take_all, at_drop_all, length-take
 use Rattle.std.proofs.lemmas.Option.{slice_get_read}
 use Rattle.clv_base.specs.declared.logs.LogRecord.{LogRecord}
 use Rattle.clv_base.specs.Orders.{Table}
-use Rattle.clv_base.specs.LogRules.{may_follow, disorder_from, disorder}
+use Rattle.clv_base.specs.LogRules.{may_follow, disorder_from, disorder_by, disorder, upto_of}
 use Rattle.log_analysis.specs.declared.facts.TxFacts.{TxFacts}
 use Rattle.log_analysis.specs.Facts.{Knows}
 use Rattle.log_rules.specs.declared.index.Index.{Index}
@@ -21,6 +21,10 @@ use Rattle.log_rules.proofs.SoundLogs.{Sound, sound_push}
 by_rule : (shard n : ℕ) (before : List LogRecord) (r : LogRecord) (rs : List LogRecord) (b : Bool) → may_follow shard before r ≡ b
     → disorder_from shard n before (r ∷ rs) ≡ elim b [ true ↦ disorder_from shard (suc n) (before ++ r ∷ []) rs | false ↦ Some n ]
 by_rule shard n before r rs b is = ap (λ (v : Bool). elim v [ true ↦ disorder_from shard (suc n) (before ++ r ∷ []) rs | false ↦ Some n ]) is
+
+-- of a log without a checkpoint
+pub plainly_from : (shard : ℕ) (records : List LogRecord) → upto_of records ≡ 0 → disorder_from shard 0 [] records ≡ disorder shard records
+plainly_from shard records plain = sym (ap (λ n. disorder_by shard (take n records) (drop n records)) plain)
 
 -- the index is that of the records so far, which are in order, and what is left has the whole log's answer
 pub record SoFar (shard : ℕ) (records : List LogRecord) (x : Index) (lsn : ℕ) : Type 0 where

@@ -8,15 +8,15 @@ ghost use Rattle.log_analysis.specs.Facts.{KnowAll};
 ghost use Rattle.log_rules.specs.Agreement.{is_part_or_undone, agrees_on, commits_on};
 
 use crate::Memory;
-use crate::committed::committed;
+use crate::commits::committed;
 use crate::indexed::IndexedLog;
 use clv_base::logs::LogRecord;
 use clv_base::names::TxId;
 use log_analysis::LogFacts;
 use std::alloc::Global;
 
-// What each log says of each transaction.
-fn facts_of(alloc: Global, logs: &[Vec<LogRecord>]) -> Result<Vec<LogFacts>, Memory>
+/// What each log says of each transaction.
+pub fn facts_of(alloc: Global, logs: &[Vec<LogRecord>]) -> Result<Vec<LogFacts>, Memory>
     ensures { IfOk result (λ facts. KnowAll facts.items (map (λ l. l.items) logs.now)) }
 {
     let mut facts = Vec::new(alloc);
@@ -27,8 +27,8 @@ fn facts_of(alloc: Global, logs: &[Vec<LogRecord>]) -> Result<Vec<LogFacts>, Mem
     Ok(facts)
 }
 
-// Each log with what it says.
-fn index_all<'a>(
+/// Each log with what it says.
+pub fn index_all<'a>(
     alloc: Global,
     logs: &'a [Vec<LogRecord>],
     facts: &'a [LogFacts],

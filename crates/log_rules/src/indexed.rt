@@ -1,8 +1,8 @@
 // A log with an index.
 
-ghost use Rattle.std.specs.Prelude.{◌≡◌, ℕ, [], is_some, unwrap_or};
+ghost use Rattle.std.specs.Prelude.{◌≡◌, ℕ, [], length, is_some, unwrap_or};
 ghost use Rattle.std.specs.List.{list_all};
-ghost use Rattle.clv_base.specs.Logs.{committed_in, ended_in, prepare_of, commit_parts};
+ghost use Rattle.clv_base.specs.Logs.{committed_in, ended_in, prepare_of, commit_parts, commit_lsn};
 ghost use Rattle.clv_base.specs.LogRules.{home_is, is_undone_in, listed_in, part_agrees};
 ghost use Rattle.log_analysis.specs.Facts.{Knows, facts_of};
 ghost use Rattle.log_rules.specs.Agreement.{is_undone_by};
@@ -25,7 +25,7 @@ fn has_undone(says: TxFacts) -> bool
         && !says.is_ended
 }
 
-// A log with what it says of each transaction, seen as the log.
+/// A log with what it says of each transaction, seen as the log.
 #[derive(Drop)]
 pub struct IndexedLog<'a> {
     records: &'a [LogRecord],
@@ -45,6 +45,7 @@ impl<'a> Model for IndexedLog<'a> {
 }
 
 impl<'a> IndexedLog<'a> {
+    /// The log of these records, of which this is known.
     pub fn new(records: &'a [LogRecord], facts: &'a LogFacts) -> Self
         requires { Knows facts.now records.now }
         ensures { result ≡ records.now }
@@ -58,26 +59,35 @@ impl<'a> IndexedLog<'a> {
         self.facts.get(tx)
     }
 
+    /// Whether the log has a COMMIT of the transaction.
     pub fn is_committed(&self, tx: TxId) -> bool
         ensures { result ≡ committed_in self.now tx }
     {
         self.says(tx).commit.is_some()
     }
 
+    /// Where the transaction's COMMIT stands, the log's end where there is none.
+    pub fn commit_or_end(&self, tx: TxId) -> usize
+        ensures { result ≡ unwrap_or (commit_lsn self.now tx) (length self.now) }
+    {
+        self.says(tx).commit.unwrap_or(self.records.len())
+    }
+
+    /// Whether the log has an END of the transaction.
     pub fn is_ended(&self, tx: TxId) -> bool
         ensures { result ≡ ended_in self.now tx }
     {
         self.says(tx).is_ended
     }
 
-    // Whether the log has of the transaction compensated writes and what compensates them, and nothing else.
+    /// Whether the log has of the transaction compensated writes and what compensates them, and nothing else.
     pub fn is_undone(&self, tx: TxId) -> bool
         ensures { result ≡ is_undone_in self.now tx }
     {
         has_undone(self.says(tx))
     }
 
-    // The shards that the transaction's COMMIT names, none where there is no COMMIT.
+    /// The shards that the transaction's COMMIT names, none where there is no COMMIT.
     pub fn parts(&self, tx: TxId) -> &[u32]
         ensures { result.now ≡ unwrap_or (commit_parts self.now tx) [] }
     {
@@ -96,7 +106,7 @@ impl<'a> IndexedLog<'a> {
         self.says(tx).prepare.is_some()
     }
 
-    // Whether the transaction's PREPARE, if there is one, names this home.
+    /// Whether the transaction's PREPARE, if there is one, names this home.
     pub fn allows_home(&self, tx: TxId, home: usize) -> bool
         ensures { result ≡ home_is home (prepare_of self.now tx) }
     {
@@ -113,7 +123,7 @@ impl<'a> IndexedLog<'a> {
         self.listed(tx).iter().all(|p| self.is_committed(*p))
     }
 
-    // Whether this may be the log of a part of the transaction's commit at this home.
+    /// Whether this may be the log of a part of the transaction's commit at this home.
     pub fn agrees(&self, tx: TxId, home: usize) -> bool
         ensures { result ≡ part_agrees tx home self.now }
     {

@@ -3,7 +3,7 @@ use Rattle.std.proofs.Common.{◌≡◌, ◌⊎◌, ℕ, ◌+◌, List, ◌++◌
 use Rattle.std.proofs.lemmas.List.{take_all}
 use Rattle.clv_base.specs.declared.logs.LogRecord.{LogRecord}
 use Rattle.clv_base.specs.Restarts.{log_after_restart, restart_records}
-use Rattle.io_model.specs.Story.{Story, reads}
+use Rattle.io_model.specs.Sides.{Stories, Images, reads_both}
 use Rattle.shard_recovery.specs.declared.recovering.RecoverError.{RecoverError}
 use Rattle.shard_recovery.specs.declared.recovering.RecoverError.TheVariants.{Failed, Memory}
 use Rattle.shard_recovery.specs.Recovering.{IsBegun}
@@ -17,13 +17,13 @@ use Rattle.law_base.proofs.Lists.{take_plus}
 
 module _ (n : ℕ) (layout : Layout) (found : List LogRecord) (run : ℕ) (logs : Option (List LogRecord) → Type 0) where
   -- each log of the disk is one of the gate's
-  each_image : (story : Option Story) → ((log : Option (List LogRecord)) → logs_told story n layout log → logs log) → ((log : Option (List LogRecord)) → logs log → (count : ℕ) × (log ≡ Some (found ++ take count (restart_records n found run 0))))
+  each_image : (story : Option Stories) → ((log : Option (List LogRecord)) → logs_told story n layout log → logs log) → ((log : Option (List LogRecord)) → logs log → (count : ℕ) × (log ≡ Some (found ++ take count (restart_records n found run 0))))
       → IfSome story (EachNow (HasBegun n layout found run))
   each_image None told is = tt
-  each_image (Some s) told is = record { read = by (reads s) (is _ (told _ (reads s, inl refl, refl))); images = λ image left. by image (is _ (told _ (image, inr left, refl))) }
+  each_image (Some s) told is = record { read = by (reads_both s) (is _ (told _ (reads_both s, (inl refl, inl refl), refl))); images = λ images shown. by images (is _ (told _ (images, shown, refl))) }
     where
-      by : (image : List ℕ) → (count : ℕ) × (log_under n layout image ≡ Some (found ++ take count (restart_records n found run 0))) → HasBegun n layout found run image
-      by image (count, is) = (let k = from_under n layout (found ++ take count (restart_records n found run 0)) image is in (count, k.0, k.1))
+      by : (images : Images) → (count : ℕ) × (log_under n layout images ≡ Some (found ++ take count (restart_records n found run 0))) → HasBegun n layout found run images
+      by images (count, is) = (let k = from_under n layout (found ++ take count (restart_records n found run 0)) images is in (count, k.0, k.1))
 
   in_between : IsBegun n found run 0 logs → (log : Option (List LogRecord)) → logs log → (count : ℕ) × (log ≡ Some (found ++ take count (restart_records n found run 0)))
   in_between b log has = by b.written b.batch (b.log log has)
@@ -38,12 +38,12 @@ module _ (n : ℕ) (layout : Layout) (found : List LogRecord) (run : ℕ) (logs 
   at_end : Only (log_after_restart n found run 0) logs → (log : Option (List LogRecord)) → logs log → (count : ℕ) × (log ≡ Some (found ++ take count (restart_records n found run 0)))
   at_end only log has = (length (restart_records n found run 0), only log has ∙ ap (λ l. Some (found ++ l)) (sym (take_all (length (restart_records n found run 0)) (restart_records n found run 0) (omega arith))))
 
-  pub left_begun : (before now : Option Story) (shard : ℕ) → shard ≡ n → ((log : Option (List LogRecord)) → logs_told now shard layout log → logs log) → IsBegun n found run 0 logs → IsLeft n layout found run before now
+  pub left_begun : (before now : Option Stories) (shard : ℕ) → shard ≡ n → ((log : Option (List LogRecord)) → logs_told now shard layout log → logs log) → IsBegun n found run 0 logs → IsLeft n layout found run before now
   left_begun before now shard same told b = begun (each_image now (subst (λ (m : ℕ). (log : Option (List LogRecord)) → logs_told now m layout log → logs log) same told) (in_between b))
 
-  pub left_whole : (before now : Option Story) (shard : ℕ) → shard ≡ n → ((log : Option (List LogRecord)) → logs_told now shard layout log → logs log) → Only (log_after_restart n found run 0) logs → IsLeft n layout found run before now
+  pub left_whole : (before now : Option Stories) (shard : ℕ) → shard ≡ n → ((log : Option (List LogRecord)) → logs_told now shard layout log → logs log) → Only (log_after_restart n found run 0) logs → IsLeft n layout found run before now
   left_whole before now shard same told only = begun (each_image now (subst (λ (m : ℕ). (log : Option (List LogRecord)) → logs_told now m layout log → logs log) same told) (at_end only))
 
-pub left_by : (n : ℕ) (layout : Layout) (found : List LogRecord) (run : ℕ) (before now : Option Story) (e : RecoverError) → (e ≡ Failed → IsLeft n layout found run before now) → (e ≡ Memory → now ≡ before) → IsLeft n layout found run before now
+pub left_by : (n : ℕ) (layout : Layout) (found : List LogRecord) (run : ℕ) (before now : Option Stories) (e : RecoverError) → (e ≡ Failed → IsLeft n layout found run before now) → (e ≡ Memory → now ≡ before) → IsLeft n layout found run before now
 left_by n layout found run before now Failed failed memory = failed refl
 left_by n layout found run before now Memory failed memory = unwritten (memory refl)

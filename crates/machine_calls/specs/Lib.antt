@@ -4,3 +4,4 @@ pub mod Flights
 pub mod Restored
 pub mod Settled
 pub mod Recovered
+pub mod Disks

@@ -3,7 +3,7 @@ use Rattle.std.specs.Prelude.{◌≡◌, ◌≤◌, ℕ, Bool, false, List, ◌+
 use Rattle.clv_base.specs.declared.logs.LogRecord.{LogRecord}
 use Rattle.clv_base.specs.State.{Shard}
 use Rattle.clv_base.specs.Restarts.{log_after_restart, restart_records, opened}
-use Rattle.io_model.specs.Story.{Story}
+use Rattle.io_model.specs.Sides.{Stories, Images}
 use Rattle.io_model.specs.Disk.{Rose}
 use Rattle.shard_recovery.specs.declared.recovering.RecoverError.{RecoverError}
 use Rattle.shard_recovery.specs.declared.recovering.RecoverError.TheVariants.{Failed, Memory}
@@ -12,13 +12,13 @@ use Rattle.log_gate.specs.Image.{HasLog, HasHeader}
 use Rattle.log_gate.specs.Gate.{EachNow}
 use Rattle.log_gate.specs.View.{Only}
 
--- the log of these bytes of shard n's disk is the log found, with some first records of those that a restart of this run adds, behind a header of this layout
-abbrev pub HasBegun : ℕ → Layout → List LogRecord → ℕ → List ℕ → Type 0
-HasBegun n layout found run bytes = (count : ℕ) × HasLog n (found ++ take count (restart_records n found run 0)) bytes × HasHeader n layout.splits bytes
+-- the log of these bytes of shard n's sides is the log found, with some first records of those that a restart of this run adds, behind a header of this layout
+abbrev pub HasBegun : ℕ → Layout → List LogRecord → ℕ → Images → Type 0
+HasBegun n layout found run images = (count : ℕ) × HasLog n (found ++ take count (restart_records n found run 0)) images × HasHeader n layout.splits images
 
--- what recovery leaves of a disk where the shard isn't served: it was not written, or what a read gives and each image that a crash now may leave
--- has such a log, where the disk tells its bytes
-pub data IsLeft (n : ℕ) (layout : Layout) (found : List LogRecord) (run : ℕ) (before now : Option Story) : Type 0 where
+-- what recovery leaves of both sides where the shard isn't served: none was written, or what a read gives and each image that a crash now may leave
+-- has such a log, where the disks tell their bytes
+pub data IsLeft (n : ℕ) (layout : Layout) (found : List LogRecord) (run : ℕ) (before now : Option Stories) : Type 0 where
   unwritten : now ≡ before → IsLeft n layout found run before now
   begun : IfSome now (EachNow (HasBegun n layout found run)) → IsLeft n layout found run before now
 

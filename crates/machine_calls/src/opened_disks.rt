@@ -2,21 +2,22 @@
 
 ghost use Rattle.std.specs.Prelude.{◌≡◌, List, Option};
 ghost use Rattle.clv_base.specs.declared.logs.LogRecord.{LogRecord};
-ghost use Rattle.io_model.specs.Story.{Story};
+ghost use Rattle.io_model.specs.Sides.{Stories};
 ghost use Rattle.log_gate.specs.Header.{Layout};
 ghost use Rattle.log_gate.specs.View.{logs_told};
+ghost use Rattle.machine_calls.specs.Disks.{stories_of, faults_of};
 
 use crate::Maker;
-use io_model::Disk;
+use io_model::{Disk, Sides};
 
 /// A machine whose gates lie on such disks.
 pub trait OverDisks<D: Disk>: Maker {
-    /// What the disk of a gate tells.
-    ghost story: { Self.Gate → Option Story };
+    /// What both sides of a gate tell.
+    ghost story: { Self.Gate → Option Stories };
 
-    /// The disk of a gate, as it stands: its logs are the gate's. Takes no memory.
-    fn disk_under(gate: Self::Gate) -> D
-        ensures story { D.story result ≡ story gate }
-        ensures faults { D.faults result ≡ Self.Gate.faults gate }
-        ensures logs { (layout : Layout) (log : Option (List LogRecord)) → logs_told (D.story result) (Self.Gate.shard gate) layout log → Self.Gate.logs gate layout log };
+    /// Both sides of a gate, as they stand: their logs are the gate's. Takes no memory.
+    fn sides_under(gate: Self::Gate) -> Sides<D>
+        ensures story { stories_of D.story result ≡ story gate }
+        ensures faults { faults_of D.faults result ≡ Self.Gate.faults gate }
+        ensures logs { (layout : Layout) (log : Option (List LogRecord)) → logs_told (stories_of D.story result) (Self.Gate.shard gate) layout log → Self.Gate.logs gate layout log };
 }

@@ -5,16 +5,17 @@ ghost use Rattle.std.specs.List.{list_all};
 ghost use Rattle.clv_base.specs.declared.logs.LogRecord.{LogRecord as Rec};
 ghost use Rattle.clv_base.specs.FileRules.{has_spelling};
 ghost use Rattle.clv_base.specs.LogRules.{disorder};
-ghost use Rattle.io_model.specs.Story.{Story};
+ghost use Rattle.io_model.specs.Sides.{Stories};
 ghost use Rattle.log_analysis.specs.Facts.{Knows};
 ghost use Rattle.log_gate.specs.Header.{Layout};
 ghost use Rattle.log_gate.specs.View.{Only};
 ghost use Rattle.machine_calls.specs.Recovered.{IsLeft, CountsLeft, IsMachineAt};
+ghost use Rattle.machine_calls.specs.Disks.{stories_of, faults_of};
 
 use crate::opened_disks::OverDisks;
 use crate::{Machine, Maker, Parts};
 use clv_base::logs::LogRecord;
-use io_model::Disk;
+use io_model::{Disk, Sides};
 use log_analysis::LogFacts;
 use log_gate::Gate;
 use ordered_store::Store;
@@ -22,7 +23,7 @@ use shard_recovery::{RecoverError, recover};
 use std::alloc::Global;
 
 /// Recovers a shard from its log, which is in order, and of which it is known what it says of each transaction, and makes its machine. What a restart adds to
-/// the log is durable at `Ok`. An `Err` gives the disk back.
+/// the log is durable at `Ok`. An `Err` gives both sides back.
 pub fn recover_shard<D: Disk, M: OverDisks<D>>(
     alloc: Global,
     mut gate: M::Gate,
@@ -30,7 +31,7 @@ pub fn recover_shard<D: Disk, M: OverDisks<D>>(
     facts: LogFacts,
     shard: u32,
     run: u32,
-) -> Result<M, (RecoverError, D)>
+) -> Result<M, (RecoverError, Sides<D>)>
     requires knows { Knows facts log.items }
     requires shard { (shard < 16) × (M.Gate.shard gate ≡ shard) }
     requires run { 1 ≤ run }
@@ -39,33 +40,33 @@ pub fn recover_shard<D: Disk, M: OverDisks<D>>(
     requires spelled { list_all has_spelling log.items ≡ true }
     requires in_order { disorder shard log.items ≡ None }
     ensures machine { IfOk result (λ m. (layout : Layout) → Only log.items (M.Gate.logs gate layout) → IsMachineAt M.Gate.is_shut M.Gate.faults M.Gate.shard M.Gate.logs shard layout log.items run (M.shard m) (M.gate m)) }
-    ensures left { IfErr result (λ e. (layout : Layout) → Only log.items (M.Gate.logs gate layout) → IsLeft shard layout log.items run (M.story gate) (D.story e.1)) }
-    ensures cause { IfErr result (λ e. CountsLeft (M.Gate.faults gate) (D.faults e.1) e.0) }
+    ensures left { IfErr result (λ e. (layout : Layout) → Only log.items (M.Gate.logs gate layout) → IsLeft shard layout log.items run (M.story gate) (stories_of D.story e.1)) }
+    ensures cause { IfErr result (λ e. CountsLeft (M.Gate.faults gate) (faults_of D.faults e.1) e.0) }
 {
     let Ok(mut store) = M::Store::empty(alloc) else {
-        return Err((RecoverError::Memory, M::disk_under(gate)));
+        return Err((RecoverError::Memory, M::sides_under(gate)));
     };
     match recover(alloc, &mut store, &mut gate, log, facts, shard, run, 0) {
         Ok(recovered) => match M::new(alloc, gate, store, recovered, shard, run, 0) {
             Ok(machine) => Ok(machine),
-            Err(gate) => Err((RecoverError::Memory, M::disk_under(gate))),
+            Err(gate) => Err((RecoverError::Memory, M::sides_under(gate))),
         },
-        Err(error) => Err((error, M::disk_under(gate))),
+        Err(error) => Err((error, M::sides_under(gate))),
     }
 }
 
-/// Takes a machine that still has its gate apart, and gives the disk. Takes no memory.
-pub fn take_apart<D: Disk, M: OverDisks<D>>(machine: M) -> D
+/// Takes a machine that still has its gate apart, and gives both sides. Takes no memory.
+pub fn take_apart<D: Disk, M: OverDisks<D>>(machine: M) -> Sides<D>
     requires { IsSome (M.gate machine) }
 
     // Of a machine that recovery made and that did nothing since.
-    ensures left { (n : ℕ) (layout : Layout) (found : List Rec) (run : ℕ) (before : Option Story) → IsMachineAt M.Gate.is_shut M.Gate.faults M.Gate.shard M.Gate.logs n layout found run (M.shard machine) (M.gate machine) → IsLeft n layout found run before (D.story result) }
-    ensures fine { (n : ℕ) (layout : Layout) (found : List Rec) (run : ℕ) → IsMachineAt M.Gate.is_shut M.Gate.faults M.Gate.shard M.Gate.logs n layout found run (M.shard machine) (M.gate machine) → D.faults result ≡ 0 }
+    ensures left { (n : ℕ) (layout : Layout) (found : List Rec) (run : ℕ) (before : Option Stories) → IsMachineAt M.Gate.is_shut M.Gate.faults M.Gate.shard M.Gate.logs n layout found run (M.shard machine) (M.gate machine) → IsLeft n layout found run before (stories_of D.story result) }
+    ensures fine { (n : ℕ) (layout : Layout) (found : List Rec) (run : ℕ) → IsMachineAt M.Gate.is_shut M.Gate.faults M.Gate.shard M.Gate.logs n layout found run (M.shard machine) (M.gate machine) → faults_of D.faults result ≡ 0 }
 {
     let Parts {
         gate,
         store: _,
         journal: _,
     } = machine.into_parts();
-    M::disk_under(gate.unwrap())
+    M::sides_under(gate.unwrap())
 }

@@ -5,7 +5,7 @@ use Rattle.clv_base.specs.declared.names.TxId.{TxId}
 use Rattle.clv_base.specs.declared.logs.LogRecord.{LogRecord}
 use Rattle.clv_base.specs.declared.logs.LogRecord.TheVariants.{Update, Clr, Prepare, Add, Unadd}
 use Rattle.clv_base.specs.Logs.{StandingUpdate, is_setting, is_undo_of, standing, committed_in, prepared_in, aborted_in, own_tx}
-use Rattle.clv_base.specs.LogRules.{may_undo, disorder}
+use Rattle.clv_base.specs.LogRules.{may_undo, upto_of, disorder}
 use Rattle.clv_base.specs.Restarts.{greatest_run}
 
 -- whether a CLR or UNADD of the transaction is in a log
@@ -90,4 +90,4 @@ abbrev pub RunsAreThoseOfRestarts : Type 0
 RunsAreThoseOfRestarts = (shard : ℕ) (log : List LogRecord) → disorder shard log ≡ None → AllByRecursion (RunFits (greatest_run log)) log
 
 abbrev pub FrontsKeepOrder : Type 0
-FrontsKeepOrder = (shard n : ℕ) (log : List LogRecord) → disorder shard log ≡ None → disorder shard (take n log) ≡ None
+FrontsKeepOrder = (shard n : ℕ) (log : List LogRecord) → upto_of log ≤ n → disorder shard log ≡ None → disorder shard (take n log) ≡ None

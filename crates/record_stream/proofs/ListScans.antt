@@ -1,9 +1,9 @@
 -- Lists that rise are scanned.
-use Rattle.std.proofs.Common.{◌≡◌, ◌⊎◌, ℕ, zero, suc, ◌+◌, ◌-◌, ◌^◌, ◌<◌, ◌≤◌, Bool, true, false, ltb, leb, eqb, ◌&&◌, List, [], ◌∷◌, ◌++◌, length, Result, Ok, Err, refl, sym, ap, subst, ◌∙◌, arith, inl, inr}
+use Rattle.std.proofs.Common.{◌≡◌, ℕ, zero, suc, ◌+◌, ◌-◌, ◌^◌, ◌<◌, ◌≤◌, Bool, true, false, ltb, leb, ◌&&◌, List, [], ◌∷◌, ◌++◌, length, Ok, Err, refl, sym, ap, subst, ◌∙◌, arith, inl, inr}
 use Rattle.std.specs.List.{list_all, flat_map}
 use Rattle.std.specs.Ordering.{nat_cmp, is_lt}
 use Rattle.std.specs.declared.cmp.Ordering.TheVariants.{Less, Equal, Greater}
-use Rattle.std.proofs.lemmas.Bool.{ltb-false, ltb-true, lt-ltb, le-ltb, leb-true, le-leb}
+use Rattle.std.proofs.lemmas.Bool.{ltb-false, ltb-true, lt-ltb, leb-true, le-leb}
 use Rattle.std.proofs.lemmas.List.Concat.{flat_map-cons}
 use Rattle.clv_base.specs.declared.names.TxId.{TxId}
 use Rattle.clv_base.specs.Orders.{tx_cmp}
@@ -13,7 +13,7 @@ use Rattle.log_records.proofs.Laws.Fields.{both_true}
 use Rattle.record_stream.specs.declared.stop.Stop.TheVariants.{Cut}
 use Rattle.record_stream.specs.Naming.{IsName, IsBetween, rank, HasRoom}
 use Rattle.record_stream.specs.Scanning.{◌>>=◌, Scan, Skip, number_at, name_at, names_from, names_at, shards_from, shards_at, first_name, last_name, next_name}
-use Rattle.record_stream.proofs.Scans.{Part, Found, Scans, got, given_is, scans_then, scans_as, scans_same}
+use Rattle.record_stream.proofs.Scans.{Scans, got, given_is, scans_then, scans_as, scans_same}
 use Rattle.record_stream.proofs.NumberScans.{Bounded, itself, number_scans}
 use Rattle.record_stream.proofs.NameScans.{nothing, decided, name_scans, first_is_name, first_is_least, last_is_name, last_is_most}
 use Rattle.law_base.proofs.Lists.{IsBytes}

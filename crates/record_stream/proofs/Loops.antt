@@ -1,8 +1,8 @@
 -- Lists that a loop reads, element by element.
-use Rattle.std.proofs.Common.{◌≡◌, ℕ, zero, suc, ◌+◌, ◌-◌, ◌<◌, ◌≤◌, List, Result, Ok, Err, refl, sym, ap, ◌∙◌, arith}
+use Rattle.std.proofs.Common.{◌≡◌, ℕ, zero, suc, ◌+◌, ◌-◌, ◌<◌, ◌≤◌, List, Ok, Err, refl, sym, ap, ◌∙◌, arith}
 use Rattle.clv_base.specs.declared.names.TxId.{TxId}
 use Rattle.record_stream.specs.declared.stop.Stop.{Stop}
-use Rattle.record_stream.specs.Scanning.{◌>>=◌, Skip, number_at, names_from, shards_from}
+use Rattle.record_stream.specs.Scanning.{Skip, number_at, names_from, shards_from}
 
 pub shard_goes_on : (more least : ℕ) (rest after : List ℕ) (shard : ℕ) (total : Skip) → 0 < more → number_at 4 least (15 - (more - 1)) rest ≡ Ok (shard, after)
     → shards_from more least rest ≡ total → shards_from (more - 1) (shard + 1) after ≡ total

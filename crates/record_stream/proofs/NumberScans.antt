@@ -1,18 +1,18 @@
 -- A number between two bounds is scanned.
-use Rattle.std.proofs.Common.{◌≡◌, ℕ, zero, suc, ◌+◌, ◌-◌, ◌*◌, ◌/◌, ◌%◌, ◌^◌, ◌<◌, ◌≤◌, Bool, true, false, cond, ltb, leb, ◌&&◌, List, [], ◌∷◌, ◌++◌, length, drop, take, Result, Ok, Err, Some, refl, sym, ap, ◌∙◌, arith}
+use Rattle.std.proofs.Common.{◌≡◌, ℕ, zero, suc, ◌+◌, ◌-◌, ◌*◌, ◌/◌, ◌%◌, ◌^◌, ◌<◌, ◌≤◌, Bool, true, false, cond, ltb, leb, ◌&&◌, List, [], ◌∷◌, ◌++◌, length, drop, Ok, Err, Some, refl, sym, ap, ◌∙◌, arith}
 use Rattle.std.specs.Int.{byte_at, bytes_low_first}
 use Rattle.std.proofs.Math.Nat.{div-div-eq-div-mul, pow-succ'}
-use Rattle.std.proofs.lemmas.Bool.{ltb-false, ltb-true, lt-ltb, le-ltb, leb-true, le-leb}
+use Rattle.std.proofs.lemmas.Bool.{ltb-true, lt-ltb, le-ltb, leb-true, le-leb}
 use Rattle.std.proofs.lemmas.List.{drop_at, length-append}
 use Rattle.byteorder.specs.Endian.{little_number}
 use Rattle.byteorder.specs.Numbers.{little_number-reads_back}
 use Rattle.log_records.specs.Reading.{number_at as read_number_at}
 use Rattle.log_records.specs.Spelling.{number}
-use Rattle.log_records.proofs.Laws.Fields.{IsBytes-rest, both_true, Takes, number_takes}
+use Rattle.log_records.proofs.Laws.Fields.{IsBytes-rest, both_true, number_takes}
 use Rattle.log_records.proofs.Laws.Spellings.{length-number}
 use Rattle.record_stream.specs.declared.stop.Stop.{Stop}
 use Rattle.record_stream.specs.declared.stop.Stop.TheVariants.{Cut, Bad}
-use Rattle.record_stream.specs.Scanning.{goes_on, stop_by, number_at, Scan}
+use Rattle.record_stream.specs.Scanning.{goes_on, stop_by, number_at}
 use Rattle.record_stream.proofs.Scans.{Part, Found, Scans, got, given_is}
 use Rattle.law_base.proofs.Lists.{IsBytes}
 

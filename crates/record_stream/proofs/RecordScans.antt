@@ -1,5 +1,5 @@
 -- A record is scanned.
-use Rattle.std.proofs.Common.{◌≡◌, ℕ, zero, suc, ◌-◌, ◌^◌, ◌<◌, ◌≤◌, Bool, true, ltb, leb, ◌&&◌, List, [], ◌∷◌, ◌++◌, length, Option, Some, None, Err, refl, sym, ap, ◌∙◌, arith, inl, inr}
+use Rattle.std.proofs.Common.{◌≡◌, ℕ, zero, suc, ◌-◌, ◌^◌, true, ltb, leb, ◌&&◌, List, [], ◌∷◌, ◌++◌, length, Option, Some, None, Err, refl, sym, ap, ◌∙◌, arith, inl, inr}
 use Rattle.std.specs.List.{list_all}
 use Rattle.std.proofs.lemmas.Bool.{ltb-true, lt-ltb}
 use Rattle.clv_base.specs.declared.names.TxId.{TxId}
@@ -12,9 +12,9 @@ use Rattle.log_records.specs.Spelling.{number, transaction, optional, undo_next,
 use Rattle.log_records.proofs.Laws.Fields.{IsBytes-rest, both_true}
 use Rattle.record_stream.specs.declared.stop.Stop.TheVariants.{Cut}
 use Rattle.record_stream.specs.Naming.{IsName}
-use Rattle.record_stream.specs.Scanning.{◌>>=◌, Scan, Skip, number_at, any_name_at, long_at, value_at, names_at, shards_at, update_at, clr_at, prepare_at, commit_at, restart_at, add_at, unadd_at, fields_at, record_at}
+use Rattle.record_stream.specs.Scanning.{◌>>=◌, Scan, Skip, any_name_at, long_at, update_at, clr_at, prepare_at, commit_at, restart_at, add_at, unadd_at, fields_at, record_at}
 use Rattle.record_stream.proofs.Scans.{Part, Scans, scans_then, scans_as}
-use Rattle.record_stream.proofs.NumberScans.{Bounded, itself, number_scans}
+use Rattle.record_stream.proofs.NumberScans.{Bounded, number_scans}
 use Rattle.record_stream.proofs.NameScans.{nothing, decided, any_name_scans, IsLong, long_scans}
 use Rattle.record_stream.proofs.ValueScans.{IsOptional, value_scans}
 use Rattle.record_stream.proofs.ListScans.{AreParts, shards_scans, ArePredecessors, names_scans, name_spelled, spelled_name}

@@ -1,7 +1,7 @@
 -- What a scan promises, and scans one behind the other.
-use Rattle.std.proofs.Common.{◌≡◌, ◌⊎◌, ℕ, zero, suc, List, [], ◌∷◌, ◌++◌, Result, Ok, Err, refl, sym, ap, subst, ◌∙◌, append_assoc, inl, inr}
+use Rattle.std.proofs.Common.{◌≡◌, ◌⊎◌, ℕ, List, [], ◌∷◌, ◌++◌, Result, Ok, Err, refl, sym, ap, subst, ◌∙◌, append_assoc, inl, inr}
 use Rattle.record_stream.specs.declared.stop.Stop.{Stop}
-use Rattle.record_stream.specs.declared.stop.Stop.TheVariants.{Cut, Bad}
+use Rattle.record_stream.specs.declared.stop.Stop.TheVariants.{Cut}
 use Rattle.record_stream.specs.Scanning.{◌>>=◌, Scan}
 use Rattle.log_records.proofs.Laws.Fields.{Takes, Takes-then}
 use Rattle.law_base.proofs.Lists.{IsBytes}

@@ -1,5 +1,5 @@
 -- A value that may be none is scanned.
-use Rattle.std.proofs.Common.{◌≡◌, ℕ, zero, suc, ◌+◌, ◌-◌, ◌/◌, ◌%◌, ◌^◌, ◌<◌, ◌≤◌, Bool, true, false, cond, ltb, leb, ◌&&◌, List, [], ◌∷◌, ◌++◌, length, take, drop, Option, Some, None, Result, Ok, Err, refl, sym, ap, ◌∙◌, arith}
+use Rattle.std.proofs.Common.{◌≡◌, ℕ, zero, suc, ◌+◌, ◌-◌, ◌/◌, ◌%◌, ◌^◌, ◌<◌, ◌≤◌, Bool, true, false, cond, ltb, leb, ◌&&◌, List, [], ◌∷◌, ◌++◌, length, take, drop, Option, Some, None, Ok, Err, refl, sym, ap, ◌∙◌, arith}
 use Rattle.std.specs.List.{list_all}
 use Rattle.std.proofs.lemmas.Bool.{ltb-false, ltb-true, lt-ltb, le-ltb, leb-true, le-leb}
 use Rattle.std.proofs.lemmas.List.{drop_at, length-append, take-append-drop, length-take-le}
@@ -7,13 +7,12 @@ use Rattle.clv_base.specs.declared.values.Value.{Value}
 use Rattle.clv_base.specs.declared.values.Value.TheVariants.{Num, Bytes}
 use Rattle.clv_base.specs.FileRules.{is_value}
 use Rattle.log_records.specs.Spelling.{number, optional}
-use Rattle.log_records.proofs.Laws.Fields.{IsBytes-rest, both_true, Takes}
-use Rattle.record_stream.specs.declared.stop.Stop.{Stop}
-use Rattle.record_stream.specs.declared.stop.Stop.TheVariants.{Cut, Bad}
-use Rattle.record_stream.specs.Scanning.{number_at, bytes_at, text_at, value_at, Skip}
+use Rattle.log_records.proofs.Laws.Fields.{IsBytes-rest, both_true}
+use Rattle.record_stream.specs.declared.stop.Stop.TheVariants.{Cut}
+use Rattle.record_stream.specs.Scanning.{number_at, bytes_at, text_at, value_at}
 use Rattle.record_stream.proofs.Scans.{Part, Found, Scans, got, given_is, scans_then, scans_as}
 use Rattle.record_stream.proofs.NumberScans.{Bounded, itself, number_parts, number_scans}
-use Rattle.record_stream.proofs.NameScans.{nothing, IsLong, long_scans}
+use Rattle.record_stream.proofs.NameScans.{nothing, long_scans}
 use Rattle.law_base.proofs.Lists.{IsBytes, bytes_drop}
 
 -- ---- so many bytes

@@ -1,5 +1,5 @@
 -- Names of transactions in their order.
-use Rattle.std.specs.Prelude.{◌≡◌, ℕ, suc, ◌+◌, ◌*◌, ◌-◌, ◌^◌, ◌≤◌, ◌<◌, List, Result, Ok, Err}
+use Rattle.std.specs.Prelude.{◌≡◌, ℕ, suc, ◌+◌, ◌*◌, ◌-◌, ◌^◌, ◌≤◌, Result, Ok, Err}
 use Rattle.clv_base.specs.declared.names.TxId.{TxId}
 use Rattle.record_stream.specs.declared.stop.Stop.{Stop}
 use Rattle.record_stream.specs.Scanning.{Skip, last_name}

@@ -1,11 +1,10 @@
 -- The acts to which a transaction may still go back, as a list of their numbers.
-use Rattle.std.proofs.Common.{◌≡◌, ◌⊎◌, ℕ, zero, suc, ◌+◌, ◌-◌, ◌<◌, ◌≤◌, Bool, true, false, cond, ◌&&◌, ◌||◌, ◌==◌, nat_lt, nat_le, List, [], ◌∷◌, ◌++◌, length, get_or, Option, Some, None, option_to_list, inl, inr, refl, sym, ap, ap₂, ◌∙◌, subst, arith, append-nil}
-use Rattle.std.proofs.lemmas.Bool.{and_parts, and_from, or_cases, cases_eq, cases_lt, lt-ltb, le-ltb, le-leb, lt-leb, ltb-true, leb-true, leb-false, eq-eqb, ne_eqb, eqb-true, both_ways}
-use Rattle.std.specs.List.{list_any, list_all, filter}
-use Rattle.clv_base.specs.Maps.{Act, Operates, GoesBack, Acts}
-use Rattle.clv_base.specs.Backs.{stands_for_back, backs_with, is_next, are_numbered}
+use Rattle.std.proofs.Common.{◌≡◌, ℕ, suc, ◌+◌, ◌-◌, ◌<◌, ◌≤◌, Bool, true, false, cond, ◌&&◌, ◌||◌, ◌==◌, nat_lt, nat_le, List, [], ◌∷◌, ◌++◌, length, get_or, Option, Some, option_to_list, inl, inr, refl, sym, ap, ap₂, ◌∙◌, subst, arith, append-nil}
+use Rattle.std.proofs.lemmas.Bool.{and_parts, and_from, or_cases, cases_eq, cases_lt, lt-ltb, le-ltb, le-leb, lt-leb, ltb-true, leb-true, eq-eqb, ne_eqb, eqb-true, both_ways}
+use Rattle.std.specs.List.{list_all}
+use Rattle.clv_base.specs.Backs.{stands_for_back, are_numbered}
 use Rattle.session_books.specs.Done.{Done, Did, WentBack}
-use Rattle.report_reading.specs.Told.{act_of, numbered_from}
+use Rattle.report_reading.specs.Told.{numbered_from}
 use Rattle.report_reading.specs.Standing.{Rise, Follows, is_among, up_to}
 use Rattle.report_reading.proofs.Lasts.{last_of_rest}
 

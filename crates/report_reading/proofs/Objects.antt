@@ -1,12 +1,12 @@
 -- Transactions and counts, by the members of their objects.
-use Rattle.std.proofs.Common.{◌≡◌, ℕ, zero, suc, ◌+◌, ◌^◌, ◌<◌, ◌≤◌, Bool, true, false, ◌&&◌, ◌||◌, nat_lt, nat_le, List, [], ◌∷◌, ◌++◌, map, length, Option, Some, None, is_some, decimal, codes, refl, sym, ap, ap₂, ◌∙◌, subst, arith, append_assoc}
-use Rattle.std.proofs.lemmas.Bool.{and_parts, and_from, both_ways, ltb-true, leb-true, lt-ltb, le-leb}
+use Rattle.std.proofs.Common.{◌≡◌, ℕ, ◌+◌, ◌^◌, ◌≤◌, true, false, ◌&&◌, nat_le, List, [], ◌++◌, Some, is_some, decimal, codes, refl, sym, ap, ◌∙◌, arith, append_assoc}
+use Rattle.std.proofs.lemmas.Bool.{and_parts, and_from, both_ways, leb-true, lt-ltb, le-leb}
 use Rattle.std.proofs.lemmas.Option.{same_Some}
 use Rattle.std.specs.List.{list_all}
-use Rattle.json.specs.Print.{quoted, escape_byte}
+use Rattle.json.specs.Print.{escape_byte}
 use Rattle.serde_json.specs.Data.{Data, object, member, no_members}
 use Rattle.serde_json.specs.Find.{get, as_array}
-use Rattle.serde_json.specs.Written.{compact_text, members_text, has_float}
+use Rattle.serde_json.specs.Written.{compact_text, has_float}
 use Rattle.clv_base.specs.declared.values.Value.{Value as ValueType}
 use Rattle.session_books.specs.declared.counts.Counts.{Counts}
 use Rattle.session_books.specs.Done.{Done}
@@ -15,9 +15,9 @@ use Rattle.script_lang.specs.Laws.{is_word}
 use Rattle.report_text.specs.Lines.{num, list, pair, acts, transaction}
 use Rattle.report_text.specs.Counts.{summary}
 use Rattle.report_reading.specs.Told.{ReportedTx, fits_pair, can_be_done, numbered, has_acts, is_session, is_serial, can_be_acts, can_be_told}
-use Rattle.report_reading.specs.Texts.{Line, Pair, Tx, Sums, named, data_of, can_stand, fits_counts}
-use Rattle.report_reading.proofs.Good.{IsGood, good_list}
-use Rattle.report_reading.proofs.ReadBack.{good_acts, good_line}
+use Rattle.report_reading.specs.Texts.{Line, Pair, Tx, Sums, named, data_of, can_stand}
+use Rattle.report_reading.proofs.Good.{good_list}
+use Rattle.report_reading.proofs.ReadBack.{good_acts}
 
 -- ---- numbers
 

@@ -1,6 +1,6 @@
 -- A line more, and the end of the lines.
-use Rattle.std.proofs.Common.{◌≡◌, ◌⊎◌, ℕ, zero, suc, ◌+◌, ◌^◌, ◌<◌, ◌≤◌, Bool, true, false, ◌&&◌, List, [], ◌∷◌, ◌++◌, map, length, Option, Some, None, Result, Ok, Err, inl, inr, refl, sym, ap, ap₂, ◌∙◌, subst, arith, append_assoc, append-nil, length-append}
-use Rattle.std.proofs.lemmas.Bool.{and_parts, and_from, both_ways, lt-ltb}
+use Rattle.std.proofs.Common.{◌≡◌, ℕ, suc, ◌+◌, ◌^◌, ◌<◌, ◌≤◌, true, ◌&&◌, List, [], ◌∷◌, ◌++◌, length, Result, Ok, Err, refl, sym, ap, ap₂, ◌∙◌, subst, arith, append_assoc, append-nil, length-append}
+use Rattle.std.proofs.lemmas.Bool.{and_from, lt-ltb}
 use Rattle.std.proofs.lemmas.List.Folds.{list_all-append}
 use Rattle.std.specs.List.{list_all}
 use Rattle.std.specs.Result.{IfOk}
@@ -11,10 +11,10 @@ use Rattle.script_lang.specs.Laws.{is_word}
 use Rattle.script_lang.specs.Grammar.{most_bytes}
 use Rattle.report_reading.specs.declared.told.Taken.{Taken}
 use Rattle.report_reading.specs.declared.told.Taken.TheVariants.{Goes, Ends, Nowhere}
-use Rattle.report_reading.specs.Told.{ReportedTx, Reported, fits_pair, can_be_told}
-use Rattle.report_reading.specs.Texts.{Line, Pair, Tx, Sums, can_stand, fits_counts, line_text, counts_of, pair_lines, tx_lines, lines_of, CanBeReported, texts_of, joined, text_of, IsReport}
+use Rattle.report_reading.specs.Told.{ReportedTx, Reported}
+use Rattle.report_reading.specs.Texts.{Line, Pair, Tx, Sums, can_stand, fits_counts, line_text, counts_of, pair_lines, tx_lines, lines_of, CanBeReported, texts_of, joined, IsReport}
 use Rattle.report_reading.specs.Faults.{cut, BeginsOne, IsFault, at_line, at_end}
-use Rattle.report_reading.specs.Reading.{SoFar, so_far, lines_so_far, CanStand, is_above, Tells, IsLast, HasPlace, Comes}
+use Rattle.report_reading.specs.Reading.{SoFar, so_far, lines_so_far, CanStand, is_above, IsLast, HasPlace, Comes}
 use Rattle.report_reading.proofs.Same.{same_line}
 use Rattle.report_reading.proofs.Whole.{texts_append, next_line, same_lines, behind_so_far, above_rising, push_rising, joined_cut}
 use Rattle.report_reading.proofs.Reports.{cut_report}

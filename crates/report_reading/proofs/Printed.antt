@@ -1,16 +1,13 @@
 -- Texts of printed bytes: none of them is a line feed, and all are ASCII.
-use Rattle.std.proofs.Common.{◌≡◌, ℕ, zero, suc, ◌+◌, ◌*◌, ◌/◌, ◌%◌, ◌^◌, ◌<◌, ◌≤◌, Bool, true, false, cond, ◌&&◌, nat_lt, nat_le, List, [], ◌∷◌, ◌++◌, length, get_or, decimal, IsUtf8, inl, inr, refl, sym, ap, ◌∙◌, subst, arith}
+use Rattle.std.proofs.Common.{◌≡◌, ℕ, zero, suc, ◌+◌, ◌/◌, ◌%◌, ◌^◌, ◌<◌, ◌≤◌, Bool, true, false, cond, ◌&&◌, nat_lt, nat_le, List, [], ◌∷◌, ◌++◌, length, get_or, decimal, IsUtf8, inl, inr, refl, sym, ◌∙◌, subst, arith}
 use Rattle.std.proofs.lemmas.Bool.{and_parts, and_from, cases_eq, ltb-true, leb-true, lt-ltb, le-leb}
 use Rattle.std.proofs.lemmas.Fmt.{decimal_is_IsNumeral}
 use Rattle.std.proofs.lemmas.List.Folds.{list_all-append}
 use Rattle.std.proofs.lemmas.Str.{IsUtf8-from_ascii}
 use Rattle.std.proofs.lemmas.Str.Parse.{digit_at}
 use Rattle.std.specs.List.{list_all}
-use Rattle.std.specs.Str.{IsAscii}
 use Rattle.json.specs.Print.{escape_byte, escape, quoted}
-use Rattle.json.proofs.Printed.Strings.{escape_byte_plain}
 use Rattle.hex.specs.Hex.{encode_with, encode_lower, lower_digits}
-use Rattle.clv_base.specs.Values.{fits_value}
 
 abbrev pub is_printed : ℕ → Bool
 is_printed b = nat_le 32 b && nat_lt b 128

@@ -1,13 +1,11 @@
 -- Each line that may stand is read back.
-use Rattle.std.proofs.Common.{◌≡◌, ℕ, suc, ◌+◌, ◌^◌, ◌<◌, ◌≤◌, Bool, true, false, ◌&&◌, nat_lt, nat_le, List, [], ◌∷◌, ◌++◌, map, Option, Some, None, option_map, option_and_then, codes, refl, sym, ap, ◌∙◌, subst, arith}
+use Rattle.std.proofs.Common.{◌≡◌, ℕ, ◌^◌, ◌<◌, true, ◌&&◌, nat_le, List, [], ◌∷◌, map, Option, Some, None, codes, refl, arith}
 use Rattle.std.proofs.lemmas.Bool.{and_parts, ltb-true, leb-true}
-use Rattle.std.proofs.lemmas.Option.{same_Some}
 use Rattle.std.specs.List.{AllByRecursion, list_all}
 use Rattle.json.specs.Json as json
-use Rattle.serde_json.specs.Data.{Data, null, boolean, string, object, no_members, member, put}
+use Rattle.serde_json.specs.Data.{Data, string, no_members, member, put}
 use Rattle.serde_json.specs.Read.{read, of_json, of_members}
 use Rattle.serde_json.specs.Written.{outline, compact_text}
-use Rattle.clv_base.specs.declared.names.TxId.{TxId}
 use Rattle.clv_base.specs.declared.values.Value.{Value as ValueType}
 use Rattle.clv_base.specs.declared.values.Value.TheVariants.{Num, Bytes}
 use Rattle.clv_base.specs.declared.ops.Op.{Op}
@@ -19,12 +17,12 @@ use Rattle.clv_base.specs.Backs.{are_numbered}
 use Rattle.session_books.specs.declared.counts.Counts.{Counts}
 use Rattle.session_books.specs.Done.{Done, Did, WentBack}
 use Rattle.script_lang.specs.Laws.{is_word, is_narrow_op}
-use Rattle.report_text.specs.Lines.{num, list, value_data, optional, pair, answer, operation, act, acts, transaction, line}
+use Rattle.report_text.specs.Lines.{num, list, value_data, optional, pair, answer, operation, act, acts, transaction}
 use Rattle.report_text.specs.Counts.{summary}
 use Rattle.hex.specs.Hex.{encode_lower}
 use Rattle.report_reading.specs.Told.{ReportedTx, fits_optional, fits_pair, fits_answer, is_answer_of, can_be_done, numbered, has_acts, is_session, is_serial, can_be_acts, can_be_told}
-use Rattle.report_reading.specs.Texts.{Line, Pair, Tx, Sums, named, data_of, can_stand, fits_counts, line_text}
-use Rattle.report_reading.proofs.Printed.{Printed, printed_digits}
+use Rattle.report_reading.specs.Texts.{Line, Pair, Tx, Sums, named, data_of, can_stand, fits_counts}
+use Rattle.report_reading.proofs.Printed.{printed_digits}
 use Rattle.report_reading.proofs.Good.{IsGood, good_more, good_null, good_boolean, good_number, good_string, good_list, good_three, read_written}
 
 word : (n : ℕ) → is_word n ≡ true → IsGood 0 (num n)

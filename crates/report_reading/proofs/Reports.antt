@@ -1,14 +1,11 @@
 -- Reports and their faults.
-use Rattle.std.proofs.Common.{◌≡◌, ℕ, suc, ◌<◌, ◌≤◌, Bool, true, List, [], ◌∷◌, ◌++◌, length, refl, sym, ap, ap₂, ◌∙◌, subst, arith, append_assoc}
-use Rattle.std.proofs.lemmas.Bool.{and_parts}
-use Rattle.std.specs.List.{list_all}
+use Rattle.std.proofs.Common.{◌≡◌, ℕ, List, [], ◌∷◌, sym, ap, ap₂, ◌∙◌, arith, append_assoc}
 use Rattle.clv_base.specs.declared.values.Value.{Value as ValueType}
-use Rattle.script_lang.specs.Grammar.{most_bytes}
 use Rattle.report_reading.specs.Told.{ReportedTx, Reported}
-use Rattle.report_reading.specs.Texts.{Line, Sums, can_stand, lines_of, counts_of, CanBeReported, texts_of, joined, text_of, IsReport, pair_lines, tx_lines}
-use Rattle.report_reading.specs.Faults.{cut, BeginsOne, IsFault, at_line, at_end, too_long, ReportsHaveNoFault, ReportsTellOneThing}
-use Rattle.report_reading.specs.Reading.{so_far, lines_so_far}
-use Rattle.report_reading.proofs.Whole.{cut_joined, joined_cut, same_lines, behind_so_far}
+use Rattle.report_reading.specs.Texts.{Sums, lines_of, counts_of, texts_of, IsReport, pair_lines, tx_lines}
+use Rattle.report_reading.specs.Faults.{cut, at_line, at_end, too_long, ReportsHaveNoFault, ReportsTellOneThing}
+use Rattle.report_reading.specs.Reading.{so_far}
+use Rattle.report_reading.proofs.Whole.{cut_joined, same_lines, behind_so_far}
 
 pub cut_report : (bytes : List ℕ) (r : Reported) → IsReport bytes r → cut bytes ≡ texts_of (lines_of r)
 cut_report bytes r i = ap cut i.text ∙ cut_joined (lines_of r) (i.can).each

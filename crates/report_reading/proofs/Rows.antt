@@ -1,22 +1,20 @@
 -- What is told as a value, by the shape of the value.
-use Rattle.std.proofs.Common.{◌≡◌, ◌⊎◌, ℕ, zero, suc, ◌+◌, ◌^◌, ◌<◌, ◌≤◌, Bool, true, false, ◌&&◌, not, nat_lt, nat_le, List, [], ◌∷◌, ◌++◌, map, length, get_or, take, Option, Some, None, option_map, option_and_then, is_some, codes, MatchOption, inl, inr, refl, sym, ap, ◌∙◌, subst, arith}
+use Rattle.std.proofs.Common.{◌≡◌, ◌⊎◌, ℕ, zero, suc, ◌^◌, ◌<◌, ◌≤◌, Bool, true, false, ◌&&◌, nat_le, List, [], ◌∷◌, map, length, get_or, Option, Some, None, option_and_then, is_some, codes, MatchOption, inl, inr, refl, sym, ap, ◌∙◌, subst, arith}
 use Rattle.std.proofs.lemmas.Bool.{and_parts, and_from, both_ways, le-leb, lt-ltb, leb-true, ltb-true}
 use Rattle.std.specs.List.{list_all}
-use Rattle.serde_json.specs.Data.{Num, unsigned, negative, float, Data, null, boolean, number, string, array, object, Items, no_items, item}
+use Rattle.serde_json.specs.Data.{unsigned, negative, float, Data, null, boolean, number, string, array, object, Items}
 use Rattle.serde_json.specs.Find.{as_null, as_bool, as_number, as_str, as_array, as_u64}
 use Rattle.serde_json.specs.View.{items_of}
 use Rattle.clv_base.specs.declared.values.Value.{Value as ValueType}
-use Rattle.clv_base.specs.declared.values.Value.TheVariants.{Num as Number, Bytes}
 use Rattle.clv_base.specs.declared.ops.Op.{Op}
 use Rattle.clv_base.specs.declared.ops.Op.TheVariants.{Get, Put, Del, Scan, Add}
 use Rattle.clv_base.specs.declared.ops.Answer.{Answer}
 use Rattle.clv_base.specs.declared.ops.Answer.TheVariants.{Value, Pairs, Added}
 use Rattle.clv_base.specs.Values.{fits_value}
 use Rattle.session_books.specs.Done.{Done, Did, WentBack}
-use Rattle.script_lang.specs.Laws.{is_word, is_narrow_op}
-use Rattle.report_text.specs.Lines.{num, list, value_data, optional, pair, answer, operation, act, acts}
-use Rattle.report_reading.specs.Told.{fits_optional, fits_pair, fits_answer, is_answer_of, can_be_done}
-use Rattle.report_reading.specs.Finding.{Finds}
+use Rattle.script_lang.specs.Laws.{is_word}
+use Rattle.report_text.specs.Lines.{num, list, value_data, optional, pair, answer, act}
+use Rattle.report_reading.specs.Told.{fits_optional, fits_pair, is_answer_of, can_be_done}
 
 -- ---- what a value is, by what it is asked
 

@@ -1,7 +1,6 @@
 -- All lines of a report: where one begins, and what may stand behind it.
-use Rattle.std.proofs.Common.{◌≡◌, ◌⊎◌, ℕ, zero, suc, ◌+◌, ◌-◌, ◌^◌, ◌<◌, ◌≤◌, Bool, true, false, cond, ◌&&◌, ◌==◌, nat_lt, nat_le, List, [], ◌∷◌, ◌++◌, map, length, get_or, take, Option, Some, None, T, inl, inr, refl, sym, ap, ap₂, ◌∙◌, subst, arith, append_assoc, append-nil, length-append, Less, Equal, Greater}
-use Rattle.std.proofs.lemmas.Bool.{and_parts, and_from, ltb-true, lt-ltb, ne_eqb, eq-eqb, both_ways}
-use Rattle.std.proofs.lemmas.List.Folds.{list_all-append}
+use Rattle.std.proofs.Common.{◌≡◌, ℕ, zero, suc, ◌+◌, ◌-◌, ◌<◌, ◌≤◌, Bool, true, false, cond, ◌&&◌, ◌==◌, nat_lt, List, [], ◌∷◌, ◌++◌, length, get_or, take, T, refl, sym, ap, ap₂, ◌∙◌, subst, arith, append_assoc, length-append, Less, Equal, Greater}
+use Rattle.std.proofs.lemmas.Bool.{and_parts, and_from, ltb-true, lt-ltb, ne_eqb}
 use Rattle.std.specs.List.{list_all}
 use Rattle.std.specs.Ordering.{nat_cmp, is_lt}
 use Rattle.std.specs.FinMap.Entries.{is_sorted, below_all}
@@ -13,11 +12,10 @@ use Rattle.script_lang.specs.Grammar.{before_line}
 use Rattle.script_lang.specs.Reading.{Lacks}
 use Rattle.law_base.proofs.Numbers.{lt_from}
 use Rattle.report_reading.specs.Told.{ReportedTx, Reported}
-use Rattle.report_reading.specs.Texts.{Line, Pair, Tx, Sums, data_of, can_stand, line_text, counts_of, pair_lines, tx_lines, lines_of, CanBeReported, texts_of, joined, text_of, IsReport}
-use Rattle.report_reading.specs.Faults.{cut, BeginsOne}
-use Rattle.report_reading.specs.Reading.{SoFar, so_far, lines_so_far, CanStand, is_above, IsLast}
+use Rattle.report_reading.specs.Texts.{Line, Pair, Tx, Sums, data_of, can_stand, line_text, counts_of, pair_lines, tx_lines, lines_of, texts_of, joined}
+use Rattle.report_reading.specs.Faults.{cut}
+use Rattle.report_reading.specs.Reading.{SoFar, lines_so_far, is_above}
 use Rattle.report_reading.proofs.Printed.{Printed, first_printed}
-use Rattle.report_reading.proofs.Good.{IsGood}
 use Rattle.report_reading.proofs.ReadBack.{good_line}
 use Rattle.report_reading.proofs.Same.{same_line}
 use Rattle.report_reading.proofs.Lasts.{last_of_rest}

@@ -7,13 +7,13 @@ use command_line::Status;
 
 // The log of one put, cut within its second batch, before which the gate is open; the same with that gate closed; and cut before its last gate.
 const CUT: &[u8] =
-    b"CLVLOG01\x01\0\0\0\0\0\0\0\x01\0\0\0\x01\x0d\0\0\0\x07\x01\0\0\0\0\0\0\0\0\0\0\0\x01\x38\0\0\0\x01\x01\0\0\0\x01\0\0\0\x01\0\0\0\0\0\0\0";
+    b"CLVLOG02\x02\0\0\0\0\0\0\0\x01\0\0\0\x01\0\0\0\0\0\0\0\x01\x0d\0\0\0\x07\x01\0\0\0\0\0\0\0\0\0\0\0\x01\x38\0\0\0\x01\x01\0\0\0\x01\0\0\0\x01\0\0\0\0\0\0\0";
 
 const CUT_CLOSED: &[u8] =
-    b"CLVLOG01\x01\0\0\0\0\0\0\0\x01\0\0\0\x01\x0d\0\0\0\x07\x01\0\0\0\0\0\0\0\0\0\0\0\0\x38\0\0\0\x01\x01\0\0\0\x01\0\0\0\x01\0\0\0\0\0\0\0";
+    b"CLVLOG02\x02\0\0\0\0\0\0\0\x01\0\0\0\x01\0\0\0\0\0\0\0\x01\x0d\0\0\0\x07\x01\0\0\0\0\0\0\0\0\0\0\0\0\x38\0\0\0\x01\x01\0\0\0\x01\0\0\0\x01\0\0\0\0\0\0\0";
 
 const NO_GATE: &[u8] =
-    b"CLVLOG01\x01\0\0\0\0\0\0\0\x01\0\0\0\x01\x0d\0\0\0\x07\x01\0\0\0\0\0\0\0\0\0\0\0\x01\x38\0\0\0\x01\x01\0\0\0\x01\0\0\0\x01\0\0\0\0\0\0\0\x05\0\0\0\0\0\0\0\0\x01\x0a\0\0\0\0\0\0\0\x04\x01\0\0\0\x01\0\0\0\x01\0\0\0\0\0\0\0\0\0\0\0";
+    b"CLVLOG02\x02\0\0\0\0\0\0\0\x01\0\0\0\x01\0\0\0\0\0\0\0\x01\x0d\0\0\0\x07\x01\0\0\0\0\0\0\0\0\0\0\0\x01\x38\0\0\0\x01\x01\0\0\0\x01\0\0\0\x01\0\0\0\0\0\0\0\x05\0\0\0\0\0\0\0\0\x01\x0a\0\0\0\0\0\0\0\x04\x01\0\0\0\x01\0\0\0\x01\0\0\0\0\0\0\0\0\0\0\0";
 
 const ROWS: &[Row] = &[
     Row {
@@ -28,7 +28,7 @@ const ROWS: &[Row] = &[
         words: &["show"],
         status: Status::NotLog {
             shard: 0,
-            at: At::Byte(39),
+            at: At::Byte(47),
         },
         bytes: CUT,
         ..ROW
@@ -39,7 +39,7 @@ const ROWS: &[Row] = &[
         words: &["show"],
         status: Status::NotLog {
             shard: 0,
-            at: At::Byte(99),
+            at: At::Byte(107),
         },
         bytes: NO_GATE,
         ..ROW
@@ -57,7 +57,10 @@ const ROWS: &[Row] = &[
     },
     Row {
         shows: "another magic",
-        disks: &[(0, Given::Bytes(b"CLVLOG02\x01\0\0\0\0\0\0\0\x01\0\0\0\0"))],
+        disks: &[(
+            0,
+            Given::Bytes(b"CLVLOG03\x02\0\0\0\0\0\0\0\x01\0\0\0\x01\0\0\0\0\0\0\0\0"),
+        )],
         words: &["show"],
         status: Status::NotLog {
             shard: 0,
@@ -67,6 +70,19 @@ const ROWS: &[Row] = &[
     },
     Row {
         shows: "another version",
+        disks: &[(
+            0,
+            Given::Bytes(b"CLVLOG02\x01\0\0\0\0\0\0\0\x01\0\0\0\x01\0\0\0\0\0\0\0\0"),
+        )],
+        words: &["show"],
+        status: Status::NotLog {
+            shard: 0,
+            at: At::Byte(8),
+        },
+        ..ROW
+    },
+    Row {
+        shows: "another version behind the first one's magic",
         disks: &[(0, Given::Bytes(b"CLVLOG01\x02\0\0\0\0\0\0\0\x01\0\0\0\0"))],
         words: &["show"],
         status: Status::NotLog {
@@ -87,7 +103,10 @@ const ROWS: &[Row] = &[
     },
     Row {
         shows: "no shards",
-        disks: &[(0, Given::Bytes(b"CLVLOG01\x01\0\0\0\0\0\0\0\0\0\0\0\0"))],
+        disks: &[(
+            0,
+            Given::Bytes(b"CLVLOG02\x02\0\0\0\0\0\0\0\0\0\0\0\x01\0\0\0\0\0\0\0\0"),
+        )],
         words: &["show"],
         status: Status::NotLog {
             shard: 0,
@@ -96,15 +115,41 @@ const ROWS: &[Row] = &[
         ..ROW
     },
     Row {
-        shows: "a batch without records",
+        shows: "no generation",
         disks: &[(
             0,
-            Given::Bytes(b"CLVLOG01\x01\0\0\0\0\0\0\0\x01\0\0\0\x01\0\0\0\0\0"),
+            Given::Bytes(b"CLVLOG02\x02\0\0\0\0\0\0\0\x01\0\0\0\0\0\0\0\0\0\0\0\0"),
         )],
         words: &["show"],
         status: Status::NotLog {
             shard: 0,
-            at: At::Byte(21),
+            at: At::Byte(20),
+        },
+        ..ROW
+    },
+    Row {
+        shows: "a header that is cut",
+        disks: &[(
+            0,
+            Given::Bytes(b"CLVLOG02\x02\0\0\0\0\0\0\0\x01\0\0\0\x01\0\0\0\0\0\0"),
+        )],
+        words: &["show"],
+        status: Status::NotLog {
+            shard: 0,
+            at: At::Byte(0),
+        },
+        ..ROW
+    },
+    Row {
+        shows: "a batch without records",
+        disks: &[(
+            0,
+            Given::Bytes(b"CLVLOG02\x02\0\0\0\0\0\0\0\x01\0\0\0\x01\0\0\0\0\0\0\0\x01\0\0\0\0\0"),
+        )],
+        words: &["show"],
+        status: Status::NotLog {
+            shard: 0,
+            at: At::Byte(29),
         },
         ..ROW
     },
@@ -112,12 +157,14 @@ const ROWS: &[Row] = &[
         shows: "no kind of record",
         disks: &[(
             0,
-            Given::Bytes(b"CLVLOG01\x01\0\0\0\0\0\0\0\x01\0\0\0\x01\x01\0\0\0\x08\0"),
+            Given::Bytes(
+                b"CLVLOG02\x02\0\0\0\0\0\0\0\x01\0\0\0\x01\0\0\0\0\0\0\0\x01\x01\0\0\0\x08\0",
+            ),
         )],
         words: &["show"],
         status: Status::NotLog {
             shard: 0,
-            at: At::Byte(25),
+            at: At::Byte(33),
         },
         ..ROW
     },
@@ -127,7 +174,9 @@ const ROWS: &[Row] = &[
             (0, Given::Bytes(FIRST)),
             (
                 1,
-                Given::Bytes(b"CLVLOG01\x01\0\0\0\x01\0\0\0\x02\0\0\0\x0b\0\0\0\0\0\0\0\0"),
+                Given::Bytes(
+                    b"CLVLOG02\x02\0\0\0\x01\0\0\0\x02\0\0\0\x0b\0\0\0\0\0\0\0\x01\0\0\0\0\0\0\0\0",
+                ),
             ),
         ],
         words: &["show"],

@@ -80,7 +80,7 @@ const ROWS: &[Row] = &[
         script: PUT,
         status: Status::WriteFault,
         text: b"{\"ops",
-        lengths: &[100],
+        lengths: &[108],
         ..ROW
     },
     Row {

@@ -6,7 +6,7 @@ const MAKE: Row = Row {
     shows: "two shards",
     disks: &[(0, Given::Bytes(b"")), (1, Given::Bytes(b""))],
     words: &["make", "2"],
-    lengths: &[29, 29],
+    lengths: &[37, 37],
     ..ROW
 };
 

@@ -17,7 +17,7 @@ const ROWS: &[Row] = &[
     Row {
         shows: "what is there stays",
         words: &["make"],
-        status: Status::Exists { shard: 0, len: 21 },
+        status: Status::Exists { shard: 0, len: 29 },
         bytes: EMPTY,
         ..ROW
     },
@@ -25,7 +25,7 @@ const ROWS: &[Row] = &[
         shows: "two shards",
         disks: &[(0, NEW), (1, NEW)],
         words: &["make", "10"],
-        lengths: &[29, 29],
+        lengths: &[37, 37],
         bytes: FIRST,
         ..ROW
     },
@@ -35,6 +35,14 @@ const ROWS: &[Row] = &[
         words: &["make", "10"],
         status: Status::Exists { shard: 1, len: 2 },
         lengths: &[0, 2],
+        ..ROW
+    },
+    Row {
+        shows: "none is made where the other side is there",
+        disks: &[(0, Given::Both(b"", b"abc")), (1, NEW)],
+        words: &["make", "10"],
+        status: Status::Exists { shard: 0, len: 3 },
+        lengths: &[0, 0],
         ..ROW
     },
     Row {
@@ -61,7 +69,7 @@ const ROWS: &[Row] = &[
             "make", "1", "2", "3", "4", "5", "6", "7", "8", "9", "10", "11", "12", "13", "14", "15",
         ],
         lengths: &[
-            141, 141, 141, 141, 141, 141, 141, 141, 141, 141, 141, 141, 141, 141, 141, 141,
+            149, 149, 149, 149, 149, 149, 149, 149, 149, 149, 149, 149, 149, 149, 149, 149,
         ],
         ..ROW
     },

@@ -1,6 +1,6 @@
 // Runs of `show` over logs out of order, apart or open at their end.
 
-use crate::disks::{EMPTY, FIRST, ONE_PUT, SECOND};
+use crate::disks::{EMPTY, FIRST, FIRST_EMPTY, FIRST_PUT, NEWER, ONE_PUT, PUT, PUT_REPORT, SECOND};
 use crate::row::{Given, ROW, Row};
 use cluster_opening::At;
 use clv_base::names::TxId;
@@ -8,19 +8,19 @@ use command_line::Status;
 
 // A RESTART of run 1, and an UPDATE of key 5 from 7 to 8.
 const WRONG_BEFORE: &[u8] =
-    b"CLVLOG01\x01\0\0\0\0\0\0\0\x01\0\0\0\x01\x38\0\0\0\x07\x01\0\0\0\0\0\0\0\0\0\0\0\x01\x01\0\0\0\x01\0\0\0\x01\0\0\0\0\0\0\0\x05\0\0\0\0\0\0\0\x01\x07\0\0\0\0\0\0\0\x01\x08\0\0\0\0\0\0\0\0";
+    b"CLVLOG02\x02\0\0\0\0\0\0\0\x01\0\0\0\x01\0\0\0\0\0\0\0\x01\x38\0\0\0\x07\x01\0\0\0\0\0\0\0\0\0\0\0\x01\x01\0\0\0\x01\0\0\0\x01\0\0\0\0\0\0\0\x05\0\0\0\0\0\0\0\x01\x07\0\0\0\0\0\0\0\x01\x08\0\0\0\0\0\0\0\0";
 
 // A RESTART of run 4294967295.
 const LAST_RUN: &[u8] =
-    b"CLVLOG01\x01\0\0\0\0\0\0\0\x01\0\0\0\x01\x0d\0\0\0\x07\xff\xff\xff\xff\0\0\0\0\0\0\0\0\0";
+    b"CLVLOG02\x02\0\0\0\0\0\0\0\x01\0\0\0\x01\0\0\0\0\0\0\0\x01\x0d\0\0\0\x07\xff\xff\xff\xff\0\0\0\0\0\0\0\0\0";
 
 // A RESTART of run 1, and an UPDATE of key 5 from none to 10 without a COMMIT.
 const OPEN: &[u8] =
-    b"CLVLOG01\x01\0\0\0\0\0\0\0\x01\0\0\0\x01\x30\0\0\0\x07\x01\0\0\0\0\0\0\0\0\0\0\0\x01\x01\0\0\0\x01\0\0\0\x01\0\0\0\0\0\0\0\x05\0\0\0\0\0\0\0\0\x01\x0a\0\0\0\0\0\0\0\0";
+    b"CLVLOG02\x02\0\0\0\0\0\0\0\x01\0\0\0\x01\0\0\0\0\0\0\0\x01\x30\0\0\0\x07\x01\0\0\0\0\0\0\0\0\0\0\0\x01\x01\0\0\0\x01\0\0\0\x01\0\0\0\0\0\0\0\x05\0\0\0\0\0\0\0\0\x01\x0a\0\0\0\0\0\0\0\0";
 
 // Behind it a batch with the ABORT, a CLR of key 5 to none with no next one to undo, and the RESTART of run 2.
 const UNDONE: &[u8] =
-    b"CLVLOG01\x01\0\0\0\0\0\0\0\x01\0\0\0\x01\x30\0\0\0\x07\x01\0\0\0\0\0\0\0\0\0\0\0\x01\x01\0\0\0\x01\0\0\0\x01\0\0\0\0\0\0\0\x05\0\0\0\0\0\0\0\0\x01\x0a\0\0\0\0\0\0\0\x01\x40\0\0\0\x05\x01\0\0\0\x01\0\0\0\x01\0\0\0\0\0\0\0\x02\x01\0\0\0\x01\0\0\0\x01\0\0\0\0\0\0\0\xff\xff\xff\xff\xff\xff\xff\xff\x05\0\0\0\0\0\0\0\0\x07\x02\0\0\0\0\0\0\0\0\0\0\0\0";
+    b"CLVLOG02\x02\0\0\0\0\0\0\0\x01\0\0\0\x01\0\0\0\0\0\0\0\x01\x30\0\0\0\x07\x01\0\0\0\0\0\0\0\0\0\0\0\x01\x01\0\0\0\x01\0\0\0\x01\0\0\0\0\0\0\0\x05\0\0\0\0\0\0\0\0\x01\x0a\0\0\0\0\0\0\0\x01\x40\0\0\0\x05\x01\0\0\0\x01\0\0\0\x01\0\0\0\0\0\0\0\x02\x01\0\0\0\x01\0\0\0\x01\0\0\0\0\0\0\0\xff\xff\xff\xff\xff\xff\xff\xff\x05\0\0\0\0\0\0\0\0\x07\x02\0\0\0\0\0\0\0\0\0\0\0\0";
 
 // One transaction on both of two shards.
 const BOTH: &[u8] = b"session\nbegin\nput 1 1\nput 11 1\ncommit\n";
@@ -101,14 +101,77 @@ const ROWS: &[Row] = &[
         disks: &[(0, Given::Bytes(ONE_PUT))],
         words: &["show"],
         text: b"[5,10]\n",
-        lengths: &[118],
+        lengths: &[126],
         ..ROW
     },
     Row {
         shows: "a log that was just made",
         disks: &[(0, Given::Bytes(EMPTY))],
         words: &["show"],
-        lengths: &[39],
+        lengths: &[47],
+        ..ROW
+    },
+    Row {
+        shows: "the newer side is the log",
+        disks: &[(0, Given::Both(EMPTY, NEWER))],
+        words: &["show"],
+        text: b"[5,10]\n",
+        bytes: EMPTY,
+        ..ROW
+    },
+    Row {
+        shows: "on whichever side it stands",
+        disks: &[(0, Given::Both(NEWER, EMPTY))],
+        words: &["show"],
+        text: b"[5,10]\n",
+        lengths: &[126],
+        ..ROW
+    },
+    Row {
+        shows: "a side that isn't in use says nothing",
+        disks: &[(0, Given::Both(b"", NEWER))],
+        words: &["show"],
+        text: b"[5,10]\n",
+        lengths: &[0],
+        ..ROW
+    },
+    Row {
+        shows: "sides of one generation",
+        disks: &[(0, Given::Both(EMPTY, ONE_PUT))],
+        words: &["show"],
+        status: Status::NotLog {
+            shard: 0,
+            at: At::Byte(0),
+        },
+        bytes: EMPTY,
+        ..ROW
+    },
+    Row {
+        shows: "another shard's log on the second side",
+        disks: &[(0, Given::Both(FIRST, SECOND)), (1, Given::Bytes(SECOND))],
+        words: &["show"],
+        status: Status::NotLog {
+            shard: 0,
+            at: At::Byte(12),
+        },
+        bytes: FIRST,
+        ..ROW
+    },
+    Row {
+        shows: "a log of version 1 goes on as it was",
+        disks: &[(0, Given::Bytes(FIRST_EMPTY))],
+        words: &["run"],
+        script: PUT,
+        text: PUT_REPORT,
+        bytes: FIRST_PUT,
+        ..ROW
+    },
+    Row {
+        shows: "whatever stands on the second side",
+        disks: &[(0, Given::Both(FIRST_PUT, NEWER))],
+        words: &["show"],
+        text: b"[5,10]\n",
+        lengths: &[118],
         ..ROW
     },
 ];

@@ -62,7 +62,7 @@ const ROWS: &[Row] = &[
         shows: "the pair that was put",
         words: &["show"],
         text: b"[5,10]\n",
-        lengths: &[118],
+        lengths: &[126],
         ..ROW
     },
     Row {
@@ -70,7 +70,7 @@ const ROWS: &[Row] = &[
         disks: &[(0, Given::Bytes(EMPTY))],
         words: &["run"],
         text: NONE,
-        lengths: &[39],
+        lengths: &[47],
         ..ROW
     },
     Row {
@@ -79,7 +79,7 @@ const ROWS: &[Row] = &[
         words: &["run"],
         script: b"session\nbegin\ncommit\n",
         text: NONE,
-        lengths: &[39],
+        lengths: &[47],
         ..ROW
     },
     Row {
@@ -88,7 +88,7 @@ const ROWS: &[Row] = &[
         words: &["run"],
         script: b"# nothing\n\nsession",
         text: NONE,
-        lengths: &[39],
+        lengths: &[47],
         ..ROW
     },
     Row {
@@ -139,7 +139,7 @@ const ROWS: &[Row] = &[
         shows: "the pair from before the savepoint",
         words: &["show"],
         text: b"[5,1]\n",
-        lengths: &[203],
+        lengths: &[211],
         ..ROW
     },
     Row {
@@ -175,7 +175,7 @@ const ROWS: &[Row] = &[
             (2, Given::Bytes(b"")),
         ],
         words: &["make", "10", "20"],
-        lengths: &[37, 37, 37],
+        lengths: &[45, 45, 45],
         ..ROW
     },
     Row {

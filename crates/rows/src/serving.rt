@@ -101,7 +101,7 @@ const ROWS: &[Row] = &[
         script: b"1 begin\n1 put 5 10\n1 commit\n",
         status: Status::ReadFault,
         text: b"[1,\"begin\",1]\n",
-        lengths: &[39],
+        lengths: &[47],
         ..ROW
     },
     Row {
@@ -112,7 +112,7 @@ const ROWS: &[Row] = &[
         script: b"1 begin\n1 begin\n",
         status: Status::WriteFault,
         text: b"[1,\"b",
-        lengths: &[39],
+        lengths: &[47],
         ..ROW
     },
     Row {

@@ -1,6 +1,7 @@
 // What each row needs to be tried.
 
 ghost use Rattle.std.specs.Prelude.{◌≡◌, ◌<◌, ℕ, false};
+ghost use Rattle.io_model.specs.Sides.{sides_out};
 
 use crate::row::{Given, Row};
 use crate::{broken, faults, loading, making, opening, running, serving};
@@ -13,18 +14,22 @@ use std::thread::Threads;
 
 const ROOM: usize = 65536;
 
-// What a disk of a row holds.
+// What each side of a shard holds.
 fn bytes_of(
     alloc: Global,
     house: &MemoryHouse,
     shard: u32,
+    side: u32,
     given: Given,
 ) -> Result<Vec<u8>, AllocError>
     requires { shard < 16 }
 {
     match given {
-        Given::Bytes(bytes) => bytes.to_vec(alloc),
-        Given::Image(choice) => match house.disk(shard) {
+        Given::Bytes(bytes) if side == 0 => bytes.to_vec(alloc),
+        Given::Bytes(_) => Ok(Vec::new(alloc)),
+        Given::Both(bytes, _) if side == 0 => bytes.to_vec(alloc),
+        Given::Both(_, bytes) => bytes.to_vec(alloc),
+        Given::Image(choice) => match house.disk(shard, side) {
             Some(disk) => disk.image(alloc, choice),
             None => Err(AllocError),
         },
@@ -39,7 +44,17 @@ fn disk_of(alloc: Global, bytes: &[u8], failing: &[u64]) -> Result<MemoryDisk, A
     MemoryDisk::new(alloc, bytes, failing, u64::MAX, ROOM as u64)
 }
 
-// Puts a disk into its place.
+// Puts both sides of a shard into their places.
+fn put_both(house: &mut MemoryHouse, shard: u32, first: MemoryDisk, second: MemoryDisk)
+    requires shard { shard < 16 }
+    requires inside { (n : ℕ) → n < 16 → sides_out (⟦<MemoryHouse as House>⟧.is_out house.old) n ≡ (false, false) }
+    ensures inside { (n : ℕ) → n < 16 → sides_out (⟦<MemoryHouse as House>⟧.is_out house.new) n ≡ (false, false) }
+{
+    house.put(shard, 0, first);
+    house.put(shard, 1, second);
+}
+
+// The same, of what is given.
 fn put(
     alloc: Global,
     house: &mut MemoryHouse,
@@ -47,20 +62,21 @@ fn put(
     given: Given,
     failing: &[u64],
 ) -> Result<(), AllocError>
-    requires { (n : ℕ) → n < 16 → ⟦<MemoryHouse as House>⟧.is_out house.old n ≡ false }
-    ensures { (n : ℕ) → n < 16 → ⟦<MemoryHouse as House>⟧.is_out house.new n ≡ false }
+    requires { (n : ℕ) → n < 16 → sides_out (⟦<MemoryHouse as House>⟧.is_out house.old) n ≡ (false, false) }
+    ensures { (n : ℕ) → n < 16 → sides_out (⟦<MemoryHouse as House>⟧.is_out house.new) n ≡ (false, false) }
 {
     if shard < 16 {
-        let bytes = bytes_of(alloc, house, shard, given)?;
-        house.put(shard, disk_of(alloc, &bytes, failing)?);
+        let first = disk_of(alloc, &bytes_of(alloc, house, shard, 0, given)?, failing)?;
+        let second = disk_of(alloc, &bytes_of(alloc, house, shard, 1, given)?, &[])?;
+        put_both(house, shard, first, second);
     }
     Ok(())
 }
 
-// Puts all disks of the row into their places.
+// Puts all sides of the row into their places.
 fn put_all(alloc: Global, row: &Row, house: &mut MemoryHouse) -> Result<(), AllocError>
-    requires { (n : ℕ) → n < 16 → ⟦<MemoryHouse as House>⟧.is_out house.old n ≡ false }
-    ensures { (n : ℕ) → n < 16 → ⟦<MemoryHouse as House>⟧.is_out house.new n ≡ false }
+    requires { (n : ℕ) → n < 16 → sides_out (⟦<MemoryHouse as House>⟧.is_out house.old) n ≡ (false, false) }
+    ensures { (n : ℕ) → n < 16 → sides_out (⟦<MemoryHouse as House>⟧.is_out house.new) n ≡ (false, false) }
 {
     for (shard, given) in row.disks {
         put(alloc, house, *shard, *given, row.failing[0])?;
@@ -111,8 +127,8 @@ fn ends<R: Threads + Wait + Sync>(
     row: &Row,
     house: &mut MemoryHouse,
 ) -> Result<bool, AllocError>
-    requires { (n : ℕ) → n < 16 → ⟦<MemoryHouse as House>⟧.is_out house.old n ≡ false }
-    ensures { (n : ℕ) → n < 16 → ⟦<MemoryHouse as House>⟧.is_out house.new n ≡ false }
+    requires { (n : ℕ) → n < 16 → sides_out (⟦<MemoryHouse as House>⟧.is_out house.old) n ≡ (false, false) }
+    ensures { (n : ℕ) → n < 16 → sides_out (⟦<MemoryHouse as House>⟧.is_out house.new) n ≡ (false, false) }
 {
     let mut source = MemorySource::new(alloc, row.script, 7, row.failing[1])?;
     let mut sink = MemorySink::new(alloc, ROOM, 5, row.failing[2])?;
@@ -120,20 +136,23 @@ fn ends<R: Threads + Wait + Sync>(
     Ok(status == row.status && is_written(alloc, row, sink.taken())?)
 }
 
-// Whether the disks are as the row says.
+// Whether the first sides are as the row says.
 fn is_left(row: &Row, house: &MemoryHouse) -> bool {
     let mut shard = 0u32;
     for len in row.lengths {
         if shard >= 16
             || !house
-                .disk(shard)
+                .disk(shard, 0)
                 .is_some_and(|disk| disk.bytes().len() == *len)
         {
             return false;
         }
         shard += 1;
     }
-    row.bytes.is_empty() || house.disk(0).is_some_and(|disk| disk.bytes() == row.bytes)
+    row.bytes.is_empty()
+        || house
+            .disk(0, 0)
+            .is_some_and(|disk| disk.bytes() == row.bytes)
 }
 
 // Tries a row.
@@ -143,8 +162,8 @@ fn try_row<R: Threads + Wait + Sync>(
     row: &Row,
     house: &mut MemoryHouse,
 ) -> Result<bool, AllocError>
-    requires { (n : ℕ) → n < 16 → ⟦<MemoryHouse as House>⟧.is_out house.old n ≡ false }
-    ensures { (n : ℕ) → n < 16 → ⟦<MemoryHouse as House>⟧.is_out house.new n ≡ false }
+    requires { (n : ℕ) → n < 16 → sides_out (⟦<MemoryHouse as House>⟧.is_out house.old) n ≡ (false, false) }
+    ensures { (n : ℕ) → n < 16 → sides_out (⟦<MemoryHouse as House>⟧.is_out house.new) n ≡ (false, false) }
 {
     put_all(alloc, row, house)?;
     Ok(ends(rt, alloc, row, house)? && is_left(row, house))

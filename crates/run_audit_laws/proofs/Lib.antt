@@ -4,5 +4,7 @@ pub mod Scans
 pub mod Runs
 pub mod Texts
 pub mod Fitting
+pub mod LinesAskWithinBounds
 pub mod Answering
 pub mod Naming
+pub mod RunsCanBeTold

@@ -22,10 +22,8 @@ use Rattle.audit_laws.specs.Reports.{reported_of}
 use Rattle.cluster_runs.specs.Histories.{entries}
 use Rattle.cluster_runs.specs.Replays.{RunsReplay, NothingIsReplayed}
 use Rattle.cluster_runs.specs.Following.{LeftLogsAreFound}
-use Rattle.run_audit_laws.proofs.Naming.{rows_are_named}
-use Rattle.run_audit_laws.proofs.Answering.{asked_can_be_told}
 use Rattle.run_audit_laws.proofs.Fitting.{stands_fit, all_spelled}
-use Rattle.run_audit_laws.specs.Runs.{told_by, ReportsOfRunsAreTrue, ShownIsFound, ReportsAreTexts, TextsAreReports}
+use Rattle.run_audit_laws.specs.Runs.{told_by, ShownIsFound, ReportsAreTexts, RunsCanBeTold, TextsAreReports}
 
 pub shown_is_found : LeftLogsAreFound → RunsReplay → NothingIsReplayed → ShownIsFound
 shown_is_found law replay nothing splits splits' before now next counts counts_now most went kept found may p again held =
@@ -74,15 +72,14 @@ txs_stand (t ∷ ts) h = let both = and_parts (can_be_told t) (list_all can_be_t
 counts_stand : (a b u c : ℕ) → a ≡ b → fits_counts (record { acknowledged = b; unsettled = u; aborted = c }) ≡ true → fits_counts (record { acknowledged = a; unsettled = u; aborted = c }) ≡ true
 counts_stand a b u c e h = ap (λ (n : ℕ). fits_counts (record { acknowledged = n; unsettled = u; aborted = c })) e ∙ h
 
-pub texts_are_reports : ReportsAreTexts → ReportsOfRunsAreTrue → TextsAreReports
-texts_are_reports law true_ splits before now counts counts_now most script went kept held may p gone can short =
+pub texts_are_reports : ReportsAreTexts → RunsCanBeTold → TextsAreReports
+texts_are_reports law tells splits before now counts counts_now most script went kept bytes held may p gone is short =
     let r = told_by kept in
     let c = counts_in (entries kept) (entries kept) in
+    let can = tells splits before now counts counts_now most script went kept bytes held may p gone is in
     let spelled = all_spelled kept.found (λ n l. (held.each n (subst (λ (k : ℕ). n < k) held.count l)).spelled) in
-    let right = (true_ splits before now counts counts_now most script went kept (λ n. true) r may p gone (record { pairs = refl; txs = refl; unsettled = refl })).0 in
-    let each : list_all can_be_told r.txs ≡ true = asked_can_be_told r.txs r.pairs (stands_fit kept.found spelled) (rows_are_named splits kept.found (entries kept) (p.keeps).left ((p.keeps).legal).legal) can.each right.answers in
     let last : list_all can_stand (Sums (counts_of r) ∷ []) ≡ true =
     and_from _ _ (counts_stand (length r.txs) c.acknowledged c.unsettled c.aborted (same_length (rows (entries kept)) ∙ sym can.counted) can.counts) refl in
-    let behind = list_all-append can_stand (tx_lines r.txs) (Sums (counts_of r) ∷ []) ∙ and_from _ _ (txs_stand r.txs each) last in
+    let behind = list_all-append can_stand (tx_lines r.txs) (Sums (counts_of r) ∷ []) ∙ and_from _ _ (txs_stand r.txs can.each) last in
     let all = list_all-append can_stand (pair_lines r.pairs) (tx_lines r.txs ++ Sums (counts_of r) ∷ []) ∙ and_from _ _ (pairs_stand r.pairs (stands_fit kept.found spelled)) behind in
     record { short = short; can = record { rises = stands_rises kept.found; each = all }; text = law kept can.counted }

@@ -1,26 +1,22 @@
 -- The report of a run whose sessions all went through.
-use Rattle.std.specs.Prelude.{◌≡◌, ◌≤◌, ℕ, Bool, true, ◌&&◌, List, [], ◌++◌, Option, map, length}
+use Rattle.std.specs.Prelude.{◌≡◌, ◌≤◌, ℕ, Bool, true, List, [], ◌++◌, Option, map, length}
 use Rattle.std.specs.List.{list_all}
 use Rattle.clv_base.specs.declared.names.TxId.{TxId}
 use Rattle.clv_base.specs.declared.logs.LogRecord.{LogRecord}
-use Rattle.clv_base.specs.Backs.{are_numbered}
 use Rattle.clv_base.specs.FileRules.{may_open}
 use Rattle.clv_base.specs.History.{acknowledged_in}
 use Rattle.clv_base.specs.Logs.{stands}
-use Rattle.io_model.specs.Story.{Story}
+use Rattle.io_model.specs.Sides.{Stories}
 use Rattle.history_replay.specs.Entries.{Kept}
 use Rattle.cluster_opening.specs.Logs.{LogsOfAll}
 use Rattle.script_lang.specs.Bodies.{Body}
-use Rattle.script_lang.specs.Grammar.{most_bytes}
-use Rattle.script_lang.specs.Laws.{is_word, is_narrow_op}
-use Rattle.session_books.specs.Done.{Done, Did, WentBack}
+use Rattle.script_lang.specs.Grammar.{IsScript, most_bytes}
 use Rattle.session_books.specs.Told.{told_in}
 use Rattle.session_books.specs.Books.{rows}
 use Rattle.session_books.specs.Counts.{counts_in}
 use Rattle.report_text.specs.Report.{report, pairs_text}
 use Rattle.report_reading.specs.declared.told.Reported.{Reported}
-use Rattle.report_reading.specs.declared.told.ReportedTx.{ReportedTx}
-use Rattle.report_reading.specs.Told.{numbered, has_acts}
+use Rattle.report_reading.specs.Told.{can_be_told}
 use Rattle.report_reading.specs.Texts.{IsReport, fits_counts, text_of}
 use Rattle.clv_audit.specs.declared.verdict.Verdict.TheVariants.{Yes}
 use Rattle.clv_audit.specs.Verdicts.{IsVerdict}
@@ -44,21 +40,21 @@ told_by kept =
 -- the parts of each scan of an acknowledged transaction are the whole of it
 abbrev pub ScansStandWhole : Type 0
 ScansStandWhole =
-    (splits : List ℕ) (before now : ℕ → Option Story) (counts counts_now : ℕ → ℕ) (most : Option ℕ) (script : List (List Body)) (went : ℕ → Went) (kept : Kept)
+    (splits : List ℕ) (before now : ℕ → Option Stories) (counts counts_now : ℕ → ℕ) (most : Option ℕ) (script : List (List Body)) (went : ℕ → Went) (kept : Kept)
     → may_open splits kept.found ≡ true → RunPromised splits before now counts counts_now most script went kept → HaveGone script went
     → (t : TxId) → acknowledged_in (entries kept) t ≡ true → ScansAreWhole (told_in t (entries kept))
 
 -- who made a request was told what became of it
 abbrev pub NothingIsUnsettled : Type 0
 NothingIsUnsettled =
-    (splits : List ℕ) (before now : ℕ → Option Story) (counts counts_now : ℕ → ℕ) (most : Option ℕ) (script : List (List Body)) (went : ℕ → Went) (kept : Kept)
+    (splits : List ℕ) (before now : ℕ → Option Stories) (counts counts_now : ℕ → ℕ) (most : Option ℕ) (script : List (List Body)) (went : ℕ → Went) (kept : Kept)
     → RunPromised splits before now counts counts_now most script went kept → HaveGone script went
     → (counts_in (entries kept) (entries kept)).unsettled ≡ 0
 
 -- so what tells the pairs that the logs found stand for, and behind them the history, is true of what the logs left stand for, whatever a crash keeps
 abbrev pub ReportsOfRunsAreTrue : Type 0
 ReportsOfRunsAreTrue =
-    (splits : List ℕ) (before now : ℕ → Option Story) (counts counts_now : ℕ → ℕ) (most : Option ℕ) (script : List (List Body)) (went : ℕ → Went) (kept : Kept)
+    (splits : List ℕ) (before now : ℕ → Option Stories) (counts counts_now : ℕ → ℕ) (most : Option ℕ) (script : List (List Body)) (went : ℕ → Went) (kept : Kept)
     (choice : ℕ → Bool) (r : Reported)
     → may_open splits kept.found ≡ true → (p : RunPromised splits before now counts counts_now most script went kept) → HaveGone script went
     → IsReportOf kept.found (entries kept) r
@@ -69,7 +65,7 @@ ReportsOfRunsAreTrue =
 -- who opens what a run without sessions left, as a `show` leaves it, finds logs that stand for the same pairs as those that it found
 abbrev pub ShownIsFound : Type 0
 ShownIsFound =
-    (splits splits' : List ℕ) (before now next : ℕ → Option Story) (counts counts_now : ℕ → ℕ) (most : Option ℕ) (went : ℕ → Went) (kept : Kept) (found : List (List LogRecord))
+    (splits splits' : List ℕ) (before now next : ℕ → Option Stories) (counts counts_now : ℕ → ℕ) (most : Option ℕ) (went : ℕ → Went) (kept : Kept) (found : List (List LogRecord))
     → may_open splits kept.found ≡ true → RunPromised splits before now counts counts_now most [] went kept → AreFoundAgain splits now next → LogsOfAll splits' found next
     → stands found ≡ stands kept.found
 
@@ -87,23 +83,22 @@ AreAllCounted kept = (counts_in (entries kept) (entries kept)).acknowledged ≡ 
 abbrev pub ReportsAreTexts : Type 0
 ReportsAreTexts = (kept : Kept) → AreAllCounted kept → whole_text kept ≡ text_of (told_by kept)
 
--- what a transaction was asked for is within its bounds: its operations, and where it went back to; and so is its serial
-abbrev pub fits_request : Done → Bool
-fits_request (Did op a) = is_narrow_op op
-fits_request (WentBack upto) = is_word upto
-
-abbrev pub can_be_asked : ReportedTx → Bool
-can_be_asked t = is_word t.serial && (has_acts t.acts && (list_all fits_request t.acts && are_numbered 0 [] (numbered t.acts)))
-
--- so it is of each acknowledged transaction, and the counts are within theirs; and as many are counted as there are lines
+-- each acknowledged transaction is one that a report can tell of, the counts are within their bounds, and as many are counted as there are lines
 pub record CanBeTold (kept : Kept) : Type 0 where
-  pub each : list_all can_be_asked (map reported_of (rows (entries kept))) ≡ true
+  pub each : list_all can_be_told (map reported_of (rows (entries kept))) ≡ true
   pub counts : fits_counts (counts_in (entries kept) (entries kept)) ≡ true
   pub counted : AreAllCounted kept
 
--- then such a text that isn't too long is read back as that, where the logs found are those of disks: answers are within their bounds by these
+-- so it is where the logs found are those of disks, and the sessions those of a script's text: what lines ask for is within its bounds, and so are answers, by the logs
+abbrev pub RunsCanBeTold : Type 0
+RunsCanBeTold =
+    (splits : List ℕ) (before now : ℕ → Option Stories) (counts counts_now : ℕ → ℕ) (most : Option ℕ) (script : List (List Body)) (went : ℕ → Went) (kept : Kept) (bytes : List ℕ)
+    → LogsOfAll splits kept.found before → may_open splits kept.found ≡ true → RunPromised splits before now counts counts_now most script went kept → HaveGone script went
+    → IsScript bytes script → CanBeTold kept
+
+-- then such a text that isn't too long is read back as that
 abbrev pub TextsAreReports : Type 0
 TextsAreReports =
-    (splits : List ℕ) (before now : ℕ → Option Story) (counts counts_now : ℕ → ℕ) (most : Option ℕ) (script : List (List Body)) (went : ℕ → Went) (kept : Kept)
+    (splits : List ℕ) (before now : ℕ → Option Stories) (counts counts_now : ℕ → ℕ) (most : Option ℕ) (script : List (List Body)) (went : ℕ → Went) (kept : Kept) (bytes : List ℕ)
     → LogsOfAll splits kept.found before → may_open splits kept.found ≡ true → RunPromised splits before now counts counts_now most script went kept → HaveGone script went
-    → CanBeTold kept → length (whole_text kept) ≤ most_bytes → IsReport (whole_text kept) (told_by kept)
+    → IsScript bytes script → length (whole_text kept) ≤ most_bytes → IsReport (whole_text kept) (told_by kept)

@@ -6,8 +6,8 @@ use Rattle.clv_base.specs.Sessions.{no_session, is_session_number}
 use Rattle.clv_base.specs.Journals.{History}
 use Rattle.script_lang.specs.Bodies.{Body}
 use Rattle.script_runs.specs.declared.ends.StopCause.{StopCause}
-use Rattle.script_runs.specs.Sessions.{FollowsScript, session_entries, tries_of}
-use Rattle.script_runs.specs.Seen.{Misses}
+use Rattle.script_runs.specs.Sessions.{Transaction, FollowsScript, session_entries, tries_of}
+use Rattle.script_runs.specs.Ran.{Rise, stamps, serials}
 use Rattle.script_runs.specs.Dropped.{AllLetGo}
 use Rattle.session_api.specs.Grounds.{HasMissed}
 use Rattle.turn_lock.specs.declared.pass.Pass.{Pass}
@@ -128,16 +128,18 @@ sessions_rest M S G sh w s h = record {
 }
 
 -- the session's entries are all that it had
-all_its : (splits : List ℕ) (run walker number clock : ℕ) (most : Option ℕ) (bodies : List Body) (cause : Option StopCause) (missed : Misses) (es fs : History) → walker ≡ number → fs ≡ es
-    → (f : FollowsScript splits run walker most bodies cause es) → AllLetGo missed clock (tries_of f.transactions) → (g : FollowsScript splits run number most bodies cause fs) × AllLetGo missed clock (tries_of g.transactions)
-all_its splits run walker number clock most bodies cause missed es fs is same f dropped =
-    subst (λ k. (g : FollowsScript splits run k most bodies cause fs) × AllLetGo missed clock (tries_of g.transactions)) is
-    (subst (λ l. (g : FollowsScript splits run walker most bodies cause l) × AllLetGo missed clock (tries_of g.transactions)) (sym same) (f, dropped))
+all_its : (splits : List ℕ) (run walker number : ℕ) (most : Option ℕ) (bodies : List Body) (cause : Option StopCause) (P : List Transaction → Type 0) (es fs : History) → walker ≡ number → fs ≡ es
+    → (f : FollowsScript splits run walker most bodies cause es) → P f.transactions → (g : FollowsScript splits run number most bodies cause fs) × P g.transactions
+all_its splits run walker number most bodies cause P es fs is same f so =
+    subst (λ k. (g : FollowsScript splits run k most bodies cause fs) × P g.transactions) is (subst (λ l. (g : FollowsScript splits run walker most bodies cause l) × P g.transactions) (sym same) (f, so))
 
 pub scripts_follow : (M S G : Type 0) → ScriptsFollow M S G
 scripts_follow M S G sh number first base w v a b s t bodies most cause new f =
-    let g = f.2 in (
-      g.walker_is ∙ new.number_is,
-      all_its sh.splits sh.run w.number number v.clock most bodies cause (HasMissed v) f.0 (session_entries (kept v.passes.items)) new.number_is
-          (g.entries_are ∙ ap (λ l. session_entries l ++ f.0) (keeps_nothing sh number w new.new)) f.1 f.5,
-    )
+    let g = f.2 in
+    let so : List Transaction → Type 0 = λ trs. Rise first (stamps trs) v.clock × Rise 0 (serials (tries_of trs)) (length (tries_of trs)) × AllLetGo (HasMissed v) v.clock (tries_of trs) in
+    let births = subst (λ k. Rise k (stamps (f.1).transactions) v.clock) new.clock_is f.3 in
+    let counted = subst (λ k. Rise k (serials (tries_of (f.1).transactions)) (length (tries_of (f.1).transactions))) new.none_begun
+    (subst (Rise w.serial (serials (tries_of (f.1).transactions))) (let begun = g.serial_is in let none = new.none_begun in let same : v.serial ≡ length (tries_of (f.1).transactions) = omega arith in same) f.4) in
+    let its = all_its sh.splits sh.run w.number number most bodies cause so f.0 (session_entries (kept v.passes.items)) new.number_is
+    (g.entries_are ∙ ap (λ l. session_entries l ++ f.0) (keeps_nothing sh number w new.new)) f.1 (births, counted, f.5) in
+    (g.walker_is ∙ new.number_is, (its.0, (its.1).0, (its.1).1, (its.1).2))

@@ -21,7 +21,8 @@ pub fn sessions_rest<M, S, G>()
     ensures { SessionsRest M S G }
 {}
 
-/// The entries of a session of a new walker that only sessions make are those of its script's transactions, in order, each in its tries.
+/// The entries of a session of a new walker that only sessions make are those of its script's transactions, in order, each in its tries: births lie past the
+/// walker's clock, and the tries have the serials from 1 on.
 pub fn scripts_follow<M, S, G>()
     ensures { ScriptsFollow M S G }
 {}

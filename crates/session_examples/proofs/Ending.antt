@@ -6,7 +6,7 @@ use Rattle.clv_base.specs.declared.events.Entry.{Entry}
 use Rattle.clv_base.specs.State.{Shard}
 use Rattle.clv_base.specs.Shards.{shard_count}
 use Rattle.clv_base.specs.Journals.{History}
-use Rattle.io_model.specs.Story.{Story}
+use Rattle.io_model.specs.Sides.{Stories}
 use Rattle.cluster_opening.specs.Houses.{WentOut}
 use Rattle.history_replay.specs.Entries.{Kept, entries_of}
 use Rattle.journal_laws.specs.Gathered.{MakesHistory}
@@ -35,17 +35,17 @@ pub legal_by : (splits : List ℕ) (before after : List (List LogRecord)) (js ks
 legal_by splits before after js ks states own_of same made = subst (λ l. MakesHistory splits before after l states own_of) (sym same) made
 
 -- the disks of a house that were all in are in again
-pub all_back : (count locks : ℕ) (faults faults' : ℕ → ℕ) (out out' out_now : ℕ → Bool) (stories stories' : ℕ → Option Story) → WentOut count faults faults' out out' stories stories' → locks ≡ count → ((n : ℕ) → n < locks → out_now n ≡ false)
-    → ((n : ℕ) → locks ≤ n → out_now n ≡ out' n) → ((n : ℕ) → n < 16 → out n ≡ false) → (n : ℕ) → n < 16 → out_now n ≡ false
+pub all_back : (count locks : ℕ) (faults faults' : ℕ → ℕ) (out out' out_now : ℕ → Bool × Bool) (stories stories' : ℕ → Option Stories) → WentOut count faults faults' out out' stories stories' → locks ≡ count → ((n : ℕ) → n < locks → out_now n ≡ (false, false))
+    → ((n : ℕ) → locks ≤ n → out_now n ≡ out' n) → ((n : ℕ) → n < 16 → out n ≡ (false, false)) → (n : ℕ) → n < 16 → out_now n ≡ (false, false)
 all_back count locks faults faults' out out' out_now stories stories' went many back others were n few = at (nat_lt n locks) refl
   where
-    at : (b : Bool) → nat_lt n locks ≡ b → out_now n ≡ false
+    at : (b : Bool) → nat_lt n locks ≡ b → out_now n ≡ (false, false)
     at true is = back n (ltb-true n locks is)
     at false is = let past = ltb-false n locks is in others n past ∙ ((went.rest n (omega arith)).0 ∙ were n few)
 
 -- the whole run
-pub has_run : {M S G D : Type 0} (shard : M → Shard) (sh : Shards M S G) (walkers : List (Walker M S G)) (homes : List (Home M S G)) (kept : Kept) (down : Option ℕ) (passes : ℕ) (counts counts_open counts_now : ℕ → ℕ) (out out_open out_now : ℕ → Bool)
-    (before open_now now : ℕ → Option Story) (P : List ℕ → (ℕ → History) → Type 0) → AreLocked passes before sh → WentOut (shard_count sh.splits) counts counts_open out out_open before open_now
+pub has_run : {M S G D : Type 0} (shard : M → Shard) (sh : Shards M S G) (walkers : List (Walker M S G)) (homes : List (Home M S G)) (kept : Kept) (down : Option ℕ) (passes : ℕ) (counts counts_open counts_now : ℕ → ℕ) (out out_open out_now : ℕ → Bool × Bool)
+    (before open_now now : ℕ → Option Stories) (P : List ℕ → (ℕ → History) → Type 0) → AreLocked passes before sh → WentOut (shard_count sh.splits) counts counts_open out out_open before open_now
     → IsClosed D shard sh walkers homes kept down counts_open counts_now out_open out_now open_now now → P sh.splits (walked_by walkers) → HasRun before now counts counts_now kept P
 has_run {D = D} shard sh walkers homes kept down passes counts counts_open counts_now out out_open out_now before open_now now P begun went closed made = record {
   splits = sh.splits;

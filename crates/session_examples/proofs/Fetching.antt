@@ -1,6 +1,6 @@
 -- A walker that fetches the disk of a shard and restarts it.
 use Rattle.std.proofs.Common.{◌≡◌, ◌∙◌, sym, subst, ℕ, Option, Some, None, Result, Ok, Err}
-use Rattle.io_model.specs.Story.{Story}
+use Rattle.io_model.specs.Sides.{Stories}
 use Rattle.cluster_closing.specs.declared.error.RestartError.{RestartError}
 use Rattle.cluster_turns.specs.declared.shards.Shards.{Shards}
 use Rattle.cluster_turns.specs.declared.shards.Walker.{Walker}
@@ -42,7 +42,7 @@ module _ {M S G : Type 0} (sh : Shards M S G) where
         (refused_fetches_hold_none (Fetched D) None w.number n e w.passes.items v.passes.items (subst (λ x. Walked (FetchTold {D = Fetched D} w.number x) n w.number w.passes.items v.passes.items) is told) home.disks);
   }
 
-  module _ {D : Type 0} (story : D → Option Story) (f : Fetched D) (n number : ℕ) (w v : Walker M S G) (one : HasOneDisk n number w) (at : f.shard ≡ n) (walks : IsWalker sh v × IsSameWalker w v) where
+  module _ {D : Type 0} (story : D → Option Stories) (f : Fetched D) (n number : ℕ) (w v : Walker M S G) (one : HasOneDisk n number w) (at : f.shard ≡ n) (walks : IsWalker sh v × IsSameWalker w v) where
     held_at : HoldsNoneBut (Some f.shard) w.number w.passes.items
     held_at = subst (λ k. HoldsNoneBut (Some k) w.number w.passes.items) (sym at) one.others
 

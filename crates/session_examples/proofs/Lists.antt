@@ -1,5 +1,5 @@
 -- A list whose last one leaves and another one comes.
-use Rattle.std.proofs.Common.{◌≡◌, ◌∙◌, sym, ap, subst, ℕ, zero, suc, ◌<◌, ◌≤◌, ◌+◌, ◌-◌, List, [], ◌∷◌, ◌++◌, take, length, get_or, set, arith}
+use Rattle.std.proofs.Common.{◌≡◌, ◌∙◌, sym, ap, subst, ℕ, zero, suc, ◌<◌, ◌≤◌, ◌-◌, List, [], ◌∷◌, ◌++◌, take, length, get_or, set, arith}
 
 -- what is so of each at its place is so still, if it is of the new one
 pub last_changed : {A : Type 0} (P : ℕ → A → Type 0) (xs : List A) (m : ℕ) (v : A) → suc m ≡ length xs → ((k : ℕ) (d : A) → k < length xs → P k (get_or xs k d)) → P m v

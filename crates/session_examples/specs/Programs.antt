@@ -2,7 +2,7 @@
 use Rattle.std.specs.Prelude.{◌≡◌, ⊤, ℕ, List, ◌++◌, Option, Result, Ok, Err}
 use Rattle.clv_base.specs.State.{Shard}
 use Rattle.clv_base.specs.Journals.{History}
-use Rattle.io_model.specs.Story.{Story}
+use Rattle.io_model.specs.Sides.{Stories}
 use Rattle.history_replay.specs.Entries.{Kept}
 use Rattle.script_runs.specs.Sessions.{session_entries}
 use Rattle.cluster_runs.specs.Ended.{ClusterEnded}
@@ -13,7 +13,7 @@ use Rattle.session_examples.specs.Moves.{Moves}
 
 -- the disks of a house held logs that may be opened together, under these splits; what the shards did from there on is a legal history to whatever they may
 -- leave, each disk holds its shard's records, and a disk's count rose exactly where a flush failed. P is of the splits and of each walker's own entries
-pub record HasRun (before now : ℕ → Option Story) (counts counts_now : ℕ → ℕ) (kept : Kept) (P : List ℕ → (ℕ → History) → Type 0) : Type 0 where
+pub record HasRun (before now : ℕ → Option Stories) (counts counts_now : ℕ → ℕ) (kept : Kept) (P : List ℕ → (ℕ → History) → Type 0) : Type 0 where
   pub splits : List ℕ
   pub states : ℕ → Shard
   pub own_of : ℕ → History

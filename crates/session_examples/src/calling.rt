@@ -1,6 +1,7 @@
 // Calls of a session, from the disks to the disks.
 ghost use Rattle.std.specs.Prelude.{◌≡◌, ◌<◌, ◌≤◌, ◌+◌, ℕ, true, false, length, vec_len, vec_capacity, IfOk, IfErr};
 ghost use Rattle.clv_base.specs.Shards.{are_splits};
+ghost use Rattle.io_model.specs.Sides.{sides_out, sides_told};
 ghost use Rattle.cluster_opening.specs.Opening.{Refuses, CountsOpen};
 ghost use Rattle.session_api.specs.Savepoints.{Saved};
 ghost use Rattle.session_api.specs.Standing.{Holds, IsAtRest};
@@ -17,6 +18,7 @@ use cluster_turns::{
     remind_once,
 };
 use io_model::{House, Pace};
+use lean_machine::LeanMachine;
 use lock_table::Locks;
 use log_gate::LogGate;
 use machine_calls::Flier;
@@ -116,11 +118,11 @@ pub fn open_call_close<S: Store + Drop, L: Locks + Drop, R: Wait, H: House, P: P
     first: u64,
     calls: &[Call],
 ) -> Result<(Vec<Said>, Quiet, Left<S>), OpenError>
-    requires inside { (n : ℕ) → n < 16 → H.is_out house.old n ≡ false }
+    requires inside { (n : ℕ) → n < 16 → sides_out (H.is_out house.old) n ≡ (false, false) }
     ensures each { IfOk result (λ r. vec_len r.0 ≡ length calls.now) }
-    ensures ran { IfOk result (λ r. HasRun (H.story house.old) (H.story house.new) (H.faults house.old) (H.faults house.new) r.2.history AnyMade) }
-    ensures back { (n : ℕ) → n < 16 → H.is_out house.new n ≡ false }
-    ensures refused { IfErr result (Refuses (H.story house.old)) }
+    ensures ran { IfOk result (λ r. HasRun (sides_told (H.story house.old)) (sides_told (H.story house.new)) (H.faults house.old) (H.faults house.new) r.2.history AnyMade) }
+    ensures back { (n : ℕ) → n < 16 → sides_out (H.is_out house.new) n ≡ (false, false) }
+    ensures refused { IfErr result (Refuses (sides_told (H.story house.old))) }
     ensures counts { IfErr result (CountsOpen (H.faults house.old) (H.faults house.new)) }
 {
     let Ok(answers) = Vec::with_capacity(alloc, calls.len()) else {
@@ -137,7 +139,7 @@ pub fn open_call_close<S: Store + Drop, L: Locks + Drop, R: Wait, H: House, P: P
         found,
     } = opened;
     let (answers, quiet) = call_and_look(rt, alloc, &shards, pace, &mut walkers, calls, answers);
-    let left = close_all::<H, ShardMachine<S, L, LogGate<H::Disk>>>(
+    let left = close_all::<H, LeanMachine<ShardMachine<S, L, LogGate<H::Disk>>>>(
         alloc, house, shards, walkers, room, found,
     );
     Ok((answers, quiet, left))

@@ -1,6 +1,8 @@
 // The end of a cluster.
 ghost use Rattle.std.specs.Prelude.{◌≡◌, ◌<◌, ◌≤◌, ℕ, true, false, map, vec_len};
 ghost use Rattle.std.specs.List.{All};
+ghost use Rattle.io_model.specs.Sides.{sides_out, sides_told};
+ghost use Rattle.io_model.specs.declared.sides.Sides.{Sides as SidesAre};
 ghost use Rattle.turn_lock.specs.Passes.{passes_of};
 ghost use Rattle.cluster_turns.specs.Walkers.{founds_of};
 ghost use Rattle.cluster_closing.specs.Legal.{AreShards};
@@ -40,10 +42,10 @@ pub(crate) fn close_all<H: House, M: OverDisks<H::Disk>>(
     requires all { All (λ l. passes_of l ≡ vec_len walkers) shards.locks.items }
     requires room { HasRoom (vec_len shards.locks) (vec_len walkers) room }
     requires found { map (λ l. l.items) found.value.items ≡ founds_of shards }
-    requires out { (n : ℕ) → n < vec_len shards.locks → H.is_out house.old n ≡ true }
-    ensures back { (n : ℕ) → n < vec_len shards.locks → H.is_out house.new n ≡ false }
-    ensures others { (n : ℕ) → vec_len shards.locks ≤ n → H.is_out house.new n ≡ H.is_out house.old n }
-    ensures closed { AreAtRest shards walkers.items → (homes : _) × IsClosed H.Disk (λ m. M.shard m) shards walkers.items homes result.history result.down (H.faults house.old) (H.faults house.new) (H.is_out house.old) (H.is_out house.new) (H.story house.old) (H.story house.new) }
+    requires out { (n : ℕ) → n < vec_len shards.locks → sides_out (H.is_out house.old) n ≡ (true, true) }
+    ensures back { (n : ℕ) → n < vec_len shards.locks → sides_out (H.is_out house.new) n ≡ (false, false) }
+    ensures others { (n : ℕ) → vec_len shards.locks ≤ n → sides_out (H.is_out house.new) n ≡ sides_out (H.is_out house.old) n }
+    ensures closed { AreAtRest shards walkers.items → (homes : _) × IsClosed (SidesAre H.Disk) (λ m. M.shard m) shards walkers.items homes result.history result.down (H.faults house.old) (H.faults house.new) (sides_out (H.is_out house.old)) (sides_out (H.is_out house.new)) (sides_told (H.story house.old)) (sides_told (H.story house.new)) }
 {
     let Closed {
         journals,

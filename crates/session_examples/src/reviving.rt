@@ -1,6 +1,7 @@
 // A shard that falls and comes back, from the disks to the disks.
 ghost use Rattle.std.specs.Prelude.{◌≡◌, ◌<◌, ◌≤◌, ◌+◌, ℕ, true, false, length, vec_len, vec_capacity, IfOk, IfErr};
 ghost use Rattle.clv_base.specs.Shards.{are_splits};
+ghost use Rattle.io_model.specs.Sides.{sides_out, sides_told};
 ghost use Rattle.cluster_opening.specs.Opening.{Refuses};
 ghost use Rattle.session_api.specs.Standing.{IsAtRest};
 ghost use Rattle.session_examples.specs.Walkers.{AreNew, IsAtHome, AreAtHome};
@@ -14,6 +15,7 @@ use cluster_opening::OpenError;
 use cluster_runs::{Opened, open_all};
 use cluster_turns::{Shards, Walker};
 use io_model::{House, Pace};
+use lean_machine::LeanMachine;
 use lock_table::Locks;
 use log_gate::LogGate;
 use machine_calls::{Flier, Reopener};
@@ -96,10 +98,10 @@ pub fn open_revive_close<S: Store + Drop, L: Locks + Drop, R: Wait, H: House, P:
     calls: &[Call],
     more: &[Call],
 ) -> Result<(Revived, Left<S>), OpenError>
-    requires inside { (n : ℕ) → n < 16 → H.is_out house.old n ≡ false }
+    requires inside { (n : ℕ) → n < 16 → sides_out (H.is_out house.old) n ≡ (false, false) }
     ensures each { IfOk result (λ r. (vec_len r.0.before ≡ length calls.now) × (vec_len r.0.after ≡ length more.now)) }
-    ensures back { (n : ℕ) → n < 16 → H.is_out house.new n ≡ false }
-    ensures refused { IfErr result (Refuses (H.story house.old)) }
+    ensures back { (n : ℕ) → n < 16 → sides_out (H.is_out house.new) n ≡ (false, false) }
+    ensures refused { IfErr result (Refuses (sides_told (H.story house.old))) }
 {
     let Ok(before) = Vec::with_capacity(alloc, calls.len()) else {
         return Err(OpenError::Memory);
@@ -126,7 +128,7 @@ pub fn open_revive_close<S: Store + Drop, L: Locks + Drop, R: Wait, H: House, P:
         (calls, before),
         (more, after),
     );
-    let left = close_all::<H, ShardMachine<S, L, LogGate<H::Disk>>>(
+    let left = close_all::<H, LeanMachine<ShardMachine<S, L, LogGate<H::Disk>>>>(
         alloc, house, shards, walkers, room, found,
     );
     Ok((revived, left))

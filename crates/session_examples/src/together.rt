@@ -1,6 +1,7 @@
 // Sessions that transfer beside each other, from the disks to the disks.
 ghost use Rattle.std.specs.Prelude.{◌≡◌, ◌≢◌, ◌<◌, ◌≤◌, ◌+◌, ℕ, suc, true, false, length, slice_index_or, vec_len, vec_capacity, IfOk, IfErr};
 ghost use Rattle.clv_base.specs.Shards.{are_splits};
+ghost use Rattle.io_model.specs.Sides.{sides_out, sides_told};
 ghost use Rattle.cluster_opening.specs.Opening.{Refuses, CountsOpen};
 ghost use Rattle.session_api.specs.Standing.{Holds, IsAtRest};
 ghost use Rattle.session_api.specs.Progresses.{active_tx};
@@ -16,6 +17,7 @@ use cluster_opening::OpenError;
 use cluster_runs::{Opened, open_all};
 use cluster_turns::{Home, Shards, Walker, drain};
 use io_model::{House, Pace};
+use lean_machine::LeanMachine;
 use lock_table::Locks;
 use log_gate::LogGate;
 use machine_calls::Flier;
@@ -266,11 +268,11 @@ pub fn open_transfer_together_close<
 ) -> Result<(u64, Left<S>), OpenError>
 where
     H::Disk: Send,
-    requires inside { (n : ℕ) → n < 16 → H.is_out house.old n ≡ false }
+    requires inside { (n : ℕ) → n < 16 → sides_out (H.is_out house.old) n ≡ (false, false) }
     requires few { sessions ≤ 64 }
-    ensures ran { IfOk result (λ r. HasRun (H.story house.old) (H.story house.new) (H.faults house.old) (H.faults house.new) r.1.history AnyMade) }
-    ensures back { (n : ℕ) → n < 16 → H.is_out house.new n ≡ false }
-    ensures refused { IfErr result (Refuses (H.story house.old)) }
+    ensures ran { IfOk result (λ r. HasRun (sides_told (H.story house.old)) (sides_told (H.story house.new)) (H.faults house.old) (H.faults house.new) r.1.history AnyMade) }
+    ensures back { (n : ℕ) → n < 16 → sides_out (H.is_out house.new) n ≡ (false, false) }
+    ensures refused { IfErr result (Refuses (sides_told (H.story house.old))) }
     ensures counts { IfErr result (CountsOpen (H.faults house.old) (H.faults house.new)) }
 {
     let Ok(room_for_seats) = Vec::with_capacity(alloc, sessions) else {
@@ -296,7 +298,7 @@ where
         often,
         tries,
     );
-    let left = close_all::<H, ShardMachine<S, L, LogGate<H::Disk>>>(
+    let left = close_all::<H, LeanMachine<ShardMachine<S, L, LogGate<H::Disk>>>>(
         alloc, house, shards, walkers, room, found,
     );
     Ok((moved, left))

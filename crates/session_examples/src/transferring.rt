@@ -1,6 +1,7 @@
 // A transfer, from the disks to the disks.
 ghost use Rattle.std.specs.Prelude.{◌≡◌, ◌≢◌, ◌<◌, ℕ, true, false, vec_len, IfOk, IfErr};
 ghost use Rattle.clv_base.specs.Shards.{are_splits};
+ghost use Rattle.io_model.specs.Sides.{sides_out, sides_told};
 ghost use Rattle.cluster_opening.specs.Opening.{Refuses, CountsOpen};
 ghost use Rattle.cluster_runs.specs.Begun.{LeavesDisks};
 ghost use Rattle.cluster_runs.specs.Ends.{walked_by};
@@ -14,6 +15,7 @@ use cluster_opening::OpenError;
 use cluster_runs::{Opened, open_all};
 use cluster_turns::{Shards, Walker};
 use io_model::{House, Pace};
+use lean_machine::LeanMachine;
 use lock_table::Locks;
 use log_gate::LogGate;
 use machine_calls::Flier;
@@ -64,13 +66,13 @@ pub fn open_transfer_close<S: Store + Drop, L: Locks + Drop, R: Wait, H: House, 
     amount: u64,
     tries: u32,
 ) -> Result<(Result<Transferred, Stop>, Left<S>), OpenError>
-    requires inside { (n : ℕ) → n < 16 → H.is_out house.old n ≡ false }
+    requires inside { (n : ℕ) → n < 16 → sides_out (H.is_out house.old) n ≡ (false, false) }
     requires apart { from ≢ to }
-    ensures ran { IfOk result (λ r. HasRun (H.story house.old) (H.story house.new) (H.faults house.old) (H.faults house.new) r.1.history (HasMade from to amount r.0)) }
-    ensures back { (n : ℕ) → n < 16 → H.is_out house.new n ≡ false }
-    ensures refused { IfErr result (Refuses (H.story house.old)) }
+    ensures ran { IfOk result (λ r. HasRun (sides_told (H.story house.old)) (sides_told (H.story house.new)) (H.faults house.old) (H.faults house.new) r.1.history (HasMade from to amount r.0)) }
+    ensures back { (n : ℕ) → n < 16 → sides_out (H.is_out house.new) n ≡ (false, false) }
+    ensures refused { IfErr result (Refuses (sides_told (H.story house.old))) }
     ensures counts { IfErr result (CountsOpen (H.faults house.old) (H.faults house.new)) }
-    ensures left { IfErr result (LeavesDisks (H.story house.old) (H.story house.new)) }
+    ensures left { IfErr result (LeavesDisks (sides_told (H.story house.old)) (sides_told (H.story house.new))) }
 {
     let opened = match open_all::<S, L, H>(alloc, house, 1, 0) {
         Ok(opened) => opened,
@@ -93,7 +95,7 @@ pub fn open_transfer_close<S: Store + Drop, L: Locks + Drop, R: Wait, H: House, 
         amount,
         tries,
     );
-    let left = close_all::<H, ShardMachine<S, L, LogGate<H::Disk>>>(
+    let left = close_all::<H, LeanMachine<ShardMachine<S, L, LogGate<H::Disk>>>>(
         alloc, house, shards, walkers, room, found,
     );
     Ok((transferred, left))

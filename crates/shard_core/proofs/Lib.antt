@@ -21,3 +21,4 @@ pub mod Heard
 pub mod Made
 pub mod Here
 pub mod Back
+mod Forgotten

@@ -11,6 +11,7 @@ mod deciding;
 mod doing;
 mod dropping;
 mod flushing;
+mod forgetting;
 mod giving;
 mod hearing;
 mod looking;

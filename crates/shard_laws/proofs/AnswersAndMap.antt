@@ -29,7 +29,6 @@ use Rattle.shard_laws.proofs.Events.DueKeeps.{Sound, as_done, After, More_over, 
 use Rattle.shard_laws.proofs.Restarts.OpeningKeeps.{past_of, sound_opened, opened_undoomed}
 use Rattle.shard_laws.proofs.Restarts.RestartsKeep.{revived_sound}
 use Rattle.shard_laws.proofs.Cuts.WhatCutsHold.{of_kept}
-use Rattle.shard_laws.proofs.Order.RecordByRecord.{from_disorder}
 use Rattle.shard_laws.proofs.Restarts.FoundDoubtedActedBefore.{order_once}
 use Rattle.shard_laws.specs.OneShard.{is_doomed, doomed_in, left_out}
 use Rattle.shard_laws.proofs.Keeping.FallenAndLost.{Fell}
@@ -151,7 +150,7 @@ boundary : (t : Shard) (fell : List TxId) (u : TxId) → is_doomed (stage_of t.l
 boundary t fell u d = in_first (doomed_in t) fell u (doomed_named t u d)
 
 pub held : (shard run : ℕ) (before : List LogRecord) (d : Deeds) (s : Shard) → Leads shard run before d s → Holds shard run before d s
-held shard run log0 _ _ (opens may) = (past_of shard log0, sound_opened shard run log0 may, refl, refl, refl, order_once shard (λ t. tx_in t (in_doubt shard log0)) log0 (from_disorder shard 0 [] log0 may.0), (λ t i. absurd (both_ways false refl i)), refl, refl, (λ u d. absurd (opened_undoomed shard run log0 u d)))
+held shard run log0 _ _ (opens may) = (past_of shard log0, sound_opened shard run log0 may, refl, refl, refl, order_once shard (λ t. tx_in t (in_doubt shard log0)) log0 may.0, (λ t i. absurd (both_ways false refl i)), refl, refl, (λ u d. absurd (opened_undoomed shard run log0 u d)))
 held shard run log0 _ _ (happens {d} {s} e o t stamp walker before may eq) =
     let b = held shard run log0 d s before in
     let later = happen_sound d.done d.told b.0 s e o t b.1 (numbers_are shard run log0 d s before) (subst (λ x. MayHappen x s e) (sym (as_done d b.0 b.4 b.7 b.8)) may) eq in (

@@ -161,7 +161,7 @@ module _ (all : List Deed) (g : Past) (s : Shard) (told : List TxId) (cut : ℕ)
       (λ i. sealed_closed (take cut s.local.log) (drop cut s.local.log) t (sealed_later [] (take cut s.local.log) (drop cut s.local.log) (subst (Sealed []) (sym whole) h.kept.prepared.sealed)) (doubt_of all g s cut h t i).prepared w)
       (or_cases (committed_in (take cut s.local.log) t) (tx_in t (in_doubt s.shard (take cut s.local.log))) (and_parts (chosen t) (is_winner s.shard (take cut s.local.log) t) k).1)))
       (λ t u. false_from_ne_true _ (λ k. winning_alive t k (subst (λ l. aborted_in l t ≡ true) whole
-      (undone_later (take cut s.local.log) (drop cut s.local.log) t (undoable_later [] (take cut s.local.log) (drop cut s.local.log) (subst (Undoable []) (sym whole) (order_of s.shard s.local.log h.order.ordered.follows).undoable)) u
+      (undone_later (take cut s.local.log) (drop cut s.local.log) t (undoable_later [] (take cut s.local.log) (drop cut s.local.log) (subst (Undoable []) (sym whole) (order_of s.shard s.local.log h.order.ordered.in_order).undoable)) u
       (closed_there t (and_parts (chosen t) (is_winner s.shard (take cut s.local.log) t) k).1)))))
 
   writers_win : AllByRecursion (λ w. chosen w.tx ≡ winning w.tx) (standing s.local.log)

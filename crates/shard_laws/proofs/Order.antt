@@ -1,5 +1,6 @@
 -- What a shard keeps for the order rules of its log.
 pub mod RecordByRecord
+pub mod WhoIsListed
 pub mod RisingAreDistinct
 pub mod WhoseWritesStand
 pub mod NewestWritesOfOne

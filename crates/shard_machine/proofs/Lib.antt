@@ -13,3 +13,4 @@ pub mod Meaning
 pub mod Naming
 pub mod Numbering
 pub mod Backward
+pub mod Forgotten

@@ -10,6 +10,7 @@ mod disks;
 mod dropping;
 mod flights;
 mod flying;
+mod forgetting;
 mod gates;
 mod happening;
 mod hearing;

@@ -1,14 +1,14 @@
 -- The members are the greatest set that keeps itself.
-use Rattle.std.proofs.Common.{◌≡◌, ℕ, zero, suc, ◌+◌, ◌<◌, ◌≤◌, arith, ◌⊎◌, inl, inr, ⊎_elim, Bool, true, false, cond, ◌&&◌, ◌||◌, List, [], ◌∷◌, length, Option, Some, None, refl, sym, ap, subst, ◌∙◌}
-use Rattle.std.specs.List.{filter, list_any, list_all}
+use Rattle.std.proofs.Common.{◌≡◌, ℕ, zero, suc, ◌≤◌, arith, ◌⊎◌, inl, inr, ⊎_elim, Bool, true, cond, List, [], ◌∷◌, length, Option, Some, None, refl, sym, ap, subst, ◌∙◌}
+use Rattle.std.specs.List.{filter, list_all}
 use Rattle.std.proofs.lemmas.Bool.{both_ways, cond_both, cond-true, and_parts, and_from, or_cases, cases_Bool, cases_lt}
 use Rattle.clv_base.specs.declared.names.TxId.{TxId}
 use Rattle.clv_base.specs.declared.logs.LogRecord.{LogRecord}
 use Rattle.clv_base.specs.declared.logs.LogRecord.TheVariants.{Update, Clr, Prepare, Commit, Abort, End, Restart, Add, Unadd, Forgotten, Check}
 use Rattle.clv_base.specs.Orders.{tx_same, tx_in, tx_insert, tx_union}
-use Rattle.clv_base.specs.Logs.{committed_in, prepare_of, commit_parts}
-use Rattle.clv_base.specs.LogRules.{log_of, home_is, committed_of, committed_of_all}
-use Rattle.clv_base.proofs.SameNames.{tx_true, tx_self, tx_eq, insert_has, insert_keeps}
+use Rattle.clv_base.specs.Logs.{commit_parts}
+use Rattle.clv_base.specs.LogRules.{log_of, committed_of, committed_of_all}
+use Rattle.clv_base.proofs.SameNames.{tx_true, insert_has, insert_keeps}
 use Rattle.law_base.proofs.Lists.{filter-few}
 use Rattle.law_base.proofs.Names.{all_from}
 use Rattle.law_base.proofs.Sets.{filter_in, list_all_at, union_right}

@@ -22,7 +22,7 @@ use Rattle.clv_base.specs.LogRules.{log_of}
 use Rattle.clv_base.specs.State.{Shard}
 use Rattle.clv_base.specs.Restarts.{run_after, log_after_restart, restart_records}
 use Rattle.clv_base.specs.OneShard.{violated_here}
-use Rattle.clv_base.specs.Journals.{History, journal_of, start_of, final_of, after_entry, after_entries, got_predecessors, predecessors_in}
+use Rattle.clv_base.specs.Journals.{MayRun, History, journal_of, start_of, final_of, after_entry, after_entries, got_predecessors, predecessors_in}
 use Rattle.clv_base.specs.History.{state_before}
 use Rattle.clv_base.proofs.SameNames.{tx_true, tx_self}
 use Rattle.law_base.proofs.Commits.{committed_append}
@@ -30,7 +30,9 @@ use Rattle.law_base.proofs.Sets.{union_right}
 use Rattle.protocol_laws.specs.SessionLaws.{tx_of, works_on}
 use Rattle.protocol_laws.proofs.LogOnlyGrows.DueGrowsLogs.{more}
 use Rattle.history_cases.proofs.Merging.{Placed, Among, in_order, among_left, among_right, is_among, Precedes, front_precedes, precedes_before, from_journal}
+use Rattle.history_cases.proofs.Entering.{run_first}
 use Rattle.history_cases.proofs.Worlds.{journal_append}
+use Rattle.protocol_laws.specs.Growth.{IsPrefixOf}
 use Rattle.history_cases.proofs.Durability.{fronts_entries, opened_counted, grown_length}
 use Rattle.history_cases.proofs.OldRuns.{none_of_this_run}
 use Rattle.history_cases.proofs.Telling.{IsRequest}
@@ -149,6 +151,16 @@ module _ (splits : List ℕ) (before after : List (List LogRecord)) (h : History
       let opened = log_after_restart n (log_of before n) (run_after before) 0 in
       let f = fronts_entries (log_of after n) (start_of before n) (journal_of n h) (opened_counted n (run_after before) (log_of before n)) (l.legal.runs n i) in
       same_durable c (length opened) (final_of before h after n).durable opened (final_of before h after n).local.log f.front w d (omega arith)
+
+  -- after a first piece of the history it does so, too
+  pub begins_then : (pre post : History) → pre ++ post ≡ h
+      → IsPrefixOf (log_after_restart n (log_of before n) (run_after before) 0) (take (state_before before pre after n).durable (state_before before pre after n).local.log)
+  begins_then pre post q =
+      let opened = log_after_restart n (log_of before n) (run_after before) 0 in
+      let s = state_before before pre after n in
+      let r : MayRun (log_of after n) (start_of before n) (journal_of n pre ++ journal_of n post) = subst (MayRun (log_of after n) (start_of before n)) (ap (journal_of n) (sym q) ∙ journal_append n pre post) (l.legal.runs n i) in
+      let f = fronts_entries (log_of after n) (start_of before n) (journal_of n pre) (opened_counted n (run_after before) (log_of before n)) (run_first (log_of after n) (start_of before n) (journal_of n pre) (journal_of n post) r) in
+      subst (λ z. IsPrefixOf z (take s.durable s.local.log)) (take_all (length opened) opened (omega arith)) f.front
 
   any_moment : (c : ℕ) → length (log_of before n) ≤ c → c ≤ (final_of before h after n).durable → Moment (log_of after n) (start_of before n) (journal_of n h) c
   any_moment c w d = by (cases_lt c (length (log_after_restart n (log_of before n) (run_after before) 0)))

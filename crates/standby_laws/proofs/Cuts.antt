@@ -9,21 +9,22 @@ use Rattle.clv_base.specs.declared.logs.LogRecord.{LogRecord}
 use Rattle.clv_base.specs.declared.logs.LogRecord.TheVariants.{Update, Clr, Prepare, Commit, Abort, End, Restart, Add, Unadd, Forgotten, Check}
 use Rattle.clv_base.specs.Orders.{tx_same, tx_in, nat_in}
 use Rattle.clv_base.specs.Logs.{is_prepare_of, committed_in, prepared_in, prepare_of, commit_parts}
-use Rattle.clv_base.specs.LogRules.{log_of, home_is, agrees_at, disorder, may_follow, all_logs_from, apart}
+use Rattle.clv_base.specs.LogRules.{log_of, home_is, agrees_at, part_of, disorder, all_logs_from, apart}
 use Rattle.clv_base.specs.FileRules.{may_open, log_passes}
 use Rattle.clv_base.proofs.SameNames.{tx_true}
+use Rattle.law_base.specs.Coming.{may_come, Comes, AllCome}
 use Rattle.law_base.proofs.Bools.{not_true}
 use Rattle.law_base.proofs.Commits.{parts_keep, committed_keeps}
 use Rattle.law_base.proofs.Logs.{no_prepare, passes_at}
+use Rattle.law_base.proofs.Parts.{in_order_comes}
 use Rattle.law_base.proofs.Options.{none_of, some_of, some_once, some_inj}
 use Rattle.law_base.proofs.Sets.{list_all_at}
 use Rattle.protocol_laws.proofs.LogsInOrder.OneRecordMore.{committed_there}
 use Rattle.shard_laws.proofs.Keeping.ChangesKeepPrepared.{prepare_keeps, unprepared_append}
-use Rattle.shard_laws.proofs.Order.RecordByRecord.{Follows, from_disorder}
 use Rattle.shard_laws.proofs.Cuts.WhatCutsHold.{cut_keeps}
 use Rattle.fate_laws.proofs.Homes.FoundCommitsHaveHomes.{home_of, nat_at, committed_stays, named_part, part_agreed}
 use Rattle.headline_laws.proofs.EndedAreCommitted.EndsStandBehindCommits.{parts_there}
-use Rattle.headline_laws.proofs.AtOpening.EarlierOnesStoodThere.{follows_behind}
+use Rattle.headline_laws.proofs.ReadersPass.FrontsWithoutWrites.{comes_behind}
 use Rattle.standby_base.specs.Standby.{whole_with, whole_from, whole_on, first_list, commits_before, keeps_on, keeps, standby_members}
 use Rattle.standby_base.proofs.Greatest.{members_keep, kept_whole}
 
@@ -38,15 +39,15 @@ pub whole_log : (k : ℕ) (log : List LogRecord) → take k log ++ drop k log �
 whole_log k log = take-append-drop k log
 
 -- a PREPARE doesn't follow the COMMIT
-unprepared_behind : (shard : ℕ) (before rs : List LogRecord) (t : TxId) → Follows shard before rs → committed_in before t ≡ true → prepared_in rs t ≡ false
-unprepared_behind shard before [] t f c = refl
-unprepared_behind shard before (r ∷ rs) t f c =
-    or_from _ _ (one r f.0) (unprepared_behind shard (before ++ r ∷ []) rs t f.1 (keeps_more r))
+unprepared_behind : (shard : ℕ) (part before rs : List LogRecord) (t : TxId) → Comes shard part before rs → committed_in before t ≡ true → prepared_in rs t ≡ false
+unprepared_behind shard part before [] t f c = refl
+unprepared_behind shard part before (r ∷ rs) t f c =
+    or_from _ _ (one r f.0) (unprepared_behind shard part (before ++ r ∷ []) rs t f.1 (keeps_more r))
   where
     keeps_more : (r : LogRecord) → committed_in (before ++ r ∷ []) t ≡ true
     keeps_more r = committed_keeps before (r ∷ []) t c
 
-    one : (r : LogRecord) → may_follow shard before r ≡ true → is_prepare_of t r ≡ false
+    one : (r : LogRecord) → may_come shard part before r ≡ true → is_prepare_of t r ≡ false
     one (Prepare tx home listed) m =
         let y = and_parts _ _ (and_parts _ _ m).0 in let z = and_parts _ _ y.0 in let v = and_parts _ _ z.0 in
         false_from_ne_true _ (λ s. both_ways _ (not_true _ v.1) (subst (λ u. committed_in before u ≡ true) (tx_true t tx s) c))
@@ -55,14 +56,18 @@ unprepared_behind shard before (r ∷ rs) t f c =
 pub prepare_cut : (shard k : ℕ) (log : List LogRecord) (t : TxId) → disorder shard log ≡ None → committed_in (take k log) t ≡ true → prepare_of (take k log) t ≡ prepare_of log t
 prepare_cut shard k log t d c = at (prepared_in (take k log) t) refl
   where
-    f : Follows shard (take k log) (drop k log)
-    f = follows_behind shard [] (take k log) (drop k log) (subst (Follows shard []) (sym (whole_log k log)) (from_disorder shard 0 [] log d))
+    behind : (xs ys : List LogRecord) → committed_in xs t ≡ true → AllCome shard (part_of log) (xs ++ ys) → Comes shard (part_of log) xs ys
+    behind [] ys e f = absurd (both_ways false refl e)
+    behind (x ∷ xs) ys e f = comes_behind shard (part_of log) (x ∷ []) xs ys f.1
+
+    f : Comes shard (part_of log) (take k log) (drop k log)
+    f = behind (take k log) (drop k log) c (subst (AllCome shard (part_of log)) (sym (whole_log k log)) (in_order_comes shard log d))
 
     at : (b : Bool) → prepared_in (take k log) t ≡ b → prepare_of (take k log) t ≡ prepare_of log t
     at true e = subst (λ l. prepare_of (take k log) t ≡ prepare_of l t) (whole_log k log) (sym (prepare_keeps (take k log) (drop k log) t e))
     at false e =
         no_prepare (take k log) t e
-        ∙ sym (subst (λ l. prepare_of l t ≡ None) (whole_log k log) (no_prepare (take k log ++ drop k log) t (unprepared_append (take k log) (drop k log) t e (unprepared_behind shard (take k log) (drop k log) t f c))))
+        ∙ sym (subst (λ l. prepare_of l t ≡ None) (whole_log k log) (no_prepare (take k log ++ drop k log) t (unprepared_append (take k log) (drop k log) t e (unprepared_behind shard (part_of log) (take k log) (drop k log) t f c))))
 
 pub parts_cut : (k : ℕ) (log : List LogRecord) (t : TxId) → committed_in (take k log) t ≡ true → commit_parts (take k log) t ≡ commit_parts log t
 parts_cut k log t c =

@@ -2,30 +2,32 @@
 use Rattle.std.proofs.Common.{◌≡◌, ⊎_elim, ℕ, zero, suc, ◌+◌, ◌<◌, ◌≤◌, arith, Bool, true, false, cond, ◌&&◌, ◌||◌, ◌==◌, List, [], ◌∷◌, ◌++◌, map, length, Option, Some, None, refl, sym, ap, subst, ◌∙◌, append-nil, eq-eqb}
 use Rattle.std.specs.Prelude.{take, drop, is_none}
 use Rattle.std.specs.List.{AllByRecursion, filter, list_all}
-use Rattle.std.proofs.lemmas.Bool.{both_ways, and_parts, and_from, or_cases, or_left, or_right, false_from_ne_true}
+use Rattle.std.proofs.lemmas.Bool.{and_parts, and_from, or_cases, or_left, or_right, false_from_ne_true}
 use Rattle.std.proofs.lemmas.List.{take-append-drop, length-append}
 use Rattle.std.proofs.lemmas.List.Elements.{filter-append}
 use Rattle.clv_base.specs.declared.names.TxId.{TxId}
 use Rattle.clv_base.specs.declared.logs.LogRecord.{LogRecord}
-use Rattle.clv_base.specs.declared.logs.LogRecord.TheVariants.{Update, Clr, Prepare, Commit, Abort, End, Restart, Add, Unadd, Forgotten, Check}
 use Rattle.clv_base.specs.Orders.{tx_same, tx_in, nat_in}
 use Rattle.clv_base.specs.Shards.{shard_count}
 use Rattle.clv_base.specs.Maps.{KeyMap, with_pairs, replay_map, replay_answers}
 use Rattle.clv_base.specs.Logs.{StandingUpdate, with_change, committed_in, prepared_in, committed_somewhere, in_doubt, is_winner, standing, base_of, fold_writes, fold_updates, stands}
-use Rattle.clv_base.specs.LogRules.{log_of, all_logs_from, apart, disorder}
+use Rattle.clv_base.specs.LogRules.{log_of, all_logs_from, apart, upto_of, disorder}
 use Rattle.clv_base.specs.FileRules.{log_passes, passes_file_rules}
-use Rattle.clv_base.specs.Restarts.{run_after}
+use Rattle.clv_base.specs.Restarts.{run_after, log_after_restart}
 use Rattle.clv_base.specs.Journals.{History, final_of}
 use Rattle.clv_base.specs.History.{logs_left, state_before, request_of}
 use Rattle.law_base.specs.Items.{Did}
 use Rattle.law_base.proofs.Bools.{same_truth}
 use Rattle.law_base.proofs.Lists.{all_kept}
+use Rattle.law_base.proofs.Parts.{in_order_take, whole_part}
 use Rattle.law_base.proofs.Running.{fold_standing}
 use Rattle.law_base.proofs.Sets.{in_filter, filter_both, filter_alike, none_pass}
 use Rattle.law_base.proofs.Logs.{only_passes, all_logs, passes_at}
 use Rattle.clv_base.proofs.SameNames.{tx_self}
 use Rattle.clv_base.specs.declared.events.Event.TheVariants.{Request as RequestEvent}
 use Rattle.protocol_laws.specs.SessionLaws.{tx_of, works_on}
+use Rattle.protocol_laws.specs.Growth.{IsPrefixOf}
+use Rattle.protocol_laws.proofs.LogOnlyGrows.DueGrowsLogs.{chain}
 use Rattle.protocol_laws.proofs.LogsInOrder.{tidy_in_order}
 use Rattle.serial_laws.specs.Shares.{ShardAct, part_on, goes_whole, whole, ReplaysTo, LiesIn}
 use Rattle.serial_laws.proofs.ReplayByShards.{replay_by_shards}
@@ -36,12 +38,11 @@ use Rattle.history_laws.specs.Going.{shard_acts_in}
 use Rattle.history_laws.proofs.Laws.{offered, logs_left_pass, left_length}
 use Rattle.history_laws.proofs.NeverTakenBack.{is_request}
 use Rattle.history_laws.proofs.RequestsGoWhole.{requests_go_whole}
-use Rattle.history_laws.proofs.Logs.FoundLogsInOrder.{log_found}
+use Rattle.history_laws.proofs.Logs.FoundLogsInOrder.{found_in_order, log_found}
 use Rattle.history_laws.proofs.Logs.DoubtedAreUndecided.{doubted_is_old, doubt_prepared}
 use Rattle.shard_laws.specs.OneShard.{found_items, map_found, map_chosen}
 use Rattle.shard_laws.proofs.LaterReplay.{later_replay}
-use Rattle.shard_laws.proofs.OrderIsKept.{order_is_kept}
-use Rattle.shard_laws.proofs.Order.RecordByRecord.{from_disorder, to_disorder, follows_take, Follows}
+use Rattle.shard_laws.proofs.OrderIsKept.{order_is_kept, part_is_left}
 use Rattle.shard_laws.proofs.Cuts.WhatCutsHold.{of_kept, standing_cut}
 use Rattle.shard_laws.proofs.Cuts.WhoIsInDoubt.{prepared_cut}
 use Rattle.fate_laws.specs.Leading.{deeds_before, with_found, requests_of}
@@ -51,7 +52,7 @@ use Rattle.fate_laws.proofs.Origins.FrontsKeepOrigins.{IsOld}
 use Rattle.fate_laws.proofs.DeedsAreTold.{deeds_are_told}
 use Rattle.fate_laws.proofs.Homes.FoundCommitsHaveHomes.{nat_at, named_part, prepared_stays}
 use Rattle.headline_laws.specs.Shares.{share_of}
-use Rattle.headline_laws.proofs.AtOpening.EarlierOnesStoodThere.{somewhere_at_opening}
+use Rattle.headline_laws.proofs.AtOpening.EarlierOnesStoodThere.{opened_some, somewhere_at_opening}
 use Rattle.headline_laws.proofs.SharesAreMaps.{writer_known, at_somewhere}
 use Rattle.headline_laws.proofs.TransactionsReplayByShards.LogsAgreeWithMap.{logs_agree}
 use Rattle.headline_laws.proofs.MembersReplayWhereHere.WhoIsAMember.{Asks, asked_by, request_run}
@@ -63,7 +64,7 @@ use Rattle.standby_laws.proofs.Settled.{found_cuts}
 use Rattle.standby_laws.proofs.Cuts.{AreCuts, Home, IsMember, member_is, before_member, from_stream}
 use Rattle.standby_laws.proofs.Members.{fed_cuts}
 use Rattle.standby_laws.proofs.Fronts.{take_less, length_taken}
-use Rattle.standby_laws.proofs.Before.{At, at_moment, may_choose, had_asked}
+use Rattle.standby_laws.proofs.Before.{At, at_moment, begins_then, may_choose, had_asked}
 use Rattle.standby_laws.proofs.Kept.{kept_goes_whole}
 use Rattle.standby_laws.proofs.Shares.{share_shown, shown_shares}
 use Rattle.standby_laws.proofs.Parts.{parts_kept, with_idle, acts_are, answers_are, map_same, requests_append, acts_lie}
@@ -89,34 +90,52 @@ same_fold f xs ys b e =
     ∙ ap (λ ps. fold_writes (λ t. true) (filter (of_kept f) (standing ys)) (with_pairs ps [])) b
     ∙ sym (passed_writes f (standing ys) (with_pairs (base_of ys) []))
 
--- a log in order begins with no checkpoint's map
-base_none : (shard : ℕ) (log : List LogRecord) → Follows shard [] log → base_of log ≡ []
-base_none shard [] f = refl
-base_none shard (Check run epoch upto base ∷ rs) f = absurd (both_ways false refl f.0)
-base_none shard (Update tx a b d ∷ rs) f = refl
-base_none shard (Clr tx a b d ∷ rs) f = refl
-base_none shard (Prepare tx a b ∷ rs) f = refl
-base_none shard (Commit tx parts ∷ rs) f = refl
-base_none shard (Abort tx ∷ rs) f = refl
-base_none shard (End tx ∷ rs) f = refl
-base_none shard (Restart run epoch ∷ rs) f = refl
-base_none shard (Add tx a by ∷ rs) f = refl
-base_none shard (Unadd tx a b by ∷ rs) f = refl
-base_none shard (Forgotten ∷ rs) f = refl
+-- what a log begins with
+abbrev Beginning : List LogRecord → List LogRecord → Type 0
+Beginning xs ys = (base_of xs ≡ base_of ys) × (upto_of xs ≡ upto_of ys)
 
--- two logs in order with one first piece, of whom all that pass are committed there
-by_piece : (n c : ℕ) (xs ys : List LogRecord) (f : TxId → Bool) → disorder n xs ≡ None → disorder n ys ≡ None → take c xs ≡ take c ys → ((t : TxId) → f t ≡ committed_in (take c xs) t) → fold_updates f xs [] ≡ fold_updates f ys []
-by_piece n c xs ys f dx dy e k =
+-- opened it begins as it was found
+opened_begins : (n run : ℕ) (found : List LogRecord) → Beginning (log_after_restart n found run 0) found
+opened_begins n run [] = (refl, refl)
+opened_begins n run (r ∷ rs) = (refl, refl)
+
+-- and so does what goes on from that
+goes_on : (before : List (List LogRecord)) (n : ℕ) (log : List LogRecord) → IsPrefixOf (log_after_restart n (log_of before n) (run_after before) 0) log → Beginning log (log_of before n)
+goes_on before n log p = at (log_after_restart n (log_of before n) (run_after before) 0) refl p
+  where
+    at : (xs : List LogRecord) → log_after_restart n (log_of before n) (run_after before) 0 ≡ xs → IsPrefixOf xs log → Beginning log (log_of before n)
+    at [] e p = absurd (opened_some before n e)
+    at (x ∷ xs) e p =
+        let b = opened_begins n (run_after before) (log_of before n) in
+        (ap base_of (sym p.1) ∙ ap base_of (sym e) ∙ b.0, ap upto_of (sym p.1) ∙ ap upto_of (sym e) ∙ b.1)
+
+-- a piece of it that has all that was found begins with the same map
+piece_base : (k : ℕ) (found log : List LogRecord) → Beginning log found → IsPrefixOf found (take k log) → base_of (take k log) ≡ base_of found
+piece_base k [] log b p = taken k log b.0
+  where
+    taken : (k : ℕ) (xs : List LogRecord) → base_of xs ≡ [] → base_of (take k xs) ≡ []
+    taken zero xs e = refl
+    taken (suc k) [] e = refl
+    taken (suc k) (x ∷ xs) e = e
+piece_base k (r ∷ rs) log b p = ap base_of (sym p.1)
+
+longer : (d c : ℕ) (xs : List LogRecord) → d ≤ c → IsPrefixOf (take d xs) (take c xs)
+longer d c xs l = (drop d (take c xs), ap (λ z. z ++ drop d (take c xs)) (take_less d c xs l) ∙ take-append-drop d (take c xs))
+
+-- two logs in order that begin alike, with one first piece, of whom all that pass are committed there
+by_piece : (n c : ℕ) (xs ys : List LogRecord) (f : TxId → Bool) → base_of xs ≡ base_of ys → disorder n xs ≡ None → disorder n ys ≡ None → take c xs ≡ take c ys → ((t : TxId) → f t ≡ committed_in (take c xs) t)
+    → fold_updates f xs [] ≡ fold_updates f ys []
+by_piece n c xs ys f b dx dy e k =
     fold_standing f (committed_in (take c xs)) xs [] (λ t w. k t)
-    ∙ same_fold (committed_in (take c xs)) xs ys (base_none n xs (from_disorder n 0 [] xs dx) ∙ sym (base_none n ys (from_disorder n 0 [] ys dy)))
+    ∙ same_fold (committed_in (take c xs)) xs ys b
     (standing_cut c xs (tidy_in_order n xs dx)
     ∙ ap (λ z. filter (of_kept (committed_in z)) (standing z)) e
     ∙ sym (standing_cut c ys (tidy_in_order n ys dy))
     ∙ ap (λ z. filter (of_kept (committed_in z)) (standing ys)) (sym e))
     ∙ fold_standing (committed_in (take c xs)) f ys [] (λ t w. sym (k t))
 
-cut_order : (n c : ℕ) (log : List LogRecord) → disorder n log ≡ None → disorder n (take c log) ≡ None
-cut_order n c log d = to_disorder n 0 [] (take c log) (follows_take n c [] log (from_disorder n 0 [] log d))
+cut_order : (n c : ℕ) (log : List LogRecord) → upto_of log ≤ c → disorder n log ≡ None → disorder n (take c log) ≡ None
+cut_order n c log l d = (in_order_take n c log l d).0
 
 taken_again : {A : Type 0} (c : ℕ) (xs more : List A) → c ≤ length xs → take c (take c xs ++ more) ≡ take c xs
 taken_again zero xs more l = refl
@@ -192,14 +211,44 @@ module _ (splits : List ℕ) (before after streams : List (List LogRecord)) (h :
 
     moment_order : disorder n (take moment.cut (state_before before moment.so_far after n).local.log) ≡ None
     moment_order =
-        cut_order n moment.cut (state_before before moment.so_far after n).local.log
-        (order_is_kept n (run_after before) (log_of before n) (with_found n (log_of before n) (deeds_before before moment.so_far after n)) (state_before before moment.so_far after n)
-        (each_shard_leads splits before h after moment.so_far moment.rest n f.legal moment.split i))
+        let s = state_before before moment.so_far after n in
+        let d = with_found n (log_of before n) (deeds_before before moment.so_far after n) in
+        let leads = each_shard_leads splits before h after moment.so_far moment.rest n f.legal moment.split i in
+        let p = part_is_left n (run_after before) (log_of before n) d s false leads in
+        let a = moment.above in cut_order n moment.cut s.local.log (omega (arith, p, a)) (order_is_kept n (run_after before) (log_of before n) d s leads)
+
+    moment_base : base_of (take moment.cut (state_before before moment.so_far after n).local.log) ≡ base_of (log_of before n)
+    moment_base =
+        let s = state_before before moment.so_far after n in
+        let opened = log_after_restart n (log_of before n) (run_after before) 0 in
+        (goes_on before n (take moment.cut s.local.log)
+        (chain opened (take s.durable s.local.log) (take moment.cut s.local.log) (begins_then splits before after h f.legal n i moment.so_far moment.rest moment.split) (longer s.durable moment.cut s.local.log moment.above))).0
+
+    -- ---- the stream
+
+    final_begins : Beginning (final_of before h after n).local.log (log_of before n)
+    final_begins =
+        let s = final_of before h after n in
+        let opened = log_after_restart n (log_of before n) (run_after before) 0 in
+        goes_on before n s.local.log
+        (chain opened (take s.durable s.local.log) s.local.log (begins_then splits before after h f.legal n i h [] (append-nil h)) (drop s.durable s.local.log, take-append-drop s.durable s.local.log))
+
+    has_part : upto_of (final_of before h after n).local.log ≤ (f.streams_of n i).0
+    has_part =
+        let a = found_below in
+        let b = c_below in
+        let p = whole_part n (log_of before n) (found_in_order splits before n f.legal.opens (log_found f.legal n i)) in
+        let e = final_begins.1 in omega (arith, a, b, p, e)
+
+    stream_base : base_of (log_of streams n) ≡ base_of (log_of before n)
+    stream_base =
+        ap base_of stream_is
+        ∙ piece_base (f.streams_of n i).0 (log_of before n) (final_of before h after n).local.log final_begins (subst (IsPrefixOf (log_of before n)) stream_is (found.begin n i))
 
     stream_order : disorder n (log_of streams n) ≡ None
     stream_order =
         subst (λ z. disorder n z ≡ None) (sym stream_is)
-        (cut_order n (f.streams_of n i).0 (final_of before h after n).local.log
+        (cut_order n (f.streams_of n i).0 (final_of before h after n).local.log has_part
         (order_is_kept n (run_after before) (log_of before n) (with_found n (log_of before n) (deeds_before before h after n)) (final_of before h after n)
         (each_shard_leads splits before h after h [] n f.legal (append-nil h) i)))
 
@@ -222,7 +271,7 @@ module _ (splits : List ℕ) (before after streams : List (List LogRecord)) (h :
         fold_standing (λ t. pick t && is_winner (state_before before moment.so_far after n).shard moment_log t) pick moment_log []
         (λ t w. same_truth (pick t && is_winner (state_before before moment.so_far after n).shard moment_log t) (pick t)
         (λ e. (and_parts (pick t) _ e).0) (λ e. and_from (pick t) _ e (or_left (committed_in moment_log t) _ e)))
-        ∙ by_piece n c moment_log (log_of streams n) pick moment_order stream_order pieces
+        ∙ by_piece n c moment_log (log_of streams n) pick (moment_base ∙ sym stream_base) moment_order stream_order pieces
         (λ t. moment.commits t ∙ ap (λ l. committed_in l t) piece ∙ ap (λ l. committed_in l t) (sym pieces))
         ∙ fold_standing pick (λ t. tx_in t (standby_members streams) && committed_in (log_of streams n) t) (log_of streams n) [] (λ t w. pick_is t)
 

@@ -1,6 +1,7 @@
 -- Places without a vote, and places enough.
-use Rattle.std.proofs.Common.{◌≡◌, refl, ℕ, zero, suc, ◌+◌, ◌<◌, ◌≤◌, List, [], ◌∷◌, Option, Some, None, drop, drop-cons, add-one, get_or, length, arith}
-use Rattle.std.specs.List.{AllByRecursion}
+use Rattle.std.proofs.Common.{◌≡◌, refl, sym, eqb-true, ◌==◌, false, is_none, ℕ, zero, suc, ◌+◌, ◌<◌, ◌≤◌, List, [], ◌∷◌, Option, Some, None, drop, drop-cons, add-one, get_or, length, arith}
+use Rattle.std.specs.List.{AllByRecursion, list_all}
+use Rattle.std.proofs.lemmas.Bool.{false_from_ne_true}
 use Rattle.clv_base.specs.Arrays.{present_from}
 
 -- what can't be a vote is none
@@ -8,6 +9,15 @@ pub none_given : {X : Type 0} (P : Option X → Type 0) (k : ℕ) (os : List (Op
 none_given P k [] a none = refl
 none_given P k (None ∷ os) a none = none_given P (suc k) os a.1 none
 none_given P k (Some x ∷ os) a none = absurd (none x a.0)
+
+not_none : (n : ℕ) → false ≡ (suc n == 0)
+not_none n = sym (false_from_ne_true (suc n == 0) (λ i. let e = eqb-true (suc n) 0 i in omega (arith, e)))
+
+-- no place has a vote exactly where there is none
+pub nobody : {X : Type 0} (k : ℕ) (os : List (Option X)) → list_all (λ o. is_none o) os ≡ (length (present_from k os) == 0)
+nobody k [] = refl
+nobody k (None ∷ os) = nobody (suc k) os
+nobody k (Some x ∷ os) = not_none (length (present_from (suc k) os))
 
 -- the shards are below each number that is no less than the count, where those of the rest are
 abbrev pub AreEnough : ℕ → List (ℕ × ℕ) → List (ℕ × ℕ) → Type 0

@@ -13,4 +13,5 @@ pub mod Over
 pub mod Silent
 pub mod Told
 pub mod Spelling
+pub mod Forgotten
 pub mod Laws

@@ -7,3 +7,4 @@ pub mod Kept
 pub mod Reminding
 pub mod Unended
 pub mod Waiting
+pub mod Completed

@@ -1,5 +1,6 @@
 //! The votes on a request.
-ghost use Rattle.std.specs.Prelude.{◌≡◌};
+ghost use Rattle.std.specs.Prelude.{◌≡◌, is_none};
+ghost use Rattle.std.specs.List.{list_all};
 ghost use Rattle.clv_base.specs.Coordinator.{no_by};
 
 use crate::memory::Memory;
@@ -26,7 +27,7 @@ impl Model for Ballot {
 }
 
 impl Ballot {
-    ghost use Rattle.std.specs.Prelude.{◌≡◌, ◌≤◌, ◌<◌, [], IfOk};
+    ghost use Rattle.std.specs.Prelude.{◌≡◌, ◌≤◌, ◌<◌, ◌==◌, [], IfOk, length};
     ghost use Rattle.std.specs.Ordering.{nat_cmp};
     ghost use Rattle.std.specs.BTreeMap.{insert_entry};
     ghost use Rattle.clv_base.specs.Coordinator.{vote_from, first_no as first_no_of};
@@ -72,6 +73,13 @@ impl Ballot {
         self.given[shard as usize] = Some(vote);
     }
 
+    /// Whether nobody has voted.
+    pub(crate) fn is_empty(&self) -> bool
+        ensures { result ≡ (length self.now.votes == 0) }
+    {
+        are_missing(&self.given)
+    }
+
     /// The cause that the first no is, by shards.
     pub(crate) fn first_no(&self) -> Option<AbortCause>
         ensures { result ≡ first_no_of self.now.votes }
@@ -84,6 +92,13 @@ impl Ballot {
         }
         None
     }
+}
+
+/// Whether no place has a vote.
+fn are_missing(given: &[Option<Vote>]) -> bool
+    ensures { result ≡ list_all (λ vote. is_none vote) given.now }
+{
+    given.iter().all(|vote| vote.is_none())
 }
 
 /// The cause that a vote is, where it is a no.

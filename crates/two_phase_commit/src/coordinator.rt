@@ -8,9 +8,10 @@ ghost use Rattle.clv_base.specs.declared.state.RequestState.TheVariants.{Undecid
 ghost use Rattle.clv_base.specs.declared.parts.PartFacts.{PartFacts as Facts};
 ghost use Rattle.clv_base.specs.FileRules.{tx_has_spelling};
 ghost use Rattle.clv_base.specs.Facts.{is_waiting};
-ghost use Rattle.clv_base.specs.Orders.{nat_in, tx_cmp, tx_get, tx_put};
+ghost use Rattle.clv_base.specs.Orders.{nat_in, tx_cmp, tx_get, tx_put, tx_drop};
 ghost use Rattle.clv_base.specs.Coordinator.{new_request, restored_requests, home_reminders, ask_answer};
 ghost use Rattle.two_phase_commit.specs.Coordinated.{AreNamed, IsSpelledRuling, ruling_of, requests_by, counts_by, requests_with, done_by, requests_done, told_by, state_by};
+ghost use Rattle.two_phase_commit.specs.Completed.{complete_by};
 ghost use Rattle.two_phase_commit.specs.Reminding.{each_at, of_one, votes_of, dones_of};
 ghost use Rattle.two_phase_commit.specs.Waiting.{waiting_in};
 
@@ -337,5 +338,29 @@ impl Coordinator {
             tx,
             request,
         )
+    }
+
+    /// Whether nothing more is asked or told of the transaction's request, where its COMMIT is durable: of one shard alone, or a commit with no part, or
+    /// one whose END is written. False where it has none here.
+    pub fn is_complete(&self, tx: TxId) -> bool
+        ensures { result ≡ complete_by self.now.shard (tx_get tx self.now.requests) }
+    {
+        match self.requests.get(&tx) {
+            Some(request) => request.is_complete(self.shard),
+            None => false,
+        }
+    }
+
+    /// The transaction's request, if it has one, is kept no more, and given away. Takes no memory.
+    pub fn forget(&mut self, tx: TxId) -> Option<Kept>
+        ensures given { result ≡ tx_get tx self.old.requests }
+        ensures requests { self.new ≡ record self.old { requests = tx_drop tx self.old.requests } }
+        ensures keys { IsStrictlySortedBy tx_cmp (keys_of self.new.requests) }
+    {
+        let _all = self.requests.len();
+        let request = self.requests.remove(&tx);
+        self.waiting.keep_if(tx, false);
+        self.asked.remove(tx);
+        request
     }
 }

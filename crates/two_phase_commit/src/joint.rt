@@ -5,6 +5,7 @@ ghost use Rattle.clv_base.specs.declared.state.RequestState.TheVariants.{Undecid
 ghost use Rattle.clv_base.specs.Orders.{nat_in};
 ghost use Rattle.clv_base.specs.Coordinator.{new_request, restored_request, ruling_by, takes_vote, with_vote_of, takes_done, with_done_of};
 ghost use Rattle.two_phase_commit.specs.Coordinated.{IsFit, ruled, parts_of};
+ghost use Rattle.two_phase_commit.specs.Completed.{is_final as final_in};
 ghost use Rattle.two_phase_commit.specs.Kept.{joint_request, HasPlaces};
 
 use crate::ballot::Ballot;
@@ -60,6 +61,17 @@ pub(crate) fn restored(alloc: Global, parts: &ShardList) -> Joint
         },
         acknowledged_by: ShardList::new(),
         is_ended: false,
+    }
+}
+
+/// Whether nothing is left to be done of it, as far as it doesn't wait: nobody voted, or its commit has no part or is ended.
+pub(crate) fn is_final(request: &Joint) -> bool
+    ensures { result ≡ final_in (joint_request request.now) (joint_request request.now).state }
+{
+    match &request.state {
+        RequestState::Undecided => request.votes.is_empty(),
+        RequestState::Committed { parts } => parts.as_slice().is_empty() || request.is_ended,
+        RequestState::Finished | RequestState::Refused { .. } => false,
     }
 }
 

@@ -8,7 +8,9 @@ ghost use Rattle.two_phase_commit.specs.Kept.{request_of, IsPlaced};
 use crate::alone::{alone, rule_alone, state_of};
 use crate::brief::Brief;
 use crate::form::{Form, Stage};
-use crate::joint::{asked, counts_done, counts_vote, restored, rule, take_done, take_vote};
+use crate::joint::{
+    asked, counts_done, counts_vote, is_final, restored, rule, take_done, take_vote,
+};
 use crate::memory::Memory;
 use crate::reminding::{remind_dones, remind_votes};
 use crate::states::{copied, is_open, told_parts};
@@ -60,6 +62,7 @@ impl Kept {
     ghost use Rattle.two_phase_commit.specs.Coordinated.{IsFit, open_state, parts_of, ruled};
     ghost use Rattle.two_phase_commit.specs.Asked.{Tells};
     ghost use Rattle.two_phase_commit.specs.Waiting.{waits as request_waits};
+    ghost use Rattle.two_phase_commit.specs.Completed.{is_complete as request_is_complete, is_final as request_is_final};
 
     /// A request that nobody has voted on, of these shards with their epochs.
     pub(crate) fn asked(alloc: Global, touched: Touched) -> Result<Kept, Memory>
@@ -157,6 +160,24 @@ impl Kept {
             } => matches!(stage, Stage::Undecided) && *own != shard,
             Form::Lost { .. } => false,
             Form::Shared(request) => waits(shard, request),
+        }
+    }
+
+    /// Whether nothing more is asked or told of it, where its COMMIT is durable: of one shard alone, or a commit with no part, or one that is ended.
+    pub(crate) fn is_complete(&self, shard: u32) -> bool
+        ensures { result ≡ request_is_complete shard self.now }
+    {
+        !self.waits(shard) && self.is_final()
+    }
+
+    /// The same, as far as it doesn't wait.
+    fn is_final(&self) -> bool
+        ensures { result ≡ request_is_final self.now (self.now).state }
+    {
+        match &self.form {
+            Form::Alone { stage, .. } => matches!(stage, Stage::Undecided | Stage::Committed),
+            Form::Lost { .. } => false,
+            Form::Shared(request) => is_final(request),
         }
     }
 

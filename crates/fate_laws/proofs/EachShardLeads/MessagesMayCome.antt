@@ -1,5 +1,5 @@
 -- What a message that comes owes the shard: a Prepare, and word of a commit.
-use Rattle.std.proofs.Common.{◌≡◌, ◌⊎◌, inl, inr, ⊎_elim, refl, sym, ap, subst, ◌∙◌, ℕ, true, false, cond, Bool, not, ◌||◌, List, [], ◌∷◌, arith, eqb-true, ◌==◌, ◌&&◌}
+use Rattle.std.proofs.Common.{◌≡◌, ◌⊎◌, inl, inr, ⊎_elim, refl, sym, ap, subst, ◌∙◌, ℕ, true, false, cond, Bool, not, ◌||◌, List, [], ◌∷◌, arith, eqb-true, ◌==◌, ◌&&◌, None}
 use Rattle.std.specs.List.{list_any}
 use Rattle.std.proofs.lemmas.Bool.{both_ways, false_from_ne_true, not-true, or_cases, and_from}
 use Rattle.clv_base.specs.declared.names.TxId.{TxId}
@@ -16,7 +16,7 @@ use Rattle.clv_base.specs.declared.events.Outcome.TheVariants.{Taken, Stale, Dow
 use Rattle.clv_base.specs.declared.events.Entry.{Entry}
 use Rattle.clv_base.specs.Orders.{tx_same, tx_in, tx_get}
 use Rattle.clv_base.specs.Logs.{has_standing, committed_in, prepared_in, aborted_in, is_commit_of, is_undo_of}
-use Rattle.clv_base.specs.LogRules.{may_follow, may_undo, some_parts}
+use Rattle.clv_base.specs.LogRules.{may_undo, some_parts, part_of, disorder}
 use Rattle.clv_base.specs.State.{Shard}
 use Rattle.clv_base.specs.Facts.{facts_of}
 use Rattle.clv_base.specs.Participant.{taken_by}
@@ -28,10 +28,12 @@ use Rattle.law_base.proofs.Rows.{rows_get}
 use Rattle.protocol_laws.proofs.LogsInOrder.OneRecordMore.{push_cases, push_right}
 use Rattle.protocol_laws.specs.SessionLaws.{tx_of}
 use Rattle.shard_laws.specs.OneShard.{Deeds, Leads, MayDeliver}
-use Rattle.shard_laws.proofs.Order.RecordByRecord.{Follows, from_disorder, through}
+use Rattle.law_base.specs.Coming.{may_come}
+use Rattle.law_base.proofs.InOrder.{through}
+use Rattle.law_base.proofs.Parts.{in_order_comes}
+use Rattle.protocol_laws.proofs.LogsInOrder.{all_in_order}
 use Rattle.shard_laws.proofs.Order.WhoseWritesStand.{has_still}
-use Rattle.shard_laws.proofs.Order.WritesLieOnListed.{order_of}
-use Rattle.shard_laws.proofs.OrderIsKept.{order_is_kept}
+use Rattle.shard_laws.proofs.OrderIsKept.{order_is_kept, part_is_old}
 use Rattle.history_laws.proofs.NeverTakenBack.{walker_of, one_request}
 use Rattle.fate_laws.proofs.History.EntriesInTurn.{Requested}
 use Rattle.fate_laws.proofs.Origins.DueKeepsOrigins.{OwnRequest, RowFrom, RecordFrom, AllFrom}
@@ -70,21 +72,23 @@ decide_taken s to tx home stamp o t f = when_up s (Deliver (Decide to tx home tr
     at IsDone g = cc
     at IsStale g = absurd cc
 
--- ---- of who is committed in a log in order a write stands there, or it is the home of its parts
+-- ---- of who is committed in a log in order a write stands there, or it is the home of its parts, or a checkpoint kept its COMMIT
 
 is_home_commit : TxId → LogRecord → Bool
 is_home_commit t (Commit u ps) = tx_same t u && some_parts ps
 is_home_commit t _ = false
 
-abbrev StandsOrHome : List LogRecord → Type 0
-StandsOrHome log = (t : TxId) → committed_in log t ≡ true → (has_standing log t ≡ true) ⊎ (list_any (is_home_commit t) log ≡ true)
+abbrev StandsOrHome : List LogRecord → List LogRecord → Type 0
+StandsOrHome part log = (t : TxId) → committed_in log t ≡ true → (has_standing log t ≡ true) ⊎ ((list_any (is_home_commit t) log ≡ true) ⊎ (committed_in part t ≡ true))
 
 -- a COMMIT is the first record of its transaction that takes a write back no more
-new_commit : (shard : ℕ) (log : List LogRecord) (r : LogRecord) (t : TxId) → may_follow shard log r ≡ true → is_commit_of t r ≡ true → ((has_standing log t ≡ true) × (is_undo_of t r ≡ false)) ⊎ (is_home_commit t r ≡ true)
+new_commit : (shard : ℕ) (part log : List LogRecord) (r : LogRecord) (t : TxId) → may_come shard part log r ≡ true → is_commit_of t r ≡ true → ((has_standing log t ≡ true) × (is_undo_of t r ≡ false)) ⊎ ((is_home_commit t r ≡ true) ⊎ (committed_in part t ≡ true))
 unfolding is_home_commit
-new_commit shard log (Commit u ps) t m e =
-    ⊎_elim (λ w. inl (subst (λ v. has_standing log v ≡ true) (sym (tx_true t u e)) w, refl)) (λ p. inr (and_from (tx_same t u) (some_parts ps) e p)) (or_cases (has_standing log u) (some_parts ps) (last _ _ m))
-new_commit shard log _ t m e = absurd (both_ways false refl e)
+new_commit shard part log (Commit u ps) t m e =
+    ⊎_elim
+    (λ h. ⊎_elim (λ w. inl (subst (λ v. has_standing log v ≡ true) (sym (tx_true t u e)) w, refl)) (λ p. inr (inl (and_from (tx_same t u) (some_parts ps) e p))) (or_cases (has_standing log u) (some_parts ps) h))
+    (λ k. inr (inr (subst (λ v. committed_in part v ≡ true) (sym (tx_true t u e)) k))) (or_cases (has_standing log u || some_parts ps) (committed_in part u) (last _ _ m))
+new_commit shard part log _ t m e = absurd (both_ways false refl e)
 
 open_undo : (log : List LogRecord) (t u : TxId) → may_undo log u ≡ true → committed_in log t ≡ true → aborted_in log t ≡ false → tx_same t u ≡ false
 open_undo log t u m c a =
@@ -92,19 +96,20 @@ open_undo log t u m c a =
     ⊎_elim (λ b. both_ways _ a b) (λ o. both_ways _ (not-true _ (last _ _ o)) c)
     (or_cases (aborted_in log t) (not (prepared_in log t) && not (committed_in log t)) (subst (λ z. may_undo log z ≡ true) (sym (tx_true t u e)) m)))
 
-no_undo : (shard : ℕ) (log : List LogRecord) (r : LogRecord) (t : TxId) → may_follow shard log r ≡ true → committed_in log t ≡ true → aborted_in log t ≡ false → is_undo_of t r ≡ false
-no_undo shard log (Clr u next key after) t m c a = open_undo log t u (last _ _ (front _ _ m)) c a
-no_undo shard log (Unadd u next key by) t m c a = open_undo log t u (last _ _ (front _ _ m)) c a
-no_undo shard log _ t m c a = refl
+no_undo : (shard : ℕ) (part log : List LogRecord) (r : LogRecord) (t : TxId) → may_come shard part log r ≡ true → committed_in log t ≡ true → aborted_in log t ≡ false → is_undo_of t r ≡ false
+no_undo shard part log (Clr u next key after) t m c a = open_undo log t u (last _ _ (front _ _ m)) c a
+no_undo shard part log (Unadd u next key by) t m c a = open_undo log t u (last _ _ (front _ _ m)) c a
+no_undo shard part log _ t m c a = refl
 
-stands_or_home : (shard : ℕ) (log : List LogRecord) → Follows shard [] log → StandsOrHome log
-stands_or_home shard log f =
-    through StandsOrHome shard [] log tt f (λ t c. absurd (both_ways false refl c))
+stands_or_home : (shard : ℕ) (log : List LogRecord) → disorder shard log ≡ None → StandsOrHome (part_of log) log
+stands_or_home shard log d =
+    through (StandsOrHome (part_of log)) shard (part_of log)
     (λ l r k p m t c.
     ⊎_elim
-    (λ old. ⊎_elim (λ w. inl (has_still l (r ∷ []) t (ap (λ b. b || false) (no_undo shard l r t m old ((order_of shard l k).apart t old))) w)) (λ w. inr (push_left (is_home_commit t) l r w)) (p t old))
-    (λ new. ⊎_elim (λ w. inl (has_still l (r ∷ []) t (ap (λ b. b || false) w.1) w.0)) (λ w. inr (push_right (is_home_commit t) l r w)) (new_commit shard l r t m new))
+    (λ old. ⊎_elim (λ w. inl (has_still l (r ∷ []) t (ap (λ b. b || false) (no_undo shard (part_of log) l r t m old ((all_in_order shard (part_of log) l k).apart t old))) w)) (λ w. inr (⊎_elim (λ x. inl (push_left (is_home_commit t) l r x)) (λ x. inr x) w)) (p t old))
+    (λ new. ⊎_elim (λ w. inl (has_still l (r ∷ []) t (ap (λ b. b || false) w.1) w.0)) (λ w. inr (⊎_elim (λ x. inl (push_right (is_home_commit t) l r x)) (λ x. inr x) w)) (new_commit shard (part_of log) l r t m new))
     (push_cases (is_commit_of t) l r c))
+    log (in_order_comes shard log d) (λ t c. absurd (both_ways false refl c)) (λ run epoch upto base rises t c. absurd (both_ways false refl c))
 
 home_from : (A : TxId → Type 0) (Q : TxId → ℕ → Type 0) (O : TxId → Type 0) (n : ℕ) (t : TxId) (r : LogRecord) → RecordFrom A Q O n r → is_home_commit t r ≡ true → OwnRequest Q O n t
 unfolding is_home_commit
@@ -129,9 +134,10 @@ home_from A Q O n t (Unadd u k b by) p e = absurd (both_ways false refl e)
 home_from A Q O n t Forgotten p e = absurd (both_ways false refl e)
 home_from A Q O n t (Check run' epoch' upto base) p e = absurd (both_ways false refl e)
 
--- a write of who is committed stands there, or it made its request there
-pub committed_stands : (A : TxId → Type 0) (Q : TxId → ℕ → Type 0) (O : TxId → Type 0) (n : ℕ) (log : List LogRecord) (t : TxId) → AllFrom A Q O n log → Follows n [] log → committed_in log t ≡ true → (has_standing log t ≡ true) ⊎ OwnRequest Q O n t
-committed_stands A Q O n log t a f c = ⊎_elim (λ y. inl y) (λ y. inr (any_from (RecordFrom A Q O n) (is_home_commit t) log (home_from A Q O n t) a y)) (stands_or_home n log f t c)
+-- a write of who is committed stands there, or it made its request there, or a checkpoint kept its COMMIT
+pub committed_stands : (A : TxId → Type 0) (Q : TxId → ℕ → Type 0) (O : TxId → Type 0) (n : ℕ) (log : List LogRecord) (t : TxId) → AllFrom A Q O n log → disorder n log ≡ None → committed_in log t ≡ true → (has_standing log t ≡ true) ⊎ (OwnRequest Q O n t ⊎ (committed_in (part_of log) t ≡ true))
+committed_stands A Q O n log t a d c =
+    ⊎_elim (λ y. inl y) (λ y. inr (⊎_elim (λ h. inl (any_from (RecordFrom A Q O n) (is_home_commit t) log (home_from A Q O n t) a h)) (λ k. inr k) y)) (stands_or_home n log d t c)
 
 -- ---- a Prepare
 
@@ -149,8 +155,8 @@ may_prepare splits before after h pre n x s d log0 to t home seen here leads amo
   none_of (tx_get t s.requests) (λ q g. here_not (rows_get (λ r. RowFrom (Requested pre) (IsOld (run_after before)) n r.0 r.1) t q s.requests ((here.traced).origins).requests g).0),
   (λ w. false_from_ne_true _ (λ c.
       ⊎_elim (λ y. both_ways _ w y)
-      here_not
-      (committed_stands (DidOrOld (run_after before) pre n) (Requested pre) (IsOld (run_after before)) n s.local.log t ((here.traced).origins).log (from_disorder n 0 [] s.local.log (order_is_kept n (run_after before) log0 d s leads)) c))),
+      (λ y. ⊎_elim here_not (λ k. here_not (inr (part_is_old n (run_after before) log0 d s leads t k))) y)
+      (committed_stands (DidOrOld (run_after before) pre n) (Requested pre) (IsOld (run_after before)) n s.local.log t ((here.traced).origins).log (order_is_kept n (run_after before) log0 d s leads) c))),
 )
   where
     here_not : OwnRequest (Requested pre) (IsOld (run_after before)) n t → ⊥

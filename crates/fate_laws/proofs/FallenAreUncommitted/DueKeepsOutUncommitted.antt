@@ -3,6 +3,7 @@ use Rattle.std.proofs.Common.{◌≡◌, ◌⊎◌, inl, inr, ⊎_elim, refl, sy
 use Rattle.std.specs.List.{filter, list_all, list_any}
 use Rattle.std.proofs.lemmas.Bool.{both_ways, and_parts, false_from_ne_true}
 use Rattle.clv_base.specs.declared.names.TxId.{TxId}
+use Rattle.clv_base.specs.declared.logs.LogRecord.{LogRecord}
 use Rattle.clv_base.specs.declared.causes.AbortCause.{AbortCause}
 use Rattle.clv_base.specs.declared.causes.Vote.{Vote}
 use Rattle.clv_base.specs.declared.causes.Vote.TheVariants.{Yes, Read, No}
@@ -73,35 +74,35 @@ agreed_closed s u q a =
 
 -- ---- records at the end of the log that are no PREPARE and no UPDATE
 
-pub plain_commit : (l : Local) (tx : TxId) (parts : List ℕ) → Plainly l (Commit tx parts ∷ [])
-plain_commit l tx parts = record { prepares = λ t. refl; updates = λ t. refl; keeps = λ t c h. has_still l.log (Commit tx parts ∷ []) t refl h; ahead = (tt, tt) }
+pub plain_commit : (part : List LogRecord) (l : Local) (tx : TxId) (parts : List ℕ) → Plainly part l (Commit tx parts ∷ [])
+plain_commit part l tx parts = record { prepares = λ t. refl; updates = λ t. refl; keeps = λ t c h. has_still l.log (Commit tx parts ∷ []) t refl h; ahead = (tt, tt) }
 
-pub plain_end : (l : Local) (tx : TxId) → Plainly l (End tx ∷ [])
-plain_end l tx = record { prepares = λ t. refl; updates = λ t. refl; keeps = λ t c h. has_still l.log (End tx ∷ []) t refl h; ahead = (tt, tt) }
+pub plain_end : (part : List LogRecord) (l : Local) (tx : TxId) → Plainly part l (End tx ∷ [])
+plain_end part l tx = record { prepares = λ t. refl; updates = λ t. refl; keeps = λ t c h. has_still l.log (End tx ∷ []) t refl h; ahead = (tt, tt) }
 
 no_undo_aborts : (ts : List TxId) (t : TxId) → list_any (is_undo_of t) (map (λ u. Abort u) ts) ≡ false
 no_undo_aborts [] t = refl
 no_undo_aborts (u ∷ us) t = no_undo_aborts us t
 
-plain_aborts : (l : Local) (ts : List TxId) → Plainly l (map (λ u. Abort u) ts)
-plain_aborts l ts = record {
+plain_aborts : (part : List LogRecord) (l : Local) (ts : List TxId) → Plainly part l (map (λ u. Abort u) ts)
+plain_aborts part l ts = record {
   prepares = λ t. undo_prepares t _ (aborts_undo ts);
   updates = λ t. undo_writes t _ (aborts_undo ts);
   keeps = λ t c h. has_still l.log (map (λ u. Abort u) ts) t (no_undo_aborts ts t) h;
-  ahead = aborts_ahead l.log ts;
+  ahead = aborts_ahead part l.log ts;
 }
 
-plain_clrs : (l : Local) (gone : StandingUpdate → Bool) (ws : List StandingUpdate) → ((t : TxId) → stage_of l t ≡ Some Closed → has_standing l.log t ≡ true → has_standing (l.log ++ clrs_by gone ws) t ≡ true) → Plainly l (clrs_by gone ws)
-plain_clrs l gone ws keeps = record {
+plain_clrs : (part : List LogRecord) (l : Local) (gone : StandingUpdate → Bool) (ws : List StandingUpdate) → ((t : TxId) → stage_of l t ≡ Some Closed → has_standing l.log t ≡ true → has_standing (l.log ++ clrs_by gone ws) t ≡ true) → Plainly part l (clrs_by gone ws)
+plain_clrs part l gone ws keeps = record {
   prepares = λ t. undo_prepares t _ (clrs_undo_by gone ws);
   updates = λ t. undo_writes t _ (clrs_undo_by gone ws);
   keeps = keeps;
-  ahead = clrs_ahead l.log gone ws;
+  ahead = clrs_ahead part l.log gone ws;
 }
 
 -- an abort: parts go, then ABORTs and CLRs come
-pub lined_rolled : (u : TxId) (l : Local) → Lined l → Lined (roll_back u l)
-lined_rolled u l p =
+pub lined_rolled : (part : List LogRecord) (u : TxId) (l : Local) → Lined part l → Lined part (roll_back u l)
+lined_rolled part u l p =
     let set = doomed_here l u in
     let as_ = aborts_of l.log set in
     let one = record l { parts = gone_in set (Some u) l.parts; pairs = pairs_without set l.pairs } in
@@ -109,15 +110,15 @@ lined_rolled u l p =
     let keeps : (t : TxId) → stage_of two t ≡ Some Closed → has_standing two.log t ≡ true → has_standing (two.log ++ clrs_of set (standing l.log)) t ≡ true =
     λ t c h. rolled_stands u l t c ∙ stood_before l.log as_ t (undo_writes t as_ (aborts_undo (filter (has_standing l.log) set))) h in
     let q =
-    lined_more two (clrs_of set (standing l.log)) (plain_clrs two (is_of set) (standing l.log) keeps)
-    (lined_more one as_ (plain_aborts one (filter (has_standing l.log) set)) (lined_gone l one set (Some u) refl refl refl p)) in
+    lined_more part two (clrs_of set (standing l.log)) (plain_clrs part two (is_of set) (standing l.log) keeps)
+    (lined_more part one as_ (plain_aborts part one (filter (has_standing l.log) set)) (lined_gone part l one set (Some u) refl refl refl p)) in
     record { decided = q.decided; paired = q.paired; met = q.met; stands = q.stands; unprepared = q.unprepared; ahead = q.ahead }
 
 -- a going back of an active part
-pub lined_back : (u : TxId) (n : ℕ) (l : Local) → stage_of l u ≡ Some Active → Lined l → Lined (roll_to u n l)
-lined_back u n l a p =
+pub lined_back : (part : List LogRecord) (u : TxId) (n : ℕ) (l : Local) → stage_of l u ≡ Some Active → Lined part l → Lined part (roll_to u n l)
+lined_back part u n l a p =
     let gone = is_at (newest_lsns n u (standing l.log)) in
-    let q = lined_more l (clrs_by gone (standing l.log)) (plain_clrs l gone (standing l.log) (λ t c h. back_stands u n l t a c h)) p in
+    let q = lined_more part l (clrs_by gone (standing l.log)) (plain_clrs part l gone (standing l.log) (λ t c h. back_stands u n l t a c h)) p in
     record { decided = q.decided; paired = q.paired; met = q.met; stands = q.stands; unprepared = q.unprepared; ahead = q.ahead }
 
 -- ---- what is due
@@ -126,9 +127,9 @@ pub out_open : (K V O Q : TxId → Type 0) (s : Shard) (t : TxId) → Barred K V
 out_open K V O Q s t b (inl v) = b.open_ t v
 out_open K V O Q s t b (inr o) = o.1
 
-due_change : (K V O Q : TxId → Type 0) (s x : Shard) → Due s (Some x) → Barred K V O Q s → Lined x.local → ((t : TxId) (q : Request) → tx_get t x.requests ≡ Some q → q.state ≡ Undecided → Q t)
+due_change : (K V O Q : TxId → Type 0) (s x : Shard) → Due s (Some x) → (b : Barred K V O Q s) → Lined b.part x.local → ((t : TxId) (q : Request) → tx_get t x.requests ≡ Some q → q.state ≡ Undecided → Q t)
     → ((t : TxId) (v : Voter) → tx_get t x.voters ≡ Some v → v.vote ≡ Some Read → (prepared_in s.local.log t ≡ false) × (stage_of s.local t ≡ Some Active → ⊥)) → ((t : TxId) → V t ⊎ Out O s t → committed_in x.local.log t ≡ true → committed_in s.local.log t ≡ true)
-    → ((t : TxId) (p : ℕ × List TxId) → is_present (stage_of s.local t) ≡ true → Out O x t → prepare_of s.local.log t ≡ Some p → Lost K V O x t p) → Change K V O Q s x
+    → ((t : TxId) (p : ℕ × List TxId) → is_present (stage_of s.local t) ≡ true → Out O x t → prepare_of s.local.log t ≡ Some p → Lost K V O x t p) → Change b.part K V O Q s x
 due_change K V O Q s x d b li rw rd nc go = record {
   inside = inside_due s s x d (inside_self s);
   lined = li;
@@ -227,7 +228,7 @@ refuses_due s x d (u, q, cause, g, e, c) = (u, q, cause, refuses_requests s x d 
 barred_due : (K V O Q : TxId → Type 0) (s x : Shard) → Due s (Some x) → Barred K V O Q s → Barred K V O Q x ⊎ Refuses x
 barred_due K V O Q s _ (commits u a c) b =
     inl (barred_next K V O Q s _ b
-    (due_change K V O Q s _ (commits u a c) b (lined_gone s.local (with_commit_done s u).local (u ∷ []) None refl refl refl b.lined) b.rows b.readers (λ t w k. k)
+    (due_change K V O Q s _ (commits u a c) b (lined_gone b.part s.local (with_commit_done s u).local (u ∷ []) None refl refl refl b.lined) b.rows b.readers (λ t w k. k)
     (finished_goes K V O s (with_commit_done s u) u refl refl (inl (durable_committed s.local.log s.durable u c)))))
 barred_due K V O Q s _ (votes u v Yes g e) b =
     inl (barred_next K V O Q s _ b (due_change K V O Q s _ (votes u v Yes g e) b b.lined b.rows (voted_readers K V O Q s u v Yes b g e) (λ t w k. k) (here_still K V O s (with_vote s u v Yes) refl)))
@@ -235,11 +236,11 @@ barred_due K V O Q s _ (votes u v (No why) g e) b =
     inl (barred_next K V O Q s _ b (due_change K V O Q s _ (votes u v (No why) g e) b b.lined b.rows (voted_readers K V O Q s u v (No why) b g e) (λ t w k. k) (here_still K V O s (with_vote s u v (No why)) refl)))
 barred_due K V O Q s _ (votes u v Read g e) b =
     inl (barred_next K V O Q s _ b
-    (due_change K V O Q s _ (votes u v Read g e) b (lined_gone s.local (finish_reader u Read (with_vote s u v Read)).local (u ∷ []) None refl refl refl b.lined) b.rows (voted_readers K V O Q s u v Read b g e) (λ t w k. k)
+    (due_change K V O Q s _ (votes u v Read g e) b (lined_gone b.part s.local (finish_reader u Read (with_vote s u v Read)).local (u ∷ []) None refl refl refl b.lined) b.rows (voted_readers K V O Q s u v Read b g e) (λ t w k. k)
     (finished_goes K V O s (finish_reader u Read (with_vote s u v Read)) u refl refl (inr (read_unprepared K V O Q s u v b g e)))))
 barred_due K V O Q s _ (rules u q (CommitVerdict parts) g e) b =
     inl (barred_next K V O Q s _ b
-    (due_change K V O Q s _ (rules u q (CommitVerdict parts) g e) b (lined_more s.local (Commit u parts ∷ []) (plain_commit s.local u parts) b.lined) (ruled_rows K V O Q s u (record q { state = Committed parts }) b (λ z. absurd cc)) b.readers
+    (due_change K V O Q s _ (rules u q (CommitVerdict parts) g e) b (lined_more b.part s.local (Commit u parts ∷ []) (plain_commit b.part s.local u parts) b.lined) (ruled_rows K V O Q s u (record q { state = Committed parts }) b (λ z. absurd cc)) b.readers
     (λ t w k. ⊎_elim (λ a. a) (λ a. absurd (never t w a)) (new_commit s.local.log u parts t k)) (λ t p h o f. absurd (both_ways _ o.0 h))))
   where
     agreed : (q.state ≡ Undecided) × (is_agreed s.shard q (facts_of s u) ≡ true)
@@ -255,7 +256,7 @@ barred_due K V O Q s _ (rules u q (CommitVerdict parts) g e) b =
     never t (inr o) z = both_ways _ (subst (Absent s) z o.0) (subst (λ o. is_present o ≡ true) (sym closed) refl)
 barred_due K V O Q s _ (rules u q Acknowledge g e) b =
     inl (barred_next K V O Q s _ b
-    (due_change K V O Q s _ (rules u q Acknowledge g e) b (lined_gone s.local (do_ruling u Acknowledge (with_ruling u q Acknowledge s)).local (u ∷ []) None refl refl refl b.lined) (ruled_rows K V O Q s u (record q { state = Finished }) b (λ z. absurd cc)) b.readers (λ t w k. k)
+    (due_change K V O Q s _ (rules u q Acknowledge g e) b (lined_gone b.part s.local (do_ruling u Acknowledge (with_ruling u q Acknowledge s)).local (u ∷ []) None refl refl refl b.lined) (ruled_rows K V O Q s u (record q { state = Finished }) b (λ z. absurd cc)) b.readers (λ t w k. k)
     (finished_goes K V O s (do_ruling u Acknowledge (with_ruling u q Acknowledge s)) u refl refl
     (inr (let k = ack_in s.shard u q (facts_of s u) q.state e in false_from_ne_true _ (λ h. both_ways _ k.0 ((b.lined).stands u h (agreed_closed s u q k.1))))))))
 barred_due K V O Q s _ (rules u q (AbortVerdict cause to) g e) b = by_commit (committed_in s.local.log u) refl
@@ -278,10 +279,10 @@ barred_due K V O Q s _ (rules u q (AbortVerdict cause to) g e) b = by_commit (co
         inr (u, record q { state = Refused cause }, cause, row, refl, committed_front s.local.log (do_ruling u (AbortVerdict cause to) (with_ruling u q (AbortVerdict cause to) s)).local.log u (inside_due s s _ (rules u q (AbortVerdict cause to) g e) (inside_self s)).log c)
     by_commit false c =
         inl (barred_next K V O Q s _ b
-        (due_change K V O Q s _ (rules u q (AbortVerdict cause to) g e) b (lined_rolled u s.local b.lined) (ruled_rows K V O Q s u (record q { state = Refused cause }) b (λ z. absurd cc)) b.readers (λ t w k. rolled_commits u s.local t k) (lost c)))
+        (due_change K V O Q s _ (rules u q (AbortVerdict cause to) g e) b (lined_rolled b.part u s.local b.lined) (ruled_rows K V O Q s u (record q { state = Refused cause }) b (λ z. absurd cc)) b.readers (λ t w k. rolled_commits u s.local t k) (lost c)))
 barred_due K V O Q s _ (rules u q EndVerdict g e) b =
     inl (barred_next K V O Q s _ b
-    (due_change K V O Q s _ (rules u q EndVerdict g e) b (lined_more s.local (End u ∷ []) (plain_end s.local u) b.lined) (ruled_rows K V O Q s u (record q { is_ended = true }) b (λ z. b.rows u q g z)) b.readers
+    (due_change K V O Q s _ (rules u q EndVerdict g e) b (lined_more b.part s.local (End u ∷ []) (plain_end b.part s.local u) b.lined) (ruled_rows K V O Q s u (record q { is_ended = true }) b (λ z. b.rows u q g z)) b.readers
     (λ t w k. with_more s.local.log (End u ∷ []) ((λ t. refl), tt) t k) (λ t p h o f. absurd (both_ways _ o.0 h))))
 
 either_due : (K V O Q : TxId → Type 0) → KeptByDue (λ s. Barred K V O Q s ⊎ Refuses s)
@@ -295,7 +296,9 @@ barred_finish K V O Q s n b = ⊎_elim (λ q. purged q) (λ r. absurd (n r)) (se
     purged q =
         let l = q.lined in
         record {
+          part = q.part;
           lined = record { decided = l.decided; paired = l.paired; met = l.met; stands = l.stands; unprepared = l.unprepared; ahead = l.ahead };
+          gone = q.gone;
           down = q.down;
           counted = q.counted;
           sought = q.sought;

@@ -20,7 +20,7 @@ use Rattle.clv_base.specs.declared.state.Request.{Request}
 use Rattle.clv_base.specs.declared.state.RequestState.TheVariants.{Undecided}
 use Rattle.clv_base.specs.declared.state.Stage.TheVariants.{Active, Closed}
 use Rattle.clv_base.specs.declared.state.Voter.{Voter}
-use Rattle.fate_laws.proofs.FallenAreUncommitted.PreparesListEarlierOnes.{Ahead, Why, ahead_take, restarts_ahead, not_in_doubt, home_elsewhere, listed_front}
+use Rattle.fate_laws.proofs.FallenAreUncommitted.PreparesListEarlierOnes.{Ahead, Why, ahead_take, restarts_ahead, not_in_doubt, home_elsewhere, doubt_abroad, listed_front, gone_unprepared}
 use Rattle.fate_laws.proofs.FallenAreUncommitted.OutIsLost.{Out, Lost, Barred}
 use Rattle.fate_laws.proofs.FallenAreUncommitted.DueKeepsOutUncommitted.{Refuses, barred_finish}
 use Rattle.fate_laws.proofs.FallenAreUncommitted.EventsKeepOutUncommitted.{Owes, barred_step}
@@ -42,6 +42,8 @@ use Rattle.law_base.proofs.Tables.{stage_in}
 use Rattle.protocol_laws.proofs.LogOnlyGrows.DueGrowsLogs.{chain}
 use Rattle.protocol_laws.specs.Growth.{IsPrefixOf}
 use Rattle.law_base.proofs.LockRows.{Rows}
+use Rattle.law_base.specs.Coming.{is_let_go}
+use Rattle.shard_laws.proofs.Restarts.RestoredRequestsAndPairs.{pair_lists}
 use Rattle.shard_laws.proofs.Restarts.RestoredLocksAndParts.{restored_closed, restored_stage, restored_none}
 use Rattle.shard_laws.proofs.Order.ChangesKeepOrder.{prepare_some}
 use Rattle.std.proofs.Common.{◌≡◌, ◌⊎◌, inl, inr, ⊎_elim, refl, sym, ap, subst, ◌∙◌, ℕ, ◌≤◌, true, false, Bool, List, [], ◌++◌, take, length, Some, arith}
@@ -58,7 +60,9 @@ longer_front d n log l = (drop d (take n log), ap (λ z. z ++ drop d (take n log
 
 barred_flushed : (K V O Q : TxId → Type 0) (s : Shard) (n : ℕ) → s.durable ≤ n → n ≤ length s.local.log → Barred K V O Q s → Barred K V O Q (with_durable n s)
 barred_flushed K V O Q s n l m b = record {
+  part = b.part;
   lined = b.lined;
+  gone = b.gone;
   down = b.down;
   counted = m;
   sought = b.sought;
@@ -78,15 +82,17 @@ barred_flushed K V O Q s n l m b = record {
 
 -- ---- a shard comes back
 
-pub barred_state : (K V O Q : TxId → Type 0) (shard own epoch : ℕ) (log : List LogRecord) (last : ℕ) (journal : List Entry) → Ahead [] log → ((t : TxId) → tx_in t (in_doubt shard log) ≡ true → has_standing log t ≡ true)
+pub barred_state : (K V O Q : TxId → Type 0) (shard own epoch : ℕ) (part log : List LogRecord) (last : ℕ) (journal : List Entry) → Ahead part [] log → ((t : TxId) → is_let_go part t ≡ true → (committed_in log t ≡ false) × O t) → ((t : TxId) → tx_in t (in_doubt shard log) ≡ true → has_standing log t ≡ true)
     → ((t : TxId) (p : ℕ × List TxId) → prepare_of log t ≡ Some p → O t × (Q t → p.0 ≡ shard)) → ((t : TxId) → V t → committed_in log t ≡ false)
     → ((t : TxId) (p : ℕ × List TxId) → V t → tx_in t (in_doubt shard log) ≡ true → prepare_of log t ≡ Some p → Lost K V O (state_after shard own epoch log last journal) t p) → Barred K V O Q (state_after shard own epoch log last journal)
-barred_state K V O Q shard own epoch log last journal ahead wr sx vo vd =
+barred_state K V O Q shard own epoch part log last journal ahead out wr sx vo vd =
     let ds = in_doubt shard log in
     record {
+      part = part;
+      gone = λ t g. (gone t (undoubted t g), (out t g).0, (out t g).1);
       lined = record {
         decided = λ t c w. inl (doubt_prepared shard log t (restored_stage ds t Closed c).1);
-        paired = λ t q i. let r = pair_from log ds t q i in listed_front log [] log t q r.0 refl ahead r.1 r.2;
+        paired = λ t q i. let r = pair_from log ds t q i in inl (doubt_prepared shard log q ((doubt_abroad shard part log t r.0 ahead r.1 (pair_lists log ds t q i).0).1 q r.2 r.3));
         met = λ t q p i e. let r = pair_from log ds t q i in inl (subst (λ (z : ℕ × List TxId). tx_in q z.1 ≡ true) (some_same r.0 p (sym r.1 ∙ e)) r.2);
         stands = λ t e c. wr t (restored_stage ds t Closed c).1;
         unprepared = λ t a. absurd (differ (restored_stage ds t Active a).0);
@@ -113,9 +119,12 @@ barred_state K V O Q shard own epoch log last journal ahead wr sx vo vd =
     gone : (t : TxId) → tx_in t (in_doubt shard log) ≡ false → is_present (stage_in (restored_parts (in_doubt shard log)) t) ≡ false
     gone t i = ap is_present (restored_none (in_doubt shard log) t i)
 
+    undoubted : (t : TxId) → is_let_go part t ≡ true → tx_in t (in_doubt shard log) ≡ false
+    undoubted t g = false_from_ne_true _ (λ i. both_ways _ (gone_unprepared part [] log t ahead g) (doubt_prepared shard log t i))
+
     there : (t : TxId) (d : Bool) → tx_in t (in_doubt shard log) ≡ d → is_present (stage_in (restored_parts (in_doubt shard log)) t) ≡ true → (p : ℕ × List TxId) × (prepare_of log t ≡ Some p) × (p.0 ≡ shard → ⊥)
     there t false i h = absurd (both_ways _ (gone t i) h)
-    there t true i h = let p = prepare_some log t (doubt_prepared shard log t i) in (p.0, p.1, home_elsewhere shard log t p.0 ahead p.1 i)
+    there t true i h = let p = prepare_some log t (doubt_prepared shard log t i) in (p.0, p.1, home_elsewhere shard part log t p.0 ahead p.1 i)
 
     uncommitted : (t : TxId) → V t ⊎ Out O (state_after shard own epoch log last journal) t → committed_in log t ≡ false
     uncommitted t (inl v) = vo t v
@@ -125,7 +134,7 @@ barred_state K V O Q shard own epoch log last journal ahead wr sx vo vd =
     lost t p e i (inl a) = inl (subst (λ l. aborted_in l t ≡ true) (sym (take_all (length log) log (omega arith))) a, gone t i)
     lost t p e i (inr (inl z)) = inr (inl (z, gone t i))
     lost t p e i (inr (inr (q, m, c, n))) =
-        inr (inr (inr (q, m, inr (gone q n, c, ⊎_elim (λ h. let z = prepare_some log q h in (sx q z.0 z.1).0) (λ h. absurd (both_ways _ c h)) (listed_front log [] log t q p refl ahead e m)))))
+        inr (inr (inr (q, m, inr (gone q n, c, ⊎_elim (λ h. let z = prepare_some log q h in (sx q z.0 z.1).0) (λ h. ⊎_elim (λ k. absurd (both_ways _ c k)) (λ k. (out q k).1) h) (listed_front part log [] log t q p refl ahead e m)))))
 
     in_doubt_now : (t : TxId) (p : ℕ × List TxId) → V t ⊎ Out O (state_after shard own epoch log last journal) t → tx_in t (in_doubt shard log) ≡ true → prepare_of log t ≡ Some p → Lost K V O (state_after shard own epoch log last journal) t p
     in_doubt_now t p (inl v) i e = vd t p v i e
@@ -133,12 +142,13 @@ barred_state K V O Q shard own epoch log last journal ahead wr sx vo vd =
 
     reason : (t : TxId) (p : ℕ × List TxId) → V t ⊎ Out O (state_after shard own epoch log last journal) t → prepare_of log t ≡ Some p → (d : Bool) → tx_in t (in_doubt shard log) ≡ d → Lost K V O (state_after shard own epoch log last journal) t p
     reason t p w e true i = in_doubt_now t p w i e
-    reason t p w e false i = lost t p e i (not_in_doubt shard log t p ahead e i (uncommitted t w))
+    reason t p w e false i = lost t p e i (not_in_doubt shard part log t p ahead e i (uncommitted t w))
 
 barred_revived : (K V O O' Q : TxId → Type 0) (s : Shard) (kept : Bool) (epoch : ℕ) (log : List LogRecord) → Restarts s (log_left s kept) epoch log → Counted s → ((t : TxId) → Out O s t → V t) → ((t : TxId) → tx_in t (in_doubt s.shard log) ≡ true → has_standing log t ≡ true)
-    → ((t : TxId) (p : ℕ × List TxId) → prepare_of log t ≡ Some p → O' t × (Q t → p.0 ≡ s.shard)) → Barred K V O Q s → Barred K V O' Q (revived s epoch log)
-barred_revived K V O O' Q s kept epoch log g n now wr sx b =
-    barred_state K V O' Q s.shard s.run epoch log s.last s.journal (restarts_ahead s (log_left s kept) epoch log g (ahead_take _ s.local.log (b.lined).ahead)) wr sx
+    → ((t : TxId) (p : ℕ × List TxId) → prepare_of log t ≡ Some p → O' t × (Q t → p.0 ≡ s.shard)) → Barred K V O Q s → Barred K V O' Q s → Barred K V O' Q (revived s epoch log)
+barred_revived K V O O' Q s kept epoch log g n now wr sx b c =
+    barred_state K V O' Q s.shard s.run epoch c.part log s.last s.journal (restarts_ahead c.part s (log_left s kept) epoch log g (ahead_take c.part _ s.local.log (c.lined).ahead))
+    (λ t k. let o = c.gone t k in (false_from_ne_true _ (λ d. both_ways _ o.1 (front_committed _ s.local.log t (restarts_add s (log_left s kept) epoch log g t d))), o.2)) wr sx
     (λ t v. false_from_ne_true _ (λ c. both_ways _ (b.open_ t v) (front_committed _ s.local.log t (restarts_add s (log_left s kept) epoch log g t c))))
     (λ t p v i e. moved t p i e (b.why t p (inl v) (front_prepare _ s.local.log t p (restarts_prepare s (log_left s kept) epoch log g t p e))))
   where
@@ -146,7 +156,7 @@ barred_revived K V O O' Q s kept epoch log g n now wr sx b =
     moved t p i e (inl (a, c)) =
         absurd (both_ways _ (doubt_undecided s.shard log t i).2
         (aborted_front (log_left s false) log t (chain (log_left s false) (log_left s kept) log (left_front s kept n) (restarts_front s (log_left s kept) epoch log g)) a))
-    moved t p i e (inr (inl (z, c))) = absurd (home_elsewhere s.shard log t p (restarts_ahead s (log_left s kept) epoch log g (ahead_take _ s.local.log (b.lined).ahead)) e i z)
+    moved t p i e (inr (inl (z, a))) = absurd (home_elsewhere s.shard b.part log t p (restarts_ahead b.part s (log_left s kept) epoch log g (ahead_take b.part _ s.local.log (b.lined).ahead)) e i z)
     moved t p i e (inr (inr (inl k))) = inr (inr (inl k))
     moved t p i e (inr (inr (inr (q, m, inl v)))) = inr (inr (inr (q, m, inl v)))
     moved t p i e (inr (inr (inr (q, m, inr o)))) = inr (inr (inr (q, m, inl (now q o))))
@@ -180,4 +190,4 @@ barred_made K V O O' Q log s _ P (by_flush n u g) f now wd w b c =
     let q = (f.counted).flying n g in barred_finish K V O' Q (with_durable n s) (never_refuses (with_durable n s) f.kept) (barred_flushed K V O' Q s n q.0 q.1 c)
 barred_made K V O O' Q log s _ P (by_failure n u g) f now wd w b c = barred_same K V O' Q s (put_down s) refl refl refl c.rows c.readers c
 barred_made K V O O' Q log s _ P (by_restart epoch kept u r) f now wd w b c = barred_revived K V O O' Q s kept epoch (up_to_restart s.run epoch log) r f.counted now
-    (λ t i. let after = up_to_restart s.run epoch log in f.stands t (doubt_prepared s.shard after t i) (restored_closed (in_doubt s.shard after) t i)) f.sought b
+    (λ t i. let after = up_to_restart s.run epoch log in f.stands t (doubt_prepared s.shard after t i) (restored_closed (in_doubt s.shard after) t i)) f.sought b c

@@ -99,7 +99,7 @@ barred_closes K V O Q s x u home one h no_op e wd a sx rw rd mine b =
     barred_next K V O Q s x b
     (record {
       inside = inside_step s x h;
-      lined = subst Lined (sym e) (lined_closed s.local u home one a b.lined);
+      lined = subst (Lined b.part) (sym e) (lined_closed b.part s.local u home one a (false_from_ne_true _ (λ g. both_ways _ (b.gone u g).0 (subst (λ k. is_present k ≡ true) (sym a) refl))) b.lined);
       down = down_step s x h wd b.down;
       found = λ t p k. ⊎_elim (λ z. inl z) (λ z. inr (z.was, subst (λ o. is_present o ≡ true) (sym z.now) refl)) (step_prepares s x t p h k);
       sought = sx;
@@ -136,7 +136,7 @@ barred_committed K V O Q s u before out b =
     barred_next K V O Q s x b
     (record {
       inside = record { shard = refl; durable = refl; log = (more, refl) };
-      lined = lined_more s.local more (plain_commit s.local u []) b.lined;
+      lined = lined_more b.part s.local more (plain_commit b.part s.local u []) b.lined;
       down = λ a c k i. committed_keeps s.local.log more c (⊎_elim (λ z. b.down a c z i) (λ z. before c (subst (λ y. is_pair s.local.pairs y c ≡ true) z i)) (new_commit s.local.log u [] a k));
       found = λ t p h. inl (prepare_from s.local.log more t p refl h);
       sought = λ t p h. let g = prepare_from s.local.log more t p refl h in (b.sought t (prepared_there s.local.log t p g), (λ q. b.homes t p q g));

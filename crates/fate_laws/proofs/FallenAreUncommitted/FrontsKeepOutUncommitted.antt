@@ -1,8 +1,9 @@
 -- Along a history: who was out on a shard is never committed there.
-use Rattle.std.proofs.Common.{◌≡◌, ◌⊎◌, inl, inr, ⊎_elim, refl, sym, ap, subst, ◌∙◌, ℕ, ◌<◌, true, false, Bool, ◌==◌, List, [], ◌∷◌, ◌++◌, length, Option, Some, None, append-nil, append_assoc, eqb-true}
-use Rattle.std.specs.Prelude.{⊤}
+use Rattle.std.proofs.Common.{◌≡◌, ◌⊎◌, inl, inr, ⊎_elim, refl, sym, ap, subst, ◌∙◌, ℕ, ◌<◌, true, false, Bool, ◌==◌, List, [], ◌∷◌, ◌++◌, length, Option, Some, None, append-nil, append_assoc, eqb-true, take-append-drop, arith}
+use Rattle.std.specs.Prelude.{⊤, take, drop}
 use Rattle.std.specs.List.{AllByRecursion}
-use Rattle.std.proofs.lemmas.Bool.{both_ways, false_from_ne_true, eq-eqb}
+use Rattle.std.proofs.lemmas.Bool.{both_ways, false_from_ne_true, eq-eqb, or_left}
+use Rattle.std.proofs.lemmas.List.Folds.{list_any-append}
 use Rattle.clv_base.specs.declared.names.TxId.{TxId}
 use Rattle.clv_base.specs.declared.names.Birth.{Birth}
 use Rattle.clv_base.specs.declared.ops.Op.{Op}
@@ -21,7 +22,7 @@ use Rattle.clv_base.specs.Shards.{shard_count}
 use Rattle.clv_base.specs.FileRules.{may_open}
 use Rattle.clv_base.specs.Orders.{tx_in, tx_get}
 use Rattle.clv_base.specs.Logs.{committed_in, prepared_in, has_standing, prepare_of, in_doubt}
-use Rattle.clv_base.specs.LogRules.{log_of}
+use Rattle.clv_base.specs.LogRules.{lists, is_listed, upto_of, part_of, log_of}
 use Rattle.clv_base.specs.State.{Shard, is_present}
 use Rattle.clv_base.specs.Undo.{stage_of}
 use Rattle.clv_base.specs.OneShard.{OpReply, seen_fits, op_reply}
@@ -37,6 +38,8 @@ use Rattle.law_base.proofs.Sets.{list_all_at}
 use Rattle.law_base.proofs.Stages.{stage_of_some}
 use Rattle.clv_base.specs.Facts.{predecessors_of}
 use Rattle.protocol_laws.specs.SessionLaws.{tx_of}
+use Rattle.history_cases.proofs.OldRuns.{below_next_run}
+use Rattle.history_cases.proofs.Uncommitting.{opening_adds}
 use Rattle.history_cases.proofs.Entering.{Makes, by_event, by_flush, by_failure, by_restart, makes}
 use Rattle.history_cases.proofs.Merging.{Placed, Among, among_append, among_left}
 use Rattle.history_cases.proofs.Worlds.{state_at}
@@ -65,12 +68,17 @@ use Rattle.fate_laws.proofs.AbortedAreCommittedNowhere.{Spared, spared_front, sa
 use Rattle.fate_laws.specs.Earlier.{IsEarlier, WasCommitted}
 use Rattle.fate_laws.proofs.EarlierRuns.FrontsKeepEarlierRuns.{Elders, elders_front, delivered as elders_tell}
 use Rattle.fate_laws.proofs.FallenAreUncommitted.StepsKeepOutUncommitted.{barred_same}
-use Rattle.fate_laws.proofs.FallenAreUncommitted.PreparesListEarlierOnes.{Ahead, follows_ahead, whole_ahead}
+use Rattle.fate_laws.proofs.FallenAreUncommitted.PreparesListEarlierOnes.{Ahead, order_ahead, whole_ahead}
 use Rattle.fate_laws.proofs.FallenAreUncommitted.OutIsLost.{Absent, Out, Lost, Barred, lost_inactive}
 use Rattle.fate_laws.proofs.FallenAreUncommitted.EventsKeepOutUncommitted.{Owes}
 use Rattle.fate_laws.proofs.FallenAreUncommitted.EntriesKeepOutUncommitted.{Frame, barred_state, barred_made}
 use Rattle.protocol_laws.proofs.LogsInOrder.OneRecordMore.{prepared_there}
 use Rattle.law_base.proofs.Names.{MayStand}
+use Rattle.law_base.proofs.Bools.{and_first}
+use Rattle.law_base.proofs.LetGo.{let_go_unprepared, let_go_uncommitted}
+use Rattle.law_base.proofs.Parts.{in_order_comes}
+use Rattle.law_base.specs.Coming.{is_let_go}
+use Rattle.shard_laws.proofs.Order.WhoIsListed.{named_found}
 use Rattle.fate_laws.proofs.Origins.OldPartsWereDoubted.{found_follows as log_follows}
 
 -- ---- what is told of transactions after a front of the history
@@ -107,7 +115,9 @@ lost_more K K' V V' O O' s t p k v o (inr (inr (inr (q, m, inr a)))) = inr (inr 
 
 barred_more : (K K' V V' O O' Q : TxId → Type 0) (s : Shard) → ((u : TxId) → K u → K' u) → ((u : TxId) → V u → V' u) → ((u : TxId) → V' u → V u ⊎ Out O' s u) → ((u : TxId) → O u → O' u) → Barred K V O Q s → Barred K' V' O' Q s
 barred_more K K' V V' O O' Q s k v w o b = record {
+  part = b.part;
   lined = b.lined;
+  gone = λ t g. let y = b.gone t g in (y.0, y.1, o t y.2);
   down = b.down;
   counted = b.counted;
   sought = λ t h. o t (b.sought t h);
@@ -464,8 +474,26 @@ all_tied (Unadd tx u key by ∷ rs) = (tt, all_tied rs)
 all_tied (Forgotten ∷ rs) = (tt, all_tied rs)
 all_tied (Check run' epoch' upto base ∷ rs) = (tt, all_tied rs)
 
-log_ahead : (splits : List ℕ) (before : List (List LogRecord)) (n : ℕ) → may_open splits before ≡ true → n < length before → Ahead [] (log_of before n)
-log_ahead splits before n m l = follows_ahead n [] (log_of before n) (log_follows splits before n m l)
+log_ahead : (splits : List ℕ) (before : List (List LogRecord)) (n : ℕ) → may_open splits before ≡ true → n < length before → Ahead (part_of (log_of before n)) [] (log_of before n)
+log_ahead splits before n m l = order_ahead n (log_of before n) (log_follows splits before n m l)
+
+listed_whole : (log : List LogRecord) (t : TxId) → is_listed (part_of log) t ≡ true → is_listed log t ≡ true
+listed_whole log t e =
+    subst (λ l. is_listed l t ≡ true) (take-append-drop (upto_of log) log) (list_any-append (lists t) (take (upto_of log) log) (drop (upto_of log) log) ∙ or_left _ _ e)
+
+-- whom a checkpoint let go is of an earlier run, and not committed here
+let_go_out : (splits : List ℕ) (before : List (List LogRecord)) (n : ℕ) → may_open splits before ≡ true → n < length before → (t : TxId) → is_let_go (part_of (log_of before n)) t ≡ true
+    → (committed_in (log_after_restart n (log_of before n) (run_after before) 0) t ≡ false) × Met before [] [] n t
+let_go_out splits before n m l t g =
+    let log = log_of before n in
+    let d = log_follows splits before n m l in
+    let come = in_order_comes n log d in (
+      false_from_ne_true _ (λ c. both_ways _ (let_go_uncommitted n (part_of log) t g log come) (opening_adds n log (run_after before) 0 t c)),
+      inl (λ r. ⊎_elim
+          (λ p. absurd (both_ways _ (let_go_unprepared n (part_of log) t g log come) p))
+          (λ k. absurd (omega (arith, r, k)))
+          (named_found n (run_after before) log d (below_next_run before n) t (listed_whole log t (and_first _ _ g)))),
+    )
 
 opens : {splits : List ℕ} {before after : List (List LogRecord)} {h : History} → LegalFrom splits before h after → (n : ℕ) → n < shard_count splits → Stands before after h [] n (state_at before after n [])
 opens {splits} {before} {after} {h} l n i =
@@ -474,9 +502,10 @@ opens {splits} {before} {after} {h} l n i =
     let bs = bindings_front l [] h refl in
     record {
       tied = tied_opened (λ t p. ⊤) n (run_after before) (log_of before n) (all_tied (log_of before n));
-      barred = barred_state (Denied before after []) (WasOut before after [] n) (Met before [] [] n) (HomeHere h n) n (run_after before) 0 log 0 []
-          (whole_ahead n (log_of before n) (run_after before) 0 (log_ahead splits before n l.opens (log_found l n i)))
-          (λ u j. doubt_stand n log u ((bs.parted n i).base).firm j)
+      barred = barred_state (Denied before after []) (WasOut before after [] n) (Met before [] [] n) (HomeHere h n) n (run_after before) 0 (part_of (log_of before n)) log 0 []
+          (whole_ahead (part_of (log_of before n)) n (log_of before n) (run_after before) 0 (log_ahead splits before n l.opens (log_found l n i)))
+          (let_go_out splits before n l.opens (log_found l n i))
+          (λ u j. doubt_stand n log (length log) u ((bs.parted n i).base).firm j)
           (λ u p c. let r = prepared_asked splits before after h [] n l.legal (λ y j. elim j [ ]) bs.fated i u p c in (inl r.0, r.1))
           (λ u v. (first u v).1) (λ u p v j c. absurd (both_ways _ (first u v).0 (ap is_present (restored_closed (in_doubt n log) u j))));
     }

@@ -28,6 +28,7 @@ use Rattle.fate_laws.proofs.Logs.WhatAddsNoPrepare.{prepare_more}
 use Rattle.fate_laws.proofs.CommitsGoDownwards.{Down}
 use Rattle.fate_laws.proofs.Parts.YesVotesArePrepared.{front_same}
 use Rattle.fate_laws.proofs.FallenAreUncommitted.PreparedPairsAreListed.{Lined}
+use Rattle.law_base.specs.Coming.{is_let_go}
 use Rattle.fate_laws.proofs.FallenAreUncommitted.GoesWithItsPredecessor.{goes}
 use Rattle.protocol_laws.proofs.LogsInOrder.OneRecordMore.{prepared_there}
 
@@ -43,7 +44,10 @@ abbrev pub Lost : (TxId → Type 0) → (TxId → Type 0) → (TxId → Type 0) 
 Lost K V O s t p = ((aborted_in (log_left s false) t ≡ true) × Absent s t) ⊎ (((p.0 ≡ s.shard) × Absent s t) ⊎ (K t ⊎ ((q : TxId) × (tx_in q p.1 ≡ true) × (V q ⊎ Out O s q))))
 
 pub record Barred (K V O Q : TxId → Type 0) (s : Shard) : Type 0 where
-  pub lined : Lined s.local
+  -- what a checkpoint kept: whom it let go is out
+  pub part : List LogRecord
+  pub lined : Lined part s.local
+  pub gone : (t : TxId) → is_let_go part t ≡ true → Out O s t
   pub down : Down s
   pub counted : s.durable ≤ length s.local.log
   -- who is prepared asked; whose home is here names it in its PREPARE; and an undecided request is of one whose home is here
@@ -63,9 +67,9 @@ lost_inactive K V O Q s t b v a =
 
 -- ---- a change
 
-pub record Change (K V O Q : TxId → Type 0) (s x : Shard) : Type 0 where
+pub record Change (part : List LogRecord) (K V O Q : TxId → Type 0) (s x : Shard) : Type 0 where
   pub inside : Inside s x
-  pub lined : Lined x.local
+  pub lined : Lined part x.local
   pub down : Down x
   pub found : (t : TxId) (p : ℕ × List TxId) → prepare_of x.local.log t ≡ Some p → (prepare_of s.local.log t ≡ Some p) ⊎ ((stage_of s.local t ≡ Some Active) × (is_present (stage_of x.local t) ≡ true))
   pub sought : (t : TxId) (p : ℕ × List TxId) → prepare_of x.local.log t ≡ Some p → O t × (Q t → p.0 ≡ s.shard)
@@ -85,9 +89,11 @@ lost_next K V O Q s x t p n i stay away w (inr (inr (inl k))) = inr (inr (inl k)
 lost_next K V O Q s x t p n i stay away w (inr (inr (inr (q, m, inl v)))) = inr (inr (inr (q, m, inl v)))
 lost_next K V O Q s x t p n i stay away w (inr (inr (inr (q, m, inr o)))) = inr (inr (inr (q, m, inr (still_not _ _ (away q (inr o)) o.0, stay q (inr o), o.2))))
 
-pub barred_next : (K V O Q : TxId → Type 0) (s x : Shard) → Barred K V O Q s → Change K V O Q s x → Barred K V O Q x
+pub barred_next : (K V O Q : TxId → Type 0) (s x : Shard) (b : Barred K V O Q s) → Change b.part K V O Q s x → Barred K V O Q x
 barred_next K V O Q s x b c = record {
+  part = b.part;
   lined = c.lined;
+  gone = λ t g. let o = b.gone t g in (still_not _ _ (c.away t (inr o)) o.0, c.stay t (inr o), o.2);
   down = c.down;
   counted = let l = grown s.local.log x.local.log (c.inside).log in let d = (c.inside).durable in omega (arith, l, d, b.counted);
   sought = λ t h. let p = prepare_some x.local.log t h in (c.sought t p.0 p.1).0;

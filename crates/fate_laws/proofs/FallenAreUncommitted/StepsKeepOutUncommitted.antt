@@ -2,6 +2,7 @@
 use Rattle.std.proofs.Common.{◌≡◌, ◌⊎◌, inl, inr, ⊎_elim, refl, sym, ap, subst, ◌∙◌, ℕ, true, false, cond, Bool, List, Option, Some, None}
 use Rattle.std.proofs.lemmas.Bool.{both_ways, false_from_ne_true}
 use Rattle.clv_base.specs.declared.names.TxId.{TxId}
+use Rattle.clv_base.specs.declared.logs.LogRecord.{LogRecord}
 use Rattle.clv_base.specs.declared.causes.Vote.TheVariants.{Read}
 use Rattle.clv_base.specs.declared.state.Held.{Held}
 use Rattle.clv_base.specs.declared.state.Voter.{Voter}
@@ -51,7 +52,7 @@ barred_same K V O Q s x e f d rw rd b =
     barred_next K V O Q s x b
     (record {
       inside = record { shard = f; durable = d; log = subst (λ (l : Local). IsPrefixOf s.local.log l.log) (sym e) (same s.local.log) };
-      lined = subst Lined (sym e) b.lined;
+      lined = subst (Lined b.part) (sym e) b.lined;
       down = subst (λ (l : Local). (a c : TxId) → committed_in l.log a ≡ true → is_pair l.pairs a c ≡ true → committed_in l.log c ≡ true) (sym e) b.down;
       found = λ t p h. inl (subst (λ (l : Local). prepare_of l.log t ≡ Some p) e h);
       sought = λ t p h. let g = subst (λ (l : Local). prepare_of l.log t ≡ Some p) e h in (b.sought t (prepared_there s.local.log t p g), (λ q. b.homes t p q g));
@@ -75,7 +76,7 @@ barred_rolled K V O Q s u c root b =
     barred_next K V O Q s x b
     (record {
       inside = record { shard = refl; durable = refl; log = more_twice s.local.log _ _ };
-      lined = lined_rolled u s.local b.lined;
+      lined = lined_rolled b.part u s.local b.lined;
       down = rolled_down s u b.down;
       found = λ t p h. inl (rolled u s.local t p h);
       sought = λ t p h. let g = rolled u s.local t p h in (b.sought t (prepared_there s.local.log t p g), (λ q. b.homes t p q g));
@@ -98,7 +99,7 @@ barred_back K V O Q s u n act b =
     barred_next K V O Q s x b
     (record {
       inside = record { shard = refl; durable = refl; log = more s.local.log _ };
-      lined = lined_back u n s.local act b.lined;
+      lined = lined_back b.part u n s.local act b.lined;
       down = λ a c k i. committed_keeps s.local.log _ c (b.down a c (back_commits u n s.local a k) i);
       found = λ t p h. inl (gone_back u n s.local t p h);
       sought = λ t p h. let g = gone_back u n s.local t p h in (b.sought t (prepared_there s.local.log t p g), (λ q. b.homes t p q g));
@@ -113,8 +114,8 @@ barred_back K V O Q s u n act b =
 
 -- ---- a part is marked
 
-lined_marked : (l : Local) (u : TxId) → Lined l → Lined (mark_dropped u l)
-lined_marked l u p = record {
+lined_marked : (part : List LogRecord) (l : Local) (u : TxId) → Lined part l → Lined part (mark_dropped u l)
+lined_marked part l u p = record {
   decided = λ t c w. p.decided t (sym (stage_marked u t l.parts) ∙ c) w;
   paired = p.paired;
   met = p.met;
@@ -129,7 +130,7 @@ barred_marked K V O Q s u b =
     barred_next K V O Q s (with_local (mark_dropped u) s) b
     (record {
       inside = record { shard = refl; durable = refl; log = same s.local.log };
-      lined = lined_marked s.local u b.lined;
+      lined = lined_marked b.part s.local u b.lined;
       down = b.down;
       found = λ t p h. inl h;
       sought = λ t p h. (b.sought t (prepared_there s.local.log t p h), (λ q. b.homes t p q h));
@@ -170,7 +171,7 @@ barred_performed K V O Q s u birth nth seen op _ _ h g (performs fits st) P rows
     barred_next K V O Q s x b
     (record {
       inside = inside_step s x h;
-      lined = lined_performed s.local u birth op P rows closed st n b.lined;
+      lined = lined_performed b.part s.local u birth op P rows closed st n b.lined;
       down = down_step s x h c b.down;
       found = λ t p k. inl (back t p k);
       sought = λ t p k. let f = back t p k in (b.sought t (prepared_there s.local.log t p f), (λ q. b.homes t p q f));

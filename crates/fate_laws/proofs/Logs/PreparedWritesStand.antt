@@ -1,9 +1,9 @@
--- Of whom a log has a PREPARE a write stands there, unless it was aborted: a PREPARE comes where one stands, and what takes a write of a prepared one back
--- comes behind its ABORT.
-use Rattle.std.proofs.Common.{◌≡◌, inl, inr, ⊎_elim, refl, sym, ap, subst, ◌∙◌, ℕ, true, false, cond, not, Bool, ◌||◌, ◌&&◌, map, List, [], ◌∷◌, ◌++◌, Option, Some, None, length, append_assoc, append-nil, take-append-drop}
+-- Of whom a log has a PREPARE a write stands there, unless it was committed or aborted: so it is in the log found, behind which a PREPARE comes where one
+-- stands, and what takes a write of a prepared one back comes behind its ABORT.
+use Rattle.std.proofs.Common.{◌≡◌, inl, inr, ⊎_elim, refl, sym, ap, subst, ◌∙◌, ℕ, zero, suc, ◌≤◌, true, false, cond, not, Bool, ◌||◌, ◌&&◌, map, List, [], ◌∷◌, ◌++◌, Option, Some, None, length, append_assoc, append-nil, take-append-drop, length-append, arith}
 use Rattle.std.specs.Prelude.{⊤, take, drop}
 use Rattle.std.specs.List.{filter, list_any, AllByRecursion}
-use Rattle.std.proofs.lemmas.Bool.{both_ways, and_parts, or_cases, or_left, or_parts, or_from, not-true, cases_Bool, false_from_ne_true}
+use Rattle.std.proofs.lemmas.Bool.{both_ways, or_left, or_parts, or_from, cases_Bool, false_from_ne_true}
 use Rattle.clv_base.specs.declared.names.TxId.{TxId}
 use Rattle.clv_base.specs.declared.logs.LogRecord.{LogRecord}
 use Rattle.clv_base.specs.declared.logs.LogRecord.TheVariants.{Update, Clr, Prepare, Commit, Abort, Restart, Add, Unadd}
@@ -12,13 +12,13 @@ use Rattle.clv_base.specs.declared.changes.Change.TheVariants.{Sets, Adds}
 use Rattle.clv_base.specs.declared.state.Stage.TheVariants.{Active, Closed}
 use Rattle.clv_base.specs.Orders.{tx_same, tx_in}
 use Rattle.clv_base.specs.Logs.{StandingUpdate, standing, has_standing, prepared_in, aborted_in, committed_in, is_undo_of, in_doubt}
-use Rattle.clv_base.specs.LogRules.{may_follow, may_undo}
+use Rattle.clv_base.specs.LogRules.{disorder}
 use Rattle.clv_base.specs.State.{Shard, Local, is_present}
 use Rattle.clv_base.specs.OneShard.{closing, written}
 use Rattle.clv_base.specs.Undo.{stage_of, aborts_of, clrs_by, clrs_of, compensation, newest_lsn, is_of, is_at, newest_lsns, doomed_here, roll_back, roll_to}
 use Rattle.clv_base.specs.Restarts.{restart_records, undo_records, log_after_restart, losers, next_epoch, FailedRestarts, untouched, failed_first, Restarts}
 use Rattle.clv_base.proofs.SameNames.{tx_true}
-use Rattle.law_base.proofs.Bools.{and_first as front, and_second as last}
+use Rattle.law_base.proofs.Commits.{committed_append}
 use Rattle.law_base.proofs.Lists.{all_mono}
 use Rattle.law_base.proofs.Sets.{filter_in}
 use Rattle.law_base.proofs.Stages.{own_go, active_not_closed}
@@ -29,9 +29,8 @@ use Rattle.shard_laws.proofs.Order.NewestWritesOfOne.{lsns_own}
 use Rattle.history_laws.proofs.Logs.DoubtedAreUndecided.{doubt_undecided, doubt_prepared}
 use Rattle.shard_laws.proofs.Keeping.ChangesKeepPrepared.{prepared_from}
 use Rattle.shard_laws.proofs.Keeping.RecordsAndFrontsKeep.{aborted_append}
-use Rattle.shard_laws.proofs.Order.RecordByRecord.{Follows}
 use Rattle.shard_laws.proofs.Order.UndoMayFollow.{aborted_now}
-use Rattle.shard_laws.proofs.Order.WhoseWritesStand.{has_still, new_stands}
+use Rattle.shard_laws.proofs.Order.WhoseWritesStand.{has_still, open_stands}
 
 abbrev pub Firm : List LogRecord → LogRecord → Type 0
 Firm log (Prepare tx home ps) = has_standing log tx ≡ true
@@ -56,49 +55,95 @@ firm_front log (x ∷ xs) ys a = (a.0, firm_front (log ++ x ∷ []) xs ys a.1)
 firm_some : (n : ℕ) (log rs : List LogRecord) → AllFirm log rs → AllFirm log (take n rs)
 firm_some n log rs a = firm_front log (take n rs) (drop n rs) (subst (AllFirm log) (sym (take-append-drop n rs)) a)
 
-pub firm_take : (n : ℕ) (log : List LogRecord) → AllFirm [] log → AllFirm [] (take n log)
-firm_take n log a = firm_some n [] log a
-
 -- ---- who is prepared wrote, and a write of it stands
 
-abbrev PreparedStand : List LogRecord → Type 0
-PreparedStand log = (t : TxId) → prepared_in log t ≡ true → aborted_in log t ≡ false → has_standing log t ≡ true
+abbrev pub OpenStand : List LogRecord → Type 0
+OpenStand log = (t : TxId) → prepared_in log t ≡ true → committed_in log t ≡ false → aborted_in log t ≡ false → has_standing log t ≡ true
 
 was_unaborted : (log : List LogRecord) (r : LogRecord) (t : TxId) → aborted_in (log ++ r ∷ []) t ≡ false → aborted_in log t ≡ false
 was_unaborted log r t a = (or_parts (aborted_in log t) (aborted_in (r ∷ []) t) (sym (aborted_append log (r ∷ []) t) ∙ a)).0
 
-still : (log : List LogRecord) (r : LogRecord) (t : TxId) → list_any (is_undo_of t) (r ∷ []) ≡ false → prepared_in (r ∷ []) t ≡ false → PreparedStand log → prepared_in (log ++ r ∷ []) t ≡ true → aborted_in (log ++ r ∷ []) t ≡ false → has_standing (log ++ r ∷ []) t ≡ true
-still log r t u n p e a = has_still log (r ∷ []) t u (p t (prepared_from log (r ∷ []) t n e) (was_unaborted log r t a))
+was_open : (log : List LogRecord) (r : LogRecord) (t : TxId) → committed_in (log ++ r ∷ []) t ≡ false → committed_in log t ≡ false
+was_open log r t c = (or_parts (committed_in log t) (committed_in (r ∷ []) t) (sym (committed_append log (r ∷ []) t) ∙ c)).0
+
+still : (log : List LogRecord) (r : LogRecord) (t : TxId) → list_any (is_undo_of t) (r ∷ []) ≡ false → prepared_in (r ∷ []) t ≡ false → OpenStand log → prepared_in (log ++ r ∷ []) t ≡ true → committed_in (log ++ r ∷ []) t ≡ false → aborted_in (log ++ r ∷ []) t ≡ false
+    → has_standing (log ++ r ∷ []) t ≡ true
+still log r t u n p e c a = has_still log (r ∷ []) t u (p t (prepared_from log (r ∷ []) t n e) (was_open log r t c) (was_unaborted log r t a))
 
 -- a CLR or UNADD
-undoing : (log : List LogRecord) (r : LogRecord) (tx t : TxId) → (prepared_in log tx ≡ true → aborted_in log tx ≡ true) → list_any (is_undo_of t) (r ∷ []) ≡ (tx_same t tx || false) → prepared_in (r ∷ []) t ≡ false → PreparedStand log
-    → prepared_in (log ++ r ∷ []) t ≡ true → aborted_in (log ++ r ∷ []) t ≡ false → has_standing (log ++ r ∷ []) t ≡ true
-undoing log r tx t f u n p e a = at (tx_same t tx) refl
+undoing : (log : List LogRecord) (r : LogRecord) (tx t : TxId) → (prepared_in log tx ≡ true → aborted_in log tx ≡ true) → list_any (is_undo_of t) (r ∷ []) ≡ (tx_same t tx || false) → prepared_in (r ∷ []) t ≡ false → OpenStand log
+    → prepared_in (log ++ r ∷ []) t ≡ true → committed_in (log ++ r ∷ []) t ≡ false → aborted_in (log ++ r ∷ []) t ≡ false → has_standing (log ++ r ∷ []) t ≡ true
+undoing log r tx t f u n p e c a = at (tx_same t tx) refl
   where
     at : (b : Bool) → tx_same t tx ≡ b → has_standing (log ++ r ∷ []) t ≡ true
     at true q = absurd (both_ways _ (was_unaborted log r t a) (subst (λ z. aborted_in log z ≡ true) (sym (tx_true t tx q)) (f (subst (λ z. prepared_in log z ≡ true) (tx_true t tx q) (prepared_from log (r ∷ []) t n e)))))
-    at false q = still log r t (u ∙ ap (λ b. b || false) q) n p e a
+    at false q = still log r t (u ∙ ap (λ b. b || false) q) n p e c a
 
-stand_push : (log : List LogRecord) (r : LogRecord) → Firm log r → PreparedStand log → PreparedStand (log ++ r ∷ [])
-stand_push log (Prepare tx home ps) f p t e a = has_still log (Prepare tx home ps ∷ []) t refl (by_name (tx_same t tx) refl)
+stand_push : (log : List LogRecord) (r : LogRecord) → Firm log r → OpenStand log → OpenStand (log ++ r ∷ [])
+stand_push log (Prepare tx home ps) f p t e c a = has_still log (Prepare tx home ps ∷ []) t refl (by_name (tx_same t tx) refl)
   where
     by_name : (b : Bool) → tx_same t tx ≡ b → has_standing log t ≡ true
     by_name true q = subst (λ z. has_standing log z ≡ true) (sym (tx_true t tx q)) f
-    by_name false q = p t (prepared_from log (Prepare tx home ps ∷ []) t (ap (λ b. b || false) q) e) (was_unaborted log (Prepare tx home ps) t a)
-stand_push log (Clr tx next key after) f p t e a = undoing log (Clr tx next key after) tx t f refl refl p e a
-stand_push log (Unadd tx next key by) f p t e a = undoing log (Unadd tx next key by) tx t f refl refl p e a
-stand_push log r f p t e a = still log r t refl refl p e a
+    by_name false q = p t (prepared_from log (Prepare tx home ps ∷ []) t (ap (λ b. b || false) q) e) (was_open log (Prepare tx home ps) t c) (was_unaborted log (Prepare tx home ps) t a)
+stand_push log (Clr tx next key after) f p t e c a = undoing log (Clr tx next key after) tx t f refl refl p e c a
+stand_push log (Unadd tx next key by) f p t e c a = undoing log (Unadd tx next key by) tx t f refl refl p e c a
+stand_push log r f p t e c a = still log r t refl refl p e c a
 
-stand_from : (log rs : List LogRecord) → AllFirm log rs → PreparedStand log → PreparedStand (log ++ rs)
-stand_from log [] f p = subst PreparedStand (sym (append-nil log)) p
-stand_from log (r ∷ rs) f p = subst PreparedStand (append_assoc log (r ∷ []) rs) (stand_from (log ++ r ∷ []) rs f.1 (stand_push log r f.0 p))
+stand_from : (log rs : List LogRecord) → AllFirm log rs → OpenStand log → OpenStand (log ++ rs)
+stand_from log [] f p = subst OpenStand (sym (append-nil log)) p
+stand_from log (r ∷ rs) f p = subst OpenStand (append_assoc log (r ∷ []) rs) (stand_from (log ++ r ∷ []) rs f.1 (stand_push log r f.0 p))
 
-pub firm_stand : (log : List LogRecord) (t : TxId) → AllFirm [] log → prepared_in log t ≡ true → aborted_in log t ≡ false → has_standing log t ≡ true
-firm_stand log t f e a = stand_from [] log f (λ u b c. absurd (both_ways false refl b)) t e a
+-- ---- a log that goes on firmly from one found, which is durable
+
+pub record Firmly (log : List LogRecord) (durable : ℕ) : Type 0 where
+  pub found : List LogRecord
+  pub more : List LogRecord
+  pub is : found ++ more ≡ log
+  pub firm : AllFirm found more
+  pub stood : OpenStand found
+  pub within : length found ≤ durable
+
+pub firmly_more : (log new more : List LogRecord) (durable : ℕ) → Firmly log durable → log ++ more ≡ new → AllFirm log more → Firmly new durable
+firmly_more log new more durable f e a = record {
+  found = f.found;
+  more = f.more ++ more;
+  is = sym (append_assoc f.found f.more more) ∙ ap (λ l. l ++ more) f.is ∙ e;
+  firm = firm_append f.found f.more more f.firm (subst (λ l. AllFirm l more) (sym f.is) a);
+  stood = f.stood;
+  within = f.within;
+}
+
+pub firmly_later : (log : List LogRecord) (durable n : ℕ) → durable ≤ n → Firmly log durable → Firmly log n
+firmly_later log durable n l f = record { found = f.found; more = f.more; is = f.is; firm = f.firm; stood = f.stood; within = let w = f.within in omega (arith, l, w) }
+
+take_behind : (c : ℕ) (xs ys : List LogRecord) → length xs ≤ c → (k : ℕ) × (xs ++ take k ys ≡ take c (xs ++ ys))
+take_behind c [] ys l = (c, refl)
+take_behind zero (x ∷ xs) ys l = absurd (omega (arith, l))
+take_behind (suc c) (x ∷ xs) ys l = let k = take_behind c xs ys (omega (arith, l)) in (k.0, ap (λ (zs : List LogRecord). x ∷ zs) k.1)
+
+-- cut there or later
+pub firmly_take : (c durable : ℕ) (log : List LogRecord) → durable ≤ c → Firmly log durable → Firmly (take c log) durable
+firmly_take c durable log l f =
+    let w = f.within in
+    let k = take_behind c f.found f.more (omega (arith, l, w)) in
+    record { found = f.found; more = take k.0 f.more; is = k.1 ∙ ap (take c) f.is; firm = firm_some k.0 f.found f.more f.firm; stood = f.stood; within = f.within }
+
+pub firmly_whole : (log : List LogRecord) (durable : ℕ) → Firmly log durable → Firmly log (length log)
+firmly_whole log durable f = record {
+  found = f.found;
+  more = f.more;
+  is = f.is;
+  firm = f.firm;
+  stood = f.stood;
+  within = let a = length-append f.found f.more in let b = ap length f.is in omega (arith, a, b);
+}
+
+pub firmly_stand : (log : List LogRecord) (durable : ℕ) (t : TxId) → Firmly log durable → prepared_in log t ≡ true → committed_in log t ≡ false → aborted_in log t ≡ false → has_standing log t ≡ true
+firmly_stand log durable t f = (subst OpenStand f.is (stand_from f.found f.more f.firm f.stood)) t
 
 -- so it is of those in doubt
-pub doubt_stand : (shard : ℕ) (log : List LogRecord) (t : TxId) → AllFirm [] log → tx_in t (in_doubt shard log) ≡ true → has_standing log t ≡ true
-doubt_stand shard log t f i = firm_stand log t f (doubt_prepared shard log t i) (doubt_undecided shard log t i).2
+pub doubt_stand : (shard : ℕ) (log : List LogRecord) (durable : ℕ) (t : TxId) → Firmly log durable → tx_in t (in_doubt shard log) ≡ true → has_standing log t ≡ true
+doubt_stand shard log durable t f i = let u = doubt_undecided shard log t i in firmly_stand log durable t f (doubt_prepared shard log t i) u.1 u.2
 
 -- ---- records that are none of these, and those of an undo
 
@@ -154,32 +199,26 @@ firm_restart shard log run epoch =
     (firm_clrs (log ++ map (λ t. Abort t) ts) (is_of (losers shard log)) (standing log) (all_mono _ _ (λ w h i p. aborted_now log ts w.tx (⊎_elim (λ a. inl a) (λ a. inr (filter_in (λ t. not (aborted_in log t)) w.tx (losers shard log) i (ap not a))) (cases_Bool (aborted_in log w.tx)))) (standing log) (all_stand log))))
     (tt, tt)
 
-pub firm_opened : (shard : ℕ) (log : List LogRecord) (run epoch : ℕ) → AllFirm [] log → AllFirm [] (log_after_restart shard log run epoch)
-firm_opened shard log run epoch a = firm_append [] log (restart_records shard log run epoch) a (firm_restart shard log run epoch)
+pub firm_opened : (shard : ℕ) (log : List LogRecord) (run epoch : ℕ) → disorder shard log ≡ None → Firmly (log_after_restart shard log run epoch) (length (log_after_restart shard log run epoch))
+firm_opened shard log run epoch d = record {
+  found = log;
+  more = restart_records shard log run epoch;
+  is = refl;
+  firm = firm_restart shard log run epoch;
+  stood = λ t p c a. ⊎_elim (λ h. h) (λ b. absurd (both_ways _ a b)) (open_stands shard log d t p c);
+  within = let a = length-append log (restart_records shard log run epoch) in omega (arith, a);
+}
 
-firm_failed : (s : Shard) (found left : List LogRecord) → FailedRestarts s found left → AllFirm [] found → AllFirm [] left
-firm_failed s found _ (untouched) a = a
-firm_failed s found left (failed_first n more) a =
+firm_failed : (s : Shard) (found left : List LogRecord) (durable : ℕ) → FailedRestarts s found left → Firmly found durable → Firmly left durable
+firm_failed s found _ durable (untouched) f = f
+firm_failed s found left durable (failed_first n more) f =
     let rs = restart_records s.shard found s.run (next_epoch s found) in
-    firm_failed s (found ++ take n rs) left more (firm_append [] found (take n rs) a (firm_some n found rs (firm_restart s.shard found s.run (next_epoch s found))))
+    firm_failed s (found ++ take n rs) left durable more (firmly_more found (found ++ take n rs) (take n rs) durable f refl (firm_some n found rs (firm_restart s.shard found s.run (next_epoch s found))))
 
-pub firm_restarted : (s : Shard) (found : List LogRecord) (epoch : ℕ) (after : List LogRecord) → Restarts s found epoch after → AllFirm [] found → AllFirm [] after
-firm_restarted s found epoch after (left, f, e, q) a = subst (AllFirm []) (sym q) (firm_opened s.shard left s.run epoch (firm_failed s found left f a))
-
--- ---- a log in order
-
-may_take : (log : List LogRecord) (tx : TxId) → may_undo log tx ≡ true → prepared_in log tx ≡ true → aborted_in log tx ≡ true
-may_take log tx m p = ⊎_elim (λ a. a) (λ a. absurd (both_ways _ (not-true _ (and_parts (not (prepared_in log tx)) (not (committed_in log tx)) a).0) p)) (or_cases (aborted_in log tx) (not (prepared_in log tx) && not (committed_in log tx)) m)
-
-follows_one : (shard : ℕ) (log : List LogRecord) (r : LogRecord) → may_follow shard log r ≡ true → Firm log r
-follows_one shard log (Prepare tx home ps) m = new_stands log tx (last _ _ (front _ _ (front _ _ (front _ _ (front _ _ (front _ _ m))))))
-follows_one shard log (Clr tx next key after) m = may_take log tx (last _ _ (front _ _ m))
-follows_one shard log (Unadd tx next key by) m = may_take log tx (last _ _ (front _ _ m))
-follows_one shard log _ m = tt
-
-pub follows_firm : (shard : ℕ) (log rs : List LogRecord) → Follows shard log rs → AllFirm log rs
-follows_firm shard log [] f = tt
-follows_firm shard log (r ∷ rs) f = (follows_one shard log r f.0, follows_firm shard (log ++ r ∷ []) rs f.1)
+pub firm_restarted : (s : Shard) (found : List LogRecord) (epoch : ℕ) (after : List LogRecord) (durable : ℕ) → Restarts s found epoch after → Firmly found durable → Firmly after (length after)
+firm_restarted s found epoch after durable (left, f, e, q) a =
+    firmly_whole after durable
+    (firmly_more left after (restart_records s.shard left s.run epoch) durable (firm_failed s found left durable f a) (sym q) (firm_restart s.shard left s.run epoch))
 
 -- ---- of a part that is closed, and stays so, a write goes on standing
 

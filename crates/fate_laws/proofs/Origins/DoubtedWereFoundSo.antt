@@ -47,9 +47,9 @@ use Rattle.law_base.proofs.Stages.{written_parts}
 use Rattle.protocol_laws.specs.Growth.{IsPrefixOf}
 use Rattle.protocol_laws.proofs.LogOnlyGrows.DueGrowsLogs.{chain, more}
 use Rattle.shard_laws.proofs.Cuts.WhoIsInDoubt.{prepared_cut}
-use Rattle.shard_laws.proofs.Order.RecordByRecord.{Follows}
+use Rattle.clv_base.specs.LogRules.{disorder}
 use Rattle.shard_laws.proofs.Keeping.RecordsOfAnUndo.{no_prepares, undo_prepares}
-use Rattle.shard_laws.proofs.Order.WhoseWritesStand.{has_writer, prepared_stands}
+use Rattle.shard_laws.proofs.Order.WhoseWritesStand.{has_writer, open_stands}
 use Rattle.shard_laws.proofs.Keeping.ChangesKeepPrepared.{prepared_append, prepared_from}
 use Rattle.shard_laws.proofs.Restarts.WinnersKeepTheirWrites.{none_prepare, plain_restart}
 use Rattle.history_laws.proofs.NeverTakenBack.LaterHistoriesHoldMembers.{committed_front}
@@ -85,7 +85,7 @@ loser_aborted shard log run epoch t i = at (aborted_in log t) refl
         ∙ or_right (aborted_in log t) _ (aborted_append (undo_records shard log) (Restart run epoch ∷ []) t
         ∙ or_left _ _ (aborted_append as_ cs t ∙ or_left _ _ (abort_there ts t (filter_in (λ u. not (aborted_in log u)) t (losers shard log) i (ap not e)))))
 
-was_in_doubt : (shard : ℕ) (log : List LogRecord) (run epoch : ℕ) (t : TxId) → Follows shard [] log → prepared_in log t ≡ true → committed_in log t ≡ false → aborted_in (log_after_restart shard log run epoch) t ≡ false → tx_in t (in_doubt shard log) ≡ true
+was_in_doubt : (shard : ℕ) (log : List LogRecord) (run epoch : ℕ) (t : TxId) → disorder shard log ≡ None → prepared_in log t ≡ true → committed_in log t ≡ false → aborted_in (log_after_restart shard log run epoch) t ≡ false → tx_in t (in_doubt shard log) ≡ true
 was_in_doubt shard log run epoch t f p c a = at (tx_in t (in_doubt shard log)) refl
   where
     loses : tx_in t (in_doubt shard log) ≡ false → tx_in t (writers (standing log)) ≡ true → tx_in t (losers shard log) ≡ true
@@ -95,10 +95,10 @@ was_in_doubt shard log run epoch t f p c a = at (tx_in t (in_doubt shard log)) r
     at true d = d
     at false d =
         absurd (both_ways _ a (⊎_elim (λ h. loser_aborted shard log run epoch t (loses d (has_writer t (standing log) h))) (λ u. still_aborted shard log run epoch t u)
-        (prepared_stands shard log f t p)))
+        (open_stands shard log f t p c)))
 
 -- who is in doubt in a log that goes on from the one that the shard opened, and was prepared in the one found, was in doubt there
-pub doubt_found : (shard : ℕ) (found log : List LogRecord) (run epoch : ℕ) (t : TxId) → Follows shard [] found → IsPrefixOf (log_after_restart shard found run epoch) log → tx_in t (in_doubt shard log) ≡ true → prepared_in found t ≡ true → tx_in t (in_doubt shard found) ≡ true
+pub doubt_found : (shard : ℕ) (found log : List LogRecord) (run epoch : ℕ) (t : TxId) → disorder shard found ≡ None → IsPrefixOf (log_after_restart shard found run epoch) log → tx_in t (in_doubt shard log) ≡ true → prepared_in found t ≡ true → tx_in t (in_doubt shard found) ≡ true
 doubt_found shard found log run epoch t f k i p =
     let u = doubt_undecided shard log t i in
     let begun = chain found (log_after_restart shard found run epoch) log (more found (restart_records shard found run epoch)) k in

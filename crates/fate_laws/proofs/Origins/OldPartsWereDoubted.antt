@@ -1,5 +1,5 @@
 -- Along a history: whoever of an earlier run has a part on a shard was in doubt in the log that the shard opened.
-use Rattle.std.proofs.Common.{◌≡◌, refl, sym, ap, subst, ℕ, ◌<◌, Bool, true, false, List, [], length, arith}
+use Rattle.std.proofs.Common.{◌≡◌, refl, sym, ap, subst, ℕ, ◌<◌, Bool, true, false, List, length, arith, None}
 use Rattle.std.proofs.lemmas.List.{take_all}
 use Rattle.clv_base.specs.declared.names.TxId.{TxId}
 use Rattle.clv_base.specs.declared.logs.LogRecord.{LogRecord}
@@ -11,7 +11,7 @@ use Rattle.clv_base.specs.declared.events.Entry.{Entry}
 use Rattle.clv_base.specs.Orders.{tx_in}
 use Rattle.clv_base.specs.Logs.{prepared_in, in_doubt}
 use Rattle.clv_base.specs.Shards.{shard_count}
-use Rattle.clv_base.specs.LogRules.{log_of}
+use Rattle.clv_base.specs.LogRules.{log_of, disorder}
 use Rattle.clv_base.specs.FileRules.{may_open}
 use Rattle.clv_base.specs.State.{Shard}
 use Rattle.clv_base.specs.Restarts.{run_after, log_left, log_after_restart, Restarts}
@@ -20,7 +20,6 @@ use Rattle.clv_base.specs.History.{Legal}
 use Rattle.protocol_laws.specs.Growth.{IsPrefixOf}
 use Rattle.protocol_laws.specs.SessionLaws.{tx_of}
 use Rattle.protocol_laws.proofs.LogOnlyGrows.DueGrowsLogs.{same, chain}
-use Rattle.shard_laws.proofs.Order.RecordByRecord.{Follows, from_disorder}
 use Rattle.history_cases.proofs.Durability.{Counted, fronts_entry, left_front, restarts_front}
 use Rattle.history_cases.proofs.Entering.{Makes, by_event, by_flush, by_failure, by_restart, makes}
 use Rattle.history_cases.proofs.Merging.{Among}
@@ -49,8 +48,8 @@ pub record Opened (before : List (List LogRecord)) (n : ℕ) (s : Shard) : Type 
 
 -- ---- at opening
 
-pub found_follows : (splits : List ℕ) (before : List (List LogRecord)) (n : ℕ) → may_open splits before ≡ true → n < length before → Follows n [] (log_of before n)
-found_follows splits before n m l = from_disorder n 0 [] (log_of before n) (found_in_order splits before n m l)
+pub found_follows : (splits : List ℕ) (before : List (List LogRecord)) (n : ℕ) → may_open splits before ≡ true → n < length before → disorder n (log_of before n) ≡ None
+found_follows splits before n m l = found_in_order splits before n m l
 
 pub opened_opens : (splits : List ℕ) (before : List (List LogRecord)) (n : ℕ) → may_open splits before ≡ true → n < length before → Opened before n (start_of before n)
 opened_opens splits before n m l =

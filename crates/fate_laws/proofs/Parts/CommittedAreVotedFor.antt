@@ -31,7 +31,7 @@ use Rattle.shard_laws.proofs.Keeping.ChangesKeepPrepared.{prepare_here}
 use Rattle.shard_laws.proofs.Order.ChangesKeepOrder.{prepare_some}
 use Rattle.law_base.proofs.Sets.{in_filter}
 use Rattle.shard_laws.proofs.Order.WhoseWritesStand.{has_still}
-use Rattle.fate_laws.proofs.Logs.PreparedWritesStand.{AllFirm, firm_append}
+use Rattle.fate_laws.proofs.Logs.PreparedWritesStand.{Firmly, firmly_more, firmly_later}
 use Rattle.fate_laws.proofs.Parts.ClosedPartsKeepWrites.{GrowsFirmly}
 use Rattle.fate_laws.proofs.Logs.LogOnlyGrows.{Inside}
 use Rattle.fate_laws.proofs.Parts.OthersCloseOrGo.{Calm}
@@ -57,7 +57,7 @@ Good run W F tx = (m : ℕ) → (tx.run ≡ run → Touched W m tx) → F m tx
 pub record Base (run : ℕ) (W : TxId → ℕ → List (ℕ × ℕ) → Type 0) (s : Shard) : Type 0 where
   pub counted : s.durable ≤ length s.local.log
   -- of who is prepared here and closed a write stands
-  pub firm : AllFirm [] s.local.log
+  pub firm : Firmly s.local.log s.durable
   pub stands : (tx : TxId) → prepared_in s.local.log tx ≡ true → stage_of s.local tx ≡ Some Closed → has_standing s.local.log tx ≡ true
   pub listed : (tx : TxId) → Listed s tx
   pub unprepared : (tx : TxId) → stage_of s.local tx ≡ Some Active → prepared_in s.local.log tx ≡ false
@@ -80,7 +80,7 @@ pub base_next : (run : ℕ) (W : TxId → ℕ → List (ℕ × ℕ) → Type 0) 
     → ((tx : TxId) → stage_of s.local tx ≡ Some Closed → stage_of t.local tx ≡ Some Closed → has_standing s.local.log tx ≡ true → has_standing t.local.log tx ≡ true) → Base run W s → Base run W t
 base_next run W s t i prep clo keep act firmly stay b = record {
   counted = let l = grown_length s.local.log t.local.log i.log in let d = i.durable in omega (arith, l, d, b.counted);
-  firm = subst (AllFirm []) firmly.1 (firm_append [] s.local.log firmly.0 b.firm firmly.2);
+  firm = let d = i.durable in firmly_later t.local.log s.durable t.durable (omega (arith, d)) (firmly_more s.local.log t.local.log firmly.0 s.durable b.firm firmly.1 firmly.2);
   stands = λ tx h c.
       let x = prepare_some t.local.log tx h in
       ⊎_elim

@@ -1,6 +1,6 @@
 -- What is known of parts after each entry of a legal history.
-use Rattle.std.proofs.Common.{◌≡◌, ◌⊎◌, inl, inr, ⊎_elim, refl, sym, ap, subst, ◌∙◌, ℕ, zero, suc, ◌≤◌, ◌<◌, true, false, Bool, ◌==◌, List, [], ◌∷◌, ◌++◌, Option, Some, None, length, arith, eqb-true}
-use Rattle.std.specs.Prelude.{⊤}
+use Rattle.std.proofs.Common.{◌≡◌, ◌⊎◌, inl, inr, ⊎_elim, refl, sym, ap, subst, ◌∙◌, ℕ, zero, suc, ◌≤◌, ◌<◌, true, false, cond, Bool, ◌==◌, List, [], ◌∷◌, ◌++◌, Option, Some, None, length, arith, eqb-true}
+use Rattle.std.specs.Prelude.{⊤, unwrap_or}
 use Rattle.std.specs.List.{AllByRecursion}
 use Rattle.std.proofs.lemmas.Bool.{both_ways, eq-eqb, false_from_ne_true}
 use Rattle.std.proofs.lemmas.List.{take_all}
@@ -58,8 +58,7 @@ use Rattle.fate_laws.proofs.Parts.CommittedAreVotedFor.{Touched, Good, VotedIs, 
 use Rattle.fate_laws.proofs.Parts.EventsKeepParts.{Owes, Once, parted_step, parted_same, parted_finish}
 use Rattle.fate_laws.proofs.Parts.RestartsKeepParts.{parted_state, parted_revived, bound_state, reads_state}
 use Rattle.fate_laws.proofs.Parts.FoundCommitsAreBound.{opening_settled}
-use Rattle.fate_laws.proofs.Logs.PreparedWritesStand.{firm_opened, follows_firm}
-use Rattle.shard_laws.proofs.Order.RecordByRecord.{from_disorder}
+use Rattle.fate_laws.proofs.Logs.PreparedWritesStand.{firm_opened, firmly_later}
 use Rattle.fate_laws.proofs.Parts.BoundStaysBound.{NotOwn, bound_flushed, bound_made, reads_made}
 use Rattle.protocol_laws.proofs.LogsInOrder.OneRecordMore.{prepared_there}
 use Rattle.shard_laws.proofs.Order.ChangesKeepOrder.{prepare_some}
@@ -124,7 +123,7 @@ parted_flushed run W S F s n l m p =
     record {
       base = record {
         counted = m;
-        firm = b.firm;
+        firm = firmly_later s.local.log s.durable n l b.firm;
         stands = b.stands;
         listed = λ tx x q c e i. ⊎_elim (λ d. inl (durable_further s.local.log s.durable n q l d)) (λ r. inr r) (b.listed tx x q c e i);
         unprepared = b.unprepared;
@@ -151,7 +150,15 @@ pub parted_made : (run : ℕ) (W : TxId → ℕ → List (ℕ × ℕ) → Type 0
 parted_made run W S F log s t u (by_event g h) w c p = parted_event run W S F s t u h w p
 parted_made run W S F log s _ u (by_flush n v f) w c p = let q = c.flying n f in parted_finish run W S F (with_durable n s) u (parted_flushed run W S F s n q.0 q.1 p)
 parted_made run W S F log s _ u (by_failure n v f) w c p = parted_down run W S F s p
-parted_made run W S F log s _ u (by_restart epoch kept v r) w c p = parted_revived run W S F s kept epoch (up_to_restart s.run epoch log) r p
+parted_made run W S F log s _ u (by_restart epoch kept v r) w c p = parted_revived run W S F s kept epoch (up_to_restart s.run epoch log) r (cut_at kept s.flight c.flying) p
+  where
+    flown : (f : Option ℕ) → ((n : ℕ) → f ≡ Some n → (s.durable ≤ n) × (n ≤ length s.local.log)) → s.durable ≤ unwrap_or f s.durable
+    flown None k = omega arith
+    flown (Some n) k = (k n refl).0
+
+    cut_at : (b : Bool) (f : Option ℕ) → ((n : ℕ) → f ≡ Some n → (s.durable ≤ n) × (n ≤ length s.local.log)) → s.durable ≤ cond b (unwrap_or f s.durable) s.durable
+    cut_at true f k = flown f k
+    cut_at false f k = omega arith
 
 -- ---- what it sends
 
@@ -424,7 +431,7 @@ module _ {splits : List ℕ} {before after : List (List LogRecord)} {h : History
         let log = log_of before n in
         let run = run_after before in
         parted_state run (WasTaken h) (Sought before []) (FineAt before after []) n run 0 (log_after_restart n log run 0) 0 []
-        (firm_opened n log run 0 (follows_firm n [] log (from_disorder n 0 [] log (found_in_order splits before n l.opens (log_found l n i)))))
+        (firm_opened n log run 0 (found_in_order splits before n l.opens (log_found l n i)))
         (λ tx p r. let x = prepare_some (log_after_restart n log run 0) tx p in absurd (none_prepared splits before n tx l.opens (log_found l n i) (prepared_there log tx x.0 (opening_prepares n log run 0 tx x.0 x.1)) r))
         (λ tx c m d. let b = opening_adds n log run 0 tx c in opening_fine splits before after n m tx l.opens b (λ r. none_of_this_run splits before n tx l.opens (log_found l n i) b r));
     said = λ x i. elim i [ ];

@@ -1,8 +1,9 @@
 -- What a shard knows of parts after a restart, and when it opens.
-use Rattle.std.proofs.Common.{◌≡◌, inl, inr, ⊎_elim, refl, sym, ap, subst, ◌∙◌, ℕ, true, false, Bool, not, ◌&&◌, List, [], ◌∷◌, map, Option, Some, None, length, arith}
+use Rattle.std.proofs.Common.{◌≡◌, inl, inr, ⊎_elim, refl, sym, ap, subst, ◌∙◌, ℕ, ◌≤◌, true, false, cond, Bool, not, ◌&&◌, List, [], ◌∷◌, map, Option, Some, None, length, arith}
 use Rattle.std.specs.List.{filter}
 use Rattle.std.proofs.lemmas.Bool.{both_ways, and_parts, or_cases, or_left, or_right, cases_Bool, not-true}
 use Rattle.std.proofs.lemmas.List.{take_all}
+use Rattle.std.specs.Prelude.{unwrap_or}
 use Rattle.clv_base.specs.declared.names.TxId.{TxId}
 use Rattle.clv_base.specs.declared.logs.LogRecord.{LogRecord}
 use Rattle.clv_base.specs.declared.events.Entry.{Entry}
@@ -25,7 +26,7 @@ use Rattle.history_cases.proofs.Telling.{all_map}
 use Rattle.history_cases.proofs.TellingEvents.{front_committed}
 use Rattle.history_cases.proofs.Uncommitting.{restarts_add}
 use Rattle.fate_laws.proofs.Logs.WhatAddsNoPrepare.{front_prepare, restarts_add as restarts_prepare}
-use Rattle.fate_laws.proofs.Logs.PreparedWritesStand.{AllFirm, firm_take, firm_restarted, doubt_stand}
+use Rattle.fate_laws.proofs.Logs.PreparedWritesStand.{Firmly, firmly_take, firm_restarted, doubt_stand}
 use Rattle.fate_laws.proofs.Parts.YesVotesArePrepared.{Bound, Reads}
 use Rattle.fate_laws.proofs.Parts.CommittedAreVotedFor.{HomeOr, Good, Parted}
 use Rattle.history_laws.proofs.Logs.DoubtedAreUndecided.{doubt_prepared}
@@ -68,7 +69,7 @@ pair_from log (x ∷ xs) t q i =
 
 -- ---- the state of a shard that comes back
 
-pub parted_state : (run : ℕ) (W : TxId → ℕ → List (ℕ × ℕ) → Type 0) (S : TxId → Type 0) (F : ℕ → TxId → Type 0) (shard own epoch : ℕ) (log : List LogRecord) (last : ℕ) (journal : List Entry) → AllFirm [] log
+pub parted_state : (run : ℕ) (W : TxId → ℕ → List (ℕ × ℕ) → Type 0) (S : TxId → Type 0) (F : ℕ → TxId → Type 0) (shard own epoch : ℕ) (log : List LogRecord) (last : ℕ) (journal : List Entry) → Firmly log (length log)
     → ((tx : TxId) → prepared_in log tx ≡ true → tx.run ≡ run → HomeOr W shard tx) → ((tx : TxId) → committed_in log tx ≡ true → Good run W F tx) → Parted run W S F (state_after shard own epoch log last journal)
 parted_state run W S F shard own epoch log last journal o k g =
     let t = state_after shard own epoch log last journal in
@@ -76,7 +77,7 @@ parted_state run W S F shard own epoch log last journal o k g =
       base = record {
         counted = omega arith;
         firm = o;
-        stands = λ tx e c. doubt_stand shard log tx o (restored_stage (in_doubt shard log) tx Closed c).1;
+        stands = λ tx e c. doubt_stand shard log (length log) tx o (restored_stage (in_doubt shard log) tx Closed c).1;
         listed = λ tx p q c e i. ⊎_elim (λ x. inl (all_durable log q x)) (λ x. inr (pair_there log (in_doubt shard log) tx q p (restored_stage (in_doubt shard log) tx Closed c).1 e i x)) (cases_Bool (committed_in log q));
         unprepared = λ tx a. absurd (differ (restored_stage (in_doubt shard log) tx Active a).0);
         seen = k;
@@ -97,11 +98,11 @@ pub revived_prepares : (s : Shard) (kept : Bool) (epoch : ℕ) (log : List LogRe
 revived_prepares s kept epoch log g t h =
     let q = prepare_some log t h in prepared_there s.local.log t q.0 (front_prepare _ s.local.log t q.0 (restarts_prepare s (log_left s kept) epoch log g t q.0 q.1))
 
-pub parted_revived : (run : ℕ) (W : TxId → ℕ → List (ℕ × ℕ) → Type 0) (S : TxId → Type 0) (F : ℕ → TxId → Type 0) (s : Shard) (kept : Bool) (epoch : ℕ) (log : List LogRecord) → Restarts s (log_left s kept) epoch log → Parted run W S F s
-    → Parted run W S F (revived s epoch log)
-parted_revived run W S F s kept epoch log g p =
+pub parted_revived : (run : ℕ) (W : TxId → ℕ → List (ℕ × ℕ) → Type 0) (S : TxId → Type 0) (F : ℕ → TxId → Type 0) (s : Shard) (kept : Bool) (epoch : ℕ) (log : List LogRecord) → Restarts s (log_left s kept) epoch log
+    → s.durable ≤ cond kept (unwrap_or s.flight s.durable) s.durable → Parted run W S F s → Parted run W S F (revived s epoch log)
+parted_revived run W S F s kept epoch log g l p =
     parted_state run W S F s.shard s.run epoch log s.last s.journal
-    (firm_restarted s (log_left s kept) epoch log g (firm_take _ s.local.log (p.base).firm))
+    (firm_restarted s (log_left s kept) epoch log s.durable g (firmly_take (cond kept (unwrap_or s.flight s.durable) s.durable) s.durable s.local.log l (p.base).firm))
     (λ tx h r. (p.base).seen tx (revived_prepares s kept epoch log g tx h) r)
     (λ tx h. p.log tx (front_committed _ s.local.log tx (restarts_add s (log_left s kept) epoch log g tx h)))
 

@@ -18,7 +18,12 @@ use Rattle.law_base.proofs.Changed.{none_some, some_same}
 use Rattle.protocol_laws.specs.Growth.{IsPrefixOf}
 use Rattle.protocol_laws.proofs.LogOnlyGrows.DueGrowsLogs.{chain, more}
 use Rattle.history_laws.specs.Openings.{LegalFrom}
-use Rattle.shard_laws.proofs.Order.RecordByRecord.{Follows, Plainly, from_disorder, last_push}
+use Rattle.shard_laws.specs.OneShard.{MayServe}
+use Rattle.shard_laws.proofs.Order.RecordByRecord.{Follows, Plainly, last_push, follows_append, above_later}
+use Rattle.shard_laws.proofs.Restarts.RestartsKeepOrder.{restarted_log, restart_follows}
+use Rattle.law_base.proofs.Parts.{in_order_cut, whole_part}
+use Rattle.fate_laws.proofs.EachShardLeads.{may_serve}
+use Rattle.history_laws.proofs.Logs.FoundLogsInOrder.{log_found}
 use Rattle.shard_laws.proofs.Keeping.RecordsAndFrontsKeep.{wrote_append}
 use Rattle.history_cases.proofs.Durability.{fronts_entries, opened_counted, left_front}
 use Rattle.history_laws.proofs.NeverTakenBack.LaterHistoriesHoldMembers.{committed_front}
@@ -91,7 +96,7 @@ last_next shard run log (Check run' epoch' upto base) k m = absurd cc
 no_own : (run : ℕ) (log : List LogRecord) (tx t : TxId) → t.run < run → LastFrom run log → may_write log tx ≡ true → tx_same t tx ≡ false
 no_own run log tx t l k m =
     false_from_ne_true _ (λ e.
-    let i : in_last_run log tx ≡ true = front _ _ (front _ _ (front _ _ (front _ _ m))) in
+    let i : in_last_run log tx ≡ true = front _ _ (front _ _ (front _ _ (front _ _ (front _ _ m)))) in
     let q = eqb-true tx.run (k.0).0 (subst (λ (o : Option (ℕ × ℕ)). elim o [ Some p ↦ tx.run == p.0 | None ↦ false ] ≡ true) k.1 i) in
     let f = ap (λ (z : TxId). z.run) (tx_true t tx e) in
     let g = k.2 in
@@ -106,9 +111,10 @@ none_behind : (shard run : ℕ) (log rs : List LogRecord) (t : TxId) → t.run <
 none_behind shard run log [] t l k f = refl
 none_behind shard run log (r ∷ rs) t l k f = ap (λ b. b || wrote_in rs t) (no_update shard run log r t l k f.0) ∙ none_behind shard run (log ++ r ∷ []) rs t l (last_next shard run log r k f.0) f.1
 
-pub follows_behind : (shard : ℕ) (log xs ys : List LogRecord) → Follows shard log (xs ++ ys) → Follows shard (log ++ xs) ys
-follows_behind shard log [] ys f = subst (λ l. Follows shard l ys) (sym (append-nil log)) f
-follows_behind shard log (x ∷ xs) ys f = subst (λ l. Follows shard l ys) (append_assoc log (x ∷ []) xs) (follows_behind shard (log ++ x ∷ []) xs ys f.1)
+-- what goes on in order from a log in order follows it
+pub follows_on : (shard : ℕ) (log more : List LogRecord) → (log ≡ [] → ⊥) → disorder shard log ≡ None → disorder shard (log ++ more) ≡ None → Follows shard log more
+follows_on shard [] more some own d = absurd (some refl)
+follows_on shard (r ∷ rs) more some own d = (in_order_cut shard (r ∷ rs) more (whole_part shard (r ∷ rs) own) d).1
 
 -- ---- what a crash leaves begins with what the shard opened with
 
@@ -126,21 +132,34 @@ opened_last before n =
     let found = log_of before n in
     ((run_after before, 0), ap last_restart (sym (append_assoc found (undo_records n found) (Restart (run_after before) 0 ∷ []))) ∙ last_new (found ++ undo_records n found) (run_after before) 0, omega arith)
 
--- what goes on from such a log has no UPDATE or ADD of an earlier one behind the log found
-pub more_of_earlier : (splits : List ℕ) (before : List (List LogRecord)) (n : ℕ) (left : List LogRecord) (t : TxId) → t.run < run_after before → disorder n left ≡ None → IsPrefixOf (log_after_restart n (log_of before n) (run_after before) 0) left
-    → (more : List LogRecord) × (log_of before n ++ more ≡ left) × (wrote_in more t ≡ false)
-more_of_earlier splits before n left t o d p =
+pub opened_some : (before : List (List LogRecord)) (n : ℕ) → log_after_restart n (log_of before n) (run_after before) 0 ≡ [] → ⊥
+opened_some before n e = none_some (opened_last before n).0 (sym (ap last_restart e) ∙ (opened_last before n).1)
+
+-- it is in order
+pub opened_in_order : (before : List (List LogRecord)) (n : ℕ) → MayServe n (run_after before) (log_of before n) → disorder n (log_after_restart n (log_of before n) (run_after before) 0) ≡ None
+opened_in_order before n m = restarted_log n (log_of before n) m.0 (run_after before) 0 (above_later (run_after before) 0 (log_of before n) m.1)
+
+-- what goes on from such a log follows the log found, and has no UPDATE or ADD of an earlier one behind it
+pub more_of_earlier : (splits : List ℕ) (before : List (List LogRecord)) (n : ℕ) (left : List LogRecord) (t : TxId) → t.run < run_after before → MayServe n (run_after before) (log_of before n) → disorder n left ≡ None
+    → IsPrefixOf (log_after_restart n (log_of before n) (run_after before) 0) left
+    → (more : List LogRecord) × (log_of before n ++ more ≡ left) × (wrote_in more t ≡ false) × Follows n (log_of before n) more
+more_of_earlier splits before n left t o m d p =
     let found = log_of before n in
     let records = restart_records n found (run_after before) 0 in
     let opened = log_after_restart n found (run_after before) 0 in
-    let whole : Follows n [] (opened ++ p.0) = subst (Follows n []) (sym p.1) (from_disorder n 0 [] left d) in
-    let none = none_behind n (run_after before) opened p.0 t o (opened_last before n) (follows_behind n [] opened p.0 whole) in
-    (records ++ p.0, sym (append_assoc found records p.0) ∙ p.1, wrote_append records p.0 t ∙ or_from _ _ (restart_writes_none n found (run_after before) 0 t) none)
+    let behind : Follows n opened p.0 = follows_on n opened p.0 (opened_some before n) (opened_in_order before n m) (subst (λ z. disorder n z ≡ None) (sym p.1) d) in
+    let none = none_behind n (run_after before) opened p.0 t o (opened_last before n) behind in (
+      records ++ p.0,
+      sym (append_assoc found records p.0) ∙ p.1,
+      wrote_append records p.0 t ∙ or_from _ _ (restart_writes_none n found (run_after before) 0 t) none,
+      follows_append n found records p.0 (restart_follows n found m.0 (run_after before) 0 (above_later (run_after before) 0 found m.1)) behind,
+    )
 
 pub left_more : {splits : List ℕ} {before after : List (List LogRecord)} {h : History} → LegalFrom splits before h after → (choice : ℕ → Bool) (n : ℕ) (t : TxId)
-    → n < shard_count splits → t.run < run_after before → (more : List LogRecord) × (log_of before n ++ more ≡ log_of (logs_left splits before h after choice) n) × (wrote_in more t ≡ false)
+    → n < shard_count splits → t.run < run_after before
+    → (more : List LogRecord) × (log_of before n ++ more ≡ log_of (logs_left splits before h after choice) n) × (wrote_in more t ≡ false) × Follows n (log_of before n) more
 left_more {splits} {before} {after} {h} l choice n t i o =
-    more_of_earlier splits before n (log_of (logs_left splits before h after choice) n) t o (logs_left_are_in_order splits before h after choice n l i)
+    more_of_earlier splits before n (log_of (logs_left splits before h after choice) n) t o (may_serve splits before n l.opens (log_found l n i)) (logs_left_are_in_order splits before h after choice n l i)
     (subst (IsPrefixOf (log_after_restart n (log_of before n) (run_after before) 0)) (sym (log_now splits before h after choice n i)) (left_begins splits before h after (choice n) n l.legal i))
 
 -- of whom, of an earlier run, a write stands in what is left on a shard, one stood there in the log found at opening

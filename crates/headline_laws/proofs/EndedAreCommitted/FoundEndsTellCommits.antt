@@ -8,14 +8,16 @@ use Rattle.clv_base.specs.declared.logs.LogRecord.{LogRecord}
 use Rattle.clv_base.specs.declared.logs.LogRecord.TheVariants.{Update, Clr, Prepare, Commit, Abort, End, Restart, Add, Unadd, Forgotten, Check}
 use Rattle.clv_base.specs.Orders.{nat_in}
 use Rattle.clv_base.specs.Logs.{is_prepare_of, is_commit_of, is_end_of, committed_in, ended_in, aborted_in, prepare_of, commit_parts}
-use Rattle.clv_base.specs.LogRules.{may_follow, commit_by_prepare, log_of, home_is, agrees_at, listed_in}
+use Rattle.clv_base.specs.LogRules.{part_of, disorder, log_of, home_is, agrees_at, listed_in}
 use Rattle.clv_base.specs.FileRules.{may_open}
 use Rattle.clv_base.specs.Restarts.{run_after, log_after_restart}
 use Rattle.clv_base.proofs.SameNames.{tx_true}
 use Rattle.law_base.proofs.Changed.{none_some, some_same}
 use Rattle.law_base.proofs.Commits.{committed_keeps}
 use Rattle.protocol_laws.proofs.LogsInOrder.OneRecordMore.{committed_there}
-use Rattle.shard_laws.proofs.Order.RecordByRecord.{Follows, through}
+use Rattle.law_base.specs.Coming.{commit_may_come, may_come, Comes, AllCome}
+use Rattle.law_base.proofs.InOrder.{through}
+use Rattle.law_base.proofs.Parts.{in_order_comes}
 use Rattle.shard_laws.proofs.Order.WhatRulingsMayWrite.{parts_new}
 use Rattle.history_cases.proofs.Uncommitting.{with_more}
 use Rattle.fate_laws.proofs.History.EntryByEntry.{DurableIn}
@@ -32,13 +34,22 @@ parts_some : (log : List LogRecord) (t : TxId) (o : Option (List ℕ)) (f : List
 parts_some log t None f e k = absurd (both_ways false refl k)
 parts_some log t (Some ps) f e k = committed_there log t ps e
 
-end_follows : (shard : ℕ) (log : List LogRecord) (r : LogRecord) (t : TxId) → may_follow shard log r ≡ true → is_end_of t r ≡ true → committed_in log t ≡ true
-end_follows shard log (End tx) t m e = subst (λ z. committed_in log z ≡ true) (sym (tx_true t tx e)) (parts_some log tx (commit_parts log tx) _ refl (last _ _ m))
-end_follows shard log _ t m e = absurd (both_ways false refl e)
+end_comes : (shard : ℕ) (part log : List LogRecord) (r : LogRecord) (t : TxId) → may_come shard part log r ≡ true → is_end_of t r ≡ true → committed_in log t ≡ true
+end_comes shard part log (End tx) t m e = subst (λ z. committed_in log z ≡ true) (sym (tx_true t tx e)) (parts_some log tx (commit_parts log tx) _ refl (last _ _ m))
+end_comes shard part log _ t m e = absurd (both_ways false refl e)
 
-ends_follow : (shard : ℕ) (before rs : List LogRecord) → Follows shard before rs → EndsFrom before rs
-ends_follow shard before [] f = tt
-ends_follow shard before (r ∷ rs) f = ((λ t. end_follows shard before r t f.0), ends_follow shard (before ++ r ∷ []) rs f.1)
+ends_come : (shard : ℕ) (part before rs : List LogRecord) → Comes shard part before rs → EndsFrom before rs
+ends_come shard part before [] f = tt
+ends_come shard part before (r ∷ rs) f = ((λ t. end_comes shard part before r t f.0), ends_come shard part (before ++ r ∷ []) rs f.1)
+
+-- a log in order
+ends_follow : (shard : ℕ) (log : List LogRecord) → disorder shard log ≡ None → EndsFrom [] log
+ends_follow shard log d = first log (in_order_comes shard log d)
+  where
+    first : (rs : List LogRecord) → AllCome shard (part_of log) rs → EndsFrom [] rs
+    first [] f = tt
+    first (End tx ∷ rs) f = absurd (both_ways false refl f.0)
+    first (r ∷ rs) f = ((λ t e. absurd (both_ways false refl e)), ends_come shard (part_of log) (r ∷ []) rs f.1)
 
 -- a COMMIT with parts stands at the home that a PREPARE names
 abbrev AtHome : ℕ → List LogRecord → Type 0
@@ -53,12 +64,12 @@ home_prepare shard log u home us n h t p q qs e c =
     let d = with_more log (Prepare u home us ∷ []) ((λ v. refl), tt) t (committed_there (log ++ Prepare u home us ∷ []) t (q ∷ qs) c) in
     ⊎_elim (λ a. h t p q qs a (parts_back log (Prepare u home us ∷ []) t (q ∷ qs) d c)) (λ a. absurd (both_ways (committed_in log t) (subst (λ z. committed_in log z ≡ false) (sym a.0) n) d)) (prepare_new log u home us t p e)
 
-home_by : (shard q : ℕ) (qs : List ℕ) (log : List LogRecord) (t : TxId) (p : ℕ × List TxId) → prepare_of log t ≡ Some p → commit_by_prepare shard log t (q ∷ qs) (prepare_of log t) ≡ true → p.0 ≡ shard
-home_by shard q qs log t p e m =
-    ⊎_elim (λ a. eqb-true p.0 shard a) (λ a. absurd (both_ways false refl a)) (or_cases (p.0 == shard) false (subst (λ o. commit_by_prepare shard log t (q ∷ qs) o ≡ true) e m))
+home_by : (shard q : ℕ) (qs : List ℕ) (part log : List LogRecord) (t : TxId) (p : ℕ × List TxId) → prepare_of log t ≡ Some p → commit_may_come shard part log t (q ∷ qs) (prepare_of log t) ≡ true → p.0 ≡ shard
+home_by shard q qs part log t p e m =
+    ⊎_elim (λ a. eqb-true p.0 shard a) (λ a. absurd (both_ways false refl a)) (or_cases (p.0 == shard) false (subst (λ o. commit_may_come shard part log t (q ∷ qs) o ≡ true) e m))
 
-home_commit : (shard : ℕ) (log : List LogRecord) (u : TxId) (parts : List ℕ) → commit_by_prepare shard log u parts (prepare_of log u) ≡ true → AtHome shard log → AtHome shard (log ++ Commit u parts ∷ [])
-home_commit shard log u parts m h t p q qs e c = at (committed_in log t) refl
+home_commit : (shard : ℕ) (part log : List LogRecord) (u : TxId) (parts : List ℕ) → commit_may_come shard part log u parts (prepare_of log u) ≡ true → AtHome shard log → AtHome shard (log ++ Commit u parts ∷ [])
+home_commit shard part log u parts m h t p q qs e c = at (committed_in log t) refl
   where
     old : prepare_of log t ≡ Some p
     old = plain_more log (Commit u parts ∷ []) ((λ v. refl), tt) t p e
@@ -68,26 +79,28 @@ home_commit shard log u parts m h t p q qs e c = at (committed_in log t) refl
     at false k =
         let s = ⊎_elim (λ a. absurd (both_ways (committed_in log t) k a)) (λ a. a) (new_commit log u parts t (committed_there (log ++ Commit u parts ∷ []) t (q ∷ qs) c)) in
         let f : parts ≡ q ∷ qs = some_same parts (q ∷ qs) (sym (parts_new log u parts (subst (λ z. committed_in log z ≡ false) s k)) ∙ subst (λ z. commit_parts (log ++ Commit u parts ∷ []) z ≡ Some (q ∷ qs)) s c) in
-        home_by shard q qs log u p (subst (λ z. prepare_of log z ≡ Some p) s old) (subst (λ z. commit_by_prepare shard log u z (prepare_of log u) ≡ true) f m)
+        home_by shard q qs part log u p (subst (λ z. prepare_of log z ≡ Some p) s old) (subst (λ z. commit_may_come shard part log u z (prepare_of log u) ≡ true) f m)
 
-home_step : (shard : ℕ) (log : List LogRecord) (r : LogRecord) → AtHome shard log → may_follow shard log r ≡ true → AtHome shard (log ++ r ∷ [])
-home_step shard log (Commit u parts) h m = home_commit shard log u parts (last _ _ (front _ _ m)) h
-home_step shard log (Prepare u home us) h m = home_prepare shard log u home us (not-true _ (last _ _ (front _ _ (front _ _ (front _ _ m))))) h
-home_step shard log (Update u k b a) h m = home_plain shard log (Update u k b a) (λ t. refl) (λ t. refl) h
-home_step shard log (Clr u n k a) h m = home_plain shard log (Clr u n k a) (λ t. refl) (λ t. refl) h
-home_step shard log (Abort u) h m = home_plain shard log (Abort u) (λ t. refl) (λ t. refl) h
-home_step shard log (End u) h m = home_plain shard log (End u) (λ t. refl) (λ t. refl) h
-home_step shard log (Restart run epoch) h m = home_plain shard log (Restart run epoch) (λ t. refl) (λ t. refl) h
-home_step shard log (Add u k by) h m = home_plain shard log (Add u k by) (λ t. refl) (λ t. refl) h
-home_step shard log (Unadd u n k by) h m = home_plain shard log (Unadd u n k by) (λ t. refl) (λ t. refl) h
-home_step shard log Forgotten h m = home_plain shard log Forgotten (λ t. refl) (λ t. refl) h
-home_step shard log (Check run' epoch' upto base) h m = home_plain shard log (Check run' epoch' upto base) (λ t. refl) (λ t. refl) h
+home_step : (shard : ℕ) (part log : List LogRecord) (r : LogRecord) → AtHome shard log → may_come shard part log r ≡ true → AtHome shard (log ++ r ∷ [])
+home_step shard part log (Commit u parts) h m = home_commit shard part log u parts (last _ _ (front _ _ m)) h
+home_step shard part log (Prepare u home us) h m = home_prepare shard log u home us (not-true _ (last _ _ (front _ _ (front _ _ (front _ _ m))))) h
+home_step shard part log (Update u k b a) h m = home_plain shard log (Update u k b a) (λ t. refl) (λ t. refl) h
+home_step shard part log (Clr u n k a) h m = home_plain shard log (Clr u n k a) (λ t. refl) (λ t. refl) h
+home_step shard part log (Abort u) h m = home_plain shard log (Abort u) (λ t. refl) (λ t. refl) h
+home_step shard part log (End u) h m = home_plain shard log (End u) (λ t. refl) (λ t. refl) h
+home_step shard part log (Restart run epoch) h m = home_plain shard log (Restart run epoch) (λ t. refl) (λ t. refl) h
+home_step shard part log (Add u k by) h m = home_plain shard log (Add u k by) (λ t. refl) (λ t. refl) h
+home_step shard part log (Unadd u n k by) h m = home_plain shard log (Unadd u n k by) (λ t. refl) (λ t. refl) h
+home_step shard part log Forgotten h m = home_plain shard log Forgotten (λ t. refl) (λ t. refl) h
+home_step shard part log (Check run' epoch' upto base) h m = home_plain shard log (Check run' epoch' upto base) (λ t. refl) (λ t. refl) h
 
 home_first : (shard : ℕ) → AtHome shard []
 home_first shard t p q qs e c = absurd (none_some p e)
 
-at_home : (shard : ℕ) (log : List LogRecord) → Follows shard [] log → AtHome shard log
-at_home shard log f = through (AtHome shard) shard [] log tt f (home_first shard) (λ l r g h m. home_step shard l r h m)
+at_home : (shard : ℕ) (log : List LogRecord) → disorder shard log ≡ None → AtHome shard log
+at_home shard log d =
+    through (AtHome shard) shard (part_of log) (λ l r g h m. home_step shard (part_of log) l r h m) log (in_order_comes shard log d) (home_first shard)
+    (λ run epoch upto base rises t p q qs e c. absurd (none_some p e))
 
 -- ---- its home is the shard whose COMMIT has parts
 
@@ -138,6 +151,6 @@ durable_opened before after m t c =
 
 pub opening_tells : (splits : List ℕ) (before after : List (List LogRecord)) (n : ℕ) → may_open splits before ≡ true → n < length before → Tell (DurableIn before after []) (log_of before n)
 opening_tells splits before after n o l = record {
-  behind = ends_follow n [] (log_of before n) (in_order splits before n o l);
+  behind = ends_follow n (log_of before n) (in_order splits before n o l);
   parts = λ t ps m e c i. durable_opened before after m t (opening_ended splits before n m t ps o l e c i);
 }

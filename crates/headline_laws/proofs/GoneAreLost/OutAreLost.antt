@@ -5,7 +5,7 @@ use Rattle.std.proofs.lemmas.Bool.{both_ways, false_from_ne_true}
 use Rattle.clv_base.specs.declared.names.TxId.{TxId}
 use Rattle.clv_base.specs.declared.logs.LogRecord.{LogRecord}
 use Rattle.clv_base.specs.Shards.{shard_count}
-use Rattle.clv_base.specs.LogRules.{log_of}
+use Rattle.clv_base.specs.LogRules.{part_of, log_of}
 use Rattle.clv_base.specs.Orders.{tx_in}
 use Rattle.clv_base.specs.Logs.{committed_in, aborted_in, prepare_of, in_doubt}
 use Rattle.clv_base.specs.State.{Shard, is_present}
@@ -13,20 +13,20 @@ use Rattle.clv_base.specs.Restarts.{run_after, restart_records, log_after_restar
 use Rattle.clv_base.specs.Journals.{History, event_state}
 use Rattle.law_base.proofs.Commits.{committed_keeps}
 use Rattle.history_cases.proofs.Entering.{Makes, makes}
-use Rattle.history_cases.proofs.Merging.{Placed}
+use Rattle.history_cases.proofs.Merging.{Placed, among_left}
 use Rattle.history_cases.proofs.Worlds.{state_at}
 use Rattle.history_laws.specs.Openings.{LegalFrom}
 use Rattle.history_laws.proofs.Logs.FoundLogsInOrder.{log_found}
 use Rattle.shard_laws.proofs.Restarts.RestoredLocksAndParts.{restored_closed}
 use Rattle.fate_laws.proofs.Logs.WhatAddsNoPrepare.{opening_adds as opening_prepares}
 use Rattle.fate_laws.proofs.Parts.FoundCommitsAreBound.{opening_settled, opening_home, opening_unaborted}
-use Rattle.fate_laws.proofs.History.EntryByEntry.{Next, next_at, each_shard}
+use Rattle.fate_laws.proofs.History.EntryByEntry.{Next, next_at, each_shard, asked_later}
 use Rattle.fate_laws.proofs.Homes.FrontsKeepHomes.{Fated, dead_later}
 use Rattle.fate_laws.proofs.Parts.FrontsKeepParts.{bindings_front}
 use Rattle.fate_laws.specs.Earlier.{WasCommitted}
-use Rattle.fate_laws.proofs.FallenAreUncommitted.PreparesListEarlierOnes.{Why, follows_ahead, not_in_doubt}
+use Rattle.fate_laws.proofs.FallenAreUncommitted.PreparesListEarlierOnes.{Why, order_ahead, not_in_doubt}
 use Rattle.fate_laws.proofs.FallenAreUncommitted.OutIsLost.{Absent, Out, Lost, lost_inactive}
-use Rattle.fate_laws.proofs.FallenAreUncommitted.FrontsKeepOutUncommitted.{Denied, Met, WasOut, empty_front, last_front, Stands, stands_front, walk_on}
+use Rattle.fate_laws.proofs.FallenAreUncommitted.FrontsKeepOutUncommitted.{Denied, Met, WasOut, met_front, empty_front, last_front, Stands, stands_front, walk_on}
 use Rattle.headline_laws.proofs.GoneAreLost.FrontsKeepAbortedAway.{struck_front}
 use Rattle.headline_laws.proofs.GoneAreLost.WhyPreparedOnesGo.{opening_doubts, WasPrepared, GoesBy, prepares_made, goes_made, aborted_take}
 use Rattle.protocol_laws.proofs.LogsInOrder.OneRecordMore.{prepared_there}
@@ -47,7 +47,7 @@ AllLost before after n pre = (t : TxId) (p : ℕ × List TxId) → Followed befo
 -- who was committed in some log at opening, and is prepared here, is here when the shard opens, or committed
 here_at_opening : {splits : List ℕ} {before after : List (List LogRecord)} {h : History} → LegalFrom splits before h after → (n : ℕ) (t : TxId) (p : ℕ × List TxId)
     → n < shard_count splits → WasCommitted before t → WasOut before after [] n t → prepare_of (state_at before after n []).local.log t ≡ Some p → ⊥
-here_at_opening {splits} {before} {after} l n t p i c (front, rest, z, y) k = by_why (not_in_doubt n (log_of before n) t p (follows_ahead n [] (log_of before n) (log_follows splits before n l.opens (log_found l n i))) was undoubted unc)
+here_at_opening {splits} {before} {after} l n t p i c (front, rest, z, y) k = by_why (not_in_doubt n (part_of (log_of before n)) (log_of before n) t p (order_ahead n (log_of before n) (log_follows splits before n l.opens (log_found l n i))) was undoubted unc)
   where
     out : Out (Met before [] [] n) (state_at before after n []) t
     out = subst (λ f. Out (Met before f f n) (state_at before after n f) t) (empty_front front rest z) y
@@ -121,11 +121,11 @@ module _ {splits : List ℕ} {before after : List (List LogRecord)} {h : History
           (pre, [], append-nil pre, (k.0, k.1, ((old n i).barred).sought t (prepared_there s.local.log t p f)))
 
   goes : (t : TxId) (p : ℕ × List TxId) → Absent (state_at before after n (pre ++ e ∷ [])) t → prepare_of (state_at before after n (pre ++ e ∷ [])).local.log t ≡ Some p → committed_in (state_at before after n (pre ++ e ∷ [])).local.log t ≡ false
-      → aborted_in (log_left (state_at before after n (pre ++ e ∷ [])) false) t ≡ true → GoesBy (state_at before after n pre) (state_at before after n (pre ++ e ∷ [])) t p
+      → aborted_in (log_left (state_at before after n (pre ++ e ∷ [])) false) t ≡ true → GoesBy (Met before pre pre n) (state_at before after n pre) (state_at before after n (pre ++ e ∷ [])) t p
   goes t p =
-      each_shard (λ m z. Absent z t → prepare_of z.local.log t ≡ Some p → committed_in z.local.log t ≡ false → aborted_in (log_left z false) t ≡ true → GoesBy (state_at before after m pre) z t p) before after e pre
-      (subst (λ (z : Shard). Absent z t → prepare_of z.local.log t ≡ Some p → committed_in z.local.log t ≡ false → aborted_in (log_left z false) t ≡ true → GoesBy (state_at before after e.0 pre) z t p) (sym (w.split).next)
-      (λ x k y b. goes_made (log_of after e.0) (state_at before after e.0 pre) _ t p made ((fated.counts).counted e.0 w.inside) (((old e.0 w.inside).barred).lined).ahead x k y b)) n
+      each_shard (λ m z. Absent z t → prepare_of z.local.log t ≡ Some p → committed_in z.local.log t ≡ false → aborted_in (log_left z false) t ≡ true → GoesBy (Met before pre pre m) (state_at before after m pre) z t p) before after e pre
+      (subst (λ (z : Shard). Absent z t → prepare_of z.local.log t ≡ Some p → committed_in z.local.log t ≡ false → aborted_in (log_left z false) t ≡ true → GoesBy (Met before pre pre e.0) (state_at before after e.0 pre) z t p) (sym (w.split).next)
+      (λ x k y b. let o = (old e.0 w.inside).barred in goes_made o.part (Met before pre pre e.0) (log_of after e.0) (state_at before after e.0 pre) _ t p made ((fated.counts).counted e.0 w.inside) (o.lined).ahead (λ u g. (o.gone u g).2) x k y b)) n
       (λ x k y b. inl (aborted_take _ (state_at before after n pre).local.log t b))
 
   lost_now : (t : TxId) (p : ℕ × List TxId) → Followed before t → Out (Met before (pre ++ e ∷ []) (pre ++ e ∷ []) n) (state_at before after n (pre ++ e ∷ [])) t → prepare_of (state_at before after n (pre ++ e ∷ [])).local.log t ≡ Some p
@@ -138,10 +138,10 @@ module _ {splits : List ℕ} {before after : List (List LogRecord)} {h : History
       shard : (state_at before after n (pre ++ e ∷ [])).shard ≡ n
       shard = ((bindings_front l (pre ++ e ∷ []) post later).fated.counts).shard n i
 
-      by_goes : GoesBy (state_at before after n pre) (state_at before after n (pre ++ e ∷ [])) t p → LostAt before after (pre ++ e ∷ []) n t p
+      by_goes : GoesBy (Met before pre pre n) (state_at before after n pre) (state_at before after n (pre ++ e ∷ [])) t p → LostAt before after (pre ++ e ∷ []) n t p
       by_goes (inl b) = struck t p r b k
       by_goes (inr (inl z)) = inl (z ∙ (fated.counts).shard n i)
-      by_goes (inr (inr (u, m, x, d, g))) = inr (inr (u, m, whole u (x, d, (new.barred).sought u g)))
+      by_goes (inr (inr (u, m, x, d, g))) = inr (inr (u, m, whole u (x, d, ⊎_elim (λ b. (new.barred).sought u b) (λ b. met_front before pre pre (pre ++ e ∷ []) (pre ++ e ∷ []) n u (λ j c. asked_later pre e u j c) (λ y c. among_left y pre (e ∷ []) c) b) g)))
 
       by_lost : Lost (Denied before after (pre ++ e ∷ [])) (WasOut before after (pre ++ e ∷ []) n) (Met before (pre ++ e ∷ []) (pre ++ e ∷ []) n) (state_at before after n (pre ++ e ∷ [])) t p → LostAt before after (pre ++ e ∷ []) n t p
       by_lost (inl (b, x)) = by_goes (goes t p x k y.1 b)

@@ -1,5 +1,5 @@
 -- Who goes with an entry although it is prepared and has no COMMIT: an ABORT of it stood in the log, or its home is here, or its PREPARE lists
--- one that is out after the entry.
+-- one that is out after the entry, prepared or let go.
 use Rattle.std.proofs.Common.{◌≡◌, ◌⊎◌, inl, inr, ⊎_elim, refl, sym, ap, subst, ◌∙◌, ℕ, ◌≤◌, true, false, Bool, List, [], ◌∷◌, ◌++◌, length, Some, append-nil, append_assoc, take-append-drop}
 use Rattle.std.specs.Prelude.{take, drop}
 use Rattle.std.specs.List.{AllByRecursion}
@@ -22,6 +22,7 @@ use Rattle.history_cases.proofs.Entering.{Makes, by_event, by_flush, by_failure,
 use Rattle.history_cases.proofs.Durability.{Counted, restarts_front}
 use Rattle.law_base.proofs.Doubts.{doubts_more}
 use Rattle.law_base.proofs.Lists.{all_taken}
+use Rattle.law_base.specs.Coming.{is_let_go}
 use Rattle.history_laws.proofs.NeverTakenBack.LaterHistoriesHoldMembers.{committed_front}
 use Rattle.history_cases.proofs.Uncommitting.{restarts_add as restarts_commits}
 use Rattle.shard_laws.proofs.Restarts.WinnersKeepTheirWrites.{Plain, plain_restart}
@@ -88,18 +89,19 @@ restarts_doubts : (s : Shard) (found : List LogRecord) (epoch : ℕ) (after : Li
 restarts_doubts s found epoch after (left, f, e, q) =
     ap (in_doubt s.shard) q ∙ opening_doubts s.shard left s.run epoch ∙ failed_doubts s found left f
 
-abbrev pub GoesBy : Shard → Shard → TxId → ℕ × List TxId → Type 0
-GoesBy s x t p = (aborted_in s.local.log t ≡ true) ⊎ ((p.0 ≡ s.shard) ⊎ ((q : TxId) × (tx_in q p.1 ≡ true) × Absent x q × (committed_in x.local.log q ≡ false) × (prepared_in x.local.log q ≡ true)))
+-- L: whom a checkpoint let go
+abbrev pub GoesBy : (TxId → Type 0) → Shard → Shard → TxId → ℕ × List TxId → Type 0
+GoesBy L s x t p = (aborted_in s.local.log t ≡ true) ⊎ ((p.0 ≡ s.shard) ⊎ ((q : TxId) × (tx_in q p.1 ≡ true) × Absent x q × (committed_in x.local.log q ≡ false) × ((prepared_in x.local.log q ≡ true) ⊎ L q)))
 
-revived_goes : (s : Shard) (n : ℕ) (epoch : ℕ) (log : List LogRecord) (t : TxId) (p : ℕ × List TxId) → Restarts s (take n s.local.log) epoch log → Ahead [] s.local.log
-    → Absent (revived s epoch log) t → prepare_of log t ≡ Some p → committed_in log t ≡ false → GoesBy s (revived s epoch log) t p
-revived_goes s n epoch log t p r a out k c = by_reason (not_in_doubt s.shard cut t p ahead prep (doubt t (at (tx_in t (in_doubt s.shard log)) refl)) (still_open t c))
+revived_goes : (part : List LogRecord) (L : TxId → Type 0) (s : Shard) (n : ℕ) (epoch : ℕ) (log : List LogRecord) (t : TxId) (p : ℕ × List TxId) → Restarts s (take n s.local.log) epoch log → Ahead part [] s.local.log → ((q : TxId) → is_let_go part q ≡ true → L q)
+    → Absent (revived s epoch log) t → prepare_of log t ≡ Some p → committed_in log t ≡ false → GoesBy L s (revived s epoch log) t p
+revived_goes part L s n epoch log t p r a gone out k c = by_reason (not_in_doubt s.shard part cut t p ahead prep (doubt t (at (tx_in t (in_doubt s.shard log)) refl)) (still_open t c))
   where
     cut : List LogRecord
     cut = take n s.local.log
 
-    ahead : Ahead [] (take n s.local.log)
-    ahead = ahead_take n s.local.log a
+    ahead : Ahead part [] (take n s.local.log)
+    ahead = ahead_take part n s.local.log a
 
     doubts : in_doubt s.shard log ≡ in_doubt s.shard (take n s.local.log)
     doubts = restarts_doubts s (take n s.local.log) epoch log r
@@ -129,7 +131,7 @@ revived_goes s n epoch log t p r a out k c = by_reason (not_in_doubt s.shard cut
         let g = restarts_front s (take n s.local.log) epoch log r in
         prepared_there log u z.0 (subst (λ l. prepare_of l u ≡ Some z.0) g.1 (prepare_more (take n s.local.log) g.0 u z.0 z.1))
 
-    by_reason : Why (take n s.local.log) s.shard (in_doubt s.shard (take n s.local.log)) t p → GoesBy s (revived s epoch log) t p
+    by_reason : Why (take n s.local.log) s.shard (in_doubt s.shard (take n s.local.log)) t p → GoesBy L s (revived s epoch log) t p
     by_reason (inl h) = inl (aborted_take n s.local.log t h)
     by_reason (inr (inl z)) = inr (inl z)
     by_reason (inr (inr (q, m, d, i))) =
@@ -138,14 +140,14 @@ revived_goes s n epoch log t p r a out k c = by_reason (not_in_doubt s.shard cut
           m,
           ap is_present (restored_none (in_doubt s.shard log) q (undoubted q i)),
           opens q d,
-          ⊎_elim (λ h. there q h) (λ h. absurd (both_ways _ d h)) (listed_front (take n s.local.log) [] (take n s.local.log) t q p refl ahead prep m),
+          ⊎_elim (λ h. inl (there q h)) (λ h. ⊎_elim (λ b. absurd (both_ways _ d b)) (λ g. inr (gone q g)) h) (listed_front part (take n s.local.log) [] (take n s.local.log) t q p refl ahead prep m),
         ))
 
-pub goes_made : (log : List LogRecord) (s x : Shard) {e : Event} {o : Outcome} (t : TxId) (p : ℕ × List TxId) → Makes log s e o x → Counted s → Ahead [] s.local.log
-    → Absent x t → prepare_of x.local.log t ≡ Some p → committed_in x.local.log t ≡ false → aborted_in (log_left x false) t ≡ true → GoesBy s x t p
-goes_made log s _ t p (by_event g (finishes {t = x} u h)) c a out k n d = inl (aborted_before s (finish x) t (inside_finish s x (inside_step s x h)) c.within d)
-goes_made log s _ t p (by_event g (stops u)) c a out k n d = inl (aborted_take s.durable s.local.log t d)
-goes_made log s _ t p (by_flush m u g) c a out k n d =
+pub goes_made : (part : List LogRecord) (L : TxId → Type 0) (log : List LogRecord) (s x : Shard) {e : Event} {o : Outcome} (t : TxId) (p : ℕ × List TxId) → Makes log s e o x → Counted s → Ahead part [] s.local.log → ((q : TxId) → is_let_go part q ≡ true → L q)
+    → Absent x t → prepare_of x.local.log t ≡ Some p → committed_in x.local.log t ≡ false → aborted_in (log_left x false) t ≡ true → GoesBy L s x t p
+goes_made part L log s _ t p (by_event g (finishes {t = x} u h)) c a gone out k n d = inl (aborted_before s (finish x) t (inside_finish s x (inside_step s x h)) c.within d)
+goes_made part L log s _ t p (by_event g (stops u)) c a gone out k n d = inl (aborted_take s.durable s.local.log t d)
+goes_made part L log s _ t p (by_flush m u g) c a gone out k n d =
     let z = with_durable m s in inl (aborted_before z (finish z) t (inside_finish z z (inside_self z)) (c.flying m g).1 d)
-goes_made log s _ t p (by_failure m u g) c a out k n d = inl (aborted_take s.durable s.local.log t d)
-goes_made log s _ t p (by_restart epoch kept u r) c a out k n d = revived_goes s _ epoch (up_to_restart s.run epoch log) t p r a out k n
+goes_made part L log s _ t p (by_failure m u g) c a gone out k n d = inl (aborted_take s.durable s.local.log t d)
+goes_made part L log s _ t p (by_restart epoch kept u r) c a gone out k n d = revived_goes part L s _ epoch (up_to_restart s.run epoch log) t p r a gone out k n

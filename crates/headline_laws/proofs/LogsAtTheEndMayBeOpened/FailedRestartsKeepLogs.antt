@@ -1,6 +1,6 @@
 -- What failed restarts add to a log: ABORTs, CLRs, UNADDs and RESTARTs, and none of them of one that is committed or in doubt. So the log stays
 -- in order and keeps what it tells.
-use Rattle.std.proofs.Common.{◌≡◌, refl, sym, ap, subst, ◌∙◌, ℕ, true, false, Bool, ◌||◌, List, [], ◌∷◌, ◌++◌, append_assoc, append-nil, take-append-drop}
+use Rattle.std.proofs.Common.{◌≡◌, refl, sym, ap, subst, ◌∙◌, ℕ, ◌≤◌, None, length, true, false, Bool, ◌||◌, List, [], ◌∷◌, ◌++◌, append_assoc, append-nil, take-append-drop}
 use Rattle.std.specs.Prelude.{take, drop, not}
 use Rattle.std.specs.List.{AllByRecursion, list_any}
 use Rattle.std.proofs.lemmas.Bool.{both_ways, false_from_ne_true, or_left}
@@ -13,11 +13,14 @@ use Rattle.clv_base.specs.State.{Shard}
 use Rattle.clv_base.specs.Logs.{is_update_of, is_commit_of, is_end_of, is_abort_of, wrote_in, committed_in, ended_in, aborted_in, has_standing, standing, writers, in_doubt, is_winner}
 use Rattle.clv_base.specs.Restarts.{losers, restart_records, next_epoch, FailedRestarts, untouched, failed_first, Restarts}
 use Rattle.law_base.proofs.Lists.{all_append}
-use Rattle.shard_laws.proofs.Order.RecordByRecord.{Follows, follows_front}
+use Rattle.clv_base.specs.LogRules.{disorder}
+use Rattle.law_base.proofs.Parts.{in_order_cut, whole_part}
+use Rattle.law_base.proofs.Places.{upto_later, undo_upto}
+use Rattle.shard_laws.proofs.Order.RecordByRecord.{Follows}
 use Rattle.shard_laws.proofs.Order.WritesLieOnListed.{order_of}
 use Rattle.shard_laws.proofs.Cuts.WhoIsInDoubt.{doubted}
 use Rattle.shard_laws.proofs.Restarts.WinnersKeepTheirWrites.{Plain, Found, winners, none_update, found_more, loser_out, plain_restart, of_restarts}
-use Rattle.shard_laws.proofs.Restarts.RestartsKeepOrder.{Fine, found_self, all_first, renewed_by}
+use Rattle.shard_laws.proofs.Restarts.RestartsKeepOrder.{Fine, found_self, all_first, fine_failed}
 use Rattle.shard_laws.proofs.Order.WhoseWritesStand.{writer_has}
 use Rattle.law_base.proofs.Sets.{in_filter}
 use Rattle.law_base.proofs.Standing.{stood_before}
@@ -99,17 +102,19 @@ pub record Stays (splits : List ℕ) (shard : ℕ) (cut log : List LogRecord) : 
   pub goes : cut ++ more ≡ log
   pub kinds : AllByRecursion IsUndo more
   pub spared : (keep : TxId → Bool) → Keeps shard cut keep → AllByRecursion (Spares keep) more
-  pub follows : Follows shard [] log
+  pub in_order : disorder shard log ≡ None
+  pub behind : Follows shard cut more
   pub passes : Passes splits shard log
   pub spares : (t : TxId) → tx_in t (in_doubt shard cut) ≡ true → aborted_in log t ≡ false
 
-pub stays_same : (splits : List ℕ) (shard : ℕ) (log : List LogRecord) → Follows shard [] log → Passes splits shard log → Stays splits shard log log
+pub stays_same : (splits : List ℕ) (shard : ℕ) (log : List LogRecord) → disorder shard log ≡ None → Passes splits shard log → Stays splits shard log log
 stays_same splits shard log f p = record {
   more = [];
   goes = append-nil log;
   kinds = tt;
   spared = λ keep out. tt;
-  follows = f;
+  in_order = f;
+  behind = tt;
   passes = p;
   spares = λ t i. (doubted shard log t (order_of shard log f).sealed i).unaborted;
 }
@@ -126,12 +131,14 @@ stays_failed splits s cut log x p f =
     let r : Restarts s cut epoch (log ++ rs) = (log, f, refl, refl) in
     let k = (of_restarts s cut cut epoch (log ++ rs) (found_self s.shard cut (order_of s.shard cut x.0)) r).found in
     let a = added s cut cut log (found_self s.shard cut (order_of s.shard cut x.0)) (λ t h. h) f in
+    let own : disorder s.shard log ≡ None = (fine_failed s cut log x f).0 in
     record {
       more = a.more;
       goes = a.goes;
       kinds = a.kinds;
       spared = a.spared;
-      follows = follows_front s.shard [] log rs (renewed_by s cut epoch (log ++ rs) x r).follows;
+      in_order = own;
+      behind = (in_order_cut s.shard cut a.more (subst (λ n. n ≤ length cut) (sym (upto_later cut a.more (undo_upto a.more a.kinds))) (whole_part s.shard cut x.0)) (subst (λ z. disorder s.shard z ≡ None) (sym a.goes) own)).1;
       passes = passes_first splits s.shard log rs (restarts_pass splits s.shard s cut epoch (log ++ rs) r p);
       spares = λ t i. false_from_ne_true _ (λ z.
           both_ways _ (doubted s.shard (log ++ rs) t k.sealed (subst (λ l. tx_in t l ≡ true) (sym k.doubts) i)).unaborted (list_any-append (is_abort_of t) log rs ∙ or_left _ _ z));

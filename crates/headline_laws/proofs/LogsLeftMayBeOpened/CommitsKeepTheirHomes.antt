@@ -29,7 +29,6 @@ use Rattle.history_laws.proofs.NeverTakenBack.{walker_of, one_request, log_now}
 use Rattle.history_cases.proofs.Worlds.{in_a_shard}
 use Rattle.law_base.proofs.Standing.{standing_wrote}
 use Rattle.shard_laws.proofs.Cuts.WhoIsInDoubt.{prepared_cut}
-use Rattle.shard_laws.proofs.Order.RecordByRecord.{from_disorder}
 use Rattle.shard_laws.proofs.Order.WritesLieOnListed.{ended_committed}
 use Rattle.fate_laws.proofs.History.EntriesInTurn.{Requested}
 use Rattle.fate_laws.proofs.Origins.FrontsKeepOrigins.{DidOrOld, IsOld, OriginsAt, traced_front}
@@ -117,7 +116,7 @@ module _ {splits : List ℕ} {before after : List (List LogRecord)} {h : History
   left_last n i = log_now splits before h after choice n i
 
   left_ended : (n : ℕ) → n < shard_count splits → ended_in (log_of left n) t ≡ true → committed_in (last n).local.log t ≡ true
-  left_ended n i x = left_committed splits before h after choice n t i (ended_committed n (log_of left n) (from_disorder n 0 [] (log_of left n) (orders n i)) t x)
+  left_ended n i x = left_committed splits before h after choice n t i (ended_committed n (log_of left n) (orders n i) t x)
 
   left_prepared : (n : ℕ) → n < shard_count splits → prepared_in (log_of left n) t ≡ true → prepared_in (last n).local.log t ≡ true
   left_prepared n i x = prepared_cut _ (last n).local.log t (subst (λ z. prepared_in z t ≡ true) (left_last n i) x)

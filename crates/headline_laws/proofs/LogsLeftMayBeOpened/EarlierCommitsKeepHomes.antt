@@ -1,14 +1,14 @@
 -- A transaction of an earlier run that is committed in the logs left has the home that it had at opening.
 use Rattle.std.proofs.Common.{◌≡◌, inl, inr, ⊎_elim, refl, sym, ap, subst, ◌∙◌, ℕ, ◌<◌, true, false, Bool, ◌==◌, List, [], ◌∷◌, ◌++◌, Option, Some, None, length, arith, append-nil, append_assoc, eqb-true}
 use Rattle.std.specs.List.{list_all}
-use Rattle.std.proofs.lemmas.Bool.{both_ways, false_from_ne_true, or_cases, or_left}
+use Rattle.std.proofs.lemmas.Bool.{both_ways, and_parts, false_from_ne_true, or_cases, or_left}
 use Rattle.std.proofs.lemmas.List.Folds.{list_any-append}
 use Rattle.clv_base.specs.declared.names.TxId.{TxId}
 use Rattle.clv_base.specs.declared.logs.LogRecord.{LogRecord}
 use Rattle.clv_base.specs.declared.logs.LogRecord.TheVariants.{Commit}
 use Rattle.clv_base.specs.Shards.{shard_count}
 use Rattle.clv_base.specs.Logs.{is_commit_of, is_prepare_of, has_standing, committed_in, prepared_in, aborted_in, prepare_of, commit_parts}
-use Rattle.clv_base.specs.LogRules.{log_of, home_is, may_follow, commit_by_prepare}
+use Rattle.clv_base.specs.LogRules.{log_of, home_is, may_follow, commit_by_prepare, part_of, disorder}
 use Rattle.clv_base.specs.Restarts.{run_after, log_after_restart}
 use Rattle.clv_base.specs.Journals.{History, final_of}
 use Rattle.clv_base.specs.History.{logs_left}
@@ -18,7 +18,10 @@ use Rattle.protocol_laws.proofs.LogsInOrder.OneRecordMore.{committed_there, prep
 use Rattle.history_cases.proofs.Uncommitting.{opening_adds}
 use Rattle.history_laws.specs.Openings.{LegalFrom}
 use Rattle.history_laws.proofs.Logs.FoundLogsInOrder.{log_found}
-use Rattle.shard_laws.proofs.Order.RecordByRecord.{Follows, from_disorder}
+use Rattle.shard_laws.proofs.Order.RecordByRecord.{Follows}
+use Rattle.shard_laws.proofs.Order.WhoIsListed.{part_more}
+use Rattle.law_base.proofs.LetGo.{in_part}
+use Rattle.fate_laws.proofs.EachShardLeads.{may_serve}
 use Rattle.shard_laws.proofs.Order.WritesLieOnListed.{ended_committed}
 use Rattle.shard_laws.proofs.Order.WhoseWritesStand.{prepared_stands}
 use Rattle.shard_laws.proofs.Keeping.RecordsAndFrontsKeep.{aborted_append}
@@ -30,7 +33,7 @@ use Rattle.fate_laws.proofs.EarlierRuns.EarlierFatesAreKnown.{earlier_commits_ar
 use Rattle.headline_laws.proofs.GoneAreLost.FrontsKeepAbortedAway.{struck_front}
 use Rattle.headline_laws.proofs.EarlierMembersNeverFell.{never_out, committed_within}
 use Rattle.headline_laws.proofs.EndedAreCommitted.{part_below, ended_are_committed}
-use Rattle.headline_laws.proofs.AtOpening.EarlierOnesStoodThere.{LastFrom, last_next, opened_last, follows_behind, left_more, stood_at_opening}
+use Rattle.headline_laws.proofs.AtOpening.EarlierOnesStoodThere.{LastFrom, last_next, opened_last, opened_some, opened_in_order, follows_on, left_more, stood_at_opening}
 use Rattle.headline_laws.proofs.ReadersPass.FrontsWithoutWrites.{aborted_stood}
 use Rattle.headline_laws.proofs.LogsLeftMayBeOpened.LogsAgreeByHomes.{HomeIs, HasHome, PartIs, home_from, part_here, part_from}
 use Rattle.headline_laws.proofs.LogsLeftMayBeOpened.FrontsTellHomes.{Marked, marks_of, marks_stay, home_behind, all_committed}
@@ -47,7 +50,7 @@ commit_prepared shard run log (Commit tx parts) t l k m e = at (prepare_of log t
     at : (o : Option (ℕ × List TxId)) → prepare_of log tx ≡ o → commit_by_prepare shard log tx parts o ≡ true → prepared_in log t ≡ true
     at (Some p) q c = subst (λ z. prepared_in log z ≡ true) (sym (tx_true t tx e)) (prepared_there log tx p q)
     at None q c =
-        let s = eqb-true tx.run (k.0).0 (subst (λ (o : Option (ℕ × ℕ)). elim o [ Some p ↦ tx.run == p.0 | None ↦ false ] ≡ true) k.1 c) in
+        let s = eqb-true tx.run (k.0).0 (subst (λ (o : Option (ℕ × ℕ)). elim o [ Some p ↦ tx.run == p.0 | None ↦ false ] ≡ true) k.1 (and_parts _ _ c).0) in
         let f = ap (λ (z : TxId). z.run) (tx_true t tx e) in
         let g = k.2 in
         absurd (omega (arith, l, s, f, g))
@@ -70,9 +73,6 @@ module _ {splits : List ℕ} {before after : List (List LogRecord)} {h : History
   earlier : IsEarlier before t
   earlier e = omega (arith, old, e)
 
-  follows : (n : ℕ) → n < shard_count splits → Follows n [] (log_of left n)
-  follows n i = from_disorder n 0 [] (log_of left n) (orders n i)
-
   -- ---- who isn't undone in what is left was not at opening
 
   stood : (n : ℕ) → n < shard_count splits → has_standing (log_of left n) t ≡ true → Marked (log_of before n) t
@@ -81,18 +81,24 @@ module _ {splits : List ℕ} {before after : List (List LogRecord)} {h : History
   aborted : (n : ℕ) → n < shard_count splits → aborted_in (log_of left n) t ≡ true → Marked (log_of before n) t
   aborted n i a =
       let m = left_more l choice n t i old in
-      let behind = follows_behind n [] (log_of before n) m.0 (subst (Follows n []) (sym m.1) (follows n i)) in
-      ⊎_elim (λ x. inr (inr (inr (inl x)))) (λ x. inl (aborted_stood n (log_of before n) m.0 t behind m.2 x))
+      ⊎_elim (λ x. inr (inr (inr (inl x)))) (λ x. inl (aborted_stood n (log_of before n) m.0 t m.3 m.2 x))
       (or_cases (aborted_in (log_of before n) t) (aborted_in m.0 t) (sym (aborted_append (log_of before n) m.0 t) ∙ ap (λ z. aborted_in z t) m.1 ∙ a))
 
+  -- the part of what is left is that of the log found
+  in_found : (n : ℕ) → n < shard_count splits → committed_in (part_of (log_of left n)) t ≡ true → committed_in (log_of before n) t ≡ true
+  in_found n i c =
+      let m = left_more l choice n t i old in
+      in_part (log_of before n) t
+      (subst (λ z. committed_in z t ≡ true) (ap part_of (sym m.1) ∙ part_more n (log_of before n) m.0 (may_serve splits before n l.opens (log_found l n i)).0 m.3) c)
+
   prepared : (n : ℕ) → n < shard_count splits → prepared_in (log_of left n) t ≡ true → Marked (log_of before n) t
-  prepared n i p = ⊎_elim (stood n i) (aborted n i) (prepared_stands n (log_of left n) (follows n i) t p)
+  prepared n i p = ⊎_elim (stood n i) (λ y. ⊎_elim (aborted n i) (λ c. inr (inr (inl (in_found n i c)))) y) (prepared_stands n (log_of left n) (orders n i) t p)
 
   committed : (n : ℕ) → n < shard_count splits → committed_in (log_of left n) t ≡ true → Marked (log_of before n) t
   committed n i w =
       let opened = log_after_restart n (log_of before n) (run_after before) 0 in
       let p = left_opened splits before h after choice n l.legal i in
-      let behind = follows_behind n [] opened p.0 (subst (Follows n []) (sym p.1) (follows n i)) in
+      let behind = follows_on n opened p.0 (opened_some before n) (opened_in_order before n (may_serve splits before n l.opens (log_found l n i))) (subst (λ z. disorder n z ≡ None) (sym p.1) (orders n i)) in
       ⊎_elim (λ a. inr (inr (inl (opening_adds n (log_of before n) (run_after before) 0 t a))))
       (λ a. prepared n i (subst (λ z. prepared_in z t ≡ true) p.1 (commits_behind n (run_after before) opened p.0 t old (opened_last before n) behind a)))
       (or_cases (committed_in opened t) (committed_in p.0 t) (sym (committed_append opened p.0 t) ∙ subst (λ z. committed_in z t ≡ true) (sym p.1) w))
@@ -102,7 +108,7 @@ module _ {splits : List ℕ} {before after : List (List LogRecord)} {h : History
   recorded n i (inr (inl p)) = prepared n i p
   recorded n i (inr (inr (inl c))) = committed n i c
   recorded n i (inr (inr (inr (inl a)))) = aborted n i a
-  recorded n i (inr (inr (inr (inr e)))) = committed n i (ended_committed n (log_of left n) (follows n i) t e)
+  recorded n i (inr (inr (inr (inr e)))) = committed n i (ended_committed n (log_of left n) (orders n i) t e)
 
   -- ---- its home at opening is so still
 
@@ -118,9 +124,8 @@ module _ {splits : List ℕ} {before after : List (List LogRecord)} {h : History
 
     home_left : home_is k (prepare_of (log_of left k) t) ≡ true
     home_left =
-        let g = left_grows splits before h after choice k l.legal inside in
-        let f = follows_behind k [] (log_of before k) g.0 (subst (Follows k []) (sym g.1) (follows k inside)) in
-        subst (λ z. home_is k (prepare_of z t) ≡ true) g.1 (home_behind k k (log_of before k) g.0 t f committed_first at_opening.home)
+        let m = left_more l choice k t inside old in
+        subst (λ z. home_is k (prepare_of z t) ≡ true) m.1 (home_behind k k (log_of before k) m.0 t m.3 committed_first at_opening.home)
 
     -- a part that is prepared never was out, so it has no ABORT
     unaborted : (n : ℕ) (p : ℕ × List TxId) → n < shard_count splits → prepare_of (log_of left n) t ≡ Some p → aborted_in (log_of left n) t ≡ false

@@ -11,7 +11,7 @@ use Rattle.clv_base.specs.declared.events.Entry.{Entry}
 use Rattle.clv_base.specs.Orders.{tx_in, nat_in}
 use Rattle.clv_base.specs.Shards.{shard_count}
 use Rattle.clv_base.specs.Logs.{has_standing, committed_in}
-use Rattle.clv_base.specs.LogRules.{log_of, disorder}
+use Rattle.clv_base.specs.LogRules.{log_of, part_of, disorder}
 use Rattle.clv_base.specs.State.{Shard, is_present}
 use Rattle.clv_base.specs.Undo.{stage_of}
 use Rattle.clv_base.specs.Restarts.{run_after}
@@ -23,8 +23,7 @@ use Rattle.history_laws.specs.Openings.{LegalFrom}
 use Rattle.history_laws.proofs.NeverTakenBack.{walker_of}
 use Rattle.law_base.proofs.Standing.{standing_wrote}
 use Rattle.shard_laws.specs.OneShard.{Passes}
-use Rattle.shard_laws.proofs.Order.RecordByRecord.{from_disorder}
-use Rattle.shard_laws.proofs.OrderIsKept.{order_is_kept}
+use Rattle.shard_laws.proofs.OrderIsKept.{order_is_kept, part_is_old}
 use Rattle.fate_laws.proofs.History.EntriesInTurn.{Requested}
 use Rattle.fate_laws.proofs.Origins.DueKeepsOrigins.{OwnRequest}
 use Rattle.fate_laws.proofs.Origins.FrontsKeepOrigins.{DidAny, DidOrOld, IsOld, Traced, traced_front}
@@ -101,6 +100,12 @@ module _ {splits : List ℕ} {before after : List (List LogRecord)} {h : History
         let found = log_of before n in
         order_is_kept n (run_after before) found (with_found n found d) s (each_shard_leads splits before h after h [] n l (append-nil h) i)
 
+    part_old : (u : TxId) → committed_in (part_of (final_of before h after n).local.log) u ≡ true → u.run < run_after before
+    part_old =
+        let d = deeds_before before h after n in
+        let found = log_of before n in
+        part_is_old n (run_after before) found (with_found n found d) s (each_shard_leads splits before h after h [] n l (append-nil h) i)
+
     traced : Traced (run_after before) h n (final_of before h after n)
     traced = (traced_front l h [] (append-nil h)).states n i
 
@@ -124,8 +129,8 @@ module _ {splits : List ℕ} {before after : List (List LogRecord)} {h : History
         record {
           has_asked = asked;
           unwritten = false_from_ne_true _ (λ w. not_there (stood_there w));
-          uncommitted = false_from_ne_true _ (λ k. ⊎_elim (λ w. not_there (stood_there w)) (λ r. not_its_home r)
-              (committed_stands A Q O n s.local.log t log (from_disorder n 0 [] s.local.log ordered) k));
+          uncommitted = false_from_ne_true _ (λ k. ⊎_elim (λ w. not_there (stood_there w)) (λ r. ⊎_elim not_its_home (λ c. not_its_home (inr (part_old t c))) r)
+              (committed_stands A Q O n s.local.log t log ordered k));
           absent = false_from_ne_true _ (λ p. not_there (part_did (run_after before) h n s t (stage_of s.local t) traced (restored_front l h [] n (append-nil h) i) refl (none_present (stage_of s.local t) p)));
           unfallen = false_from_ne_true _ (λ f. not_there (((at_front l h [] n (append-nil h) i).remembers).fell t f).0);
         }

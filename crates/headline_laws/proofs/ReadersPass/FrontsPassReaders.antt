@@ -37,7 +37,6 @@ use Rattle.fate_laws.proofs.Parts.FrontsKeepParts.{WasTaken, Sought, FineAt, Say
 use Rattle.fate_laws.proofs.History.EntryByEntry.{Next, next_at, each_shard}
 use Rattle.fate_laws.proofs.Parts.BoundStaysBound.{NotOwn, reads_made}
 use Rattle.fate_laws.proofs.VotesBind.{absent}
-use Rattle.shard_laws.proofs.Order.RecordByRecord.{Follows, from_disorder}
 use Rattle.shard_laws.proofs.OrderIsKept.{order_is_kept}
 use Rattle.fate_laws.specs.Leading.{deeds_before, with_found}
 use Rattle.fate_laws.proofs.EachShardLeads.{each_shard_leads}
@@ -140,12 +139,12 @@ module _ {splits : List ℕ} {before after : List (List LogRecord)} {h : History
   goes t x = made_on (log_of after e.0) S T t made x counted
 
   -- the log is in order behind the entry
-  ordered : Follows e.0 [] (event_state (log_of after e.0) (state_at before after e.0 pre) (e.1).event (e.1).outcome).local.log
+  ordered : disorder e.0 (event_state (log_of after e.0) (state_at before after e.0 pre) (e.1).event (e.1).outcome).local.log ≡ None
   ordered =
       let found = log_of before e.0 in
       let leads = each_shard_leads splits before h after (pre ++ e ∷ []) post e.0 l (append_assoc pre (e ∷ []) post ∙ q) w.inside in
       let order = order_is_kept e.0 (run_after before) found (with_found e.0 found (deeds_before before (pre ++ e ∷ []) after e.0)) (state_at before after e.0 (pre ++ e ∷ [])) leads in
-      from_disorder e.0 0 [] T.local.log (subst (λ (z : Shard). disorder e.0 z.local.log ≡ None) (w.split).next order)
+      subst (λ (z : Shard). disorder e.0 z.local.log ≡ None) (w.split).next order
 
   abbrev Bare : Shard → TxId → Type 0
   Bare s t = NoneStandsFrom s.durable s.local.log t × (aborted_in s.local.log t ≡ false)

@@ -31,7 +31,7 @@ use Rattle.clv_base.specs.Journals.{up_to_restart}
 use Rattle.clv_base.proofs.SameNames.{tx_ne}
 use Rattle.law_base.proofs.Logs.{clrs_undo_by}
 use Rattle.shard_laws.proofs.Keeping.RecordsOfAnUndo.{no_writes, undo_writes}
-use Rattle.shard_laws.proofs.Order.RecordByRecord.{Follows}
+use Rattle.clv_base.specs.LogRules.{disorder}
 use Rattle.history_cases.proofs.Durability.{Counted, framed_finish, steps}
 use Rattle.history_cases.proofs.Stepping.{Due, commits, votes, rules, settled, Step, op_dies, op_answers, rolls_back, request_closes, drops, prepare_closes, decision_comes, finishes, stops}
 use Rattle.history_cases.proofs.Entering.{Makes, by_event, by_flush, by_failure, by_restart}
@@ -140,7 +140,7 @@ none_made s x t e (inl (g, d)) c a = λ k l. none_on s.durable t s.local.log x.l
 none_made s x t e (inr (kept, g, d, r)) c a = subst (λ n. NoneStandsFrom n x.local.log t) (sym d) (none_all x.local.log t (still_not _ _ (stood_on t (log_left s kept) x.local.log g) (none_left s t kept c a)))
 
 -- and who isn't aborted, where the log after the entry is in order
-pub unaborted_made : (shard : ℕ) (s x : Shard) (t : TxId) (e : Event) → Goes t s x e → ((e ≡ Restart) → (kept : Bool) → has_standing (log_left s kept) t ≡ false) → has_standing s.local.log t ≡ false → Follows shard [] x.local.log → aborted_in s.local.log t ≡ false
+pub unaborted_made : (shard : ℕ) (s x : Shard) (t : TxId) (e : Event) → Goes t s x e → ((e ≡ Restart) → (kept : Bool) → has_standing (log_left s kept) t ≡ false) → has_standing s.local.log t ≡ false → disorder shard x.local.log ≡ None → aborted_in s.local.log t ≡ false
     → aborted_in x.local.log t ≡ false
 unaborted_made shard s x t e (inl (g, d)) left n f u = unaborted_on shard s.local.log x.local.log t g f n u
 unaborted_made shard s x t e (inr (kept, g, d, r)) left n f u =

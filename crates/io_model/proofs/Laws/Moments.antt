@@ -1,5 +1,5 @@
 -- How a run of calls goes on, moment by moment.
-use Rattle.std.proofs.Common.{ℕ, List, [], ◌∷◌, ◌++◌, refl, sym, ap, subst}
+use Rattle.std.proofs.Common.{ℕ, List, [], ◌∷◌, ◌++◌, refl, sym, ◌∙◌, ap, subst, append_assoc}
 use Rattle.io_model.specs.Story.{Call, Story, after, IsImage, IsImageAfter}
 use Rattle.io_model.specs.Crash.{AllImages, AtEachMoment}
 
@@ -32,3 +32,17 @@ moments_now old new P all image is =
     last : (newer : List Call) → AllImages old.start newer old.calls P → IsImageAfter old.start (newer ++ old.calls) image → P image
     last [] images is = images image is
     last (call ∷ newer) images is = images.1 image is
+
+-- one run behind another
+pub moments_then : (old mid new : Story) (P : List ℕ → Type 0) → AtEachMoment old mid P → AtEachMoment mid new P → AtEachMoment old new P
+moments_then old mid new P first next = record {
+  start = next.start ∙ first.start;
+  newer = next.newer ++ first.newer;
+  calls = next.calls ∙ ap (λ (l : List Call). next.newer ++ l) first.calls ∙ sym (append_assoc next.newer first.newer old.calls);
+  images = joined next.newer (subst (λ (l : List Call). AllImages old.start next.newer l P) first.calls (subst (λ (b : List ℕ). AllImages b next.newer mid.calls P) first.start next.images));
+}
+  where
+    joined : (newer : List Call) → AllImages old.start newer (first.newer ++ old.calls) P → AllImages old.start (newer ++ first.newer) old.calls P
+    joined [] all = first.images
+    joined (call ∷ newer) all =
+        (joined newer all.0, λ image is. all.1 image (subst (λ (l : List Call). IsImageAfter old.start (call ∷ l) image) (append_assoc newer first.newer old.calls) is))

@@ -1,14 +1,15 @@
 -- The transactions of a log in order are of the runs of its RESTARTs.
-use Rattle.std.proofs.Common.{◌≡◌, refl, sym, subst, ℕ, suc, ◌≤◌, true, false, cond, Bool, ◌&&◌, nat_lt, List, [], ◌∷◌, ◌++◌, length, Option, Some, None, ◌==◌, ⊎_elim, max, arith, eqb-true}
+use Rattle.std.proofs.Common.{◌≡◌, refl, sym, subst, ℕ, suc, ◌≤◌, true, false, cond, Bool, ◌&&◌, nat_lt, nat_le, List, [], ◌∷◌, ◌++◌, length, Option, Some, None, ⊎_elim, max, arith}
 use Rattle.std.specs.List.{AllByRecursion, list_any}
-use Rattle.std.proofs.lemmas.Bool.{both_ways, or_cases}
+use Rattle.std.proofs.lemmas.Bool.{both_ways, or_cases, leb-true}
 use Rattle.clv_base.specs.declared.names.TxId.{TxId}
 use Rattle.clv_base.specs.declared.logs.LogRecord.{LogRecord}
 use Rattle.clv_base.specs.declared.logs.LogRecord.TheVariants.{Update, Clr, Prepare, Commit, Abort, End, Restart, Add, Unadd, Forgotten, Check}
 use Rattle.clv_base.specs.Orders.{tx_same}
 use Rattle.clv_base.specs.declared.changes.Change.TheVariants.{Sets, Adds}
 use Rattle.clv_base.specs.Logs.{StandingUpdate, own_tx, is_commit_of, is_prepare_of, prepare_of, commit_parts, standing, standing_from, without_newest, newest_of}
-use Rattle.clv_base.specs.LogRules.{last_restart, before_restart, in_last_run, commit_by_prepare, some_parts, clears, unadds, compensates, may_follow}
+use Rattle.clv_base.specs.LogRules.{last_restart, before_restart, has_new_standing, some_parts, clears, unadds, compensates}
+use Rattle.law_base.specs.Coming.{is_of_past, is_bare, commit_may_come, may_come}
 use Rattle.clv_base.proofs.SameNames.{tx_true}
 use Rattle.clv_base.specs.Restarts.{greatest_run}
 use Rattle.protocol_laws.specs.Order.{OfRun, RunFits}
@@ -65,12 +66,12 @@ last_fits (Unadd tx next key by ∷ rs) = last_fits rs
 last_fits (Forgotten ∷ rs) = last_fits rs
 last_fits (Check run' epoch' upto base ∷ rs) = last_case run' epoch' (greatest_run rs) (last_restart rs) (last_fits rs)
 
-in_last_case : (n : ℕ) (tx : TxId) (o : Option (ℕ × ℕ)) → LastFits n o → elim o [ Some p ↦ tx.run == p.0 | None ↦ false ] ≡ true → tx.run ≤ n
-in_last_case n tx None l e = absurd (both_ways false refl e)
-in_last_case n tx (Some p) (some l) e = let q = eqb-true tx.run p.0 e in omega (arith, l, q)
+past_case : (n : ℕ) (tx : TxId) (o : Option (ℕ × ℕ)) → LastFits n o → elim o [ Some p ↦ nat_le tx.run p.0 | None ↦ false ] ≡ true → tx.run ≤ n
+past_case n tx None l e = absurd (both_ways false refl e)
+past_case n tx (Some p) (some l) e = let q = leb-true tx.run p.0 e in omega (arith, l, q)
 
-in_last_fits : (rs : List LogRecord) (tx : TxId) → in_last_run rs tx ≡ true → tx.run ≤ greatest_run rs
-in_last_fits rs tx e = in_last_case (greatest_run rs) tx (last_restart rs) (last_fits rs) e
+pub past_fits : (rs : List LogRecord) (tx : TxId) → is_of_past rs tx ≡ true → tx.run ≤ greatest_run rs
+past_fits rs tx e = past_case (greatest_run rs) tx (last_restart rs) (last_fits rs) e
 
 -- who has a record there is of no later run
 pub record_fits : (n : ℕ) (t : TxId) (test : LogRecord → Bool) → ((r : LogRecord) → test r ≡ true → own_tx r ≡ Some t) → (rs : List LogRecord) → AllByRecursion (RunFits n) rs → list_any test rs ≡ true → t.run ≤ n
@@ -112,35 +113,40 @@ compensated_fits : (n : ℕ) (tx : TxId) (next : Option ℕ) (key : ℕ) (test :
 compensated_fits n tx next key test ws None e a c = absurd (both_ways false refl c)
 compensated_fits n tx next key test ws (Some w) e a c = newest_fits n tx w ws a e
 
-commit_case : (shard n : ℕ) (log : List LogRecord) (tx : TxId) (parts : List ℕ) (o : Option (ℕ × List TxId)) → prepare_of log tx ≡ o → AllByRecursion (RunFits n) log → (in_last_run log tx ≡ true → tx.run ≤ n)
-    → commit_by_prepare shard log tx parts o ≡ true → tx.run ≤ n
-commit_case shard n log tx parts None e a k c = k c
-commit_case shard n log tx parts (Some p) e a k c = record_fits n tx (is_prepare_of tx) (own_prepare tx) log a (prepared_there log tx p e)
+commit_case : (shard n : ℕ) (part log : List LogRecord) (tx : TxId) (parts : List ℕ) (o : Option (ℕ × List TxId)) → prepare_of log tx ≡ o → AllByRecursion (RunFits n) log → (is_of_past log tx ≡ true → tx.run ≤ n)
+    → commit_may_come shard part log tx parts o ≡ true → tx.run ≤ n
+commit_case shard n part log tx parts None e a k c = k (front _ _ c)
+commit_case shard n part log tx parts (Some p) e a k c = record_fits n tx (is_prepare_of tx) (own_prepare tx) log a (prepared_there log tx p e)
 
 end_case : (n : ℕ) (log : List LogRecord) (tx : TxId) (o : Option (List ℕ)) → commit_parts log tx ≡ o → AllByRecursion (RunFits n) log → elim o [ Some ps ↦ some_parts ps | None ↦ false ] ≡ true → tx.run ≤ n
 end_case n log tx None e a c = absurd (both_ways false refl c)
 end_case n log tx (Some ps) e a c = record_fits n tx (is_commit_of tx) (own_commit tx) log a (committed_there log tx ps e)
 
--- a record that may follow is of no later run
-follow_fits : (shard : ℕ) (log : List LogRecord) (r : LogRecord) → AllByRecursion (RunFits (greatest_run log)) log → may_follow shard log r ≡ true → RunFits (greatest_run log) r
-follow_fits shard log (Update tx key before after) a m = in_last_fits log tx (front _ _ (front _ _ (front _ _ (front _ _ (front _ _ (front _ _ (front _ _ m)))))))
-follow_fits shard log (Prepare tx home ps) a m =
-    writer_fits (greatest_run log) tx (λ w. tx_same tx w.tx && nat_lt (length (before_restart [] log)) w.lsn) (standing log) (λ w e. front _ _ e) (writes_fit (greatest_run log) 0 log [] a tt)
-    (last _ _ (front _ _ (front _ _ (front _ _ (front _ _ (front _ _ m))))))
-follow_fits shard log (Commit tx parts) a m = commit_case shard (greatest_run log) log tx parts (prepare_of log tx) refl a (in_last_fits log tx) (last _ _ (front _ _ m))
-follow_fits shard log (Clr tx next key after) a m =
+-- a record that comes is of no later run
+comes_fit : (shard : ℕ) (part log : List LogRecord) (r : LogRecord) → AllByRecursion (RunFits (greatest_run log)) log → may_come shard part log r ≡ true → RunFits (greatest_run log) r
+comes_fit shard part log (Update tx key before after) a m = past_fits log tx (front _ _ (front _ _ (front _ _ (front _ _ (front _ _ (front _ _ (front _ _ (front _ _ m))))))))
+comes_fit shard part log (Prepare tx home ps) a m =
+    ⊎_elim
+    (λ e. writer_fits (greatest_run log) tx (λ w. tx_same tx w.tx && nat_lt (length (before_restart [] log)) w.lsn) (standing log) (λ w e. front _ _ e) (writes_fit (greatest_run log) 0 log [] a tt) e)
+    (λ e. bare ps e) (or_cases (has_new_standing log tx) (is_bare part log tx ps) (last _ _ (front _ _ (front _ _ (front _ _ (front _ _ (front _ _ m)))))))
+  where
+    bare : (qs : List TxId) → is_bare part log tx qs ≡ true → tx.run ≤ greatest_run log
+    bare [] e = past_fits log tx (last _ _ e)
+    bare (q ∷ qs) e = absurd (both_ways false refl e)
+comes_fit shard part log (Commit tx parts) a m = commit_case shard (greatest_run log) part log tx parts (prepare_of log tx) refl a (past_fits log tx) (last _ _ (front _ _ m))
+comes_fit shard part log (Clr tx next key after) a m =
     compensated_fits (greatest_run log) tx next key (λ w. clears w after (standing log) w.change) (standing log) (newest_of tx (standing log)) refl (writes_fit (greatest_run log) 0 log [] a tt) (last _ _ m)
-follow_fits shard log (Abort tx) a m = writer_fits (greatest_run log) tx (λ w. tx_same tx w.tx) (standing log) (λ w e. e) (writes_fit (greatest_run log) 0 log [] a tt) (last _ _ (front _ _ (front _ _ m)))
-follow_fits shard log (End tx) a m = end_case (greatest_run log) log tx (commit_parts log tx) refl a (last _ _ m)
-follow_fits shard log (Restart run epoch) a m = tt
-follow_fits shard log (Add tx key by) a m = in_last_fits log tx (front _ _ (front _ _ (front _ _ (front _ _ (front _ _ (front _ _ m))))))
-follow_fits shard log (Unadd tx next key by) a m =
+comes_fit shard part log (Abort tx) a m = writer_fits (greatest_run log) tx (λ w. tx_same tx w.tx) (standing log) (λ w e. e) (writes_fit (greatest_run log) 0 log [] a tt) (last _ _ (front _ _ (front _ _ m)))
+comes_fit shard part log (End tx) a m = end_case (greatest_run log) log tx (commit_parts log tx) refl a (last _ _ m)
+comes_fit shard part log (Restart run epoch) a m = tt
+comes_fit shard part log (Add tx key by) a m = past_fits log tx (front _ _ (front _ _ (front _ _ (front _ _ (front _ _ (front _ _ (front _ _ m)))))))
+comes_fit shard part log (Unadd tx next key by) a m =
     compensated_fits (greatest_run log) tx next key (λ w. unadds w by (standing log) w.change) (standing log) (newest_of tx (standing log)) refl (writes_fit (greatest_run log) 0 log [] a tt) (last _ _ m)
-follow_fits shard log Forgotten a m = tt
-follow_fits shard log (Check run' epoch' upto base) a m = tt
+comes_fit shard part log Forgotten a m = tt
+comes_fit shard part log (Check run' epoch' upto base) a m = tt
 
-pub runs_step : (shard : ℕ) (log : List LogRecord) (r : LogRecord) → AllByRecursion (RunFits (greatest_run log)) log → may_follow shard log r ≡ true → AllByRecursion (RunFits (greatest_run (log ++ r ∷ []))) (log ++ r ∷ [])
-runs_step shard log r a m =
+pub runs_step : (shard : ℕ) (part log : List LogRecord) (r : LogRecord) → AllByRecursion (RunFits (greatest_run log)) log → may_come shard part log r ≡ true → AllByRecursion (RunFits (greatest_run (log ++ r ∷ []))) (log ++ r ∷ [])
+runs_step shard part log r a m =
     let g = greatest_grows log r in
     push_all (greatest_run (log ++ r ∷ [])) log r (all_fit_more (greatest_run log) (greatest_run (log ++ r ∷ [])) log g a)
-    (run_more (greatest_run log) (greatest_run (log ++ r ∷ [])) (own_tx r) g (follow_fits shard log r a m))
+    (run_more (greatest_run log) (greatest_run (log ++ r ∷ [])) (own_tx r) g (comes_fit shard part log r a m))

@@ -12,7 +12,8 @@ use Rattle.clv_base.specs.declared.changes.Change.{Change}
 use Rattle.clv_base.specs.declared.changes.Change.TheVariants.{Sets, Adds}
 use Rattle.clv_base.specs.Maps.{KeyMap}
 use Rattle.clv_base.specs.Logs.{StandingUpdate, base_of, changed, is_setting, standing, standing_after, without_newest, newest_at, newest_of, committed_in, is_commit_of, value_in}
-use Rattle.clv_base.specs.LogRules.{has_above, lies_below, clears, unadds, compensates, may_write, may_follow}
+use Rattle.clv_base.specs.LogRules.{has_above, lies_below, clears, unadds, compensates}
+use Rattle.law_base.specs.Coming.{may_come_writing, may_come}
 use Rattle.clv_base.proofs.SameNames.{or_left, or_right, tx_true, tx_self}
 use Rattle.law_base.proofs.Lists.{all_mono, all_both, filter_passes}
 use Rattle.law_base.proofs.Running.{top_value}
@@ -184,20 +185,20 @@ commit_only : (log : List LogRecord) (tx : TxId) (parts : List ℕ) (t : TxId) �
 commit_only log tx parts t c n = ⊎_elim (λ a. absurd (both_ways _ n a)) (λ a. tx_true t tx a) (push_cases (is_commit_of t) log (Commit tx parts) c)
 
 -- who may write is not committed
-open_of : (log : List LogRecord) (tx : TxId) → may_write log tx ≡ true → not (committed_in log tx) ≡ true
-open_of log tx m = last _ _ (front _ _ (front _ _ m))
+open_of : (part log : List LogRecord) (tx : TxId) → may_come_writing part log tx ≡ true → not (committed_in log tx) ≡ true
+open_of part log tx m = last _ _ (front _ _ (front _ _ m))
 
-pub writes_step : (shard : ℕ) (log : List LogRecord) (r : LogRecord) → may_follow shard log r ≡ true → Writes (base_of log) (committed_in log) (length log) (standing log) → Writes (base_of log) (committed_in (log ++ r ∷ [])) (suc (length log)) (standing_after (length log) r (standing log))
-writes_step shard log (Update tx key before after) m k =
+pub writes_step : (shard : ℕ) (part log : List LogRecord) (r : LogRecord) → may_come shard part log r ≡ true → Writes (base_of log) (committed_in log) (length log) (standing log) → Writes (base_of log) (committed_in (log ++ r ∷ [])) (suc (length log)) (standing_after (length log) r (standing log))
+writes_step shard part log (Update tx key before after) m k =
     let r = Update tx key before after in
     let q = quiet log r (standing log) (λ t. refl) k in
     record {
       chain = (optional_value_true before (value_in log key) (last _ _ (front _ _ (front _ _ m))), k.chain);
       falls = (k.low, k.falls);
       low = (omega arith, q.low);
-      lie = ((λ c. absurd (both_ways _ (sym (push_same (is_commit_of tx) log r refl) ∙ not-true _ (open_of log tx (front _ _ (front _ _ (front _ _ m))))) c)), q.lie);
+      lie = ((λ c. absurd (both_ways _ (sym (push_same (is_commit_of tx) log r refl) ∙ not-true _ (open_of part log tx (front _ _ (front _ _ (front _ _ m))))) c)), q.lie);
     }
-writes_step shard log (Clr tx next key after) m k =
+writes_step shard part log (Clr tx next key after) m k =
     let q = quiet log (Clr tx next key after) (standing log) (λ t. refl) k in
     record {
       chain = compensated log tx next key (λ w. clears w after (standing log) w.change) (newest_of tx (standing log)) refl (last _ _ m) (λ u t. cleared_top u after (standing log) u.change t k.falls) k.falls k.chain;
@@ -205,7 +206,7 @@ writes_step shard log (Clr tx next key after) m k =
       low = all_without _ tx (standing log) q.low;
       lie = lie_without _ tx (standing log) q.lie;
     }
-writes_step shard log (Commit tx parts) m k =
+writes_step shard part log (Commit tx parts) m k =
     let r = Commit tx parts in
     record {
       chain = k.chain;
@@ -214,20 +215,20 @@ writes_step shard log (Commit tx parts) m k =
       lie = lie_more tx (committed_in log) (committed_in (log ++ r ∷ [])) (standing log) (λ t c. push_left (is_commit_of t) log r c) (commit_only log tx parts) (push_right (is_commit_of tx) log r (tx_self tx))
           (standing log) (λ test e. e) (filter_passes (λ w. committed_in log w.tx) (λ w. not (tx_same tx w.tx) && has_above tx w (standing log)) (standing log) (last _ _ (front _ _ (front _ _ m)))) k.falls k.lie;
     }
-writes_step shard log (Prepare tx home ps) m k = quiet log (Prepare tx home ps) (standing log) (λ t. refl) k
-writes_step shard log (Abort tx) m k = quiet log (Abort tx) (standing log) (λ t. refl) k
-writes_step shard log (End tx) m k = quiet log (End tx) (standing log) (λ t. refl) k
-writes_step shard log (Restart run epoch) m k = quiet log (Restart run epoch) (standing log) (λ t. refl) k
-writes_step shard log (Add tx key by) m k =
+writes_step shard part log (Prepare tx home ps) m k = quiet log (Prepare tx home ps) (standing log) (λ t. refl) k
+writes_step shard part log (Abort tx) m k = quiet log (Abort tx) (standing log) (λ t. refl) k
+writes_step shard part log (End tx) m k = quiet log (End tx) (standing log) (λ t. refl) k
+writes_step shard part log (Restart run epoch) m k = quiet log (Restart run epoch) (standing log) (λ t. refl) k
+writes_step shard part log (Add tx key by) m k =
     let r = Add tx key by in
     let q = quiet log r (standing log) (λ t. refl) k in
     record {
       chain = (tt, k.chain);
       falls = (k.low, k.falls);
       low = (omega arith, q.low);
-      lie = ((λ c. absurd (both_ways _ (sym (push_same (is_commit_of tx) log r refl) ∙ not-true _ (open_of log tx (front _ _ (front _ _ m)))) c)), q.lie);
+      lie = ((λ c. absurd (both_ways _ (sym (push_same (is_commit_of tx) log r refl) ∙ not-true _ (open_of part log tx (front _ _ (front _ _ m)))) c)), q.lie);
     }
-writes_step shard log (Unadd tx next key by) m k =
+writes_step shard part log (Unadd tx next key by) m k =
     let q = quiet log (Unadd tx next key by) (standing log) (λ t. refl) k in
     record {
       chain = compensated log tx next key (λ w. unadds w by (standing log) w.change) (newest_of tx (standing log)) refl (last _ _ m) (λ u t. unadded_top u by (standing log) u.change refl t) k.falls k.chain;
@@ -235,8 +236,8 @@ writes_step shard log (Unadd tx next key by) m k =
       low = all_without _ tx (standing log) q.low;
       lie = lie_without _ tx (standing log) q.lie;
     }
-writes_step shard log Forgotten m k = quiet log Forgotten (standing log) (λ t. refl) k
-writes_step shard log (Check run' epoch' upto base) m k = quiet log (Check run' epoch' upto base) (standing log) (λ t. refl) k
+writes_step shard part log Forgotten m k = quiet log Forgotten (standing log) (λ t. refl) k
+writes_step shard part log (Check run' epoch' upto base) m k = quiet log (Check run' epoch' upto base) (standing log) (λ t. refl) k
 
 -- ---- those of these alone
 

@@ -6,7 +6,8 @@ use Rattle.clv_base.specs.declared.names.TxId.{TxId}
 use Rattle.clv_base.specs.declared.logs.LogRecord.{LogRecord}
 use Rattle.clv_base.specs.declared.logs.LogRecord.TheVariants.{Clr, Unadd}
 use Rattle.clv_base.specs.Logs.{is_abort_of, is_commit_of, is_prepare_of, is_undo_of, committed_in, prepared_in, aborted_in}
-use Rattle.clv_base.specs.LogRules.{may_undo, may_follow}
+use Rattle.clv_base.specs.LogRules.{may_undo}
+use Rattle.law_base.specs.Coming.{may_come}
 use Rattle.clv_base.proofs.SameNames.{or_left, or_right, tx_true, tx_self}
 use Rattle.law_base.proofs.Bools.{and_first as front, and_second as last}
 use Rattle.protocol_laws.specs.Order.{undone_in, undoes, May_undo_at, Undoable}
@@ -35,10 +36,10 @@ undoable_none before (r ∷ rs) h = (one r (λ t. (or_parts (is_undo_of t r) (un
     one (Unadd tx next key by) k = absurd (both_ways _ (k tx) (tx_self tx))
     one _ k = tt
 
-pub may_undo_step : (shard : ℕ) (log : List LogRecord) (r : LogRecord) → may_follow shard log r ≡ true → May_undo_at log (undoes r)
-may_undo_step shard log (Clr tx next key after) m = last _ _ (front _ _ m)
-may_undo_step shard log (Unadd tx next key by) m = last _ _ (front _ _ m)
-may_undo_step shard log _ m = tt
+pub may_undo_step : (shard : ℕ) (part log : List LogRecord) (r : LogRecord) → may_come shard part log r ≡ true → May_undo_at log (undoes r)
+may_undo_step shard part log (Clr tx next key after) m = last _ _ (front _ _ m)
+may_undo_step shard part log (Unadd tx next key by) m = last _ _ (front _ _ m)
+may_undo_step shard part log _ m = tt
 
 -- ---- who was closed before
 

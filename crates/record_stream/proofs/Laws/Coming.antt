@@ -1,9 +1,9 @@
 -- Records that come in bytes, one behind the other.
-use Rattle.std.proofs.Common.{◌≡◌, ◌⊎◌, ℕ, zero, suc, ◌+◌, ◌-◌, ◌*◌, ◌<◌, ◌≤◌, true, ◌&&◌, leb, ltb, List, [], ◌∷◌, ◌++◌, length, take, drop, Option, Some, None, Err, refl, sym, ap, subst, ◌∙◌, append_assoc, arith, inl, inr}
-use Rattle.std.specs.List.{list_all, flat_map}
+use Rattle.std.proofs.Common.{◌≡◌, ◌⊎◌, ℕ, zero, suc, ◌+◌, ◌-◌, ◌<◌, ◌≤◌, true, ◌&&◌, leb, ltb, List, [], ◌∷◌, ◌++◌, length, take, drop, Option, Some, None, Err, refl, sym, ap, subst, ◌∙◌, append_assoc, arith, inl, inr}
+use Rattle.std.specs.List.{list_all}
 use Rattle.std.proofs.lemmas.Bool.{leb-true}
 use Rattle.std.proofs.lemmas.Grind.{flat_map-append}
-use Rattle.std.proofs.lemmas.List.{append-nil, length-append, drop_at, take-append-drop, length-take-le}
+use Rattle.std.proofs.lemmas.List.{append-nil, length-append, drop_at, take-append-drop}
 use Rattle.std.proofs.lemmas.List.Concat.{flat_map-cons}
 use Rattle.clv_base.specs.declared.logs.LogRecord.{LogRecord}
 use Rattle.clv_base.specs.declared.logs.LogRecord.TheVariants.{Update, Clr, Prepare, Commit, Abort, End, Restart, Add, Unadd, Forgotten, Check}
@@ -17,7 +17,7 @@ use Rattle.log_records.proofs.Laws.Spellings.{length-spelling, one_beginning}
 use Rattle.record_stream.specs.declared.stop.Stop.TheVariants.{Cut}
 use Rattle.record_stream.specs.Scanning.{record_at}
 use Rattle.record_stream.specs.Streams.{spellings, Unfinished, Begins, Came, Comes, StandsFirst}
-use Rattle.record_stream.proofs.Scans.{Within, Short, parted}
+use Rattle.record_stream.proofs.Scans.{parted}
 use Rattle.record_stream.proofs.RecordScans.{record_cut, record_stays}
 use Rattle.law_base.proofs.Lists.{IsBytes}
 use Rattle.law_base.proofs.Logs.{spelled_append}

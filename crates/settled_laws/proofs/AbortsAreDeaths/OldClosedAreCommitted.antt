@@ -15,7 +15,7 @@ use Rattle.clv_base.specs.declared.events.Entry.{Entry}
 use Rattle.clv_base.specs.Orders.{tx_in}
 use Rattle.clv_base.specs.Shards.{shard_count}
 use Rattle.clv_base.specs.Logs.{committed_in, prepared_in, in_doubt}
-use Rattle.clv_base.specs.LogRules.{log_of}
+use Rattle.clv_base.specs.LogRules.{log_of, disorder}
 use Rattle.clv_base.specs.State.{Shard}
 use Rattle.clv_base.specs.Undo.{stage_of}
 use Rattle.clv_base.specs.Events.{finish, with_durable, with_entry}
@@ -44,8 +44,8 @@ use Rattle.fate_laws.proofs.Origins.FrontsKeepOrigins.{Did, IsOld, traced_front}
 use Rattle.fate_laws.proofs.FallenAreUncommitted.FrontsKeepOutUncommitted.{walk_on}
 use Rattle.fate_laws.specs.Leading.{deeds_before, with_found}
 use Rattle.fate_laws.proofs.EachShardLeads.{each_shard_leads}
-use Rattle.shard_laws.proofs.OrderIsKept.{order_is_kept}
-use Rattle.shard_laws.proofs.Order.RecordByRecord.{Follows, from_disorder}
+use Rattle.shard_laws.proofs.OrderIsKept.{order_is_kept, part_is_old}
+use Rattle.shard_laws.specs.OneShard.{Leads}
 use Rattle.shard_laws.proofs.Order.WritesLieOnListed.{prepared_wrote}
 use Rattle.fate_laws.proofs.FallenAreUncommitted.NoPartWithoutOperation.{DoesNow, none_made}
 use Rattle.fate_laws.proofs.Origins.DueKeepsOrigins.{BirthFrom, part_of}
@@ -158,15 +158,18 @@ module _ {splits : List ℕ} {before after : List (List LogRecord)} {h : History
 
   -- parts of this run come of entries of sessions
   wrote_old : (pre post : History) → pre ++ post ≡ h → (n : ℕ) → n < shard_count splits → NoSession pre n → (t : TxId) → prepared_in (state_at before after n pre).local.log t ≡ true → IsOld (run_after before) t
-  wrote_old pre post q n i k t p = by ((all_comes_of_entries splits before h after pre post n l q i).wrote t (prepared_wrote n log follows t p))
+  wrote_old pre post q n i k t p =
+      ⊎_elim (λ w. by ((all_comes_of_entries splits before h after pre post n l q i).wrote t w)) (λ c. part_is_old n (run_after before) (log_of before n) (with_found n (log_of before n) (deeds_before before pre after n)) (state_at before after n pre) leads t c)
+      (prepared_wrote n log follows t p)
     where
       log : List LogRecord
       log = (state_at before after n pre).local.log
 
-      follows : Follows n [] (state_at before after n pre).local.log
-      follows =
-          from_disorder n 0 [] (state_at before after n pre).local.log
-          (order_is_kept n (run_after before) (log_of before n) (with_found n (log_of before n) (deeds_before before pre after n)) (state_at before after n pre) (each_shard_leads splits before h after pre post n l q i))
+      leads : Leads n (run_after before) (log_of before n) (with_found n (log_of before n) (deeds_before before pre after n)) (state_at before after n pre)
+      leads = each_shard_leads splits before h after pre post n l q i
+
+      follows : disorder n (state_at before after n pre).local.log ≡ None
+      follows = order_is_kept n (run_after before) (log_of before n) (with_found n (log_of before n) (deeds_before before pre after n)) (state_at before after n pre) leads
 
       answers : (ev : Event) (o : Outcome) (birth : Birth) (ep : ℕ) → answered_as t ev o ≡ Some (birth, ep) → is_of_session ev ≡ true
       answers (OpEvent tx birth nth seen op) o x ep e = refl

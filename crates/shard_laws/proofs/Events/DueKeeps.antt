@@ -65,7 +65,7 @@ use Rattle.shard_laws.specs.OneShard.{deeds_of}
 use Rattle.law_base.proofs.Shards.{Before}
 use Rattle.law_base.proofs.Lists.{all_of}
 use Rattle.law_base.specs.Undone.{stays_of}
-use Rattle.shard_laws.proofs.Order.WhoseWritesStand.{prepared_stands}
+use Rattle.shard_laws.proofs.Order.WhoseWritesStand.{open_stands}
 use Rattle.shard_laws.proofs.Keeping.RecordsOfAnUndo.{no_commits, no_prepares}
 use Rattle.clv_base.specs.declared.parts.PartFacts.{PartFacts}
 
@@ -236,9 +236,9 @@ stands_done : (s : Shard) (t u : TxId) → u ≡ t → Done (view_of s) t → ha
 stands_done s t u e done w =
     ⊎_elim (λ d. ap (committed_in s.local.log) e ∙ durable_committed s.local.log s.durable t d) (λ d. absurd (both_ways _ d.1 (subst (λ z. has_standing s.local.log z ≡ true) e w))) done
 
--- of one that is here and prepared a write stands
-prepared_here : (all : List Deed) (g : Past) (s : Shard) (t : TxId) → Sound all g s → is_present (stage_of s.local t) ≡ true → prepared_in s.local.log t ≡ true → has_standing s.local.log t ≡ true
-prepared_here all g s t h here p = ⊎_elim (λ e. e) (λ a. absurd (both_ways _ (h.order.ordered.unaborted t here) a)) (prepared_stands s.shard s.local.log h.order.ordered.follows t p)
+-- of one that is here, prepared and not committed a write stands
+prepared_here : (all : List Deed) (g : Past) (s : Shard) (t : TxId) → Sound all g s → is_present (stage_of s.local t) ≡ true → committed_in s.local.log t ≡ false → prepared_in s.local.log t ≡ true → has_standing s.local.log t ≡ true
+prepared_here all g s t h here n p = ⊎_elim (λ e. e) (λ a. absurd (both_ways _ (h.order.ordered.unaborted t here) a)) (open_stands s.shard s.local.log h.order.ordered.in_order t p n)
 
 -- who is done is not lost
 done_alive : (all : List Deed) (g : Past) (s : Shard) (t : TxId) → Sound all g s → stage_of s.local t ≡ Some Closed → Done (view_of s) t → tx_in t g.lost ≡ false
@@ -246,7 +246,7 @@ done_alive all g s t h closed done = false_from_ne_true _ (λ l. ⊎_elim
     (λ d. both_ways _ (h.falls.open_ t l) (durable_committed s.local.log s.durable t d))
     (λ d. ⊎_elim
     (λ e. ⊎_elim
-    (λ i. both_ways _ d.1 (prepared_here all g s t h (ap is_present closed) (h.falls.back t i (ap is_present closed))))
+    (λ i. both_ways _ d.1 (prepared_here all g s t h (ap is_present closed) d.0 (h.falls.back t i (ap is_present closed))))
     (λ i. both_ways false refl (sym (ap is_doomed closed) ∙ i)) e)
     (λ q. both_ways _ (h.falls.open_ q.0 q.2) (durable_committed s.local.log s.durable q.0 (d.2 q.0 q.1))) (h.falls.why t l)) done)
 
@@ -278,7 +278,7 @@ finished all g s t h closed done = record {
   asked = h.asked;
   falls = falls_over g.asked g.fell g.lost g.over (gone_in (t ∷ []) None s.local.parts) (pairs_without (t ∷ []) s.local.pairs) s.local.log s.durable t (done_alive all g s t h closed done)
       (falls_finish g.asked g.fell g.lost g.over s.local.parts s.local.pairs s.local.log s.durable t h.falls (done_alive all g s t h closed done)
-      (λ c. ⊎_elim (λ d. d) (λ d. absurd (both_ways _ d.0 c)) done) (λ p. stands_done s t t refl done (prepared_here all g s t h (ap is_present closed) p)));
+      (λ c. ⊎_elim (λ d. d) (λ d. absurd (both_ways _ d.0 c)) done) (λ p. ⊎_elim (λ c. c) (λ n. stands_done s t t refl done (prepared_here all g s t h (ap is_present closed) n p)) (cases_Bool (committed_in s.local.log t))));
   order = order_leaves g.asked s.shard s.run s.local.parts s.local.pairs s.local.log s.requests h.order (t ∷ []) None (λ u i. inl (λ w. stands_done s t u (one_in t u i) done w));
 }
 
@@ -442,7 +442,7 @@ rolled all g s tx h open_ =
     let go : MayGo (view_of s) (doomed_here s.local tx) = may_go g s tx h.kept open_ in (
       record g { done = deeds_by_chosen (is_alive (doomed_here s.local tx)) g.done; lost = doomed_here s.local tx ++ g.lost },
       record {
-        kept = keeps_taken g (view_of s) (doomed_here s.local tx) tx h.kept go ((order_of s.shard s.local.log h.order.ordered.follows).writes).chain (upward_under (doomed_here s.local tx) s.local.pairs (committed_in s.local.log) (standing s.local.log) go.upward (λ u c. false_from_ne_true _ (λ i. both_ways _ (go.undecided u i) c)) h.order.lying);
+        kept = keeps_taken g (view_of s) (doomed_here s.local tx) tx h.kept go ((order_of s.shard s.local.log h.order.ordered.in_order).writes).chain (upward_under (doomed_here s.local tx) s.local.pairs (committed_in s.local.log) (standing s.local.log) go.upward (λ u c. false_from_ne_true _ (λ i. both_ways _ (go.undecided u i) c)) h.order.lying);
         answers = record {
           told = λ u. ⊎_elim (λ i. inl (in_first (doomed_here s.local tx) g.lost u i)) (λ i. ⊎_elim (λ l. inl (in_more (doomed_here s.local tx) g.lost u l)) (λ e. inr (own_kept (doomed_here s.local tx) u g.done i ∙ e)) (h.told u)) (cases_Bool (tx_in u (doomed_here s.local tx)));
           within = part_filter (λ d. is_alive (doomed_here s.local tx) (doer d)) g.done all h.within;
@@ -458,7 +458,7 @@ rolled all g s tx h open_ =
         falls = subst (λ l. Falls g.asked g.fell (doomed_here s.local tx ++ g.lost) g.over (gone_in (doomed_here s.local tx) (Some tx) s.local.parts) (pairs_without (doomed_here s.local tx) s.local.pairs) l s.durable) (sym (append_assoc s.local.log (aborts_of s.local.log (doomed_here s.local tx)) (clrs_of (doomed_here s.local tx) (standing s.local.log))))
             (falls_taken g.asked g.fell g.lost g.over s.local.parts s.local.pairs s.local.log (aborts_of s.local.log (doomed_here s.local tx) ++ clrs_of (doomed_here s.local tx) (standing s.local.log)) s.durable (doomed_here s.local tx) tx h.falls go.upward go.undecided go.present
             (λ u i. false_from_ne_true _ (λ o. ⊎_elim (λ d. both_ways _ (go.undecided u i) (durable_committed s.local.log s.durable u d)) (λ d. both_ways _ d.2 (go.present u i)) (h.kept.over u o)))
-            (λ u p here i. lists_here all g s h u p here i) (committed_lists s.shard s.local.log h.order.ordered.follows) (λ u. no_prepares (doomed_here s.local tx) u s.local.log) (λ u. no_commits (doomed_here s.local tx) u s.local.log));
+            (λ u p here i. lists_here all g s h u p here i) (committed_lists s.shard s.local.log h.order.ordered.in_order) (λ u. no_prepares (doomed_here s.local tx) u s.local.log) (λ u. no_commits (doomed_here s.local tx) u s.local.log));
         order = order_taken g.asked s.shard s.run s.local.parts s.local.pairs s.local.log s.requests h.order (doomed_here s.local tx) tx go.upward go.undecided go.present (doomed_once s.local tx);
       },
       refl,

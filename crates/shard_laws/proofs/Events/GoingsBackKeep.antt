@@ -54,7 +54,7 @@ module _ (all : List Deed) (g : Past) (s : Shard) (tx : TxId) (nth upto : ℕ) (
   done = WentBack tx nth upto
 
   order : Order s.shard s.local.log
-  order = order_of s.shard s.local.log h.order.ordered.follows
+  order = order_of s.shard s.local.log h.order.ordered.in_order
 
   own : AllByRecursion (λ w. gone w ≡ true → tx_same tx w.tx ≡ true) (standing s.local.log)
   own = lsns_own n tx (standing s.local.log) order.writes.falls

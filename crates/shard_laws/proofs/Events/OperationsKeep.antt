@@ -1,5 +1,5 @@
 -- An operation keeps what a shard keeps.
-use Rattle.std.proofs.Common.{◌≡◌, ℕ, ◌+◌, ◌⊎◌, inl, inr, ⊎_elim, Bool, true, false, ◌||◌, List, [], ◌∷◌, ◌++◌, map, length, Option, Some, None, refl, sym, ap, subst, ◌∙◌}
+use Rattle.std.proofs.Common.{◌≡◌, ℕ, ◌+◌, ◌<◌, ◌⊎◌, inl, inr, ⊎_elim, arith, Bool, true, false, ◌||◌, List, [], ◌∷◌, ◌++◌, map, length, Option, Some, None, refl, sym, ap, subst, ◌∙◌}
 use Rattle.std.proofs.lemmas.Bool.{cases_Bool, both_ways, or_cases, false_from_ne_true}
 use Rattle.clv_base.specs.declared.names.TxId.{TxId}
 use Rattle.clv_base.specs.declared.names.Birth.{Birth}
@@ -8,7 +8,7 @@ use Rattle.clv_base.specs.declared.state.Stage.{Stage}
 use Rattle.clv_base.specs.declared.state.Stage.TheVariants.{Active, Closed, Gone}
 use Rattle.clv_base.specs.declared.state.Held.{Held}
 use Rattle.clv_base.specs.Orders.{tx_same, tx_in, tx_get}
-use Rattle.clv_base.specs.Logs.{committed_in}
+use Rattle.clv_base.specs.Logs.{committed_in, prepared_in}
 use Rattle.clv_base.specs.declared.modes.Decision.{Decision}
 use Rattle.clv_base.specs.declared.modes.Decision.TheVariants.{Grant, Wait, Die}
 use Rattle.clv_base.specs.Needs.{value_at}
@@ -32,7 +32,7 @@ use Rattle.std.proofs.lemmas.Option.{none-some}
 use Rattle.shard_laws.proofs.Keeping.GrantingKeeps.{keeps_performed, keeps_lost_op, own_part}
 use Rattle.law_base.proofs.Stages.{other_part}
 use Rattle.shard_laws.proofs.Keeping.FallenAndLost.{Falls, falls_alive, falls_lost}
-use Rattle.shard_laws.proofs.Order.WritesLieOnListed.{listed_prepared}
+use Rattle.shard_laws.proofs.Order.WhoIsListed.{listed_there}
 use Rattle.shard_laws.proofs.Events.DueKeeps.{did, own_kept, part_all}
 use Rattle.clv_base.specs.OneShard.{OpAnswers, new_part, add_pairs}
 use Rattle.std.specs.List.{list_any}
@@ -136,6 +136,11 @@ module _ {told : List TxId} (all : List Deed) (g : Past) (s : Shard) (tx : TxId)
       not_false true n = refl
       not_false false n = absurd (n refl)
 
+  -- it is of this run
+  own_named : (prepared_in s.local.log tx ≡ true) ⊎ (tx.run < s.run) → prepared_in s.local.log tx ≡ true
+  own_named (inl p) = p
+  own_named (inr l) = absurd (omega (arith, run_is, l))
+
   performed_lost : (tx_in tx g.lost ≡ true) ⊎ ((p : TxId) × (tx_in p vs ≡ true) × (tx_in p g.lost ≡ true)) → Performed
   unfolding Performed
   performed_lost why = (
@@ -143,7 +148,7 @@ module _ {told : List TxId} (all : List Deed) (g : Past) (s : Shard) (tx : TxId)
     performed_with (deeds_by_chosen (is_alive (tx ∷ [])) g.done) (tx ∷ g.lost)
         (keeps_lost_op g s tx birth nth op h.kept grant (stands_now g s tx birth same o) new fr.open_ fr.unaborted fr.unprepared met_active no_succ h.falls.open_ rises_here) told_lost
         (part_more done (deeds_by_chosen (is_alive (tx ∷ [])) g.done) all (part_filter (λ d. is_alive (tx ∷ []) (doer d)) g.done all h.within))
-        (falls_lost g.asked g.fell g.lost g.over s.local.parts (new_part tx birth (tx_get tx s.local.parts) s.local.parts) s.local.pairs s.local.log s.durable tx vs h.falls own_now others_now fr.unfallen fr.undoomed fr.unprepared fr.open_ not_over no_succ (listed_prepared s.shard s.local.log h.order.ordered.follows) why),
+        (falls_lost g.asked g.fell g.lost g.over s.local.parts (new_part tx birth (tx_get tx s.local.parts) s.local.parts) s.local.pairs s.local.log s.durable tx vs h.falls own_now others_now fr.unfallen fr.undoomed fr.unprepared fr.open_ not_over no_succ (λ u i. own_named (h.order.ordered.named tx (listed_there s.local.log u tx i))) why),
     refl,
     refl,
     refl,

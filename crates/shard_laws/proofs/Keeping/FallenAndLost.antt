@@ -327,7 +327,7 @@ module _ (asked fell lost over : List TxId) (parts parts2 : Table Held) (pairs :
   }
 
   -- it is lost: already, or by one that it violated
-  pub falls_lost : committed_in log t ≡ false → tx_in t over ≡ false → ((u : TxId) → is_pair pairs u t ≡ true → ⊥) → ((u p : TxId) → tx_in p (listed_in log u) ≡ true → prepared_in log p ≡ true) → (tx_in t lost ≡ true) ⊎ ((p : TxId) × (tx_in p vs ≡ true) × (tx_in p lost ≡ true))
+  pub falls_lost : committed_in log t ≡ false → tx_in t over ≡ false → ((u : TxId) → is_pair pairs u t ≡ true → ⊥) → ((u : TxId) → tx_in t (listed_in log u) ≡ true → prepared_in log t ≡ true) → (tx_in t lost ≡ true) ⊎ ((p : TxId) × (tx_in p vs ≡ true) × (tx_in p lost ≡ true))
       → Falls asked fell (t ∷ lost) over parts2 (add_pairs t vs pairs) log durable
   falls_lost open_ unfinished no_succ listed because = record {
     fallen = λ u e. or_right (tx_same t u) _ (f.fallen u (fell_back u e).1);
@@ -337,7 +337,7 @@ module _ (asked fell lost over : List TxId) (parts parts2 : Table Held) (pairs :
     up = λ u p e l. ⊎_elim
         (λ o. ⊎_elim (λ s. absurd (no_succ u (subst (λ z. is_pair pairs u z ≡ true) (sym (tx_true t p s)) o))) (λ i. or_right (tx_same t u) _ (f.up u p o i)) (or_cases (tx_same t p) (tx_in p lost) l))
         (λ n. or_left _ _ (tx_eq t u (sym n.0))) (add_which t vs pairs u p e);
-    lists = λ u p i l. ⊎_elim (λ s. absurd (both_ways _ unprepared (subst (λ z. prepared_in log z ≡ true) (sym (tx_true t p s)) (listed u p i)))) (λ j. ⊎_elim (λ k. inl (or_right (tx_same t u) _ k)) (λ a. inr a) (f.lists u p i j)) (or_cases (tx_same t p) (tx_in p lost) l);
+    lists = λ u p i l. ⊎_elim (λ s. absurd (both_ways _ unprepared (listed u (subst (λ z. tx_in z (listed_in log u) ≡ true) (sym (tx_true t p s)) i)))) (λ j. ⊎_elim (λ k. inl (or_right (tx_same t u) _ k)) (λ a. inr a) (f.lists u p i j)) (or_cases (tx_same t p) (tx_in p lost) l);
     back = now_back;
     owns = f.owns;
     gone = now_gone;

@@ -36,6 +36,7 @@ use Rattle.protocol_laws.specs.Order.{Tidy}
 use Rattle.clv_base.specs.State.{is_present}
 use Rattle.law_base.proofs.Sets.{same_flip}
 use Rattle.law_base.proofs.Bases.{take_base}
+use Rattle.law_base.proofs.Places.{undo_upto, upto_within}
 
 -- a transaction's operations that hold
 abbrev pub own_held : TxId → List Deed → List Item
@@ -135,7 +136,7 @@ module _ (g : Past) (v : View) (tx : TxId) (n : ℕ) (k : Kept g v) (active : st
       recover = λ t p e. ⊎_elim (λ o. inl o) (λ d. inr (still_dep t p d.0, d.1)) (k.recover t p e);
     };
     pairs = record { downwards = λ t p e c. before_keeps v.log more p t (k.downwards t p e (committed_from v.log more t (no_more t) c)); causes = met_mono _ _ (λ x y h r. ⊎_elim (λ s. inl s) (λ d. inr (still_dep y.tx x.tx d)) (h r)) done causes };
-    durable = record { base_done = all_mono _ _ (λ w c. still_durable w.tx c) g.base k.base_done; front = k.front; floor_done = λ c l. take_base c v.log more (undo_base more (clrs_undo_by gone (standing v.log))) ∙ k.floor_done c l };
+    durable = record { base_done = all_mono _ _ (λ w c. still_durable w.tx c) g.base k.base_done; front = k.front; floor_done = λ c l. take_base c v.log more (undo_base more (clrs_undo_by gone (standing v.log))) ∙ k.floor_done c l; part_done = upto_within v.durable v.log more (undo_upto more (clrs_undo_by gone (standing v.log))) k.part_done };
   }
 
   tidy_now : Tidy [] (v.log ++ more)

@@ -22,6 +22,7 @@ use Rattle.clv_base.specs.declared.state.Held.{Held}
 use Rattle.clv_base.specs.Orders.{Table, tx_same, tx_in, tx_get}
 use Rattle.clv_base.specs.Maps.{map_get}
 use Rattle.clv_base.specs.declared.changes.Change.TheVariants.{Sets, Adds}
+use Rattle.clv_base.specs.LogRules.{upto_of}
 use Rattle.clv_base.specs.Logs.{StandingUpdate, base_of, changed, is_setting, standing, committed_in, prepared_in, has_standing, aborted_in}
 use Rattle.clv_base.specs.Locks.{Locks}
 use Rattle.clv_base.specs.State.{is_present}
@@ -71,6 +72,7 @@ use Rattle.law_base.proofs.Standing.{all_stand}
 use Rattle.law_base.proofs.Sets.{filter_in, in_filter}
 use Rattle.shard_laws.proofs.Keeping.DeedsInTheLog.{item_wrote, stands_held}
 use Rattle.law_base.proofs.Bases.{take_base}
+use Rattle.law_base.proofs.Places.{upto_within}
 
 module _ (g : Past) (v : View) (tx : TxId) (birth : Birth) (nth : ℕ) (op : Op) (k : Kept g v) (grant : decide tx birth (needs_of op v.records) v.locks ≡ Grant)
     (may : MayStand v.parts tx birth) (new : tx_in tx g.asked ≡ false) (open_ : committed_in v.log tx ≡ false) (alive : aborted_in v.log tx ≡ false) (unprepared : prepared_in v.log tx ≡ false) (unmet : (p : TxId) → is_pair g.met tx p ≡ true → stage_in v.parts tx ≡ Some Active) (no_succ : (t : TxId) → is_pair v.pairs t tx ≡ true → ⊥) (lost_open : (t : TxId) → tx_in t g.lost ≡ true → committed_in v.log t ≡ false) (rises : AreBelow tx nth g.done) where
@@ -206,6 +208,11 @@ module _ (g : Past) (v : View) (tx : TxId) (birth : Birth) (nth : ℕ) (op : Op)
   floor_by None c l = k.floor_done c l
   floor_by (Some (key, Sets before after)) c l = take_base c v.log (Update tx key before after ∷ []) refl ∙ k.floor_done c l
   floor_by (Some (key, Adds by)) c l = take_base c v.log (Add tx key by ∷ []) refl ∙ k.floor_done c l
+
+  part_by : (w : Written) → upto_of (log_by tx w v.log) ≤ v.durable
+  part_by None = k.part_done
+  part_by (Some (key, Sets before after)) = upto_within v.durable v.log (Update tx key before after ∷ []) refl k.part_done
+  part_by (Some (key, Adds by)) = upto_within v.durable v.log (Add tx key by ∷ []) refl k.part_done
 
   from_by : (w : Written) (t : TxId) → committed_in (log_by tx w v.log) t ≡ true → committed_in v.log t ≡ true
   from_by None t c = c
@@ -516,7 +523,7 @@ module _ (g : Past) (v : View) (tx : TxId) (birth : Birth) (nth : ℕ) (op : Op)
     fates = record { uncommitted = λ u a. none_by change u (⊎_elim (λ s. ap (committed_in v.log) s ∙ open_) (λ b. k.uncommitted u b) (active_back u a)); dead = dead_now; doomed = doomed_now; prepared = prepared_by change };
     ends = record { left = all_push _ g.done (Did item) (all_mono _ _ (λ d l. still_left (doer d) l) g.done k.left) (inl (ap is_present stage_own)); over = over_now; recover = recovers g.lost (λ t l. l) };
     pairs = record { downwards = downwards_now; causes = met_push _ g.done (Did item) causes_now (all_mono _ _ (λ y h. cause_new y h.0 h.1) (held g.done) (all_both _ _ (held g.done) (all_held Tells g.done tells) wrote_here_all)) };
-    durable = record { base_done = all_mono _ _ (λ w c. durable_by change w.tx c) g.base k.base_done; front = k.front; floor_done = floor_by change };
+    durable = record { base_done = all_mono _ _ (λ w c. durable_by change w.tx c) g.base k.base_done; front = k.front; floor_done = floor_by change; part_done = part_by change };
   }
     where
       below_is : (a b : ℕ) → a < b → a ≤ b
@@ -578,7 +585,7 @@ module _ (g : Past) (v : View) (tx : TxId) (birth : Birth) (nth : ℕ) (op : Op)
     fates = record { uncommitted = λ u a. none_by change u (⊎_elim (λ s. ap (committed_in v.log) s ∙ open_) (λ b. k.uncommitted u b) (active_back u a)); dead = dead_now; doomed = doomed_now; prepared = prepared_lost change };
     ends = record { left = all_mono _ _ (λ d h. still_left (doer d) h) stay (of_stay _ k.left); over = over_now; recover = recovers (tx ∷ g.lost) (λ t l. or_right (tx_same tx t) _ l) };
     pairs = record { downwards = downwards_now; causes = met_stay _ causes_now };
-    durable = record { base_done = all_mono _ _ (λ w c. durable_by change w.tx c) g.base k.base_done; front = k.front; floor_done = floor_by change };
+    durable = record { base_done = all_mono _ _ (λ w c. durable_by change w.tx c) g.base k.base_done; front = k.front; floor_done = floor_by change; part_done = part_by change };
   }
 
 -- the state after a granted operation

@@ -44,6 +44,7 @@ use Rattle.clv_base.proofs.Folding.{or_left as or_false_left, or_right as or_fal
 use Rattle.shard_laws.proofs.Keeping.RecordsOfAnUndo.{no_commits, no_writes, no_prepares, aborted_here, tidy_harmless, harmless_aborts, harmless_clrs}
 use Rattle.clv_base.specs.Maps.{KeyMap}
 use Rattle.law_base.proofs.Bases.{take_base}
+use Rattle.law_base.proofs.Places.{undo_upto, upto_within}
 use Rattle.law_base.proofs.Logs.{IsUndo, aborts_undo, clrs_undo, undo_base}
 
 -- ---- parts that are gone
@@ -308,10 +309,11 @@ module _ (g : Past) (v : View) (set : List TxId) (d : TxId) (k : Kept g v) (may 
   chain_floor : Chain g.floor (standing v.log)
   chain_floor = subst (λ base. Chain base (standing v.log)) (begins g v k) chain_here
 
+  undoing : AllByRecursion IsUndo (aborts_of v.log set ++ clrs_of set (standing v.log))
+  undoing = all_append IsUndo (aborts_of v.log set) (clrs_of set (standing v.log)) (aborts_undo (filter (has_standing v.log) set)) (clrs_undo set (standing v.log))
+
   brings : base_of (aborts_of v.log set ++ clrs_of set (standing v.log)) ≡ []
-  brings =
-      undo_base (aborts_of v.log set ++ clrs_of set (standing v.log))
-      (all_append IsUndo (aborts_of v.log set) (clrs_of set (standing v.log)) (aborts_undo (filter (has_standing v.log) set)) (clrs_undo set (standing v.log)))
+  brings = undo_base (aborts_of v.log set ++ clrs_of set (standing v.log)) undoing
 
   more : List LogRecord
   more = aborts_of v.log set ++ clrs_of set (standing v.log)
@@ -421,6 +423,7 @@ module _ (g : Past) (v : View) (set : List TxId) (d : TxId) (k : Kept g v) (may 
       base_done = all_mono _ _ (λ w c. still_durable w.tx c) g.base k.base_done;
       front = k.front;
       floor_done = λ c l. take_base c v.log (aborts_of v.log set ++ clrs_of set (standing v.log)) brings ∙ k.floor_done c l;
+      part_done = upto_within v.durable v.log (aborts_of v.log set ++ clrs_of set (standing v.log)) (undo_upto (aborts_of v.log set ++ clrs_of set (standing v.log)) undoing) k.part_done;
     };
   }
 

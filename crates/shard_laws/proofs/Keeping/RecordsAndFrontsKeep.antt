@@ -12,6 +12,7 @@ use Rattle.clv_base.specs.declared.modes.Anchor.TheVariants.{Low, At}
 use Rattle.clv_base.specs.declared.state.Stage.{Stage}
 use Rattle.clv_base.specs.declared.state.Stage.TheVariants.{Active, Closed, Gone}
 use Rattle.clv_base.specs.Orders.{tx_same, tx_in}
+use Rattle.clv_base.specs.LogRules.{upto_by, upto_of}
 use Rattle.clv_base.specs.Logs.{standing, committed_in, wrote_in, prepared_in, is_update_of, is_commit_of, is_prepare_of, has_standing, aborted_in, is_abort_of, base_by, base_of}
 use Rattle.clv_base.specs.Locks.{Locks, is_free}
 use Rattle.clv_base.specs.State.{is_present}
@@ -37,6 +38,7 @@ use Rattle.clv_base.specs.declared.values.Value.{Value as ValueType}
 use Rattle.shard_laws.specs.OneShard.{doer, items_in}
 use Rattle.shard_laws.proofs.Keeping.DeedsThatHold.{met_mono, met_both}
 use Rattle.law_base.proofs.Bases.{take_base}
+use Rattle.law_base.proofs.Places.{upto_within}
 
 -- ---- a record more
 
@@ -75,6 +77,7 @@ pub record More (v : View) (more : List LogRecord) : Type 0 where
   pub down : (t p : TxId) → is_pair v.pairs t p ≡ true → committed_in more t ≡ true → CommitBefore (v.log ++ more) p t
   pub tidies : Tidy v.log more
   pub brings : base_of more ≡ []
+  pub starts : upto_of more ≡ 0
 
 pub keeps_records : (g : Past) (v : View) (more : List LogRecord) → Kept g v → More v more → Prepared g.done g.met v.parts (v.log ++ more) → Kept g (record v { log = v.log ++ more })
 keeps_records g v more k m prep = record {
@@ -100,7 +103,7 @@ keeps_records g v more k m prep = record {
     downwards = λ t p h c. ⊎_elim (λ i. before_keeps v.log more p t (k.downwards t p h i)) (λ i. m.down t p h i) (or_cases (committed_in v.log t) (committed_in more t) (sym (committed_append v.log more t) ∙ c));
     causes = met_mono _ _ (λ x y h r. ⊎_elim (λ s. inl s) (λ d. inr (dep_more v more y.tx x.tx d)) (h r)) g.done k.causes;
   };
-  durable = record { base_done = all_mono _ _ (λ w h. durable_keeps v.log more v.durable v.durable w.tx (omega arith) h) g.base k.base_done; front = k.front; floor_done = λ c l. take_base c v.log more m.brings ∙ k.floor_done c l };
+  durable = record { base_done = all_mono _ _ (λ w h. durable_keeps v.log more v.durable v.durable w.tx (omega arith) h) g.base k.base_done; front = k.front; floor_done = λ c l. take_base c v.log more m.brings ∙ k.floor_done c l; part_done = upto_within v.durable v.log more m.starts k.part_done };
 }
 
 -- a record that is no UPDATE, CLR, COMMIT, PREPARE or ABORT
@@ -111,6 +114,7 @@ pub record Quiet (r : LogRecord) : Type 0 where
   pub no_move : moves r ≡ None
   pub no_prepare : (t : TxId) → is_prepare_of t r ≡ false
   pub brings : base_by r ≡ []
+  pub starts : upto_by r ≡ 0
 
 open_none : (before : List LogRecord) (o : Option TxId) → o ≡ None → Open_at before o
 open_none before o e = subst (Open_at before) (sym e) tt
@@ -126,10 +130,11 @@ keeps_quiet g v r k e q = keeps_records g v (r ∷ []) k (record {
   down = λ t p h c. absurd (both_ways _ (or_from _ false (q.no_commit t) refl) c);
   tidies = (open_none v.log (moves r) q.no_move, tt);
   brings = q.brings;
+  starts = q.starts;
 }) (prepared_more g.done g.met v.parts v.log (r ∷ []) k.prepared (λ t. or_from _ false (q.no_update t) refl) (λ t. or_from _ false (q.no_prepare t) refl))
 
 pub quiet_end : (tx : TxId) → Quiet (End tx)
-quiet_end tx = record { no_commit = λ t. refl; no_update = λ t. refl; no_abort = λ t. refl; no_move = refl; no_prepare = λ t. refl; brings = refl }
+quiet_end tx = record { no_commit = λ t. refl; no_update = λ t. refl; no_abort = λ t. refl; no_move = refl; no_prepare = λ t. refl; brings = refl; starts = refl }
 
 stage_apart : (v : View) (t u : TxId) (a b : Stage) → stage_in v.parts t ≡ Some a → stage_in v.parts u ≡ Some b → (Some a ≡ Some b → ⊥) → tx_same u t ≡ false
 stage_apart v t u a b e f ne = tx_ne u t (λ s. ne (sym e ∙ ap (stage_in v.parts) (sym s) ∙ f))
@@ -151,6 +156,7 @@ keeps_commit g v t parts k closed new before = keeps_records g v (Commit t parts
       (or_cases (tx_same u t) false c);
   tidies = (tt, tt);
   brings = refl;
+  starts = refl;
 }) (prepared_more g.done g.met v.parts v.log (Commit t parts ∷ []) k.prepared (λ u. refl) (λ u. refl))
 
 -- a PREPARE of a closed part, whose predecessors it lists or are committed
@@ -184,6 +190,7 @@ module _ (g : Past) (v : View) (t : TxId) (home : ℕ) (ps : List TxId) (k : Kep
     down = λ u p h c. absurd (both_ways false refl c);
     tidies = (tt, tt);
     brings = refl;
+    starts = refl;
   }
 
   prepared_prepare : Prepared g.done g.met v.parts (v.log ++ Prepare t home ps ∷ [])
@@ -220,12 +227,12 @@ keeps_front g v n k le = record {
     recover = λ t p e. ⊎_elim (λ o. inl o) (λ d. inr (dep_front v n t p le d.0, d.1)) (k.recover t p e);
   };
   pairs = record { downwards = k.downwards; causes = met_mono _ _ (λ x y h r. ⊎_elim (λ s. inl s) (λ d. inr (dep_front v n y.tx x.tx le d)) (h r)) g.done k.causes };
-  durable = record { base_done = all_mono _ _ (λ w h. further v.log v.durable n w.tx le h) g.base k.base_done; front = λ m e. absurd (none-some m e); floor_done = λ c l. k.floor_done c (omega (arith, le, l)) };
+  durable = record { base_done = all_mono _ _ (λ w h. further v.log v.durable n w.tx le h) g.base k.base_done; front = λ m e. absurd (none-some m e); floor_done = λ c l. k.floor_done c (omega (arith, le, l)); part_done = let d = k.part_done in omega (arith, le, d) };
 }
 
 pub keeps_flight : (g : Past) (v : View) (n : ℕ) → Kept g v → v.durable ≤ n → Kept g (record v { flight = Some n })
 keeps_flight g v n k le =
-    let front : KeptFront g.floor g.base v.log v.durable (Some n) = record { base_done = k.base_done; front = λ m e. subst (λ x. v.durable ≤ x) (same_Some n m e) le; floor_done = k.floor_done } in
+    let front : KeptFront g.floor g.base v.log v.durable (Some n) = record { base_done = k.base_done; front = λ m e. subst (λ x. v.durable ≤ x) (same_Some n m e) le; floor_done = k.floor_done; part_done = k.part_done } in
     record { start = k.start; past = k.past; log = k.log; records = k.records; locks = k.locks; parts = k.parts; fates = k.fates; ends = k.ends; pairs = k.pairs; durable = front }
 
 -- ---- a purge

@@ -15,6 +15,7 @@ use Rattle.clv_base.specs.declared.state.Stage.TheVariants.{Active, Closed, Gone
 use Rattle.clv_base.specs.declared.state.Held.{Held}
 use Rattle.clv_base.specs.Orders.{Table, tx_in, tx_get}
 use Rattle.clv_base.specs.Maps.{KeyMap, map_get}
+use Rattle.clv_base.specs.LogRules.{upto_of}
 use Rattle.clv_base.specs.Logs.{StandingUpdate, base_of, is_setting, standing, committed_in, aborted_in, has_standing}
 use Rattle.clv_base.specs.Locks.{Locks}
 use Rattle.clv_base.specs.State.{Shard}
@@ -215,6 +216,7 @@ pub record KeptFront (floor : KeyMap) (base : List StandingUpdate) (log : List L
   pub base_done : AllByRecursion (λ w. commit_durable log durable w.tx ≡ true) base
   pub front : (n : ℕ) → flight ≡ Some n → durable ≤ n
   pub floor_done : (n : ℕ) → durable ≤ n → base_of (take n log) ≡ floor
+  pub part_done : upto_of log ≤ durable
 
 -- each group reads only what its type names, so a step that leaves this alone hands the group on
 pub record Kept (g : Past) (v : View) : Type 0 where

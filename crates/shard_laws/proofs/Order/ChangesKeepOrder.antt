@@ -11,7 +11,7 @@ use Rattle.clv_base.specs.declared.state.Held.{Held}
 use Rattle.clv_base.specs.Orders.{Table, tx_same, tx_in, nat_in}
 use Rattle.clv_base.specs.State.{is_present}
 use Rattle.clv_base.specs.Logs.{is_setting, StandingUpdate, standing, committed_in, prepared_in, aborted_in, wrote_in, has_standing, prepare_of, is_update_of, is_undo_of, is_prepare_of, is_abort_of}
-use Rattle.clv_base.specs.LogRules.{lies_below, may_follow, last_restart, before_restart, in_last_run, has_above, writes_below, listed_in, commit_by_prepare, some_parts}
+use Rattle.clv_base.specs.LogRules.{lies_below, may_follow, disorder, last_restart, before_restart, is_current, has_above, writes_below, listed_in, commit_by_prepare, some_parts}
 use Rattle.clv_base.specs.Restarts.{greatest_run}
 use Rattle.clv_base.proofs.SameNames.{or_left, or_right, tx_true, tx_eq, tx_ne}
 use Rattle.law_base.proofs.Standing.{stood_before}
@@ -21,8 +21,10 @@ use Rattle.law_base.proofs.Commits.{committed_keeps}
 use Rattle.law_base.proofs.Stages.{present_is}
 use Rattle.protocol_laws.proofs.LogsInOrder.StandingUpdatesLie.{Falling}
 use Rattle.shard_laws.proofs.Keeping.ChangesKeepPrepared.{by_prepare, prepared_append}
-use Rattle.shard_laws.proofs.Order.RecordByRecord.{Follows, follows_append, Plainly, last_push, before_push, greatest_plain}
+use Rattle.shard_laws.proofs.Order.RecordByRecord.{Follows, Plainly, last_push, before_push, greatest_plain}
+use Rattle.shard_laws.proofs.Order.WhoIsListed.{Named, named_more, unlisted_all, OldParted, old_more}
 use Rattle.shard_laws.proofs.Order.WhoseWritesStand.{has_still, new_standing}
+use Rattle.law_base.proofs.Parts.{in_order_more}
 use Rattle.law_base.proofs.Names.{own_in as each_in}
 use Rattle.law_base.proofs.Logs.{no_prepare as prepare_none}
 
@@ -38,7 +40,11 @@ abbrev pub Lying : List (TxId × TxId) → List LogRecord → Type 0
 Lying pairs log = Under pairs (committed_in log) (standing log)
 
 pub record Ordered (shard run : ℕ) (parts : Table Held) (pairs : List (TxId × TxId)) (log : List LogRecord) : Type 0 where
-  pub follows : Follows shard [] log
+  pub in_order : disorder shard log ≡ None
+  -- whom a PREPARE lists has one, or is of an earlier run
+  pub named : Named run log
+  -- who is committed in what a checkpoint kept is of an earlier run
+  pub old : OldParted run log
   -- its last RESTART is of this run, and none is of a later one
   pub last : (epoch : ℕ) × (last_restart log ≡ Some (run, epoch))
   pub latest : greatest_run log ≤ run
@@ -135,7 +141,9 @@ pub record Stepped (shard : ℕ) (parts parts2 : Table Held) (pairs pairs2 : Lis
 
 pub ordered_step : (shard run : ℕ) (parts parts2 : Table Held) (pairs pairs2 : List (TxId × TxId)) (log more : List LogRecord) → Ordered shard run parts pairs log → Stepped shard parts parts2 pairs pairs2 log more → Ordered shard run parts2 pairs2 (log ++ more)
 ordered_step shard run parts parts2 pairs pairs2 log more o s = record {
-  follows = follows_append shard [] log more o.follows s.follows;
+  in_order = in_order_more shard log more o.in_order s.follows;
+  named = named_more run log more (unlisted_all more (all_mono _ _ (λ r c. c.no_prepare) more s.calm)) o.named;
+  old = old_more shard run log more o.in_order s.follows o.old;
   last = ((o.last).0, last_all log more plain ∙ (o.last).1);
   latest = greatest_all log more run plain o.latest;
   of_run = λ t a. o.of_run t (s.active t a);
@@ -238,8 +246,9 @@ module _ (shard run : ℕ) (parts : Table Held) (pairs : List (TxId × TxId)) (l
   pub restarted : is_some (last_restart log) ≡ true
   restarted = ap is_some (o.last).1
 
-  pub this_run : (t : TxId) → t.run ≡ run → in_last_run log t ≡ true
-  this_run t e = ap (λ z. elim z [ Some p ↦ t.run == p.0 | None ↦ false ]) (o.last).1 ∙ eq-eqb t.run run e
+  pub this_run : (t : TxId) → t.run ≡ run → prepared_in log t ≡ false → is_current log t ≡ true
+  this_run t e none = and_from _ _ (ap (λ z. elim z [ Some p ↦ t.run == p.0 | None ↦ false ]) (o.last).1 ∙ eq-eqb t.run run e)
+      (ap not (false_from_ne_true _ (λ i. ⊎_elim (λ p. both_ways _ none p) (λ l. omega (arith, e, l)) (o.named t i))))
 
   pub commit_follows : (t : TxId) (ps : List ℕ) → is_present (stage_in parts t) ≡ true → committed_in log t ≡ false → nat_in shard ps ≡ false → ((p : TxId) → is_pair pairs t p ≡ true → committed_in log p ≡ true)
       → ((p : TxId) → tx_in p (listed_in log t) ≡ true → committed_in log p ≡ true) → commit_by_prepare shard log t ps (prepare_of log t) ≡ true → (has_standing log t || some_parts ps) ≡ true → may_follow shard log (Commit t ps) ≡ true
@@ -251,7 +260,7 @@ module _ (shard run : ℕ) (parts : Table Held) (pairs : List (TxId × TxId)) (l
   pub prepare_follows : (t : TxId) (home : ℕ) (ps : List TxId) → stage_in parts t ≡ Some Active → has_standing log t ≡ true → prepared_in log t ≡ false → committed_in log t ≡ false → ((p : TxId) → tx_in p ps ≡ true → (is_pair pairs t p ≡ true) × (committed_in log p ≡ false))
       → ((p : TxId) → is_pair pairs t p ≡ true → (committed_in log p ≡ true) ⊎ (tx_in p ps ≡ true)) → may_follow shard log (Prepare t home ps) ≡ true
   prepare_follows t home ps act wrote unprepared open_ mine all_mine =
-      and_from _ _ (and_from _ _ (and_from _ _ (and_from _ _ (and_from _ _ (and_from _ _ restarted (new_standing shard log o.follows t wrote (o.new t act))) (ap not unprepared)) (ap not open_)) (ap not (o.unaborted t (ap is_present act))))
+      and_from _ _ (and_from _ _ (and_from _ _ (and_from _ _ (and_from _ _ (and_from _ _ restarted (new_standing shard log o.in_order t wrote (o.new t act))) (ap not unprepared)) (ap not open_)) (ap not (o.unaborted t (ap is_present act))))
       (list_all_from _ ps (all_mono _ _ (λ p i. one p (mine p i)) ps (each_in ps))))
       (under_all pairs (committed_in log) (λ p. committed_in log p || tx_in p ps) t (standing log) fall l (λ p e. ⊎_elim (λ c. or_left _ _ c) (λ i. either p (all_mine p i)) e))
     where

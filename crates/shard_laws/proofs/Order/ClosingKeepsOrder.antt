@@ -31,7 +31,9 @@ use Rattle.shard_laws.proofs.Keeping.ClosingKeeps.{stage_back}
 use Rattle.law_base.proofs.Stages.{closed_other as stage_left, closed_not_active}
 use Rattle.law_base.proofs.Stages.{active_back, closed_back, stage_other, own_go}
 use Rattle.law_base.proofs.Sets.{filter_in, in_filter}
-use Rattle.shard_laws.proofs.Order.RecordByRecord.{Follows, follows_append, last_push, before_push, greatest_plain}
+use Rattle.shard_laws.proofs.Order.RecordByRecord.{Follows, last_push, before_push, greatest_plain}
+use Rattle.shard_laws.proofs.Order.WhoIsListed.{named_prepare, prepares_listed, old_more}
+use Rattle.law_base.proofs.Parts.{in_order_more}
 use Rattle.shard_laws.proofs.Order.UndoMayFollow.{clrs_follow, undo_follows}
 use Rattle.shard_laws.proofs.Order.NewestWritesOfOne.{lsns_own, lsns_newest}
 use Rattle.shard_laws.proofs.Order.WhoseWritesStand.{has_still}
@@ -43,7 +45,9 @@ use Rattle.shard_laws.proofs.Order.ChangesKeepOrder.{LiesOn, Under, Lying, Order
 pub ordered_prepare : (shard run : ℕ) (parts : Table Held) (pairs : List (TxId × TxId)) (log : List LogRecord) (t : TxId) (home : ℕ) (ps : List TxId) → Ordered shard run parts pairs log → may_follow shard log (Prepare t home ps) ≡ true
     → stage_in parts t ≡ Some Active → Ordered shard run parts pairs (log ++ Prepare t home ps ∷ [])
 ordered_prepare shard run parts pairs log t home ps o m act = record {
-  follows = follows_append shard [] log (Prepare t home ps ∷ []) o.follows (m, tt);
+  in_order = in_order_more shard log (Prepare t home ps ∷ []) o.in_order (m, tt);
+  named = named_prepare run log t home ps (prepares_listed shard log t home ps m) o.named;
+  old = old_more shard run log (Prepare t home ps ∷ []) o.in_order (m, tt) o.old;
   last = ((o.last).0, last_push log (Prepare t home ps) tt ∙ (o.last).1);
   latest = greatest_plain log (Prepare t home ps) run tt o.latest;
   of_run = o.of_run;
@@ -60,7 +64,9 @@ ordered_prepare shard run parts pairs log t home ps o m act = record {
 pub ordered_close : (shard run : ℕ) (parts : Table Held) (pairs : List (TxId × TxId)) (log : List LogRecord) (t : TxId) → Ordered shard run parts pairs log → stage_in parts t ≡ Some Active
     → (has_standing log t ≡ true → (prepared_in log t ≡ true) ⊎ (committed_in log t ≡ true)) → ((p : TxId) → tx_in p (listed_in log t) ≡ true → (committed_in log p ≡ true) ⊎ (is_pair pairs t p ≡ true)) → Ordered shard run (closed_in t parts) pairs log
 ordered_close shard run parts pairs log t o act wrote listed = record {
-  follows = o.follows;
+  in_order = o.in_order;
+  named = o.named;
+  old = o.old;
   last = o.last;
   latest = o.latest;
   of_run = λ u a. o.of_run u (stage_back parts t u Active act closed_not_active a).1;
@@ -184,7 +190,7 @@ module _ (shard run : ℕ) (parts : Table Held) (pairs : List (TxId × TxId)) (l
   taken_follows =
       undo_follows shard log set (filter (has_standing log) set) (ap is_some (o.last).1) (once_filter (has_standing log) set once)
       (λ t i. let f = in_filter (has_standing log) t set i in (f.1, open_ t f.0, o.unaborted t (here t f.0)))
-      (upward_under set pairs (committed_in log) (standing log) upward not_own l) ((order_of shard log o.follows).writes).falls
+      (upward_under set pairs (committed_in log) (standing log) upward not_own l) ((order_of shard log o.in_order).writes).falls
       (all_mono _ _ (λ w h i. inr (filter_in (has_standing log) w.tx set i h)) (standing log) (all_stand log))
 
   left : (t : TxId) → tx_in t set ≡ true → stage_in (gone_in set (Some d) parts) t ≡ Some Closed → ⊥
@@ -220,7 +226,7 @@ module _ (shard run : ℕ) (parts : Table Held) (pairs : List (TxId × TxId)) (l
   gone = is_at (newest_lsns n tx (standing log))
 
   falls : Falling (standing log)
-  falls = ((order_of shard log o.follows).writes).falls
+  falls = ((order_of shard log o.in_order).writes).falls
 
   own : AllByRecursion (λ w. gone w ≡ true → tx_same tx w.tx ≡ true) (standing log)
   own = lsns_own n tx (standing log) falls

@@ -1,5 +1,5 @@
 -- A granted operation keeps the order rules: its UPDATE may follow, and what lies under it is done or of a predecessor.
-use Rattle.std.proofs.Common.{◌≡◌, ◌⊎◌, inl, inr, ⊎_elim, refl, sym, ap, subst, ◌∙◌, ℕ, ◌+◌, Bool, true, false, not, ◌&&◌, ◌||◌, List, [], ◌∷◌, ◌++◌, length, Option, Some, None, is_some, ◌==◌, eqb-true, eq-eqb}
+use Rattle.std.proofs.Common.{◌≡◌, arith, ◌⊎◌, inl, inr, ⊎_elim, refl, sym, ap, subst, ◌∙◌, ℕ, ◌+◌, Bool, true, false, not, ◌&&◌, ◌||◌, List, [], ◌∷◌, ◌++◌, length, Option, Some, None, is_some, ◌==◌, eqb-true, eq-eqb}
 use Rattle.std.specs.List.{AllByRecursion, filter}
 use Rattle.std.proofs.lemmas.Bool.{cases_Bool, both_ways, and_parts, and_from, or_from, false_from_ne_true}
 use Rattle.clv_base.specs.declared.values.Value.{Value as ValueType}
@@ -46,7 +46,9 @@ use Rattle.shard_laws.proofs.Keeping.WhatOneShardKeeps.{adds_in, part_for, View,
 use Rattle.shard_laws.proofs.Keeping.ChangesKeepPrepared.{prepared_append}
 use Rattle.shard_laws.proofs.Keeping.GrantingKeeps.{Written, log_by, adds_same, wrote_holds, own_part, not_active, is_closed, closed_row}
 use Rattle.law_base.proofs.Stages.{other_part, closed_not_active}
-use Rattle.shard_laws.proofs.Order.RecordByRecord.{follows_append, last_push, before_push, greatest_plain}
+use Rattle.shard_laws.proofs.Order.RecordByRecord.{last_push, before_push, greatest_plain}
+use Rattle.shard_laws.proofs.Order.WhoIsListed.{named_more, old_more}
+use Rattle.law_base.proofs.Parts.{in_order_more}
 use Rattle.shard_laws.proofs.Order.WhoseWritesStand.{has_still}
 use Rattle.shard_laws.proofs.Order.ChangesKeepOrder.{LiesOn, Under, Lying, Ordered, listed_same, under_more}
 use Rattle.law_base.proofs.Names.{MayStand}
@@ -57,7 +59,9 @@ use Rattle.law_base.proofs.Running.{top_value}
 pub ordered_update : (shard run : ℕ) (parts : Table Held) (pairs : List (TxId × TxId)) (log : List LogRecord) (t : TxId) (key : ℕ) (change : Change) → Ordered shard run parts pairs log → may_follow shard log (update_of t key change) ≡ true
     → stage_in parts t ≡ Some Active → Ordered shard run parts pairs (log ++ update_of t key change ∷ [])
 ordered_update shard run parts pairs log t key (Sets before after) o m act = record {
-  follows = follows_append shard [] log (Update t key before after ∷ []) o.follows (m, tt);
+  in_order = in_order_more shard log (Update t key before after ∷ []) o.in_order (m, tt);
+  named = named_more run log (Update t key before after ∷ []) (λ u. refl) o.named;
+  old = old_more shard run log (Update t key before after ∷ []) o.in_order (m, tt) o.old;
   last = ((o.last).0, last_push log (Update t key before after) tt ∙ (o.last).1);
   latest = greatest_plain log (Update t key before after) run tt o.latest;
   of_run = o.of_run;
@@ -69,7 +73,9 @@ ordered_update shard run parts pairs log t key (Sets before after) o m act = rec
   lists = λ u p c i. ⊎_elim (λ k. inl (committed_keeps log (Update t key before after ∷ []) p k)) (λ e. inr e) (o.lists u p c (ap (tx_in p) (sym (listed_same log (Update t key before after ∷ []) u refl)) ∙ i));
 }
 ordered_update shard run parts pairs log t key (Adds by) o m act = record {
-  follows = follows_append shard [] log (Add t key by ∷ []) o.follows (m, tt);
+  in_order = in_order_more shard log (Add t key by ∷ []) o.in_order (m, tt);
+  named = named_more run log (Add t key by ∷ []) (λ u. refl) o.named;
+  old = old_more shard run log (Add t key by ∷ []) o.in_order (m, tt) o.old;
   last = ((o.last).0, last_push log (Add t key by) tt ∙ (o.last).1);
   latest = greatest_plain log (Add t key by) run tt o.latest;
   of_run = o.of_run;
@@ -95,7 +101,9 @@ pub ordered_new : (shard run : ℕ) (parts parts2 : Table Held) (pairs : List (T
     → (stage_in parts2 t ≡ Some Active) → ((u : TxId) → (u ≡ t → ⊥) → stage_in parts2 u ≡ stage_in parts u) → (stage_in parts t ≡ Some Closed → ⊥) → t.run ≡ run → wrote_in (before_restart [] log) t ≡ false → aborted_in log t ≡ false
     → ((p : TxId) → tx_in p vs ≡ true → (t ≡ p → ⊥) × ((stage_in parts p ≡ Some Closed) × (has_standing log p ≡ true))) → Ordered shard run parts2 (add_pairs t vs pairs) log
 ordered_new shard run parts parts2 pairs log t vs o own same was run_is unwritten unaborted viol = record {
-  follows = o.follows;
+  in_order = o.in_order;
+  named = o.named;
+  old = o.old;
   last = o.last;
   latest = o.latest;
   of_run = λ u a. ⊎_elim (λ e. ap (λ z. z.run) e ∙ run_is) (λ ne. o.of_run u (sym (same u ne) ∙ a)) (cases_tx u t);
@@ -272,7 +280,7 @@ module _ (shard run : ℕ) (g : Past) (v : View) (tx : TxId) (birth : Birth) (op
   writes_now : may_write v.log tx ≡ true
   writes_now =
       and_from _ _ (and_from _ _ (and_from _ _ (and_from _ _
-      (ap (λ z. elim z [ Some p ↦ tx.run == p.0 | None ↦ false ]) (o.last).1 ∙ eq-eqb tx.run run run_is) (ap not unprepared)) (ap not open_)) (ap not unaborted)) (ap not unwritten)
+      (and_from _ _ (ap (λ z. elim z [ Some p ↦ tx.run == p.0 | None ↦ false ]) (o.last).1 ∙ eq-eqb tx.run run run_is) (ap not (false_from_ne_true _ (λ i. ⊎_elim (λ p. both_ways _ unprepared p) (λ l. omega (arith, run_is, l)) (o.named tx i))))) (ap not unprepared)) (ap not open_)) (ap not unaborted)) (ap not unwritten)
 
   value_now : (key : ℕ) → key ≡ key_of op → value_at (key_of op) v.records ≡ value_in v.log key
   value_now key is = ap (λ q. value_at q v.records) (sym is) ∙ k.values key ∙ ap (λ base. top_value base key (standing v.log)) (sym (begins g v k))

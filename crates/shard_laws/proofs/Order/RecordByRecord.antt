@@ -1,110 +1,21 @@
 -- A log that keeps the order rules, record by record, and what RESTARTs of it say.
-use Rattle.std.proofs.Common.{◌≡◌, refl, sym, ap, subst, ◌∙◌, ℕ, suc, ◌≤◌, ◌<◌, Bool, true, false, ◌&&◌, ◌||◌, List, [], ◌∷◌, ◌++◌, Option, Some, None, nat_lt, ◌==◌, cond, max, arith, append-nil, append_assoc, eq-eqb}
-use Rattle.std.specs.Prelude.{⊤, take, drop}
+use Rattle.std.proofs.Common.{◌≡◌, refl, sym, ap, subst, ◌∙◌, ℕ, ◌≤◌, ◌<◌, Bool, true, false, ◌&&◌, ◌||◌, List, [], ◌∷◌, ◌++◌, nat_lt, ◌==◌, cond, max, arith, eq-eqb}
 use Rattle.std.proofs.lemmas.Bool.{and_from, lt-ltb, ltb-false, or_left}
-use Rattle.std.proofs.lemmas.List.{take-append-drop}
 use Rattle.std.proofs.Math.Bool.{or-false}
 use Rattle.clv_base.specs.declared.names.TxId.{TxId}
 use Rattle.clv_base.specs.declared.logs.LogRecord.{LogRecord}
 use Rattle.clv_base.specs.declared.logs.LogRecord.TheVariants.{Update, Clr, Prepare, Commit, Abort, End, Restart, Add, Unadd, Forgotten, Check}
 use Rattle.clv_base.specs.Logs.{wrote_in}
-use Rattle.clv_base.specs.LogRules.{may_follow, disorder_from, last_restart, before_restart, above_restarts}
+use Rattle.clv_base.specs.LogRules.{before_restart, above_restarts}
 use Rattle.clv_base.specs.Restarts.{greatest_run, greatest_epoch}
+pub use Rattle.law_base.specs.Coming.{Follows}
+pub use Rattle.law_base.proofs.InOrder.{from_disorder, to_disorder, follows_append, follows_front, follows_take, follows_later}
+pub use Rattle.law_base.proofs.Restarts.{Plainly, last_push, before_push}
 use Rattle.law_base.proofs.Restarts.{epoch_own}
 use Rattle.shard_laws.proofs.Keeping.RecordsAndFrontsKeep.{wrote_append}
 use Rattle.clv_base.proofs.Folding.{or_left as or_false_left}
 
--- each record may follow those before it
-abbrev pub Follows : ℕ → List LogRecord → List LogRecord → Type 0
-Follows shard before [] = ⊤
-Follows shard before (r ∷ rs) = (may_follow shard before r ≡ true) × Follows shard (before ++ r ∷ []) rs
-
-some_none : (n : ℕ) → ◌≡◌ {A = Option ℕ} (Some n) None → ⊥
-some_none n e = absurd cc
-
-pub from_disorder : (shard n : ℕ) (before rs : List LogRecord) → disorder_from shard n before rs ≡ None → Follows shard before rs
-from_disorder shard n before [] d = tt
-from_disorder shard n before (r ∷ rs) d = at (may_follow shard before r) refl d (from_disorder shard (suc n) (before ++ r ∷ []) rs)
-  where
-    at : (b : Bool) → may_follow shard before r ≡ b → ◌≡◌ {A = Option ℕ} (elim b [ true ↦ disorder_from shard (suc n) (before ++ r ∷ []) rs | false ↦ Some n ]) None
-        → (disorder_from shard (suc n) (before ++ r ∷ []) rs ≡ None → Follows shard (before ++ r ∷ []) rs) → Follows shard before (r ∷ rs)
-    at true e d k = (e, k d)
-    at false e d k = absurd (some_none n d)
-
-pub to_disorder : (shard n : ℕ) (before rs : List LogRecord) → Follows shard before rs → disorder_from shard n before rs ≡ None
-to_disorder shard n before [] f = refl
-to_disorder shard n before (r ∷ rs) f =
-    ap (λ b. elim b [ true ↦ disorder_from shard (suc n) (before ++ r ∷ []) rs | false ↦ Some n ]) f.0 ∙ to_disorder shard (suc n) (before ++ r ∷ []) rs f.1
-
-pub follows_append : (shard : ℕ) (before xs ys : List LogRecord) → Follows shard before xs → Follows shard (before ++ xs) ys → Follows shard before (xs ++ ys)
-follows_append shard before [] ys f g = subst (λ l. Follows shard l ys) (append-nil before) g
-follows_append shard before (x ∷ xs) ys f g = (f.0, follows_append shard (before ++ x ∷ []) xs ys f.1 (subst (λ l. Follows shard l ys) (sym (append_assoc before (x ∷ []) xs)) g))
-
-pub follows_front : (shard : ℕ) (before xs ys : List LogRecord) → Follows shard before (xs ++ ys) → Follows shard before xs
-follows_front shard before [] ys f = tt
-follows_front shard before (x ∷ xs) ys f = (f.0, follows_front shard (before ++ x ∷ []) xs ys f.1)
-
-pub follows_take : (shard n : ℕ) (before log : List LogRecord) → Follows shard before log → Follows shard before (take n log)
-follows_take shard n before log f = follows_front shard before (take n log) (drop n log) (subst (Follows shard before) (sym (take-append-drop n log)) f)
-
 -- ---- the last RESTART
-
--- no RESTART
-abbrev pub Plainly : LogRecord → Type 0
-Plainly (Restart run epoch) = ⊥
-Plainly (Check run epoch upto base) = ⊥
-Plainly _ = ⊤
-
-abbrev or_last : Option (ℕ × ℕ) → ℕ → ℕ → Option (ℕ × ℕ)
-or_last o run epoch = elim o [ Some p ↦ Some p | None ↦ Some (run, epoch) ]
-
-pub last_push : (log : List LogRecord) (r : LogRecord) → Plainly r → last_restart (log ++ r ∷ []) ≡ last_restart log
-last_push [] (Update tx k b a) p = refl
-last_push [] (Clr tx u k a) p = refl
-last_push [] (Prepare tx home ps) p = refl
-last_push [] (Commit tx parts) p = refl
-last_push [] (Abort tx) p = refl
-last_push [] (End tx) p = refl
-last_push [] (Restart run epoch) p = absurd p
-last_push (Restart run epoch ∷ rs) r p = ap (λ o. or_last o run epoch) (last_push rs r p)
-last_push (Update tx k b a ∷ rs) r p = last_push rs r p
-last_push (Clr tx u k a ∷ rs) r p = last_push rs r p
-last_push (Prepare tx home ps ∷ rs) r p = last_push rs r p
-last_push (Commit tx parts ∷ rs) r p = last_push rs r p
-last_push (Abort tx ∷ rs) r p = last_push rs r p
-last_push (End tx ∷ rs) r p = last_push rs r p
-last_push [] (Add tx k by) p = refl
-last_push (Add tx k by ∷ rs) r p = last_push rs r p
-last_push [] (Unadd tx u k by) p = refl
-last_push (Unadd tx u k by ∷ rs) r p = last_push rs r p
-last_push [] Forgotten p = refl
-last_push [] (Check run' epoch' upto base) p = absurd p
-last_push (Forgotten ∷ rs) r p = last_push rs r p
-last_push (Check run' epoch' upto base ∷ rs) r p = ap (λ o. or_last o run' epoch') (last_push rs r p)
-
-pub before_push : (sf log : List LogRecord) (r : LogRecord) → Plainly r → before_restart sf (log ++ r ∷ []) ≡ before_restart sf log
-before_push sf [] (Update tx k b a) p = refl
-before_push sf [] (Clr tx u k a) p = refl
-before_push sf [] (Prepare tx home ps) p = refl
-before_push sf [] (Commit tx parts) p = refl
-before_push sf [] (Abort tx) p = refl
-before_push sf [] (End tx) p = refl
-before_push sf [] (Restart run epoch) p = absurd p
-before_push sf (Restart run epoch ∷ rs) r p = ap (λ l. sf ++ l) (before_push (Restart run epoch ∷ []) rs r p)
-before_push sf (Update tx k b a ∷ rs) r p = before_push (sf ++ Update tx k b a ∷ []) rs r p
-before_push sf (Clr tx u k a ∷ rs) r p = before_push (sf ++ Clr tx u k a ∷ []) rs r p
-before_push sf (Prepare tx home ps ∷ rs) r p = before_push (sf ++ Prepare tx home ps ∷ []) rs r p
-before_push sf (Commit tx parts ∷ rs) r p = before_push (sf ++ Commit tx parts ∷ []) rs r p
-before_push sf (Abort tx ∷ rs) r p = before_push (sf ++ Abort tx ∷ []) rs r p
-before_push sf (End tx ∷ rs) r p = before_push (sf ++ End tx ∷ []) rs r p
-before_push sf [] (Add tx k by) p = refl
-before_push sf (Add tx k by ∷ rs) r p = before_push (sf ++ Add tx k by ∷ []) rs r p
-before_push sf [] (Unadd tx u k by) p = refl
-before_push sf (Unadd tx u k by ∷ rs) r p = before_push (sf ++ Unadd tx u k by ∷ []) rs r p
-before_push sf [] Forgotten p = refl
-before_push sf [] (Check run' epoch' upto base) p = absurd p
-before_push sf (Forgotten ∷ rs) r p = before_push (sf ++ Forgotten ∷ []) rs r p
-before_push sf (Check run' epoch' upto base ∷ rs) r p = ap (λ l. sf ++ l) (before_push (Check run' epoch' upto base ∷ []) rs r p)
 
 -- the records behind the last RESTART
 abbrev since_restart : List LogRecord → List LogRecord → List LogRecord
@@ -281,11 +192,3 @@ above_push run epoch [] Forgotten p = refl
 above_push run epoch [] (Check run' epoch' upto base) p = absurd p
 above_push run epoch (Forgotten ∷ rs) q p = above_push run epoch rs q p
 above_push run epoch (Check run' epoch' upto base ∷ rs) q p = ap (λ b. (nat_lt run' run || ((run' == run) && nat_lt epoch' epoch)) && b) (above_push run epoch rs q p)
-
--- ---- what holds of each front of a log in order
-
-pub through : (P : List LogRecord → Type 0) (shard : ℕ) (before rs : List LogRecord) → Follows shard [] before → Follows shard before rs → P before
-    → ((log : List LogRecord) (r : LogRecord) → Follows shard [] log → P log → may_follow shard log r ≡ true → P (log ++ r ∷ [])) → P (before ++ rs)
-through P shard before [] g f p step = subst P (sym (append-nil before)) p
-through P shard before (r ∷ rs) g f p step =
-    subst P (append_assoc before (r ∷ []) rs) (through P shard (before ++ r ∷ []) rs (follows_append shard [] before (r ∷ []) g (f.0, tt)) f.1 (step before r g p f.0) step)

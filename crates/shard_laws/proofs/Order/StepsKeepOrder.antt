@@ -20,6 +20,7 @@ use Rattle.clv_base.specs.LogRules.{may_follow, before_restart, listed_in, commi
 use Rattle.clv_base.specs.Undo.{gone_in, pairs_without, is_of, is_at, aborts_of, clrs_by, clrs_of, newest_lsn, newest_lsns, compensation}
 use Rattle.clv_base.specs.OneShard.{closed_in, closing, marked_in, locked, written, performed}
 use Rattle.clv_base.proofs.SameNames.{or_left, or_right, tx_true, tx_self}
+use Rattle.law_base.proofs.Parts.{unprepared}
 use Rattle.law_base.proofs.Tables.{stage_in, is_pair}
 use Rattle.law_base.proofs.Standing.{standing_append}
 use Rattle.protocol_laws.proofs.LogsInOrder.{Order}
@@ -72,7 +73,7 @@ order_marked asked shard run parts pairs log requests t k = record {
 
 module _ (asked : List TxId) (shard run : ℕ) (parts : Table Held) (pairs : List (TxId × TxId)) (log : List LogRecord) (requests : Table Request) (k : KeepsOrder asked shard run parts pairs log requests) where
   now : Order shard log
-  now = order_of shard log (k.ordered).follows
+  now = order_of shard log (k.ordered).in_order
 
   -- a set leaves
   pub order_leaves : (set : List TxId) (d : Option TxId) → ((u : TxId) → tx_in u set ≡ true → (has_standing log u ≡ true → committed_in log u ≡ true) ⊎ ((stage_in parts u ≡ Some Closed → ⊥) × ((p : TxId) → is_pair pairs u p ≡ true → ⊥)))
@@ -145,7 +146,7 @@ module _ (asked : List TxId) (shard run : ℕ) (parts : Table Held) (pairs : Lis
   is_prepared t closed wrote open_ = ⊎_elim (λ p. p) (λ c. absurd (both_ways _ open_ c)) ((k.ordered).decided t closed wrote)
 
   pub ended_open : (t : TxId) → committed_in log t ≡ false → ended_in log t ≡ false
-  ended_open t c = false_from_ne_true _ (λ e. both_ways _ c (ended_committed shard log (k.ordered).follows t e))
+  ended_open t c = false_from_ne_true _ (λ e. both_ways _ c (ended_committed shard log (k.ordered).in_order t e))
 
   -- a part is closed
   close_more : (t : TxId) (log2 : List LogRecord) → stage_in parts t ≡ Some Active → KeepsOrder asked shard run parts pairs log2 requests → (has_standing log2 t ≡ true → (prepared_in log2 t ≡ true) ⊎ (committed_in log2 t ≡ true))
@@ -156,7 +157,7 @@ module _ (asked : List TxId) (shard run : ℕ) (parts : Table Held) (pairs : Lis
   close_commits t act open_ unprepared wrote before =
       close_more t (log ++ Commit t [] ∷ []) act
       (commit_kept t [] (commit_follows shard run parts pairs log k.ordered k.lying (now.writes).falls t [] (ap is_present act) open_ refl before (λ p i. absurd (none_listed p _ (unlisted log t unprepared) i))
-      (subst (λ o. commit_by_prepare shard log t [] o ≡ true) (sym (prepare_none log t unprepared)) (this_run shard run parts pairs log k.ordered k.lying (now.writes).falls t ((k.ordered).of_run t act))) (or_left _ _ wrote)))
+      (subst (λ o. commit_by_prepare shard log t [] o ≡ true) (sym (prepare_none log t unprepared)) (this_run shard run parts pairs log k.ordered k.lying (now.writes).falls t ((k.ordered).of_run t act) unprepared)) (or_left _ _ wrote)))
       (λ w. inr (push_right (λ r. is_commit_of t r) log (Commit t []) (tx_self t)))
       (λ p i. absurd (none_listed p _ (listed_same log (Commit t [] ∷ []) t refl ∙ unlisted log t unprepared) i))
 
@@ -196,7 +197,7 @@ module _ (asked : List TxId) (shard run : ℕ) (parts : Table Held) (pairs : Lis
 
   -- a home's own COMMIT, by its undecided request
   home_case : (t : TxId) (ps : List ℕ) (o : Option (ℕ × List TxId)) → prepare_of log t ≡ o → t.run ≡ run → ((p : ℕ × List TxId) → prepare_of log t ≡ Some p → p.0 ≡ shard) → commit_by_prepare shard log t ps o ≡ true
-  home_case t ps None e r home = this_run shard run parts pairs log k.ordered k.lying (now.writes).falls t r
+  home_case t ps None e r home = this_run shard run parts pairs log k.ordered k.lying (now.writes).falls t r (unprepared log t e)
   home_case t ps (Some p) e r home = or_left _ _ (eq-eqb p.0 shard (home p e))
 
   pub home_commits : (t : TxId) (q : Request) (ps : List ℕ) → tx_get t requests ≡ Some q → q.state ≡ Undecided → stage_in parts t ≡ Some Closed → committed_in log t ≡ false → nat_in shard ps ≡ false → ((p : TxId) → is_pair pairs t p ≡ true → committed_in log p ≡ true) → (has_standing log t || some_parts ps) ≡ true
@@ -233,7 +234,7 @@ pub order_performs : (asked : List TxId) (g : Past) (s : Shard) (tx : TxId) (bir
     → decide tx birth (needs_of op s.local.records) s.local.locks ≡ Grant → MayStand s.local.parts tx birth → tx.run ≡ s.run → committed_in s.local.log tx ≡ false → prepared_in s.local.log tx ≡ false → aborted_in s.local.log tx ≡ false → wrote_in (before_restart [] s.local.log) tx ≡ false
     → KeepsOrder asked s.shard s.run (performed tx birth op s.local).parts (performed tx birth op s.local).pairs (performed tx birth op s.local).log s.requests
 order_performs asked g s tx birth op kept k grant may run_is open_ unprepared unaborted unwritten =
-    let o = order_of s.shard s.local.log (k.ordered).follows in
+    let o = order_of s.shard s.local.log (k.ordered).in_order in
     let w : Written = writes_of op (value_at (key_of op) s.local.records) in
     order_written asked s.shard s.run tx birth op s.local s.requests (writes_of op (value_at (key_of op) s.local.records)) (record {
       ordered = ordered_performed s.shard s.run g (view_of s) tx birth op kept k.ordered k.lying o grant may run_is open_ unprepared unaborted unwritten;

@@ -6,21 +6,25 @@ use Rattle.clv_base.specs.declared.names.TxId.{TxId}
 use Rattle.clv_base.specs.declared.logs.LogRecord.{LogRecord}
 use Rattle.clv_base.specs.declared.logs.LogRecord.TheVariants.{Update, Clr, Prepare, Commit, Abort, End, Restart, Add, Unadd, Forgotten, Check}
 use Rattle.clv_base.specs.Orders.{tx_same, tx_in}
-use Rattle.clv_base.specs.Logs.{StandingUpdate, is_setting, standing, standing_after, without_newest, committed_in, prepared_in, ended_in, wrote_in, commit_parts, is_prepare_of, is_commit_of, is_end_of, is_update_of, in_doubt, is_winner, aborted_in}
-use Rattle.clv_base.specs.LogRules.{listed_in, may_follow, lies_below, has_above, last_restart, some_parts}
+use Rattle.clv_base.specs.Logs.{StandingUpdate, is_setting, standing, standing_after, without_newest, committed_in, prepared_in, ended_in, wrote_in, commit_parts, is_prepare_of, is_commit_of, is_end_of, is_update_of, in_doubt, is_winner}
+use Rattle.clv_base.specs.LogRules.{listed_in, lies_below, has_above, last_restart, has_new_standing, some_parts, part_of, disorder}
 use Rattle.clv_base.proofs.SameNames.{or_left, or_right, tx_true, tx_self}
 use Rattle.law_base.proofs.Lists.{all_mono, all_both, filter_passes}
-use Rattle.law_base.proofs.Standing.{standing_append, standing_wrote}
+use Rattle.law_base.proofs.Standing.{standing_append}
 use Rattle.law_base.proofs.Commits.{committed_keeps}
 use Rattle.law_base.proofs.Sets.{list_all_at}
 use Rattle.protocol_laws.specs.Order.{LieOnThese}
 use Rattle.protocol_laws.proofs.LogsInOrder.OneRecordMore.{push_cases, push_same, committed_there}
 use Rattle.protocol_laws.proofs.LogsInOrder.StandingUpdatesLie.{Falling}
-use Rattle.protocol_laws.proofs.LogsInOrder.{Order, in_order}
+use Rattle.protocol_laws.proofs.LogsInOrder.{Order, in_order, all_in_order}
 use Rattle.shard_laws.proofs.Keeping.ChangesKeepPrepared.{by_prepare, prepare_here, listed_keeps}
 use Rattle.shard_laws.proofs.Cuts.WhoIsInDoubt.{Doubted, doubted}
-use Rattle.shard_laws.proofs.Order.RecordByRecord.{Follows, to_disorder, through, last_push}
-use Rattle.shard_laws.proofs.Order.WhoseWritesStand.{in_last_some, new_stands}
+use Rattle.law_base.specs.Coming.{is_let_go, is_bare, may_come_listed, may_come, AllCome}
+use Rattle.law_base.proofs.InOrder.{listed_of, through}
+use Rattle.law_base.proofs.LetGo.{new_wrote}
+use Rattle.law_base.proofs.Parts.{in_order_comes}
+use Rattle.law_base.proofs.Restarts.{last_push}
+use Rattle.shard_laws.proofs.Order.WhoseWritesStand.{past_some}
 use Rattle.shard_laws.proofs.Order.ChangesKeepOrder.{unlisted, listed_same}
 use Rattle.std.proofs.lemmas.Bool.{and_parts}
 use Rattle.law_base.proofs.Bools.{and_first as front, and_second as last}
@@ -78,31 +82,33 @@ module _ (log : List LogRecord) (tx : TxId) (home : ℕ) (ps : List TxId) (first
           all_mono _ _ (λ w h k q. below v w e (part (λ u. tx_same tx u.tx && lies_below w u) (or_left _ _ (passes w e h.1 k q))) h.0) vs (all_both _ _ vs b.1 fall.0))
           (push_cases (is_prepare_of v.tx) log (Prepare tx home ps) p)
 
-listed_step : (shard : ℕ) (log : List LogRecord) (r : LogRecord) → Order shard log → may_follow shard log r ≡ true → LieListed log (standing log) → LieListed (log ++ r ∷ []) (standing_after (0 + length log) r (standing log))
-listed_step shard log (Update tx key b a) o m l =
+listed_step : (shard : ℕ) (part log : List LogRecord) (r : LogRecord) → Order shard log → may_come shard part log r ≡ true → LieListed log (standing log) → LieListed (log ++ r ∷ []) (standing_after (0 + length log) r (standing log))
+listed_step shard part log (Update tx key b a) o m l =
     let unprepared : prepared_in log tx ≡ false = not-true _ (last _ _ (front _ _ (front _ _ (front _ _ (front _ _ (front _ _ (front _ _ m))))))) in
     ((λ p. absurd (both_ways _ unprepared (push_same (is_prepare_of tx) log (Update tx key b a) refl ∙ p))), more_listed log (Update tx key b a) (λ t. refl) (standing log) l)
-listed_step shard log (Clr tx next key a) o m l = without_listed (log ++ Clr tx next key a ∷ []) tx (standing log) (more_listed log (Clr tx next key a) (λ t. refl) (standing log) l)
-listed_step shard log (Prepare tx home ps) o m l =
+listed_step shard part log (Clr tx next key a) o m l = without_listed (log ++ Clr tx next key a ∷ []) tx (standing log) (more_listed log (Clr tx next key a) (λ t. refl) (standing log) l)
+listed_step shard part log (Prepare tx home ps) o m l =
     prepare_listed log tx home ps (not-true _ (last _ _ (front _ _ (front _ _ (front _ _ (front _ _ m)))))) (standing log) (standing log) (λ test e. e)
     (filter_passes (λ w. committed_in log w.tx || tx_in w.tx ps) (λ w. not (tx_same tx w.tx) && has_above tx w (standing log)) (standing log) (last _ _ m)) (o.writes).falls l
-listed_step shard log (Commit tx parts) o m l = more_listed log (Commit tx parts) (λ t. refl) (standing log) l
-listed_step shard log (Abort tx) o m l = more_listed log (Abort tx) (λ t. refl) (standing log) l
-listed_step shard log (End tx) o m l = more_listed log (End tx) (λ t. refl) (standing log) l
-listed_step shard log (Restart run epoch) o m l = more_listed log (Restart run epoch) (λ t. refl) (standing log) l
-listed_step shard log (Add tx key by) o m l =
+listed_step shard part log (Commit tx parts) o m l = more_listed log (Commit tx parts) (λ t. refl) (standing log) l
+listed_step shard part log (Abort tx) o m l = more_listed log (Abort tx) (λ t. refl) (standing log) l
+listed_step shard part log (End tx) o m l = more_listed log (End tx) (λ t. refl) (standing log) l
+listed_step shard part log (Restart run epoch) o m l = more_listed log (Restart run epoch) (λ t. refl) (standing log) l
+listed_step shard part log (Add tx key by) o m l =
     let unprepared : prepared_in log tx ≡ false = not-true _ (last _ _ (front _ _ (front _ _ (front _ _ (front _ _ (front _ _ m)))))) in
     ((λ p. absurd (both_ways _ unprepared (push_same (is_prepare_of tx) log (Add tx key by) refl ∙ p))), more_listed log (Add tx key by) (λ t. refl) (standing log) l)
-listed_step shard log (Unadd tx next key by) o m l = without_listed (log ++ Unadd tx next key by ∷ []) tx (standing log) (more_listed log (Unadd tx next key by) (λ t. refl) (standing log) l)
-listed_step shard log Forgotten o m l = more_listed log Forgotten (λ t. refl) (standing log) l
-listed_step shard log (Check run' epoch' upto base) o m l = more_listed log (Check run' epoch' upto base) (λ t. refl) (standing log) l
+listed_step shard part log (Unadd tx next key by) o m l = without_listed (log ++ Unadd tx next key by ∷ []) tx (standing log) (more_listed log (Unadd tx next key by) (λ t. refl) (standing log) l)
+listed_step shard part log Forgotten o m l = more_listed log Forgotten (λ t. refl) (standing log) l
+listed_step shard part log (Check run' epoch' upto base) o m l = more_listed log (Check run' epoch' upto base) (λ t. refl) (standing log) l
 
-pub order_of : (shard : ℕ) (log : List LogRecord) → Follows shard [] log → Order shard log
-order_of shard log f = in_order shard log (to_disorder shard 0 [] log f)
+pub order_of : (shard : ℕ) (log : List LogRecord) → disorder shard log ≡ None → Order shard log
+order_of shard log d = in_order shard log d
 
-pub lie_listed : (shard : ℕ) (log : List LogRecord) → Follows shard [] log → LieListed log (standing log)
-lie_listed shard log f = through (λ l. LieListed l (standing l)) shard [] log tt f tt
-    (λ l r g p m. subst (LieListed (l ++ r ∷ [])) (sym (standing_append 0 l (r ∷ []) [])) (listed_step shard l r (order_of shard l g) m p))
+pub lie_listed : (shard : ℕ) (log : List LogRecord) → disorder shard log ≡ None → LieListed log (standing log)
+lie_listed shard log d =
+    through (λ l. LieListed l (standing l)) shard (part_of log)
+    (λ l r g p m. subst (LieListed (l ++ r ∷ [])) (sym (standing_append 0 l (r ∷ []) [])) (listed_step shard (part_of log) l r (all_in_order shard (part_of log) l g) m p)) log (in_order_comes shard log d) tt
+    (λ run epoch upto base rises. tt)
 
 -- ---- whose writes win lie on those that win
 
@@ -122,103 +128,116 @@ winners_lie shard log o (v ∷ vs) c l = (
 
 -- ---- more of a log in order
 
-ended_step : (shard : ℕ) (log : List LogRecord) (r : LogRecord) → may_follow shard log r ≡ true → ((t : TxId) → ended_in log t ≡ true → committed_in log t ≡ true) → (t : TxId) → ended_in (log ++ r ∷ []) t ≡ true → committed_in (log ++ r ∷ []) t ≡ true
-ended_step shard log r m old t e = push_left (is_commit_of t) log r (⊎_elim (λ a. old t a) (λ a. new r m a) (push_cases (is_end_of t) log r e))
+ended_step : (shard : ℕ) (part log : List LogRecord) (r : LogRecord) → may_come shard part log r ≡ true → ((t : TxId) → ended_in log t ≡ true → committed_in log t ≡ true) → (t : TxId) → ended_in (log ++ r ∷ []) t ≡ true → committed_in (log ++ r ∷ []) t ≡ true
+ended_step shard part log r m old t e = push_left (is_commit_of t) log r (⊎_elim (λ a. old t a) (λ a. new r m a) (push_cases (is_end_of t) log r e))
   where
     parts_there : (u : TxId) (o : Option (List ℕ)) → commit_parts log u ≡ o → elim o [ Some ps ↦ some_parts ps | None ↦ false ] ≡ true → committed_in log u ≡ true
     parts_there u None f k = absurd (both_ways false refl k)
     parts_there u (Some ps) f k = committed_there log u ps f
 
-    new : (r : LogRecord) → may_follow shard log r ≡ true → is_end_of t r ≡ true → committed_in log t ≡ true
+    new : (r : LogRecord) → may_come shard part log r ≡ true → is_end_of t r ≡ true → committed_in log t ≡ true
     new (End tx) m a = subst (λ z. committed_in log z ≡ true) (sym (tx_true t tx a)) (parts_there tx (commit_parts log tx) refl (last _ _ m))
     new _ m a = absurd (both_ways false refl a)
 
-pub ended_committed : (shard : ℕ) (log : List LogRecord) → Follows shard [] log → (t : TxId) → ended_in log t ≡ true → committed_in log t ≡ true
-ended_committed shard log f = through (λ l. (t : TxId) → ended_in l t ≡ true → committed_in l t ≡ true) shard [] log tt f (λ t e. absurd (both_ways false refl e)) (λ l r g p m. ended_step shard l r m p)
+pub ended_committed : (shard : ℕ) (log : List LogRecord) → disorder shard log ≡ None → (t : TxId) → ended_in log t ≡ true → committed_in log t ≡ true
+ended_committed shard log d =
+    through (λ l. (t : TxId) → ended_in l t ≡ true → committed_in l t ≡ true) shard (part_of log) (λ l r g p m. ended_step shard (part_of log) l r m p) log (in_order_comes shard log d) (λ t e. absurd (both_ways false refl e))
+    (λ run epoch upto base rises t e. absurd (both_ways false refl e))
 
-restart_step : (shard : ℕ) (log : List LogRecord) (r : LogRecord) → may_follow shard log r ≡ true → ((t : TxId) → wrote_in log t ≡ true → is_some (last_restart log) ≡ true) → (t : TxId) → wrote_in (log ++ r ∷ []) t ≡ true → is_some (last_restart (log ++ r ∷ [])) ≡ true
-restart_step shard log (Restart run epoch) m old t e = ap is_some (last_new log run epoch)
-restart_step shard log (Update tx key b a) m old t e =
-    ap is_some (last_push log (Update tx key b a) tt) ∙ in_last_some tx (last_restart log) (front _ _ (front _ _ (front _ _ (front _ _ (front _ _ (front _ _ (front _ _ m)))))))
-restart_step shard log (Clr tx next key a) m old t e = ap is_some (last_push log (Clr tx next key a) tt) ∙ old t (push_same (is_update_of t) log (Clr tx next key a) refl ∙ e)
-restart_step shard log (Prepare tx home ps) m old t e = ap is_some (last_push log (Prepare tx home ps) tt) ∙ old t (push_same (is_update_of t) log (Prepare tx home ps) refl ∙ e)
-restart_step shard log (Commit tx parts) m old t e = ap is_some (last_push log (Commit tx parts) tt) ∙ old t (push_same (is_update_of t) log (Commit tx parts) refl ∙ e)
-restart_step shard log (Abort tx) m old t e = ap is_some (last_push log (Abort tx) tt) ∙ old t (push_same (is_update_of t) log (Abort tx) refl ∙ e)
-restart_step shard log (End tx) m old t e = ap is_some (last_push log (End tx) tt) ∙ old t (push_same (is_update_of t) log (End tx) refl ∙ e)
-restart_step shard log (Add tx key by) m old t e =
-    ap is_some (last_push log (Add tx key by) tt) ∙ in_last_some tx (last_restart log) (front _ _ (front _ _ (front _ _ (front _ _ (front _ _ (front _ _ m))))))
-restart_step shard log (Unadd tx next key by) m old t e = ap is_some (last_push log (Unadd tx next key by) tt) ∙ old t (push_same (is_update_of t) log (Unadd tx next key by) refl ∙ e)
-restart_step shard log Forgotten m old t e = ap is_some (last_push log Forgotten tt) ∙ old t (push_same (is_update_of t) log Forgotten refl ∙ e)
-restart_step shard log (Check run' epoch' upto base) m old t e = absurd cc
+restart_step : (shard : ℕ) (part log : List LogRecord) (r : LogRecord) → may_come shard part log r ≡ true → ((t : TxId) → wrote_in log t ≡ true → is_some (last_restart log) ≡ true) → (t : TxId) → wrote_in (log ++ r ∷ []) t ≡ true → is_some (last_restart (log ++ r ∷ [])) ≡ true
+restart_step shard part log (Restart run epoch) m old t e = ap is_some (last_new log run epoch)
+restart_step shard part log (Update tx key b a) m old t e =
+    ap is_some (last_push log (Update tx key b a) tt) ∙ past_some tx (last_restart log) (front _ _ (front _ _ (front _ _ (front _ _ (front _ _ (front _ _ (front _ _ (front _ _ m))))))))
+restart_step shard part log (Clr tx next key a) m old t e = ap is_some (last_push log (Clr tx next key a) tt) ∙ old t (push_same (is_update_of t) log (Clr tx next key a) refl ∙ e)
+restart_step shard part log (Prepare tx home ps) m old t e = ap is_some (last_push log (Prepare tx home ps) tt) ∙ old t (push_same (is_update_of t) log (Prepare tx home ps) refl ∙ e)
+restart_step shard part log (Commit tx parts) m old t e = ap is_some (last_push log (Commit tx parts) tt) ∙ old t (push_same (is_update_of t) log (Commit tx parts) refl ∙ e)
+restart_step shard part log (Abort tx) m old t e = ap is_some (last_push log (Abort tx) tt) ∙ old t (push_same (is_update_of t) log (Abort tx) refl ∙ e)
+restart_step shard part log (End tx) m old t e = ap is_some (last_push log (End tx) tt) ∙ old t (push_same (is_update_of t) log (End tx) refl ∙ e)
+restart_step shard part log (Add tx key by) m old t e =
+    ap is_some (last_push log (Add tx key by) tt) ∙ past_some tx (last_restart log) (front _ _ (front _ _ (front _ _ (front _ _ (front _ _ (front _ _ (front _ _ m)))))))
+restart_step shard part log (Unadd tx next key by) m old t e = ap is_some (last_push log (Unadd tx next key by) tt) ∙ old t (push_same (is_update_of t) log (Unadd tx next key by) refl ∙ e)
+restart_step shard part log Forgotten m old t e = ap is_some (last_push log Forgotten tt) ∙ old t (push_same (is_update_of t) log Forgotten refl ∙ e)
+restart_step shard part log (Check run' epoch' upto base) m old t e = absurd cc
 
-pub wrote_restart : (shard : ℕ) (log : List LogRecord) → Follows shard [] log → (t : TxId) → wrote_in log t ≡ true → is_some (last_restart log) ≡ true
-wrote_restart shard log f = through (λ l. (t : TxId) → wrote_in l t ≡ true → is_some (last_restart l) ≡ true) shard [] log tt f (λ t e. absurd (both_ways false refl e)) (λ l r g p m. restart_step shard l r m p)
+pub wrote_restart : (shard : ℕ) (log : List LogRecord) → disorder shard log ≡ None → (t : TxId) → wrote_in log t ≡ true → is_some (last_restart log) ≡ true
+wrote_restart shard log d =
+    through (λ l. (t : TxId) → wrote_in l t ≡ true → is_some (last_restart l) ≡ true) shard (part_of log) (λ l r g p m. restart_step shard (part_of log) l r m p) log (in_order_comes shard log d) (λ t e. absurd (both_ways false refl e))
+    (λ run epoch upto base rises t e. absurd (both_ways false refl e))
 
--- who is prepared wrote
-prepared_step : (shard : ℕ) (log : List LogRecord) (r : LogRecord) → may_follow shard log r ≡ true → ((t : TxId) → prepared_in log t ≡ true → wrote_in log t ≡ true) → (t : TxId) → prepared_in (log ++ r ∷ []) t ≡ true → wrote_in (log ++ r ∷ []) t ≡ true
-prepared_step shard log r m old t e = push_left (is_update_of t) log r (⊎_elim (λ a. old t a) (λ a. new r m a) (push_cases (is_prepare_of t) log r e))
+-- who is prepared wrote, or is committed in what a checkpoint kept
+prepared_step : (shard : ℕ) (part log : List LogRecord) (r : LogRecord) → may_come shard part log r ≡ true → ((t : TxId) → prepared_in log t ≡ true → (wrote_in log t ≡ true) ⊎ (committed_in part t ≡ true)) → (t : TxId) → prepared_in (log ++ r ∷ []) t ≡ true
+    → (wrote_in (log ++ r ∷ []) t ≡ true) ⊎ (committed_in part t ≡ true)
+prepared_step shard part log r m old t e = ⊎_elim (λ w. inl (push_left (is_update_of t) log r w)) (λ c. inr c) (⊎_elim (λ a. old t a) (λ a. new r m a) (push_cases (is_prepare_of t) log r e))
   where
-    new : (r : LogRecord) → may_follow shard log r ≡ true → is_prepare_of t r ≡ true → wrote_in log t ≡ true
+    new : (r : LogRecord) → may_come shard part log r ≡ true → is_prepare_of t r ≡ true → (wrote_in log t ≡ true) ⊎ (committed_in part t ≡ true)
     new (Prepare tx home ps) m a =
-        subst (λ z. wrote_in log z ≡ true) (sym (tx_true t tx a)) (standing_wrote log tx (new_stands log tx (last _ _ (front _ _ (front _ _ (front _ _ (front _ _ (front _ _ m))))))))
+        subst (λ z. (wrote_in log z ≡ true) ⊎ (committed_in part z ≡ true)) (sym (tx_true t tx a))
+        (⊎_elim (λ n. inl (new_wrote log tx n)) (λ b. inr (bare ps b)) (or_cases (has_new_standing log tx) (is_bare part log tx ps) (last _ _ (front _ _ (front _ _ (front _ _ (front _ _ (front _ _ m))))))))
+      where
+        bare : (qs : List TxId) → is_bare part log tx qs ≡ true → committed_in part tx ≡ true
+        bare [] b = front _ _ b
+        bare (q ∷ qs) b = absurd (both_ways false refl b)
     new _ m a = absurd (both_ways false refl a)
 
-pub prepared_wrote : (shard : ℕ) (log : List LogRecord) → Follows shard [] log → (t : TxId) → prepared_in log t ≡ true → wrote_in log t ≡ true
-prepared_wrote shard log f = through (λ l. (t : TxId) → prepared_in l t ≡ true → wrote_in l t ≡ true) shard [] log tt f (λ t e. absurd (both_ways false refl e)) (λ l r g p m. prepared_step shard l r m p)
+pub prepared_wrote : (shard : ℕ) (log : List LogRecord) → disorder shard log ≡ None → (t : TxId) → prepared_in log t ≡ true → (wrote_in log t ≡ true) ⊎ (committed_in (part_of log) t ≡ true)
+prepared_wrote shard log d =
+    through (λ l. (t : TxId) → prepared_in l t ≡ true → (wrote_in l t ≡ true) ⊎ (committed_in (part_of log) t ≡ true)) shard (part_of log) (λ l r g p m. prepared_step shard (part_of log) l r m p) log (in_order_comes shard log d)
+    (λ t e. absurd (both_ways false refl e)) (λ run epoch upto base rises t e. absurd (both_ways false refl e))
 
 -- a PREPARE lists others
 abbrev ListsOthers : List LogRecord → Type 0
 ListsOthers log = (t p : TxId) → tx_in p (listed_in log t) ≡ true → tx_same p t ≡ false
 
-others_step : (shard : ℕ) (log : List LogRecord) (r : LogRecord) → may_follow shard log r ≡ true → ListsOthers log → ListsOthers (log ++ r ∷ [])
-others_step shard log r m old t p i =
+others_step : (shard : ℕ) (part log : List LogRecord) (r : LogRecord) → may_come shard part log r ≡ true → ListsOthers log → ListsOthers (log ++ r ∷ [])
+others_step shard part log r m old t p i =
     ⊎_elim (λ a. old t p (ap (tx_in p) (sym (listed_keeps log (r ∷ []) t a)) ∙ i))
     (λ a. ⊎_elim (λ b. new r m i a (⊎_elim (λ c. absurd (both_ways _ a c)) (λ c. c) (push_cases (is_prepare_of t) log r b))) (λ b. absurd (both_ways false refl (subst (λ l. tx_in p l ≡ true) (unlisted (log ++ r ∷ []) t b) i))) (cases_Bool (prepared_in (log ++ r ∷ []) t)))
     (cases_Bool (prepared_in log t))
   where
-    each : (tx : TxId) (ps : List TxId) → list_all (λ q. not (tx_same q tx) && prepared_in log q && not (committed_in log q) && not (aborted_in log q)) ps ≡ true → tx_in p ps ≡ true → tx_same p tx ≡ false
-    each tx ps a j =
-        not-true _ (and_parts (not (tx_same p tx)) (prepared_in log p)
-        (and_parts (not (tx_same p tx) && prepared_in log p) (not (committed_in log p)) (and_parts (not (tx_same p tx) && prepared_in log p && not (committed_in log p)) (not (aborted_in log p))
-        (list_all_at (λ q. not (tx_same q tx) && prepared_in log q && not (committed_in log q) && not (aborted_in log q)) p ps a j)).0).0).0
+    each : (tx : TxId) (ps : List TxId) → list_all (may_come_listed part log tx) ps ≡ true → tx_in p ps ≡ true → tx_same p tx ≡ false
+    each tx ps a j = not-true (tx_same p tx) (and_parts (not (tx_same p tx)) _ (list_all_at (may_come_listed part log tx) p ps a j)).0
 
-    new : (r : LogRecord) → may_follow shard log r ≡ true → tx_in p (listed_in (log ++ r ∷ []) t) ≡ true → prepared_in log t ≡ false → is_prepare_of t r ≡ true → tx_same p t ≡ false
+    new : (r : LogRecord) → may_come shard part log r ≡ true → tx_in p (listed_in (log ++ r ∷ []) t) ≡ true → prepared_in log t ≡ false → is_prepare_of t r ≡ true → tx_same p t ≡ false
     new (Prepare tx home ps) m j none s =
         let e = tx_true t tx s in
         subst (λ z. tx_same p z ≡ false) (sym e) (each tx ps (last _ _ (front _ _ m))
         (ap (λ o. tx_in p (by_prepare o)) (sym (prepare_here log [] tx home ps (subst (λ z. prepared_in log z ≡ false) e none))) ∙ subst (λ z. tx_in p (listed_in (log ++ Prepare tx home ps ∷ []) z) ≡ true) e j))
     new _ m j none s = absurd (both_ways false refl s)
 
-pub lists_others : (shard : ℕ) (log : List LogRecord) → Follows shard [] log → (t p : TxId) → tx_in p (listed_in log t) ≡ true → tx_same p t ≡ false
-lists_others shard log f = through ListsOthers shard [] log tt f (λ t p i. absurd (both_ways false refl i)) (λ l r g p m. others_step shard l r m p)
+pub all_others : (shard : ℕ) (part log : List LogRecord) → AllCome shard part log → (t p : TxId) → tx_in p (listed_in log t) ≡ true → tx_same p t ≡ false
+all_others shard part log f =
+    through ListsOthers shard part (λ l r g p m. others_step shard part l r m p) log f (λ t p i. absurd (both_ways false refl i)) (λ run epoch upto base rises t p i. absurd (both_ways false refl i))
 
--- whom a PREPARE lists is prepared
-each_prepared : (shard : ℕ) (log : List LogRecord) (r : LogRecord) → may_follow shard log r ≡ true → ((t p : TxId) → tx_in p (listed_in log t) ≡ true → prepared_in log p ≡ true) → (t p : TxId) → tx_in p (listed_in (log ++ r ∷ []) t) ≡ true → prepared_in (log ++ r ∷ []) p ≡ true
-each_prepared shard log r m old t p i =
-    push_left (is_prepare_of p) log r
+pub lists_others : (shard : ℕ) (log : List LogRecord) → disorder shard log ≡ None → (t p : TxId) → tx_in p (listed_in log t) ≡ true → tx_same p t ≡ false
+lists_others shard log d = all_others shard (part_of log) log (in_order_comes shard log d)
+
+-- whom a PREPARE lists is prepared, or was let go
+each_prepared : (shard : ℕ) (part log : List LogRecord) (r : LogRecord) → may_come shard part log r ≡ true → ((t p : TxId) → tx_in p (listed_in log t) ≡ true → (prepared_in log p ≡ true) ⊎ (is_let_go part p ≡ true)) → (t p : TxId)
+    → tx_in p (listed_in (log ++ r ∷ []) t) ≡ true → (prepared_in (log ++ r ∷ []) p ≡ true) ⊎ (is_let_go part p ≡ true)
+each_prepared shard part log r m old t p i =
+    ⊎_elim (λ k. inl (push_left (is_prepare_of p) log r k)) (λ g. inr g)
     (⊎_elim (λ a. old t p (ap (tx_in p) (sym (listed_keeps log (r ∷ []) t a)) ∙ i))
     (λ a. ⊎_elim (λ b. new r m i a (⊎_elim (λ c. absurd (both_ways _ a c)) (λ c. c) (push_cases (is_prepare_of t) log r b))) (λ b. absurd (both_ways false refl (subst (λ l. tx_in p l ≡ true) (unlisted (log ++ r ∷ []) t b) i))) (cases_Bool (prepared_in (log ++ r ∷ []) t)))
     (cases_Bool (prepared_in log t)))
   where
-    each : (tx : TxId) (ps : List TxId) → list_all (λ q. not (tx_same q tx) && prepared_in log q && not (committed_in log q) && not (aborted_in log q)) ps ≡ true → tx_in p ps ≡ true → prepared_in log p ≡ true
-    each tx ps a j =
-        (and_parts (not (tx_same p tx)) (prepared_in log p)
-        (and_parts (not (tx_same p tx) && prepared_in log p) (not (committed_in log p)) (and_parts (not (tx_same p tx) && prepared_in log p && not (committed_in log p)) (not (aborted_in log p))
-        (list_all_at (λ q. not (tx_same q tx) && prepared_in log q && not (committed_in log q) && not (aborted_in log q)) p ps a j)).0).0).1
+    each : (tx : TxId) (ps : List TxId) → list_all (may_come_listed part log tx) ps ≡ true → tx_in p ps ≡ true → (prepared_in log p ≡ true) ⊎ (is_let_go part p ≡ true)
+    each tx ps a j = ⊎_elim (λ k. inl k) (λ g. inr g.0) (listed_of part log tx p (list_all_at (may_come_listed part log tx) p ps a j))
 
-    new : (r : LogRecord) → may_follow shard log r ≡ true → tx_in p (listed_in (log ++ r ∷ []) t) ≡ true → prepared_in log t ≡ false → is_prepare_of t r ≡ true → prepared_in log p ≡ true
+    new : (r : LogRecord) → may_come shard part log r ≡ true → tx_in p (listed_in (log ++ r ∷ []) t) ≡ true → prepared_in log t ≡ false → is_prepare_of t r ≡ true → (prepared_in log p ≡ true) ⊎ (is_let_go part p ≡ true)
     new (Prepare tx home ps) m j none s =
         let e = tx_true t tx s in
         each tx ps (last _ _ (front _ _ m))
         (ap (λ o. tx_in p (by_prepare o)) (sym (prepare_here log [] tx home ps (subst (λ z. prepared_in log z ≡ false) e none))) ∙ subst (λ z. tx_in p (listed_in (log ++ Prepare tx home ps ∷ []) z) ≡ true) e j)
     new _ m j none s = absurd (both_ways false refl s)
 
-pub listed_prepared : (shard : ℕ) (log : List LogRecord) → Follows shard [] log → (t p : TxId) → tx_in p (listed_in log t) ≡ true → prepared_in log p ≡ true
-listed_prepared shard log f = through (λ l. (t p : TxId) → tx_in p (listed_in l t) ≡ true → prepared_in l p ≡ true) shard [] log tt f (λ t p i. absurd (both_ways false refl i)) (λ l r g p m. each_prepared shard l r m p)
+pub all_listed : (shard : ℕ) (part log : List LogRecord) → AllCome shard part log → (t p : TxId) → tx_in p (listed_in log t) ≡ true → (prepared_in log p ≡ true) ⊎ (is_let_go part p ≡ true)
+all_listed shard part log f =
+    through (λ l. (t p : TxId) → tx_in p (listed_in l t) ≡ true → (prepared_in l p ≡ true) ⊎ (is_let_go part p ≡ true)) shard part (λ l r g h m. each_prepared shard part l r m h) log f
+    (λ t p i. absurd (both_ways false refl i)) (λ run epoch upto base rises t p i. absurd (both_ways false refl i))
 
 -- whom a committed one lists is committed
-commit_step : (shard : ℕ) (log : List LogRecord) (r : LogRecord) → may_follow shard log r ≡ true → ((t p : TxId) → committed_in log t ≡ true → tx_in p (listed_in log t) ≡ true → committed_in log p ≡ true) → (t p : TxId) → committed_in (log ++ r ∷ []) t ≡ true → tx_in p (listed_in (log ++ r ∷ []) t) ≡ true → committed_in (log ++ r ∷ []) p ≡ true
-commit_step shard log r m old t p c i = push_left (is_commit_of p) log r (at r m c i)
+commit_step : (shard : ℕ) (part log : List LogRecord) (r : LogRecord) → may_come shard part log r ≡ true → ((t p : TxId) → committed_in log t ≡ true → tx_in p (listed_in log t) ≡ true → committed_in log p ≡ true) → (t p : TxId) → committed_in (log ++ r ∷ []) t ≡ true → tx_in p (listed_in (log ++ r ∷ []) t) ≡ true → committed_in (log ++ r ∷ []) p ≡ true
+commit_step shard part log r m old t p c i = push_left (is_commit_of p) log r (at r m c i)
   where
     not_new : (tx : TxId) → tx_same t tx ≡ true → committed_in log tx ≡ false → committed_in log t ≡ true → ⊥
     not_new tx s n e = both_ways _ n (subst (λ z. committed_in log z ≡ true) (tx_true t tx s) e)
@@ -229,7 +248,7 @@ commit_step shard log r m old t p c i = push_left (is_commit_of p) log r (at r m
     same : (q : LogRecord) → is_prepare_of t q ≡ false → tx_in p (listed_in (log ++ q ∷ []) t) ≡ true → tx_in p (listed_in log t) ≡ true
     same q n e = ap (tx_in p) (sym (listed_same log (q ∷ []) t (ap (λ b. b || false) n))) ∙ e
 
-    at : (q : LogRecord) → may_follow shard log q ≡ true → committed_in (log ++ q ∷ []) t ≡ true → tx_in p (listed_in (log ++ q ∷ []) t) ≡ true → committed_in log p ≡ true
+    at : (q : LogRecord) → may_come shard part log q ≡ true → committed_in (log ++ q ∷ []) t ≡ true → tx_in p (listed_in (log ++ q ∷ []) t) ≡ true → committed_in log p ≡ true
     at (Commit tx parts) m c i =
         ⊎_elim (λ o. old t p o (same (Commit tx parts) refl i))
         (λ n. list_all_at (committed_in log) p (listed_in log tx) (last _ _ (front _ _ (front _ _ (front _ _ m)))) (subst (λ z. tx_in p (listed_in log z) ≡ true) (tx_true t tx n) (same (Commit tx parts) refl i)))
@@ -247,5 +266,7 @@ commit_step shard log r m old t p c i = push_left (is_commit_of p) log r (at r m
     at Forgotten m c i = old t p (was Forgotten refl c) (same Forgotten refl i)
     at (Check run' epoch' upto base) m c i = old t p (was (Check run' epoch' upto base) refl c) (same (Check run' epoch' upto base) refl i)
 
-pub committed_lists : (shard : ℕ) (log : List LogRecord) → Follows shard [] log → (t p : TxId) → committed_in log t ≡ true → tx_in p (listed_in log t) ≡ true → committed_in log p ≡ true
-committed_lists shard log f = through (λ l. (t p : TxId) → committed_in l t ≡ true → tx_in p (listed_in l t) ≡ true → committed_in l p ≡ true) shard [] log tt f (λ t p c i. absurd (both_ways false refl c)) (λ l r g p m. commit_step shard l r m p)
+pub committed_lists : (shard : ℕ) (log : List LogRecord) → disorder shard log ≡ None → (t p : TxId) → committed_in log t ≡ true → tx_in p (listed_in log t) ≡ true → committed_in log p ≡ true
+committed_lists shard log d =
+    through (λ l. (t p : TxId) → committed_in l t ≡ true → tx_in p (listed_in l t) ≡ true → committed_in l p ≡ true) shard (part_of log) (λ l r g p m. commit_step shard (part_of log) l r m p) log (in_order_comes shard log d)
+    (λ t p c i. absurd (both_ways false refl c)) (λ run epoch upto base rises t p c i. absurd (both_ways false refl c))

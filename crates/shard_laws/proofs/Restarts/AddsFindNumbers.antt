@@ -12,7 +12,7 @@ use Rattle.clv_base.specs.declared.logs.LogRecord.TheVariants.{Update, Clr, Prep
 use Rattle.clv_base.specs.Orders.{tx_same}
 use Rattle.clv_base.specs.Maps.{is_number, KeyMap}
 use Rattle.clv_base.specs.Logs.{StandingUpdate, changed, is_setting, standing, standing_after, without_newest, newest_at, newest_of, base_of}
-use Rattle.clv_base.specs.LogRules.{clears, unadds, compensates, may_follow}
+use Rattle.clv_base.specs.LogRules.{clears, unadds, compensates, part_of, disorder}
 use Rattle.clv_base.proofs.Folding.{plus_is_number}
 use Rattle.clv_base.proofs.SameNames.{or_left}
 use Rattle.law_base.proofs.Bools.{and_first as front, and_second as last}
@@ -20,10 +20,12 @@ use Rattle.law_base.proofs.Lists.{all_mono}
 use Rattle.law_base.proofs.Running.{top_value}
 use Rattle.law_base.proofs.Undoing.{standing_append}
 use Rattle.protocol_laws.specs.Order.{LieOnThese}
+use Rattle.protocol_laws.proofs.LogsInOrder.{all_in_order}
 use Rattle.protocol_laws.proofs.LogsInOrder.StandingUpdatesLie.{Falling}
-use Rattle.shard_laws.proofs.Order.RecordByRecord.{Follows, through}
-use Rattle.shard_laws.proofs.Order.WritesLieOnListed.{order_of}
-use Rattle.law_base.proofs.Bases.{base_push, follow_base}
+use Rattle.law_base.specs.Coming.{may_come}
+use Rattle.law_base.proofs.InOrder.{come_base, through}
+use Rattle.law_base.proofs.Parts.{in_order_comes}
+use Rattle.law_base.proofs.Bases.{base_push}
 
 abbrev pub OverNumber : Change → Option ValueType → Type 0
 OverNumber (Sets before after) left = Unit {0}
@@ -129,23 +131,25 @@ unadded floor tx next key by ws (Some u) e c n = find_unadded floor tx u ws e (a
     at (Sets before set) s = absurd (both_ways false refl s)
     at (Adds added) s = refl
 
-numbers_step : (shard : ℕ) (log : List LogRecord) (r : LogRecord) → Falling (standing log) → may_follow shard log r ≡ true → FindNumbers (base_of log) (standing log) → FindNumbers (base_of log) (standing_after (0 + length log) r (standing log))
-numbers_step shard log (Update tx k b a) f m n = (tt, n)
-numbers_step shard log (Clr tx next k a) f m n = cleared (base_of log) tx next k a (standing log) (newest_of tx (standing log)) refl (last _ _ m) f n
-numbers_step shard log (Prepare tx home ps) f m n = n
-numbers_step shard log (Commit tx ps) f m n = n
-numbers_step shard log (Abort tx) f m n = n
-numbers_step shard log (End tx) f m n = n
-numbers_step shard log (Restart run epoch) f m n = n
-numbers_step shard log (Add tx k by) f m n = (last _ _ (front _ _ m), n)
-numbers_step shard log (Unadd tx next k by) f m n = unadded (base_of log) tx next k by (standing log) (newest_of tx (standing log)) refl (last _ _ m) n
-numbers_step shard log Forgotten f m n = n
-numbers_step shard log (Check run' epoch' upto base) f m n = n
+numbers_step : (shard : ℕ) (part log : List LogRecord) (r : LogRecord) → Falling (standing log) → may_come shard part log r ≡ true → FindNumbers (base_of log) (standing log) → FindNumbers (base_of log) (standing_after (0 + length log) r (standing log))
+numbers_step shard part log (Update tx k b a) f m n = (tt, n)
+numbers_step shard part log (Clr tx next k a) f m n = cleared (base_of log) tx next k a (standing log) (newest_of tx (standing log)) refl (last _ _ m) f n
+numbers_step shard part log (Prepare tx home ps) f m n = n
+numbers_step shard part log (Commit tx ps) f m n = n
+numbers_step shard part log (Abort tx) f m n = n
+numbers_step shard part log (End tx) f m n = n
+numbers_step shard part log (Restart run epoch) f m n = n
+numbers_step shard part log (Add tx k by) f m n = (last _ _ (front _ _ m), n)
+numbers_step shard part log (Unadd tx next k by) f m n = unadded (base_of log) tx next k by (standing log) (newest_of tx (standing log)) refl (last _ _ m) n
+numbers_step shard part log Forgotten f m n = n
+numbers_step shard part log (Check run' epoch' upto base) f m n = n
 
-pub find_numbers : (shard : ℕ) (log : List LogRecord) → Follows shard [] log → FindNumbers (base_of log) (standing log)
-find_numbers shard log f = through (λ l. FindNumbers (base_of l) (standing l)) shard [] log tt f tt
-    (λ l r g p m. subst (λ base. FindNumbers base (standing (l ++ r ∷ []))) (sym (base_push l r (follow_base shard l r m)))
-    (subst (FindNumbers (base_of l)) (sym (standing_append 0 l (r ∷ []) [])) (numbers_step shard l r ((order_of shard l g).writes).falls m p)))
+pub find_numbers : (shard : ℕ) (log : List LogRecord) → disorder shard log ≡ None → FindNumbers (base_of log) (standing log)
+find_numbers shard log d =
+    through (λ l. FindNumbers (base_of l) (standing l)) shard (part_of log)
+    (λ l r g p m. subst (λ base. FindNumbers base (standing (l ++ r ∷ []))) (sym (base_push l r (come_base shard (part_of log) l r m)))
+    (subst (FindNumbers (base_of l)) (sym (standing_append 0 l (r ∷ []) [])) (numbers_step shard (part_of log) l r ((all_in_order shard (part_of log) l g).writes).falls m p)))
+    log (in_order_comes shard log d) tt (λ run epoch upto base rises. tt)
 
 -- ---- those of these alone, where under a write of one of these all UPDATEs of its key are of these
 

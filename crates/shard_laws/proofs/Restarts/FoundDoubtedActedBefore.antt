@@ -15,7 +15,7 @@ use Rattle.clv_base.specs.Maps.{KeyMap, map_get, is_number, op_answer}
 use Rattle.clv_base.specs.Needs.{writes_of}
 use Rattle.clv_base.specs.Folding.{meets_key, adds}
 use Rattle.clv_base.specs.Logs.{StandingUpdate, changed, is_setting, standing, standing_after, committed_in, prepared_in, is_prepare_of}
-use Rattle.clv_base.specs.LogRules.{may_follow, listed_in}
+use Rattle.clv_base.specs.LogRules.{listed_in, part_of, disorder}
 use Rattle.clv_base.proofs.SameNames.{or_left, or_right, tx_true, tx_flip}
 use Rattle.law_base.specs.Items.{Item, Did, told, wrote, meets, both_add, Runs, after, AllLater, on_top, pile}
 use Rattle.law_base.proofs.Lists.{all_mono, all_of, all_push, all_filter, later_push}
@@ -29,11 +29,14 @@ use Rattle.shard_laws.proofs.Operations.WritesAtEachKey.{MaySwap, SameAtKeys, un
 use Rattle.shard_laws.proofs.Keeping.WhatOneShardKeeps.{of_kept, place}
 use Rattle.shard_laws.proofs.Keeping.DeedsThatHold.{Rise}
 use Rattle.shard_laws.proofs.Keeping.ChangesKeepPrepared.{listed_keeps}
-use Rattle.shard_laws.proofs.Order.RecordByRecord.{Follows, follows_append, through}
+use Rattle.law_base.specs.Coming.{is_let_go, may_come, AllCome}
+use Rattle.law_base.proofs.InOrder.{all_append, through}
+use Rattle.law_base.proofs.Parts.{in_order_comes}
+use Rattle.law_base.proofs.LetGo.{let_go_unprepared}
 use Rattle.shard_laws.proofs.Order.ChangesKeepOrder.{unlisted}
 use Rattle.shard_laws.proofs.Keeping.ClosingKeeps.{place_in, place_out, place_push}
 use Rattle.shard_laws.proofs.Cuts.MembersRunSerially.{Once, once_push}
-use Rattle.shard_laws.proofs.Order.WritesLieOnListed.{Beneath, LieListed, listed_prepared, lists_others}
+use Rattle.shard_laws.proofs.Order.WritesLieOnListed.{Beneath, LieListed, all_listed, all_others}
 use Rattle.shard_laws.proofs.Restarts.AddsFindNumbers.{OverNumber, FindNumbers, number_over, add_number}
 use Rattle.law_base.proofs.Bools.{and_first as front, and_second as last}
 use Rattle.law_base.proofs.Names.{all_without}
@@ -48,21 +51,23 @@ TellsBy (Adds by) = Unit {0}
 abbrev pub Tells : StandingUpdate → Type 0
 Tells w = TellsBy w.change
 
-tells_step : (shard : ℕ) (log : List LogRecord) (r : LogRecord) → may_follow shard log r ≡ true → AllByRecursion Tells (standing log) → AllByRecursion Tells (standing_after (0 + length log) r (standing log))
-tells_step shard log (Update tx k b a) m old = (last _ _ (front _ _ m), old)
-tells_step shard log (Clr tx next k a) m old = all_without Tells tx (standing log) old
-tells_step shard log (Prepare tx home ps) m old = old
-tells_step shard log (Commit tx ps) m old = old
-tells_step shard log (Abort tx) m old = old
-tells_step shard log (End tx) m old = old
-tells_step shard log (Restart run epoch) m old = old
-tells_step shard log (Add tx k by) m old = (tt, old)
-tells_step shard log (Unadd tx next k by) m old = all_without Tells tx (standing log) old
-tells_step shard log Forgotten m old = old
-tells_step shard log (Check run' epoch' upto base) m old = old
+tells_step : (shard : ℕ) (part log : List LogRecord) (r : LogRecord) → may_come shard part log r ≡ true → AllByRecursion Tells (standing log) → AllByRecursion Tells (standing_after (0 + length log) r (standing log))
+tells_step shard part log (Update tx k b a) m old = (last _ _ (front _ _ m), old)
+tells_step shard part log (Clr tx next k a) m old = all_without Tells tx (standing log) old
+tells_step shard part log (Prepare tx home ps) m old = old
+tells_step shard part log (Commit tx ps) m old = old
+tells_step shard part log (Abort tx) m old = old
+tells_step shard part log (End tx) m old = old
+tells_step shard part log (Restart run epoch) m old = old
+tells_step shard part log (Add tx k by) m old = (tt, old)
+tells_step shard part log (Unadd tx next k by) m old = all_without Tells tx (standing log) old
+tells_step shard part log Forgotten m old = old
+tells_step shard part log (Check run' epoch' upto base) m old = old
 
-pub all_tell : (shard : ℕ) (log : List LogRecord) → Follows shard [] log → AllByRecursion Tells (standing log)
-all_tell shard log f = through (λ l. AllByRecursion Tells (standing l)) shard [] log tt f tt (λ l r g p m. subst (AllByRecursion Tells) (sym (standing_append 0 l (r ∷ []) [])) (tells_step shard l r m p))
+pub all_tell : (shard : ℕ) (log : List LogRecord) → disorder shard log ≡ None → AllByRecursion Tells (standing log)
+all_tell shard log d =
+    through (λ l. AllByRecursion Tells (standing l)) shard (part_of log)
+    (λ l r g p m. subst (AllByRecursion Tells) (sym (standing_append 0 l (r ∷ []) [])) (tells_step shard (part_of log) l r m p)) log (in_order_comes shard log d) tt (λ run epoch upto base rises. tt)
 
 pub found_wrote : (w : StandingUpdate) → Tells w → wrote (found_item w) ≡ Some (w.key, w.change)
 found_wrote w e = at w.change e
@@ -356,27 +361,29 @@ data Joins (doubt : TxId → Bool) (log : List LogRecord) : LogRecord → List T
   one : (tx : TxId) (home : ℕ) (ps : List TxId) → prepared_in log tx ≡ false → Joins doubt log (Prepare tx home ps) (tx ∷ [])
   none : (r : LogRecord) → Joins doubt log r []
 
-joins : (shard : ℕ) (doubt : TxId → Bool) (log : List LogRecord) (r : LogRecord) → may_follow shard log r ≡ true → Joins doubt log r (prepared_order doubt (r ∷ []))
-joins shard doubt log (Prepare tx home ps) m =
+joins : (shard : ℕ) (part : List LogRecord) (doubt : TxId → Bool) (log : List LogRecord) (r : LogRecord) → may_come shard part log r ≡ true → Joins doubt log r (prepared_order doubt (r ∷ []))
+joins shard part doubt log (Prepare tx home ps) m =
     cond_both (doubt tx) (tx ∷ []) [] (Joins doubt log (Prepare tx home ps)) (λ e. one tx home ps (not-true _ (last _ _ (front _ _ (front _ _ (front _ _ (front _ _ m))))))) (λ e. none (Prepare tx home ps))
-joins shard doubt log (Update tx k b a) m = none (Update tx k b a)
-joins shard doubt log (Clr tx u k a) m = none (Clr tx u k a)
-joins shard doubt log (Commit tx ps) m = none (Commit tx ps)
-joins shard doubt log (Abort tx) m = none (Abort tx)
-joins shard doubt log (End tx) m = none (End tx)
-joins shard doubt log (Restart run epoch) m = none (Restart run epoch)
-joins shard doubt log (Add tx k by) m = none (Add tx k by)
-joins shard doubt log (Unadd tx u k by) m = none (Unadd tx u k by)
-joins shard doubt log Forgotten m = none Forgotten
-joins shard doubt log (Check run' epoch' upto base) m = none (Check run' epoch' upto base)
+joins shard part doubt log (Update tx k b a) m = none (Update tx k b a)
+joins shard part doubt log (Clr tx u k a) m = none (Clr tx u k a)
+joins shard part doubt log (Commit tx ps) m = none (Commit tx ps)
+joins shard part doubt log (Abort tx) m = none (Abort tx)
+joins shard part doubt log (End tx) m = none (End tx)
+joins shard part doubt log (Restart run epoch) m = none (Restart run epoch)
+joins shard part doubt log (Add tx k by) m = none (Add tx k by)
+joins shard part doubt log (Unadd tx u k by) m = none (Unadd tx u k by)
+joins shard part doubt log Forgotten m = none Forgotten
+joins shard part doubt log (Check run' epoch' upto base) m = none (Check run' epoch' upto base)
 
 once_step : (doubt : TxId → Bool) (log : List LogRecord) (r : LogRecord) (more : List TxId) → Joins doubt log r more → Once (prepared_order doubt log) → Once (prepared_order doubt log ++ more)
 once_step doubt log _ _ (one tx home ps new) o = once_push (prepared_order doubt log) tx o (order_out doubt log tx new)
 once_step doubt log _ _ (none r) o = subst Once (sym (append-nil (prepared_order doubt log))) o
 
-pub order_once : (shard : ℕ) (doubt : TxId → Bool) (log : List LogRecord) → Follows shard [] log → Once (prepared_order doubt log)
-order_once shard doubt log f = through (λ l. Once (prepared_order doubt l)) shard [] log tt f tt
-    (λ l r g o m. subst Once (sym (order_append doubt l (r ∷ []))) (once_step doubt l r (prepared_order doubt (r ∷ [])) (joins shard doubt l r m) o))
+pub order_once : (shard : ℕ) (doubt : TxId → Bool) (log : List LogRecord) → disorder shard log ≡ None → Once (prepared_order doubt log)
+order_once shard doubt log d =
+    through (λ l. Once (prepared_order doubt l)) shard (part_of log)
+    (λ l r g o m. subst Once (sym (order_append doubt l (r ∷ []))) (once_step doubt l r (prepared_order doubt (r ∷ [])) (joins shard (part_of log) doubt l r m) o)) log (in_order_comes shard log d) tt
+    (λ run epoch upto base rises. tt)
 
 -- whom a PREPARE lists stands before
 abbrev StandBefore : (TxId → Bool) → List LogRecord → Type 0
@@ -386,12 +393,12 @@ place_more : (doubt : TxId → Bool) (log : List LogRecord) (r : LogRecord) (mor
 place_more doubt log _ _ p t (one tx home ps new) l = place_push (prepared_order doubt log) tx p t l
 place_more doubt log _ _ p t (none r) l = subst (λ z. place z p < place z t) (sym (append-nil (prepared_order doubt log))) l
 
-before_step : (shard : ℕ) (doubt : TxId → Bool) (log : List LogRecord) (r : LogRecord) → Follows shard [] log → may_follow shard log r ≡ true → StandBefore doubt log → StandBefore doubt (log ++ r ∷ [])
-before_step shard doubt log r g m old t p i dt dp =
-    subst (λ z. place z p < place z t) (sym (order_append doubt log (r ∷ []))) (place_more doubt log r (prepared_order doubt (r ∷ [])) p t (joins shard doubt log r m) (⊎_elim (λ a. was a) (λ a. new a) (cases_Bool (prepared_in log t))))
+before_step : (shard : ℕ) (part : List LogRecord) (doubt : TxId → Bool) (known : (u : TxId) → doubt u ≡ true → is_let_go part u ≡ false) (log : List LogRecord) (r : LogRecord) → AllCome shard part log → may_come shard part log r ≡ true → StandBefore doubt log → StandBefore doubt (log ++ r ∷ [])
+before_step shard part doubt known log r g m old t p i dt dp =
+    subst (λ z. place z p < place z t) (sym (order_append doubt log (r ∷ []))) (place_more doubt log r (prepared_order doubt (r ∷ [])) p t (joins shard part doubt log r m) (⊎_elim (λ a. was a) (λ a. new a) (cases_Bool (prepared_in log t))))
   where
-    whole : Follows shard [] (log ++ r ∷ [])
-    whole = follows_append shard [] log (r ∷ []) g (m, tt)
+    whole : AllCome shard part (log ++ r ∷ [])
+    whole = all_append shard part log (r ∷ []) g (m, tt)
 
     was : prepared_in log t ≡ true → place (prepared_order doubt log) p < place (prepared_order doubt log) t
     was a = old t p (ap (tx_in p) (sym (listed_keeps log (r ∷ []) t a)) ∙ i) dt dp
@@ -405,13 +412,19 @@ before_step shard doubt log r g m old t p i dt dp =
         (push_cases (is_prepare_of t) log r (⊎_elim (λ e. e) (λ e. absurd (both_ways false refl (subst (λ l. tx_in p l ≡ true) (unlisted (log ++ r ∷ []) t e) i))) (cases_Bool (prepared_in (log ++ r ∷ []) t))))
 
     earlier : prepared_in log t ≡ false → prepared_in log p ≡ true
-    earlier a = ⊎_elim (λ h. h) (λ h. absurd (both_ways _ (lists_others shard (log ++ r ∷ []) whole t p i) (listed_was r (own a) h))) (push_cases (is_prepare_of p) log r (listed_prepared shard (log ++ r ∷ []) whole t p i))
+    earlier a = ⊎_elim (λ h. h) (λ h. absurd (both_ways _ (all_others shard part (log ++ r ∷ []) whole t p i) (listed_was r (own a) h)))
+        (push_cases (is_prepare_of p) log r (⊎_elim (λ k. k) (λ g. absurd (both_ways _ (known p dp) g)) (all_listed shard part (log ++ r ∷ []) whole t p i)))
 
     new : prepared_in log t ≡ false → place (prepared_order doubt log) p < place (prepared_order doubt log) t
     new a = subst (λ n. place (prepared_order doubt log) p < n) (sym (place_out (prepared_order doubt log) t (order_out doubt log t a))) (place_in (prepared_order doubt log) p (order_has doubt log p (earlier a) dp))
 
-pub listed_before : (shard : ℕ) (doubt : TxId → Bool) (log : List LogRecord) → Follows shard [] log → (t p : TxId) → tx_in p (listed_in log t) ≡ true → doubt t ≡ true → doubt p ≡ true → place (prepared_order doubt log) p < place (prepared_order doubt log) t
-listed_before shard doubt log f = through (StandBefore doubt) shard [] log tt f (λ t p i dt dp. absurd (both_ways false refl i)) (λ l r g p m. before_step shard doubt l r g m p)
+pub listed_before : (shard : ℕ) (doubt : TxId → Bool) (log : List LogRecord) → disorder shard log ≡ None → ((u : TxId) → doubt u ≡ true → prepared_in log u ≡ true) → (t p : TxId) → tx_in p (listed_in log t) ≡ true → doubt t ≡ true → doubt p ≡ true
+    → place (prepared_order doubt log) p < place (prepared_order doubt log) t
+listed_before shard doubt log d prepared =
+    let come = in_order_comes shard log d in
+    through (StandBefore doubt) shard (part_of log)
+    (λ l r g p m. before_step shard (part_of log) doubt (λ u i. false_from_ne_true _ (λ gone. both_ways _ (let_go_unprepared shard (part_of log) u gone log come) (prepared u i))) l r g m p) log come
+    (λ t p i dt dp. absurd (both_ways false refl i)) (λ run epoch upto base rises t p i dt dp. absurd (both_ways false refl i))
 
 -- ---- what lies under a write of one in doubt
 

@@ -18,11 +18,12 @@ use Rattle.clv_base.specs.Orders.{tx_in}
 use Rattle.clv_base.specs.Maps.{map_get}
 use Rattle.clv_base.specs.Undo.{stage_of, clrs_of}
 use Rattle.clv_base.specs.Logs.{StandingUpdate, standing, committed_in, committed_somewhere, is_commit_of, is_prepare_of, is_abort_of, prepared_in, aborted_in, in_doubt, is_winner, fold_updates, stands, writers, base_of}
-use Rattle.clv_base.specs.LogRules.{listed_in}
+use Rattle.clv_base.specs.LogRules.{listed_in, disorder}
 use Rattle.clv_base.specs.Restarts.{greatest_run, log_after_restart, records_of, with_ghosts, restored_locks, restored_parts, restored_pairs, unended_in, opened, losers}
 use Rattle.clv_base.specs.Coordinator.{restored_requests}
 use Rattle.clv_base.specs.State.{is_present}
 use Rattle.clv_base.proofs.SameNames.{or_left}
+use Rattle.law_base.proofs.Parts.{whole_part}
 use Rattle.law_base.specs.Items.{Item, Deed, Did, held, Runs, AllLater, Reaches, pile}
 use Rattle.law_base.proofs.Lists.{all_mono, later_mono}
 use Rattle.law_base.proofs.Running.{top_value, write_met}
@@ -45,8 +46,9 @@ use Rattle.shard_laws.proofs.Order.UndoMayFollow.{aborted_now}
 use Rattle.shard_laws.proofs.Cuts.WhoIsInDoubt.{Doubted, doubted}
 use Rattle.shard_laws.proofs.Restarts.RestoredLocksAndParts.{restored_closed, restored_stage, restored_none, rows_restored}
 use Rattle.shard_laws.proofs.Order.WritesLieOnListed.{order_of, lie_listed, winners_lie}
-use Rattle.shard_laws.proofs.Order.WhoseWritesStand.{has_writer, prepared_stands}
-use Rattle.shard_laws.proofs.Order.RecordByRecord.{Follows, from_disorder, above_later}
+use Rattle.shard_laws.proofs.Order.WhoseWritesStand.{has_writer, open_stands}
+use Rattle.shard_laws.proofs.Order.RecordByRecord.{above_later}
+use Rattle.shard_laws.proofs.Order.WhoIsListed.{named_found, old_found}
 use Rattle.shard_laws.proofs.Order.StepsKeepOrder.{KeepsOrder}
 use Rattle.shard_laws.proofs.Restarts.RestartsKeepOrder.{found_self, Renewed, renewed, ordered_restored, lying_restored, rulings_restored}
 use Rattle.shard_laws.proofs.Restarts.RestoredRequestsAndPairs.{requests_none, unended_none, voter_is, pair_there, pair_of, pair_lists}
@@ -98,8 +100,8 @@ module _ (shard run : ℕ) (before : List LogRecord) (may : MayServe shard run b
   abbrev doubt : List TxId
   doubt = in_doubt shard before
 
-  pub follows : Follows shard [] before
-  follows = from_disorder shard 0 [] before may.0
+  pub follows : disorder shard before ≡ None
+  follows = may.0
 
   pub order : Order shard before
   order = in_order shard before may.0
@@ -132,7 +134,7 @@ module _ (shard run : ℕ) (before : List LogRecord) (may : MayServe shard run b
   listed_pair t p i j l = pair_there Now doubt t p i (listed_now t p i l) (doubt_open p j)
 
   pub listed_place : (t p : TxId) → tx_in t doubt ≡ true → tx_in p doubt ≡ true → tx_in p (listed_in before t) ≡ true → place (found_asked shard before) p < place (found_asked shard before) t
-  listed_place t p i j l = listed_before shard (λ u. tx_in u doubt) before follows t p l i j
+  listed_place t p i j l = listed_before shard (λ u. tx_in u doubt) before follows (λ u k. (doubt_of u k).prepared) t p l i j
 
   -- a pair that was found is of two in doubt
   met_doubt : (t p : TxId) → is_pair (found_met shard before) t p ≡ true → (tx_in t doubt ≡ true) × (tx_in p doubt ≡ true) × (tx_in p (listed_in before t) ≡ true)
@@ -190,7 +192,7 @@ module _ (shard run : ℕ) (before : List LogRecord) (may : MayServe shard run b
   old_run t e = let l = record_fits (greatest_run before) t (is_commit_of t) (own_commit t) before order.runs e in let m = may.1 in omega (arith, l, m)
 
   renewed_start : Renewed shard run Now
-  renewed_start = let l = may.1 in renewed shard run 0 before follows (omega (arith, l)) (above_later run 0 before l)
+  renewed_start = let l = may.1 in renewed shard run 0 before follows (omega (arith, l)) (named_found shard run before follows l) (old_found shard run before follows l) (above_later run 0 before l)
 
   old_prepared : (t : TxId) → prepared_in Now t ≡ true → (tx_in t (found_asked shard before) ≡ true) ⊎ (t.run < run)
   old_prepared t e = let l = record_fits (greatest_run before) t (is_prepare_of t) (own_prepare t) before order.runs (sym (re.found.prepares t) ∙ e) in let m = may.1 in inr (omega (arith, l, m))
@@ -216,7 +218,7 @@ module _ (shard run : ℕ) (before : List LogRecord) (may : MayServe shard run b
       (⊎_elim
       (λ w. undo_aborts shard before run t (filter_in (λ u. not (is_winner shard before u)) t (writers (standing before)) (has_writer t (standing before) w) (ap not loses)))
       (λ a. re.found.aborts t a)
-      (prepared_stands shard before follows t (sym (re.found.prepares t) ∙ p)))
+      (open_stands shard before follows t (sym (re.found.prepares t) ∙ p) (sym (re.found.commits t) ∙ c)))
 
   absent_start : (t : TxId) → is_present (stage_in (restored_parts doubt) t) ≡ false → tx_in t doubt ≡ false
   absent_start t h = false_from_ne_true _ (λ i. both_ways _ h (ap is_present (restored_closed doubt t i)))
@@ -248,7 +250,7 @@ module _ (shard run : ℕ) (before : List LogRecord) (may : MayServe shard run b
       none_vote x = absurd cc
 
   order_now : Order shard Now
-  order_now = order_of shard Now renewed_start.follows
+  order_now = order_of shard Now renewed_start.in_order
 
   abbrev done_start : List Deed
   done_start = alone (found_items shard before)
@@ -312,7 +314,7 @@ module _ (shard run : ℕ) (before : List LogRecord) (may : MayServe shard run b
         downwards = λ t p e c. absurd (both_ways _ (doubt_open t (pair_of Now doubt t p e)) c);
         causes = met_alone _ (found_items shard before) (later_mono _ _ (λ x y u r. ⊎_elim (λ s. inl s) (λ l. inr (inr (inl (listed_pair y.tx x.tx l.2 l.1 l.0)))) (reached x y u r)) (found_items shard before) under_start);
       };
-      durable = record { base_done = base_done (standing before); front = λ n e. absurd (none-some n e); floor_done = λ n l. ap base_of (take_all n Now l) ∙ re.found.begins };
+      durable = record { base_done = base_done (standing before); front = λ n e. absurd (none-some n e); floor_done = λ n l. ap base_of (take_all n Now l) ∙ re.found.begins; part_done = whole_part shard Now renewed_start.in_order };
     };
     answers = record { told = λ t. inr refl; within = part_same done_start };
     requests = record { undecided = λ t q e u. absurd ((subst IsCommitted e (restored_committed (unended_in Now Now) t)).0 u); readers = λ t q e u. absurd ((subst IsCommitted e (restored_committed (unended_in Now Now) t)).1 u); unfallen = λ t q e u here. refl };

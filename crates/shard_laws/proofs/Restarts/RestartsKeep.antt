@@ -26,6 +26,8 @@ use Rattle.clv_base.specs.Participant.{restored_voters}
 use Rattle.clv_base.specs.Coordinator.{restored_request, restored_requests}
 use Rattle.clv_base.specs.Restarts.{records_of, with_ghosts, restored_locks, restored_parts, homes_of, restored_pairs, unended_in, greatest_run, log_left, revived, Restarts}
 use Rattle.clv_base.proofs.SameNames.{or_left, or_right, tx_true}
+use Rattle.law_base.proofs.InOrder.{all_take}
+use Rattle.law_base.proofs.Parts.{in_order_comes, in_order_take, whole_part}
 use Rattle.law_base.specs.Items.{Item, Deed, held, Acts, AllLater, pile}
 use Rattle.law_base.proofs.Lists.{all_mono, all_both, all_of, all_filter, later_mono, later_filter}
 use Rattle.law_base.proofs.Running.{Keeps, top_value}
@@ -48,17 +50,18 @@ use Rattle.shard_laws.proofs.Cuts.MembersRunSerially.{Once}
 use Rattle.shard_laws.proofs.Cuts.MembersOfCutsReplay.{own_chosen, dep_cut, item_asked, cut_base, pile_keep, filter_all_kept, filter_alike, filter_and}
 use Rattle.shard_laws.proofs.Cuts.WhoIsInDoubt.{Doubted, doubted, prepared_cut, listed_cut, listed_wins}
 use Rattle.shard_laws.proofs.Restarts.RestoredLocksAndParts.{restored_closed, restored_stage, restored_none, rows_restored}
-use Rattle.shard_laws.proofs.Order.RecordByRecord.{follows_take, greatest_front}
+use Rattle.shard_laws.proofs.Order.RecordByRecord.{greatest_front}
+use Rattle.shard_laws.proofs.Order.WhoIsListed.{named_cut, old_cut}
 use Rattle.shard_laws.proofs.Order.StepsKeepOrder.{KeepsOrder}
 use Rattle.shard_laws.proofs.Restarts.RestartsKeepOrder.{found_self, Renewed, Fine, renewed_by, ordered_restored, lying_restored, rulings_restored}
 use Rattle.shard_laws.proofs.Keeping.FallenAndLost.{Fell, Falls, take_further}
 use Rattle.shard_laws.proofs.Order.WritesLieOnListed.{order_of}
-use Rattle.protocol_laws.proofs.LogsInOrder.{Order}
+use Rattle.protocol_laws.proofs.LogsInOrder.{Order, all_in_order}
 use Rattle.shard_laws.proofs.Restarts.UnrestoredFell.{all_durable, falls_restarted, stage_name}
 use Rattle.shard_laws.proofs.Restarts.RestoredRequestsAndPairs.{requests_none, unended_none, voter_is, pair_there, pair_of}
 use Rattle.shard_laws.proofs.Restarts.WinnersKeepTheirWrites.{Found, unmoved_from, Restarted, winner_unaborted, of_restarts}
 use Rattle.shard_laws.proofs.Restarts.RecordsAfterRestart.{view_remade, committed_remade, values_remade, rises_remade, all_won, wrote_remade}
-use Rattle.clv_base.specs.LogRules.{listed_in}
+use Rattle.clv_base.specs.LogRules.{listed_in, part_of}
 use Rattle.clv_base.proofs.Folding.{or_left as or_false_left, or_right as or_false_right}
 
 -- ---- a cut of the log
@@ -127,14 +130,15 @@ abbrev pub Bounded : Past → Shard → Type 0
 Bounded g s = (t : TxId) → is_doomed (stage_of s.local t) ≡ true → tx_in t g.fell ≡ true
 
 -- the cut is in order
-pub fine_cut : (all : List Deed) (g : Past) (s : Shard) (c : ℕ) → Sound all g s → Fine s (take c s.local.log)
-fine_cut all g s c h =
+pub fine_cut : (all : List Deed) (g : Past) (s : Shard) (c : ℕ) → Sound all g s → s.durable ≤ c → Fine s (take c s.local.log)
+fine_cut all g s c h le =
     let o = h.order.ordered in
-    (follows_take s.shard c [] s.local.log o.follows, greatest_front (take c s.local.log) (drop c s.local.log) s.run (subst (λ l. greatest_run l ≤ s.run) (sym (take-append-drop c s.local.log)) o.latest))
+    let d = h.kept.part_done in
+    ((in_order_take s.shard c s.local.log (omega (arith, d, le)) o.in_order).0, greatest_front (take c s.local.log) (drop c s.local.log) s.run (subst (λ l. greatest_run l ≤ s.run) (sym (take-append-drop c s.local.log)) o.latest), named_cut s.shard s.run c s.local.log o.in_order o.named, old_cut s.shard s.run c s.local.log (omega (arith, d, le)) o.in_order o.old)
 
 module _ (all : List Deed) (g : Past) (s : Shard) (c : ℕ) (h : Sound all g s) where
   pub cut_order : Order s.shard (take c s.local.log)
-  cut_order = order_of s.shard (take c s.local.log) (fine_cut all g s c h).0
+  cut_order = all_in_order s.shard (part_of s.local.log) (take c s.local.log) (all_take s.shard c (part_of s.local.log) s.local.log (in_order_comes s.shard s.local.log h.order.ordered.in_order))
 
   pub doubt_of : (t : TxId) → tx_in t (in_doubt s.shard (take c s.local.log)) ≡ true → Doubted (take c s.local.log) (in_doubt s.shard (take c s.local.log)) t
   doubt_of t i = doubted s.shard (take c s.local.log) t cut_order.sealed i
@@ -243,7 +247,7 @@ module _ (all : List Deed) (g : Past) (s : Shard) (c epoch : ℕ) (log : List Lo
       sound_alive t k u =
           let whole : take c s.local.log ++ drop c s.local.log ≡ s.local.log = take-append-drop c s.local.log in
           let p = and_parts (is_winner s.shard (take c s.local.log) t) (is_alive g.lost t) k in
-          let a = undone_later (take c s.local.log) (drop c s.local.log) t (undoable_later [] (take c s.local.log) (drop c s.local.log) (subst (Undoable []) (sym whole) (order_of s.shard s.local.log h.order.ordered.follows).undoable)) u (closed t p.0) in
+          let a = undone_later (take c s.local.log) (drop c s.local.log) t (undoable_later [] (take c s.local.log) (drop c s.local.log) (subst (Undoable []) (sym whole) (order_of s.shard s.local.log h.order.ordered.in_order).undoable)) u (closed t p.0) in
           let d = h.kept.dead t (subst (λ l. aborted_in l t ≡ true) whole a) in
           ⊎_elim (λ e. both_ways _ d.0 (cut_keeps c s.local.log t e)) (λ i. d.2 (doubt_closed all g s c h t i (doubt_alive all g s c h le t i (not-true _ p.1)))) (or_cases (committed_in (take c s.local.log) t) (tx_in t doubt) p.0)
 
@@ -419,7 +423,7 @@ module _ (all : List Deed) (g : Past) (s : Shard) (c epoch : ℕ) (log : List Lo
   FallsNow d = Falls g.asked (left_out s (revived s epoch log) ++ g.fell) (left_out s (revived s epoch log) ++ g.lost) g.over (restored_parts d) (restored_pairs log d) log (length log)
 
   falls_now : FallsNow doubt
-  falls_now = subst FallsNow found.doubts (falls_restarted s.shard g.asked g.fell g.lost g.over s.local.parts s.local.pairs s.local.log s.durable c log (left_out s (revived s epoch log)) h.falls new.follows le bounded present_asked h.kept.successors finished_now found.commits found.prepares found.aborts
+  falls_now = subst FallsNow found.doubts (falls_restarted s.shard g.asked g.fell g.lost g.over s.local.parts s.local.pairs s.local.log s.durable c log (left_out s (revived s epoch log)) h.falls new.in_order le bounded present_asked h.kept.successors finished_now found.commits found.prepares found.aborts
       (λ t e. let p = sym (found.prepares t) ∙ e in found.listed t p ∙ sym (subst (λ l. listed_in l t ≡ listed_in (take c s.local.log) t) (take-append-drop c s.local.log) (listed_keeps (take c s.local.log) (drop c s.local.log) t p)))
       (λ t i. let q = outs t i in (q.0, ap (tx_in t) found.doubts ∙ q.1, q.2)) (λ t here n k. all_outs t here (ap (tx_in t) (sym found.doubts) ∙ n) k))
 
@@ -439,7 +443,7 @@ module _ (all : List Deed) (g : Past) (s : Shard) (c epoch : ℕ) (log : List Lo
   none_stands t k n = false_from_ne_true _ (λ e. both_ways _ (or_from _ _ k n) (of_writer (λ u. is_winner s.shard (take c s.local.log) u ≡ true) (standing log) t (all_won s.shard (take c s.local.log) log re) e))
 
   order_of_it : Order s.shard log
-  order_of_it = order_of s.shard log new.follows
+  order_of_it = order_of s.shard log new.in_order
 
   sound_now : Sound all (record g { done = done_now; fell = left_out s (revived s epoch log) ++ g.fell; lost = left_out s (revived s epoch log) ++ g.lost }) (state_with s epoch log doubt (with_ghosts doubt (standing log) (records_of (fold_updates (is_winner s.shard log) log []))) (restored_locks doubt (standing log) []))
   unfolding state_with
@@ -484,7 +488,7 @@ module _ (all : List Deed) (g : Past) (s : Shard) (c epoch : ℕ) (log : List Lo
         recover = λ t p e. ⊎_elim (λ o. inl (in_more (left_out s (revived s epoch log)) g.lost t o.0, λ a. no_active t a)) (λ d. recover_now t p d (h.kept.prepared.recover t p e)) (h.kept.recover t p e);
       };
       pairs = record { downwards = λ t p e m. absurd (both_ways _ (doubt_open t (pair_of log doubt t p e)) m); causes = causes_now };
-      durable = record { base_done = all_mono _ _ (λ w e. committed_remade s.shard (take c s.local.log) log re w.tx e) g.base (cut_base all g s g.over c h le once (λ t i. i)); front = λ n e. absurd (none-some n e); floor_done = λ n l. ap base_of (take_all n log l) ∙ found.begins ∙ h.kept.floor_done c le };
+      durable = record { base_done = all_mono _ _ (λ w e. committed_remade s.shard (take c s.local.log) log re w.tx e) g.base (cut_base all g s g.over c h le once (λ t i. i)); front = λ n e. absurd (none-some n e); floor_done = λ n l. ap base_of (take_all n log l) ∙ found.begins ∙ h.kept.floor_done c le; part_done = whole_part s.shard log new.in_order };
     };
     answers = record { told = told_now; within = part_filter (λ d. stays (doer d)) g.done all h.within };
     requests = record {
@@ -513,7 +517,7 @@ front_flight : (s : Shard) (o : Option ℕ) → ((n : ℕ) → o ≡ Some n → 
 front_flight s None h = omega arith
 front_flight s (Some n) h = h n refl
 
-front_cut : (s : Shard) (kept : Bool) → ((n : ℕ) → s.flight ≡ Some n → s.durable ≤ n) → s.durable ≤ cond kept (unwrap_or s.flight s.durable) s.durable
+pub front_cut : (s : Shard) (kept : Bool) → ((n : ℕ) → s.flight ≡ Some n → s.durable ≤ n) → s.durable ≤ cond kept (unwrap_or s.flight s.durable) s.durable
 front_cut s true h = front_flight s s.flight h
 front_cut s false h = omega arith
 
@@ -524,7 +528,7 @@ revived_sound all told g s kept epoch log h bounded once over leads =
     let c : ℕ = cond kept (unwrap_or s.flight s.durable) s.durable in (
       record g { done = deeds_by_chosen (λ t. is_winner s.shard (take c s.local.log) t || tx_in t g.over) g.done; fell = left_out s (revived s epoch log) ++ g.fell; lost = left_out s (revived s epoch log) ++ g.lost },
       sound_revived all g s c epoch log h (front_cut s kept h.kept.front) once bounded (of_restarts s (take c s.local.log) (take c s.local.log) epoch log (found_cut all g s c h) leads)
-          (renewed_by s (take c s.local.log) epoch log (fine_cut all g s c h) leads),
+          (renewed_by s (take c s.local.log) epoch log (fine_cut all g s c h (front_cut s kept h.kept.front)) leads),
       refl,
       refl,
       refl,

@@ -1,9 +1,14 @@
 -- A log in order stays so through a restart, also where restarts failed in between; and the state that it restores keeps the order rules.
-use Rattle.std.proofs.Common.{◌≡◌, inl, inr, ⊎_elim, refl, sym, ap, subst, ◌∙◌, ℕ, ◌≤◌, Bool, true, false, not, ◌||◌, List, [], ◌∷◌, ◌++◌, map, Some, is_some, arith, append_assoc, append-nil}
+use Rattle.std.proofs.Common.{◌≡◌, inl, inr, ⊎_elim, refl, sym, ap, subst, ◌∙◌, ℕ, ◌≤◌, Bool, true, false, not, ◌||◌, List, [], ◌∷◌, ◌++◌, map, Some, None, is_some, arith, append_assoc, append-nil}
 use Rattle.std.specs.Prelude.{take, drop}
 use Rattle.std.specs.List.{AllByRecursion, filter}
 use Rattle.std.proofs.lemmas.Bool.{cases_Bool, both_ways, cond_both, or_cases, and_from, not-true, false_from_ne_true}
 use Rattle.std.proofs.lemmas.List.{take-append-drop}
+use Rattle.std.proofs.lemmas.List.Folds.{list_any-append}
+use Rattle.law_base.specs.Coming.{may_come}
+use Rattle.law_base.proofs.InOrder.{through}
+use Rattle.law_base.proofs.Parts.{in_order_comes, in_order_more}
+use Rattle.shard_laws.proofs.Order.WhoIsListed.{Named, named_more, unlisted_all, OldParted, old_more}
 use Rattle.clv_base.specs.declared.names.TxId.{TxId}
 use Rattle.clv_base.specs.declared.logs.LogRecord.{LogRecord}
 use Rattle.clv_base.specs.declared.logs.LogRecord.TheVariants.{Update, Clr, Prepare, Commit, Abort, End, Restart, Add, Unadd, Forgotten, Check}
@@ -12,7 +17,7 @@ use Rattle.clv_base.specs.declared.state.RequestState.TheVariants.{Undecided, Co
 use Rattle.clv_base.specs.Orders.{tx_same, tx_in}
 use Rattle.clv_base.specs.State.{Shard}
 use Rattle.clv_base.specs.Logs.{StandingUpdate, standing, committed_in, aborted_in, wrote_in, has_standing, is_commit_of, in_doubt, is_winner, writers}
-use Rattle.clv_base.specs.LogRules.{may_follow, last_restart, above_restarts, listed_in}
+use Rattle.clv_base.specs.LogRules.{may_follow, last_restart, above_restarts, lists, is_listed, listed_in, part_of, disorder}
 use Rattle.clv_base.specs.Undo.{is_of, clrs_of, newest_lsn, compensation}
 use Rattle.clv_base.specs.Coordinator.{restored_requests}
 use Rattle.clv_base.specs.Restarts.{losers, undo_records, restart_records, log_after_restart, restored_parts, restored_pairs, unended_in, greatest_run, next_epoch, FailedRestarts, Restarts, untouched, failed_first}
@@ -31,12 +36,12 @@ use Rattle.shard_laws.proofs.Cuts.MembersRunSerially.{once_filter}
 use Rattle.shard_laws.proofs.Cuts.WhatCutsHold.{of_kept}
 use Rattle.shard_laws.proofs.Cuts.WhoIsInDoubt.{Doubted, doubted}
 use Rattle.shard_laws.proofs.Restarts.RestoredLocksAndParts.{restored_closed, restored_stage}
-use Rattle.shard_laws.proofs.Order.RecordByRecord.{Follows, follows_append, follows_take, through, Plainly, greatest_front, greatest_both, above_next, above_push}
+use Rattle.shard_laws.proofs.Order.RecordByRecord.{Follows, follows_append, follows_take, Plainly, greatest_front, greatest_both, above_next, above_push}
 use Rattle.shard_laws.proofs.Order.RisingAreDistinct.{writers_once}
 use Rattle.shard_laws.proofs.Order.UndoMayFollow.{undo_follows, plainly_compensation}
 use Rattle.shard_laws.proofs.Order.WritesLieOnListed.{lists_others, Beneath, LieListed, order_of, lie_listed, winners_lie, wrote_restart}
 use Rattle.shard_laws.proofs.Order.ChangesKeepOrder.{LiesOn, Under, Lying, Ordered, list_all_from}
-use Rattle.shard_laws.proofs.Order.WhoseWritesStand.{writer_has, prepared_stands}
+use Rattle.shard_laws.proofs.Order.WhoseWritesStand.{writer_has, open_stands}
 use Rattle.shard_laws.proofs.Order.WhatRulingsMayWrite.{Rulings}
 use Rattle.shard_laws.proofs.Restarts.RestoredRequestsAndPairs.{pair_there, pair_lists, request_from, OneCommit, unended_parts}
 use Rattle.shard_laws.proofs.Restarts.WinnersKeepTheirWrites.{Found, Plain, winners, found_more, plain_restart, loser_alike, standing_whole}
@@ -108,7 +113,7 @@ all_kept f g (w ∷ ws) e = cond_both (g w.tx) (w ∷ filter (of_kept g) ws) (fi
 
 -- ---- one restart
 
-module _ (shard : ℕ) (log : List LogRecord) (f : Follows shard [] log) where
+module _ (shard : ℕ) (log : List LogRecord) (f : disorder shard log ≡ None) where
   order : Order shard log
   order = order_of shard log f
 
@@ -154,8 +159,12 @@ module _ (shard : ℕ) (log : List LogRecord) (f : Follows shard [] log) where
   pub restart_follows : (run epoch : ℕ) → above_restarts run epoch log ≡ true → Follows shard log (restart_records shard log run epoch)
   restart_follows run epoch a = follows_append shard log (undo_records shard log) (Restart run epoch ∷ []) undone (restart_may run epoch a, tt)
 
-  pub restarted_log : (run epoch : ℕ) → above_restarts run epoch log ≡ true → Follows shard [] (log_after_restart shard log run epoch)
-  restarted_log run epoch a = follows_append shard [] log (restart_records shard log run epoch) f (restart_follows run epoch a)
+  pub restarted_log : (run epoch : ℕ) → above_restarts run epoch log ≡ true → disorder shard (log_after_restart shard log run epoch) ≡ None
+  restarted_log run epoch a = in_order_more shard log (restart_records shard log run epoch) f (restart_follows run epoch a)
+
+  -- it lists nobody more
+  pub restart_lists : (run epoch : ℕ) (t : TxId) → is_listed (restart_records shard log run epoch) t ≡ false
+  restart_lists run epoch = unlisted_all (restart_records shard log run epoch) (all_mono _ _ (λ r p. p.no_prepare) (restart_records shard log run epoch) (plain_restart shard log run epoch))
 
   pub restarted_last : (run epoch : ℕ) → last_restart (log_after_restart shard log run epoch) ≡ Some (run, epoch)
   restarted_last run epoch = ap last_restart (sym (append_assoc log (undo_records shard log) (Restart run epoch ∷ []))) ∙ last_new (log ++ undo_records shard log) run epoch
@@ -169,30 +178,40 @@ module _ (shard : ℕ) (log : List LogRecord) (f : Follows shard [] log) where
 -- ---- restarts that fail in between
 
 abbrev pub Fine : Shard → List LogRecord → Type 0
-Fine s log = Follows s.shard [] log × (greatest_run log ≤ s.run)
+Fine s log = (disorder s.shard log ≡ None) × (greatest_run log ≤ s.run) × Named s.run log × OldParted s.run log
 
 above_of : (s : Shard) (log : List LogRecord) → greatest_run log ≤ s.run → above_restarts s.run (next_epoch s log) log ≡ true
 above_of s log l = above_next s.run s.local.epoch (next_epoch s log) log l (omega arith)
 
-fine_failed : (s : Shard) (found left : List LogRecord) → Fine s found → FailedRestarts s found left → Fine s left
+unlisted_front : (n : ℕ) (rs : List LogRecord) (t : TxId) → is_listed rs t ≡ false → is_listed (take n rs) t ≡ false
+unlisted_front n rs t e =
+    or_false_left (is_listed (take n rs) t) (is_listed (drop n rs) t) (sym (list_any-append (lists t) (take n rs) (drop n rs)) ∙ ap (λ l. is_listed l t) (take-append-drop n rs) ∙ e)
+
+pub fine_failed : (s : Shard) (found left : List LogRecord) → Fine s found → FailedRestarts s found left → Fine s left
 fine_failed s found _ h (untouched) = h
 fine_failed s found left h (failed_first n more) =
     let rs : List LogRecord = restart_records s.shard found s.run (next_epoch s found) in
     fine_failed s (found ++ take n (restart_records s.shard found s.run (next_epoch s found))) left (
-      follows_append s.shard [] found (take n rs) h.0 (follows_take s.shard n found rs (restart_follows s.shard found h.0 s.run (next_epoch s found) (above_of s found h.1))),
+      in_order_more s.shard found (take n rs) h.0 (follows_take s.shard n found rs (restart_follows s.shard found h.0 s.run (next_epoch s found) (above_of s found h.1))),
       greatest_both found (take n rs) s.run h.1 (greatest_front (take n rs) (drop n rs) s.run (subst (λ l. greatest_run l ≤ s.run) (sym (take-append-drop n rs)) (records_latest s.shard found h.0 s.run (next_epoch s found)))),
+      named_more s.run found (take n rs) (λ t. unlisted_front n rs t (restart_lists s.shard found h.0 s.run (next_epoch s found) t)) h.2,
+      old_more s.shard s.run found (take n rs) h.0 (follows_take s.shard n found rs (restart_follows s.shard found h.0 s.run (next_epoch s found) (above_of s found h.1))) h.3,
     ) more
 
 -- what the last of them leaves: a RESTART of this run last, and only winners standing
 pub record Renewed (shard run : ℕ) (log : List LogRecord) : Type 0 where
-  pub follows : Follows shard [] log
+  pub in_order : disorder shard log ≡ None
+  pub named : Named run log
+  pub old : OldParted run log
   pub last : (epoch : ℕ) × (last_restart log ≡ Some (run, epoch))
   pub latest : greatest_run log ≤ run
   pub won : AllByRecursion (λ w. is_winner shard log w.tx ≡ true) (standing log)
 
-pub renewed : (shard run epoch : ℕ) (log : List LogRecord) → Follows shard [] log → greatest_run log ≤ run → above_restarts run epoch log ≡ true → Renewed shard run (log_after_restart shard log run epoch)
-renewed shard run epoch log f l a = record {
-  follows = restarted_log shard log f run epoch a;
+pub renewed : (shard run epoch : ℕ) (log : List LogRecord) → disorder shard log ≡ None → greatest_run log ≤ run → Named run log → OldParted run log → above_restarts run epoch log ≡ true → Renewed shard run (log_after_restart shard log run epoch)
+renewed shard run epoch log f l n b a = record {
+  in_order = restarted_log shard log f run epoch a;
+  named = named_more run log (restart_records shard log run epoch) (restart_lists shard log f run epoch) n;
+  old = old_more shard run log (restart_records shard log run epoch) f (restart_follows shard log f run epoch a) b;
   last = (epoch, restarted_last shard log f run epoch);
   latest = restarted_latest shard log f run epoch l;
   won = subst (AllByRecursion (λ w. is_winner shard (log_after_restart shard log run epoch) w.tx ≡ true)) (sym (standing_whole shard log run epoch))
@@ -203,7 +222,7 @@ renewed shard run epoch log f l a = record {
 pub renewed_by : (s : Shard) (found : List LogRecord) (epoch : ℕ) (log : List LogRecord) → Fine s found → Restarts s found epoch log → Renewed s.shard s.run log
 renewed_by s found epoch log h (left, failed, e, same) =
     let x = fine_failed s found left h failed in
-    subst (Renewed s.shard s.run) (sym same) (renewed s.shard s.run epoch left x.0 x.1 (subst (λ n. above_restarts s.run n left ≡ true) (sym e) (above_of s left x.1)))
+    subst (Renewed s.shard s.run) (sym same) (renewed s.shard s.run epoch left x.0 x.1 x.2 x.3 (subst (λ n. above_restarts s.run n left ≡ true) (sym e) (above_of s left x.1)))
 
 -- ---- more of a log in order
 
@@ -237,27 +256,28 @@ one_other (Unadd u n k by ∷ rs) r none o l = one_other rs r none o l
 one_other (Forgotten ∷ rs) r none o l = one_other rs r none o l
 one_other (Check run' epoch' upto base ∷ rs) r none o l = one_other rs r none o l
 
-one_step : (shard : ℕ) (log : List LogRecord) (r : LogRecord) → may_follow shard log r ≡ true → OneCommit log → OneCommit (log ++ r ∷ [])
-one_step shard log (Commit tx parts) m o = one_push log tx parts o (not-true _ (last _ _ (front _ _ (front _ _ (front _ _ (front _ _ (front _ _ (front _ _ m))))))))
-one_step shard log (Update tx k b a) m o = one_other log (Update tx k b a) (λ t. refl) o tt
-one_step shard log (Clr tx u k a) m o = one_other log (Clr tx u k a) (λ t. refl) o tt
-one_step shard log (Prepare tx home ps) m o = one_other log (Prepare tx home ps) (λ t. refl) o tt
-one_step shard log (Abort tx) m o = one_other log (Abort tx) (λ t. refl) o tt
-one_step shard log (End tx) m o = one_other log (End tx) (λ t. refl) o tt
-one_step shard log (Restart run epoch) m o = one_other log (Restart run epoch) (λ t. refl) o tt
-one_step shard log (Add tx k by) m o = one_other log (Add tx k by) (λ t. refl) o tt
-one_step shard log (Unadd tx u k by) m o = one_other log (Unadd tx u k by) (λ t. refl) o tt
-one_step shard log Forgotten m o = one_other log Forgotten (λ t. refl) o tt
-one_step shard log (Check run' epoch' upto base) m o = absurd cc
+one_step : (shard : ℕ) (part log : List LogRecord) (r : LogRecord) → may_come shard part log r ≡ true → OneCommit log → OneCommit (log ++ r ∷ [])
+one_step shard part log (Commit tx parts) m o = one_push log tx parts o (not-true _ (last _ _ (front _ _ (front _ _ (front _ _ (front _ _ (front _ _ (front _ _ m))))))))
+one_step shard part log (Update tx k b a) m o = one_other log (Update tx k b a) (λ t. refl) o tt
+one_step shard part log (Clr tx u k a) m o = one_other log (Clr tx u k a) (λ t. refl) o tt
+one_step shard part log (Prepare tx home ps) m o = one_other log (Prepare tx home ps) (λ t. refl) o tt
+one_step shard part log (Abort tx) m o = one_other log (Abort tx) (λ t. refl) o tt
+one_step shard part log (End tx) m o = one_other log (End tx) (λ t. refl) o tt
+one_step shard part log (Restart run epoch) m o = one_other log (Restart run epoch) (λ t. refl) o tt
+one_step shard part log (Add tx k by) m o = one_other log (Add tx k by) (λ t. refl) o tt
+one_step shard part log (Unadd tx u k by) m o = one_other log (Unadd tx u k by) (λ t. refl) o tt
+one_step shard part log Forgotten m o = one_other log Forgotten (λ t. refl) o tt
+one_step shard part log (Check run' epoch' upto base) m o = absurd cc
 
-pub one_commit : (shard : ℕ) (log : List LogRecord) → Follows shard [] log → OneCommit log
-one_commit shard log f = through OneCommit shard [] log tt f tt (λ l r g p m. one_step shard l r m p)
+pub one_commit : (shard : ℕ) (log : List LogRecord) → disorder shard log ≡ None → OneCommit log
+one_commit shard log d =
+    through OneCommit shard (part_of log) (λ l r g p m. one_step shard (part_of log) l r m p) log (in_order_comes shard log d) tt (λ run epoch upto base rises. tt)
 
 -- ---- the state that a restart restores
 
 module _ (shard run : ℕ) (log : List LogRecord) (r : Renewed shard run log) where
   now : Order shard log
-  now = order_of shard log r.follows
+  now = order_of shard log r.in_order
 
   closed_active : Active ≡ Closed → ⊥
   closed_active e = absurd cc
@@ -277,11 +297,13 @@ module _ (shard run : ℕ) (log : List LogRecord) (r : Renewed shard run log) wh
 
   -- of each a write stands
   doubt_stands : (t : TxId) → tx_in t (in_doubt shard log) ≡ true → has_standing log t ≡ true
-  doubt_stands t i = ⊎_elim (λ h. h) (λ a. absurd (both_ways _ (doubt_of t i).unaborted a)) (prepared_stands shard log r.follows t (doubt_of t i).prepared)
+  doubt_stands t i = ⊎_elim (λ h. h) (λ a. absurd (both_ways _ (doubt_of t i).unaborted a)) (open_stands shard log r.in_order t (doubt_of t i).prepared (doubt_of t i).open_)
 
   pub ordered_restored : Ordered shard run (restored_parts (in_doubt shard log)) (restored_pairs log (in_doubt shard log)) log
   ordered_restored = record {
-    follows = r.follows;
+    in_order = r.in_order;
+    named = r.named;
+    old = r.old;
     last = r.last;
     latest = r.latest;
     of_run = λ t a. absurd (no_active t a);
@@ -291,7 +313,7 @@ module _ (shard run : ℕ) (log : List LogRecord) (r : Renewed shard run log) wh
     others = λ t p e.
         let q = pair_lists log (in_doubt shard log) t p e in
         let i = listed_doubt t p q.0 q.1 q.2 in
-        ((λ s. both_ways _ (lists_others shard log r.follows t p q.1) (tx_eq p t (sym s))), inr (restored_closed (in_doubt shard log) p i, doubt_stands p i));
+        ((λ s. both_ways _ (lists_others shard log r.in_order t p q.1) (tx_eq p t (sym s))), inr (restored_closed (in_doubt shard log) p i, doubt_stands p i));
     lists = λ t p c l. ⊎_elim (λ k. inl k) (λ n. inr (pair_there log (in_doubt shard log) t p (closed_doubt t c) l n)) (cases_Bool (committed_in log p));
   }
 
@@ -311,12 +333,12 @@ module _ (shard run : ℕ) (log : List LogRecord) (r : Renewed shard run log) wh
       lies {p} i (inr (inr m)) = inr (⊎_elim (λ k. inl k) (λ n. inr (pair_there log (in_doubt shard log) v.tx p i m n)) (cases_Bool (committed_in log p)))
 
   pub lying_restored : Lying (restored_pairs log (in_doubt shard log)) log
-  lying_restored = under_now (standing log) r.won (now.writes).lie (lie_listed shard log r.follows)
+  lying_restored = under_now (standing log) r.won (now.writes).lie (lie_listed shard log r.in_order)
 
   pub rulings_restored : Rulings shard run (restored_requests (unended_in log log)) log
   rulings_restored t q e =
       let x = request_from t (unended_in log log) q e in
-      let y = unended_parts log log t x.0 (one_commit shard log r.follows) x.1 in
+      let y = unended_parts log log t x.0 (one_commit shard log r.in_order) x.1 in
       record {
         undecided = λ u. absurd (not_undecided x.0 (ap (λ z. z.state) (sym x.2) ∙ u));
         committed = λ p ps s n. (y.0 ∙ ap Some (same_parts x.0 (p ∷ ps) (ap (λ z. z.state) (sym x.2) ∙ s)), y.1);

@@ -11,7 +11,7 @@ use Rattle.clv_base.proofs.SameNames.{or_left, or_right, tx_flip}
 use Rattle.clv_base.specs.Orders.{Table, tx_in, tx_same, tx_get}
 use Rattle.clv_base.specs.State.{is_present}
 use Rattle.clv_base.specs.Logs.{committed_in, prepared_in, aborted_in, is_abort_of, is_commit_of, in_doubt}
-use Rattle.clv_base.specs.LogRules.{listed_in}
+use Rattle.clv_base.specs.LogRules.{listed_in, disorder}
 use Rattle.clv_base.specs.Restarts.{restored_parts, restored_pairs}
 use Rattle.law_base.proofs.Tables.{stage_in, is_pair, stage_by}
 use Rattle.law_base.proofs.Commits.{commit_durable, durable_from, place_some, place_less}
@@ -21,7 +21,6 @@ use Rattle.shard_laws.proofs.Keeping.LeavingKeeps.{in_first, in_more, in_two}
 use Rattle.shard_laws.proofs.Cuts.WhatCutsHold.{cut_keeps, durable_cut}
 use Rattle.shard_laws.proofs.Cuts.WhoIsInDoubt.{Doubted, doubted, prepared_cut}
 use Rattle.shard_laws.proofs.Restarts.RestoredLocksAndParts.{restored_closed, restored_none}
-use Rattle.shard_laws.proofs.Order.RecordByRecord.{Follows}
 use Rattle.shard_laws.proofs.Order.ChangesKeepOrder.{unlisted}
 use Rattle.shard_laws.proofs.Order.WritesLieOnListed.{order_of, committed_lists}
 use Rattle.shard_laws.proofs.Restarts.RestoredRequestsAndPairs.{pair_there, pair_lists}
@@ -48,7 +47,7 @@ pub all_durable : (log : List LogRecord) (t : TxId) → committed_in log t ≡ t
 all_durable log t e = let k = place_some 0 (is_commit_of t) log e in let l = place_less 0 (is_commit_of t) log k.0 k.1 in durable_from log (length log) t k.0 k.1 (omega arith)
 
 module _ (shard : ℕ) (asked fell lost over : List TxId) (parts : Table Held) (pairs : List (TxId × TxId)) (log : List LogRecord) (durable c : ℕ) (after : List LogRecord) (out : List TxId) (f : Falls asked fell lost over parts pairs log durable)
-    (order : Follows shard [] after) (le : durable ≤ c) (boundary : (t : TxId) → is_doomed (stage_in parts t) ≡ true → tx_in t fell ≡ true) (present_asked : (t : TxId) → is_present (stage_in parts t) ≡ true → prepared_in log t ≡ true → tx_in t asked ≡ true) (successors : (t p : TxId) → is_pair pairs t p ≡ true → is_present (stage_in parts t) ≡ true) (finished : (t : TxId) → is_present (stage_in parts t) ≡ true → tx_in t over ≡ true → committed_in after t ≡ true)
+    (order : disorder shard after ≡ None) (le : durable ≤ c) (boundary : (t : TxId) → is_doomed (stage_in parts t) ≡ true → tx_in t fell ≡ true) (present_asked : (t : TxId) → is_present (stage_in parts t) ≡ true → prepared_in log t ≡ true → tx_in t asked ≡ true) (successors : (t p : TxId) → is_pair pairs t p ≡ true → is_present (stage_in parts t) ≡ true) (finished : (t : TxId) → is_present (stage_in parts t) ≡ true → tx_in t over ≡ true → committed_in after t ≡ true)
     (commits : (t : TxId) → committed_in after t ≡ committed_in (take c log) t) (prepares : (t : TxId) → prepared_in after t ≡ prepared_in (take c log) t) (aborts : (t : TxId) → aborted_in (take c log) t ≡ true → aborted_in after t ≡ true) (lists_same : (t : TxId) → prepared_in after t ≡ true → listed_in after t ≡ listed_in log t)
     (outs : (t : TxId) → tx_in t out ≡ true → (is_present (stage_in parts t) ≡ true) × (tx_in t (in_doubt shard after) ≡ false) × (committed_in after t ≡ false)) (all_outs : (t : TxId) → is_present (stage_in parts t) ≡ true → tx_in t (in_doubt shard after) ≡ false → committed_in after t ≡ false → tx_in t out ≡ true) where
   doubts : (t : TxId) → tx_in t (in_doubt shard after) ≡ true → Doubted after (in_doubt shard after) t

@@ -17,31 +17,33 @@ use Rattle.cluster_closing.specs.Closing.{IsBack, IsLowestDown, lists, Returned}
 use Rattle.cluster_closing.proofs.ComingBack.{no_gate_away, of_shards, lists_are, is_back, back_under, gate_is_away}
 use Rattle.cluster_closing.proofs.closing.close.Goals as goal
 use Rattle.law_base.proofs.Lists.{few_shards, elem_at as some_elem}
+use Rattle.io_model.specs.Sides.{sides_out, sides_told}
+use Rattle.machine_calls.specs.Disks.{stories_of, faults_of}
 
 pub returns-clause-disks : goal.returns-clause-disks
 returns-clause-disks g c =
     let sh = c.args.shards in let W = c.args.walkers in let F = c.args.fetched in let H = c.close-homes.result in let okW = W.ok in let okL = sh.locks.ok in let okH = H.ok in let okF = F.ok in let long = c.close-homes.ensures.len in
-    let story = g.H.Disk.Disk.story in let faults = g.H.Disk.Disk.faults in let mid = c.part_all-journals.new.house in let new = c.give_back_held.new.house in
+    let story = stories_of g.H.Disk.Disk.story in let faults = faults_of g.H.Disk.Disk.faults in let mid = c.part_all-journals.new.house in let new = c.give_back_held.new.house in
     λ n d l. (let h = get_or H.items n d in let s = g.M.Machine.shard h.machine in let notes = notes_of s.journal h.marks.items in let k = c.close-homes.ensures.sound n d (omega arith) in
     let found = disks_are_found _ _ g.M.Gate.Gate.is_shut g.M.Gate.Gate.faults g.M.Gate.Gate.shard g.M.Gate.Gate.logs story faults W.items n h.origin notes s (g.M.Machine.gate h.machine) F.items (c.close-homes.ensures.closed n d (omega arith)) k.legal k.gated
     (λ j e m. no_gate_away sh (get_or W.items j e) n (c.requires.walkers j e m) (omega arith) (c.requires.landed j e m)) c.requires.fetched in
-    subst (λ v. IsBack (g.M.Machine.shard (get_or v.items n d).machine) n (record { splits = sh.splits }) F.items (g.H.House.faults c.args.house.now n) (g.H.House.faults new n) (g.H.House.is_out new n) (g.H.House.story new n)) (sym c.of-ends.ensures)
+    subst (λ v. IsBack (g.M.Machine.shard (get_or v.items n d).machine) n (record { splits = sh.splits }) F.items (g.H.House.faults c.args.house.now n) (g.H.House.faults new n) (sides_out (g.H.House.is_out new) n) (sides_told (g.H.House.story new) n)) (sym c.of-ends.ensures)
     (back_under sh.splits (founds_of sh) h.origin s n F.items _ _ _ _ (c.close-homes.ensures.origin n d (omega arith))
-    (is_back story faults h.origin notes s n k.legal (c.close-homes.ensures.shard n d (omega arith)) g.M.Gate.Gate.is_shut g.M.Gate.Gate.faults g.M.Gate.Gate.shard g.M.Gate.Gate.logs (g.M.Machine.gate h.machine) F.items (g.H.House.faults c.args.house.now n) (g.H.House.faults mid n) (g.H.House.faults new n) (g.H.House.is_out mid n) (g.H.House.is_out new n) (g.H.House.story mid n) (g.H.House.story new n)
+    (is_back story faults h.origin notes s n k.legal (c.close-homes.ensures.shard n d (omega arith)) g.M.Gate.Gate.is_shut g.M.Gate.Gate.faults g.M.Gate.Gate.shard g.M.Gate.Gate.logs (g.M.Machine.gate h.machine) F.items (g.H.House.faults c.args.house.now n) (g.H.House.faults mid n) (g.H.House.faults new n) (sides_out (g.H.House.is_out mid) n) (sides_out (g.H.House.is_out new) n) (sides_told (g.H.House.story mid) n) (sides_told (g.H.House.story new) n)
     k.gated found (λ gate is. c.part_all-journals.ensures.back n d gate (omega arith) is) (λ no. c.part_all-journals.ensures.away n d (omega arith) no)
-    (λ j f m e. subst (λ x. Returned story faults (get_or F.items j f).disk (g.H.House.faults mid x) (g.H.House.faults new x) (g.H.House.is_out new x) (g.H.House.story new x)) e (c.give_back_held.ensures.back j f (omega arith)))
+    (λ j f m e. subst (λ x. Returned story faults (get_or F.items j f).disk (g.H.House.faults mid x) (g.H.House.faults new x) (sides_out (g.H.House.is_out new) x) (sides_told (g.H.House.story new) x)) e (c.give_back_held.ensures.back j f (omega arith)))
     (λ none. c.give_back_held.ensures.others n none))))
 
 pub returns-clause-others : goal.returns-clause-others
 returns-clause-others g c =
     let sh = c.args.shards in let W = c.args.walkers in let F = c.args.fetched in let okL = sh.locks.ok in let okH = c.close-homes.result.ok in let okF = F.ok in let long = c.close-homes.ensures.len in
-    λ n l. (let t = c.give_back_held.ensures.others n (λ j f m e. (let low = of_shards g.H.Disk.Disk.story g.H.Disk.Disk.faults sh W.items F.items c.requires.walkers c.requires.fetched j f m in absurd (omega arith))) in
+    λ n l. (let t = c.give_back_held.ensures.others n (λ j f m e. (let low = of_shards (stories_of g.H.Disk.Disk.story) (faults_of g.H.Disk.Disk.faults) sh W.items F.items c.requires.walkers c.requires.fetched j f m in absurd (omega arith))) in
     let w = c.part_all-journals.ensures.others n (omega arith) in (t.0 ∙ w.0, t.1 ∙ w.1, t.2 ∙ w.2))
 
 pub give_back_held-requires : goal.give_back_held-requires
 give_back_held-requires g c =
     let sh = c.args.shards in let W = c.args.walkers in let F = c.args.fetched in let H = c.close-homes.result in let okW = W.ok in let okL = sh.locks.ok in let okH = H.ok in let okF = F.ok in let long = c.close-homes.ensures.len in let some = c.requires.some in
-    let story = g.H.Disk.Disk.story in let faults = g.H.Disk.Disk.faults in
+    let story = stories_of g.H.Disk.Disk.story in let faults = faults_of g.H.Disk.Disk.faults in
     let few = few_shards sh.splits c.requires.shards.splits_rise in let count = (c.requires.walkers 0 (some_elem W.items 0 (omega arith)) (omega arith)).count in record {
       few = λ j f m. (let low = of_shards story faults sh W.items F.items c.requires.walkers c.requires.fetched j f (omega arith) in omega arith);
       apart = λ i j f m l. c.requires.fetched.apart i j f m (omega arith);

@@ -2,6 +2,7 @@ use Rattle.std.specs.Prelude.{IfOk}
 use Rattle.std.proofs.Common.{rules, arith, ◌≡◌, ◌∙◌, ◌<◌, Some, get_or, length, set, sym, ap, subst, refl, get_or-set_same}
 use Rattle.std.proofs.lemmas.List.{get_or_default, set-set}
 use Rattle.clv_base.specs.Restarts.{run_after}
+use Rattle.machine_calls.specs.Disks.{stories_of, faults_of}
 use Rattle.turn_lock.specs.Passes.{number, IsPassOf}
 use Rattle.cluster_turns.specs.Turns.{Turned}
 use Rattle.cluster_turns.specs.Walkers.{IsWalkerOf, Walked, kept, founds_of}
@@ -33,7 +34,7 @@ returns g c = let w = c.args.walker.now in let sh = c.args.shards.now in let loc
       walker = (record { count = is_walker.count; run = is_walker.run; walks = subst (λ ps. IsWalkerOf sh.splits (founds_of sh) locks w.number w.clock ps) twice h.0; serials = is_walker.serials }, (refl, refl), refl);
       fetch = subst (λ ps. Walked told n w.number w.passes.items ps) twice h.1;
       disk = (r.0, (λ d. subst (λ ps. get_or ps n d ≡ Some r.0) twice (get_or-set_same w.passes.items n (Some r.0) d long)), c.take_disk-pass.ensures.disk);
-      held = subst (λ ps. IfOk r.1 (λ f. HoldsAt f.shard w.number (λ layout. IsDiskOf g.M.Disk.Disk.faults f) ps)) twice
-          (disk_held g.M.Disk.Disk.story g.M.Disk.Disk.faults sh.splits (founds_of sh) locks w.number n r.0 new (set w.passes.items n (Some r.0)) (λ d. get_or-set_same w.passes.items n (Some r.0) d long) r.1 c.take_disk-pass.ensures.disk);
-      shard = shard_taken g.M.Disk.Disk.story g.M.Disk.Disk.faults sh.splits (founds_of sh) locks w.number n r.0 new r.1 c.take_disk-pass.ensures.disk;
+      held = subst (λ ps. IfOk r.1 (λ f. HoldsAt f.shard w.number (λ layout. IsDiskOf (faults_of g.M.Disk.Disk.faults) f) ps)) twice
+          (disk_held (stories_of g.M.Disk.Disk.story) (faults_of g.M.Disk.Disk.faults) sh.splits (founds_of sh) locks w.number n r.0 new (set w.passes.items n (Some r.0)) (λ d. get_or-set_same w.passes.items n (Some r.0) d long) r.1 c.take_disk-pass.ensures.disk);
+      shard = shard_taken (stories_of g.M.Disk.Disk.story) (faults_of g.M.Disk.Disk.faults) sh.splits (founds_of sh) locks w.number n r.0 new r.1 c.take_disk-pass.ensures.disk;
     }

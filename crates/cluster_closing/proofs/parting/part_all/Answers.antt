@@ -7,6 +7,7 @@ use Rattle.cluster_closing.proofs.ComingBack.{from_before, still_from}
 use Rattle.cluster_closing.proofs.parting.part_all.Goals as goal
 use Rattle.law_base.proofs.Options.{value_or as the}
 use Rattle.law_base.proofs.Lists.{pushed_each}
+use Rattle.io_model.specs.Sides.{sides_out, sides_told}
 
 pub part_home-journal-requires : goal.part_home-journal-requires
 part_home-journal-requires g c =
@@ -30,12 +31,12 @@ loop-i-preserved g c =
       todo = λ n l. (let t = own.others n (λ e. absurd (omega (arith, e))) in let w = inv.todo n (omega arith) in (t.1 ∙ w.0, t.0 ∙ w.1));
       back = λ n d gate l h is. dite (ℕ_discrete n k)
           (λ here. (let same = whole_from n d here in
-          subst (λ m. CameFrom (g.M.Gate.Gate.faults gate) (g.M.Gate.Gate.shard gate) (g.M.Gate.Gate.logs gate) (g.H.House.faults c.args.house.now m) (g.H.House.faults c.part_home-journal.new.house m) (g.H.House.is_out c.part_home-journal.new.house m) (g.H.House.story c.part_home-journal.new.house m)) (sym here)
+          subst (λ m. CameFrom (g.M.Gate.Gate.faults gate) (g.M.Gate.Gate.shard gate) (g.M.Gate.Gate.logs gate) (g.H.House.faults c.args.house.now m) (g.H.House.faults c.part_home-journal.new.house m) (sides_out (g.H.House.is_out c.part_home-journal.new.house) m) (sides_told (g.H.House.story c.part_home-journal.new.house) m)) (sym here)
           (from_before _ _ _ _ _ _ _ _ (own.back gate (ap (λ z. g.M.Machine.gate z.machine) same ∙ is)) (inv.todo k (omega arith)).1)))
           (λ other. (let t = own.others n (λ e. other e) in still_from _ _ _ _ _ _ _ _ _ _ (inv.back n d gate l (omega arith) is) t.0 t.1 t.2));
       away = λ n d l h is. dite (ℕ_discrete n k)
           (λ here. (let same = whole_from n d here in let a = own.away (ap (λ z. g.M.Machine.gate z.machine) same ∙ is) in
-          subst (λ m. (g.H.House.faults c.part_home-journal.new.house m ≡ g.H.House.faults c.args.house.now m) × (g.H.House.is_out c.part_home-journal.new.house m ≡ true)) (sym here) (a.0 ∙ (inv.todo k (omega arith)).1, a.1)))
+          subst (λ m. (g.H.House.faults c.part_home-journal.new.house m ≡ g.H.House.faults c.args.house.now m) × (sides_out (g.H.House.is_out c.part_home-journal.new.house) m ≡ (true, true))) (sym here) (a.0 ∙ (inv.todo k (omega arith)).1, a.1)))
           (λ other. (let t = own.others n (λ e. other e) in let w = inv.away n d l (omega arith) is in (t.0 ∙ w.0, t.1 ∙ w.1)));
       others = λ n l. (let t = own.others n (λ e. absurd (omega (arith, e))) in let w = inv.others n l in (t.0 ∙ w.0, t.1 ∙ w.1, t.2 ∙ w.2));
       kept = λ j d l. subst (λ z. (m : _) (e : _) → j + m + 1 ≡ c.len-count.result → (get_or z j d).items ≡ (g.M.Machine.shard (get_or V.items m e).machine).journal) (sym c.push_reserved.ensures.items)

@@ -6,6 +6,7 @@ use Rattle.machine_laws.proofs.Laws.{down_disk, legal_shard}
 use Rattle.cluster_closing.proofs.Giving.{gate_given, none_left, sound_given}
 use Rattle.cluster_closing.proofs.taking.give_disk.Goals as goal
 use Rattle.law_base.proofs.Bools.{not_true as is_down}
+use Rattle.machine_calls.specs.Disks.{stories_of}
 
 pub returns-in-Some-clause-sound : goal.returns-in-Some-clause-sound
 returns-in-Some-clause-sound g c = let h = c.args.home.now in let s = g.M.Machine.shard h.machine in let gate = g.M.Machine.gate h.machine in
@@ -23,8 +24,8 @@ returns-in-Some-clause-disk g c = let h = c.args.home.now in let s = g.M.Machine
     (subst (λ y. GateStands g.M.Gate.Gate.is_shut g.M.Gate.Gate.faults g.M.Gate.Gate.shard (λ a. g.M.Gate.Gate.logs a (layout_of h.origin)) s (holder_of notes) y) has c.requires.sound.gated) in (
       sym (legal_shard h.origin notes s c.requires.sound.legal),
       record {
-        failed = subst (λ n. Rattle.std.proofs.Common.◌≤◌ 1 n) (sym c.disk_of-disk.ensures.faults) k.0;
-        leaves = λ log is. k.1 log (c.disk_of-disk.ensures.logs (layout_of h.origin) log (subst (λ n. Rattle.log_gate.specs.View.logs_told (g.M.Disk.Disk.story c.disk_of-disk.result) n (layout_of h.origin) log) (sym k.2) is));
+        failed = subst (λ n. Rattle.std.proofs.Common.◌≤◌ 1 n) (sym c.sides_of-disk.ensures.faults) k.0;
+        leaves = λ log is. k.1 log (c.sides_of-disk.ensures.logs (layout_of h.origin) log (subst (λ n. Rattle.log_gate.specs.View.logs_told (stories_of g.M.Disk.Disk.story c.sides_of-disk.result) n (layout_of h.origin) log) (sym k.2) is));
       },
       sym (rw c.deref-3.ensures at c.epoch-epoch.ensures),
     )

@@ -1,4 +1,5 @@
 use Rattle.std.proofs.Common.{arith, ◌∙◌, ◌++◌, ap, subst, length, drop}
+use Rattle.machine_calls.specs.Disks.{stories_of, faults_of}
 use Rattle.turn_lock.specs.Passes.{seen, own, turn_seen}
 use Rattle.turn_lock.specs.Journals.{GrownByOthers}
 use Rattle.machine_laws.specs.Notes.{noter, notes_of}
@@ -38,5 +39,5 @@ returns-clause-turned g c = let t = c.enter-turn.ensures.turn in let l = c.leave
 pub returns-clause-disk : goal.returns-clause-disk
 returns-clause-disk g c = let t = c.enter-turn.ensures.turn in let l = c.leave.ensures in let home = c.enter-turn.result.1 in let after = c.give_disk-answer.new.home in let s = g.M.Machine.shard home.machine in let u = g.M.Machine.shard after.machine in
     let h = c.give_disk-answer.ensures.told in let e = c.give_disk-answer.ensures in
-    pass_taken g.M.Disk.Disk.story g.M.Disk.Disk.faults c.args.walker c.leave.result home.origin s u (notes_of s.journal home.marks.items) (notes_of u.journal after.marks.items) h.0 c.give_disk-answer.result h.1 h.2
+    pass_taken (stories_of g.M.Disk.Disk.story) (faults_of g.M.Disk.Disk.faults) c.args.walker c.leave.result home.origin s u (notes_of s.journal home.marks.items) (notes_of u.journal after.marks.items) h.0 c.give_disk-answer.result h.1 h.2
     (subst (λ o. IsLegal o (notes_of u.journal after.marks.items) u) e.origin e.sound.legal) l.seen (l.pass.3 ∙ (t.5 ∙ c.enter-turn.ensures.origin)) e.disk e.away

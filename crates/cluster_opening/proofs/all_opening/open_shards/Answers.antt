@@ -8,6 +8,7 @@ use Rattle.cluster_opening.specs.AllOpened.{IsOpenedAt, IsOpenGate}
 use Rattle.cluster_opening.proofs.Taking.{log_at, pushed_two}
 use Rattle.cluster_opening.proofs.all_opening.open_shards.Goals as goal
 use Rattle.law_base.proofs.Options.{some_once as some_same}
+use Rattle.machine_calls.specs.Disks.{stories_of}
 
 pub remove-facts-requires : goal.remove-facts-requires
 remove-facts-requires g c =
@@ -53,8 +54,8 @@ returns-in-Err-clause-stopped g c =
       inv.locks,
       record {
         is_shard = omega arith;
-        left = λ d. subst (λ z. IsLeft k (record { splits = c.args.splits.now }) z c.args.run (g.M.OverDisks.story (get_or V.items k d)) (g.D.Disk.story c.in-Err.disk)) (sym log_same)
-            (subst (λ z. IsLeft k (record { splits = c.args.splits.now }) y.items c.args.run (g.M.OverDisks.story z) (g.D.Disk.story c.in-Err.disk)) (gate_is ∙ get_or_default V.items k x d (omega arith)) c.in-Err.ensures.left);
+        left = λ d. subst (λ z. IsLeft k (record { splits = c.args.splits.now }) z c.args.run (g.M.OverDisks.story (get_or V.items k d)) (stories_of g.D.Disk.story c.in-Err.sides)) (sym log_same)
+            (subst (λ z. IsLeft k (record { splits = c.args.splits.now }) y.items c.args.run (g.M.OverDisks.story z) (stories_of g.D.Disk.story c.in-Err.sides)) (gate_is ∙ get_or_default V.items k x d (omega arith)) c.in-Err.ensures.left);
         counts = c.in-Err.ensures.cause;
         above = omega arith;
         rest_are = λ n j d h l. ap (λ z. get_or z j d) c.pop.ensures.rest ∙ get_or-take last c.loop-shard.rest.items j d (omega arith) ∙ inv.gate n j d (omega arith) (omega arith);

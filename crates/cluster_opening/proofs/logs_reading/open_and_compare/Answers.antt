@@ -7,6 +7,7 @@ use Rattle.cluster_opening.specs.Judging.{FaultsOfAll}
 use Rattle.cluster_opening.proofs.DisksStopping.{all_stopped}
 use Rattle.cluster_opening.proofs.logs_reading.open_and_compare.Goals as goal
 use Rattle.law_base.proofs.Lists.{few_shards}
+use Rattle.io_model.specs.Sides.{sides_out, sides_told}
 
 pub agree-requires : goal.agree-requires
 agree-requires g c =
@@ -21,5 +22,5 @@ returns-in-Err-agree-clause-stopped g c =
     let long : length L ≡ shard_count splits = length-map c.open_logs.new.logs.items (λ v. v.items) ∙ c.in-Ok.ensures.count in
     let same = ap (map (λ v. v.items)) c.deref.ensures.value in
     let h = c.args.house.now in let h1 = c.open_logs.new.house in let F = g.H.House.faults in let O = g.H.House.is_out in let S = g.H.House.story in
-    all_stopped splits L c.open_logs.new.gates.items (F h) (F h1) (F h1) (O h) (O h1) (O h1) (S h) (S h1) (S h1) c.requires.inside c.in-Ok.ensures.gates (let few = few_shards splits c.in-Ok.header.rising in omega arith) (shard_count splits) long c.in-Ok.ensures.out c.in-Ok.header.rising long
+    all_stopped splits L c.open_logs.new.gates.items (F h) (F h1) (F h1) (sides_out (O h)) (sides_out (O h1)) (sides_out (O h1)) (sides_told (S h)) (sides_told (S h1)) (sides_told (S h1)) c.requires.inside c.in-Ok.ensures.gates (let few = few_shards splits c.in-Ok.header.rising in omega arith) (shard_count splits) long c.in-Ok.ensures.out c.in-Ok.header.rising long
     c.in-Err-agree.error (subst (λ z. FaultsOfAll z c.in-Err-agree.error) same c.in-Err-agree.ensures.fault)

@@ -1,4 +1,5 @@
 use Rattle.std.proofs.Common.{◌∙◌, ◌<◌, ◌^◌, sym, subst, arith}
+use Rattle.io_model.specs.Sides.{sides_out, sides_told}
 use Rattle.cluster_turns.specs.Walkers.{founds_of}
 use Rattle.cluster_opening.proofs.Laws.{few_shards}
 use Rattle.cluster_opening.specs.Undone.{AreOpened}
@@ -27,6 +28,6 @@ returns-in-Err-make_walkers-clause-taken_back g c = λ c0 o0 s0 F. (
     let sh = c.in-Ok.locked.0 in let A = c.in-Ok.ensures.locked c0 o0 s0 F in let okL = sh.locks.ok in let many = A.count in let given = c.give_back_locks.ensures in let same = c.in-Ok.ensures.out in
     let h0 = c.args.house.now in let h1 = c.lock_all.new.house in let h2 = c.give_back_locks.new.house in let faults = g.H.House.faults in let out = g.H.House.is_out in let story = g.H.House.story in
     let opened = subst (λ z. AreOpened (record { splits = sh.splits }) sh.run c.args.walkers (founds_of sh) sh.locks.items z.items) (sym c.in-Err-make_walkers.ensures.unmoved) c.in-Ok.ensures.opened.1 in
-    wanting sh.splits (founds_of sh) c0 (faults h1) (faults h2) o0 (out h1) (out h2) s0 (story h1) (story h2)
-    (went_on c.args.found.splits sh.splits c0 (faults h0) (faults h1) o0 (out h0) (out h1) s0 (story h0) (story h1) same.0 same.1 F.went) F.inside (λ n l. given.others n (omega arith))
+    wanting sh.splits (founds_of sh) c0 (faults h1) (faults h2) o0 (sides_out (out h1)) (sides_out (out h2)) s0 (sides_told (story h1)) (sides_told (story h2))
+    (went_on c.args.found.splits sh.splits c0 (faults h0) (faults h1) o0 (sides_out (out h0)) (sides_out (out h1)) s0 (sides_told (story h0)) (sides_told (story h1)) same.0 same.1 F.went) F.inside (λ n l. given.others n (omega arith))
     sh.run A.held A.may A.run (subst (λ r. r < 2 ^ 32) (sym A.run) A.shards.run_fits) (λ n l. given.back n (omega arith)) (λ n b l. given.left (record { splits = sh.splits }) sh.run c.args.walkers (founds_of sh) opened n b (omega arith)))

@@ -1,4 +1,5 @@
 use Rattle.std.proofs.Common.{refl, sym, subst, ap, length, arith}
+use Rattle.machine_calls.specs.Disks.{stories_of, faults_of}
 use Rattle.cluster_closing.specs.Ends.{HaveDisks}
 use Rattle.cluster_closing.proofs.Laws.{no_disks_are_held}
 use Rattle.cluster_runs.proofs.Ending.{none_fetched}
@@ -6,8 +7,8 @@ use Rattle.cluster_runs.proofs.closing.close_run.Goals as goal
 
 pub close-requires-clause-fetched : goal.close-requires-clause-fetched
 close-requires-clause-fetched g c =
-    subst (λ fs. HaveDisks g.H.Disk.Disk.story g.H.Disk.Disk.faults c.args.walkers.items fs) (sym c.new.ensures.items)
-    (no_disks_are_held _ _ _ g.H.Disk.Disk.story g.H.Disk.Disk.faults c.args.walkers.items (λ k d l. (c.requires.rest k d l).disks))
+    subst (λ fs. HaveDisks (stories_of g.H.Disk.Disk.story) (faults_of g.H.Disk.Disk.faults) c.args.walkers.items fs) (sym c.new.ensures.items)
+    (no_disks_are_held _ _ _ (stories_of g.H.Disk.Disk.story) (faults_of g.H.Disk.Disk.faults) c.args.walkers.items (λ k d l. (c.requires.rest k d l).disks))
 
 pub returns-clause-closed : goal.returns-clause-closed
 returns-clause-closed g c =

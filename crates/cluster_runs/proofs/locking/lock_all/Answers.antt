@@ -10,6 +10,7 @@ use Rattle.cluster_runs.proofs.Dealing.{passes_each}
 use Rattle.cluster_runs.proofs.Taking.{stopped}
 use Rattle.cluster_runs.proofs.locking.lock_all.Goals as goal
 use Rattle.law_base.proofs.Logs.{least_run}
+use Rattle.io_model.specs.Sides.{sides_out, sides_told}
 
 pub open_shards-requires-clause-run : goal.open_shards-requires-clause-run
 open_shards-requires-clause-run g c = let F = c.requires.found.3 in let is = F.run_is in let least = least_run (map (λ v. v.items) c.args.found.logs.items) in omega arith
@@ -52,6 +53,6 @@ returns-in-Err-clause-taken_back g c = λ c0 o0 s0 F. (
     let s = c.in-Err.stopped in let made = c.in-Err.ensures in let st = made.stopped.1 in let above = st.above in let okR = s.rest.ok in let many = F.gates_are.count in let logs = F.held.count in
     let h1 = c.args.house.now in let h2 = c.undo-error.new.house in let faults = g.H.House.faults in let out = g.H.House.is_out in let story = g.H.House.story in
     let undone = c.undo-error.ensures in
-    subst (λ z. IsTakenBack c0 (faults h2) (out h2) s0 (story h2) z) (ap (told_as s.shard) (sym undone.error) ∙ sym c.told_as.ensures)
-    (stopped G.is_shut G.faults G.shard G.logs told c.args.found.splits L run V s.shard s.error c0 (faults h1) (faults h2) o0 (out h1) (out h2) s0 (story h1) (story h2) F st.is_shard
+    subst (λ z. IsTakenBack c0 (faults h2) (sides_out (out h2)) s0 (sides_told (story h2)) z) (ap (told_as s.shard) (sym undone.error) ∙ sym c.told_as.ensures)
+    (stopped G.is_shut G.faults G.shard G.logs told c.args.found.splits L run V s.shard s.error c0 (faults h1) (faults h2) o0 (sides_out (out h1)) (sides_out (out h2)) s0 (sides_told (story h1)) (sides_told (story h2)) F st.is_shard
     (undone.back (record { splits = c.args.found.splits }) run c.args.walkers L V made.opened st) (undone.counts (record { splits = c.args.found.splits }) run L V (λ n d l. (F.gates_are.each n d (omega arith)).fine) st) (λ n l. undone.others n (omega arith))))

@@ -15,6 +15,7 @@ use Rattle.cluster_runs.proofs.Promised.{ran_all}
 use Rattle.cluster_runs.proofs.Stored.{stores_hold}
 use Rattle.history_replay.specs.Entries.{entries_of}
 use Rattle.law_base.proofs.Lists.{elem_at as some_elem}
+use Rattle.io_model.specs.Sides.{sides_out, sides_told}
 use Rattle.cluster_runs.specs.Books.{HasBooks}
 use Rattle.cluster_runs.proofs.Books.{have_books}
 use Rattle.cluster_runs.proofs.whole.run_script.Goals as goal
@@ -32,18 +33,18 @@ returns-clause-ran g c =
     let sh = c.in-Ok-open_all.opened.shards in let W = c.run_over-end.new.walkers in let r = c.close_run-closed.result in let went = c.run_over-end.ensures.went in
     let story = g.H.House.story in let faults = g.H.House.faults in let out = g.H.House.is_out in let h0 = c.args.house.now in let h1 = c.close_run-closed.new.house in
     let many = c.run_over-end.ensures.len in let made = c.in-Ok-open_all.ensures.walkers.0 in let ok = W.ok in
-    let ended : IsClosedRun _ _ sh W.items r.ends.value.items (record { journals = lists r.journals.items; found = founds_of sh }) r.down (faults h0) (faults h1) (out h0) (out h1) (story h0) (story h1) = record {
+    let ended : IsClosedRun _ _ sh W.items r.ends.value.items (record { journals = lists r.journals.items; found = founds_of sh }) r.down (faults h0) (faults h1) (sides_out (out h0)) (sides_out (out h1)) (sides_told (story h0)) (sides_told (story h1)) = record {
       passes = length c.args.plan.sessions.now + 1;
       counts_open = faults c.open_all.new.house;
-      out_open = out c.open_all.new.house;
-      open_now = story c.open_all.new.house;
+      out_open = sides_out (out c.open_all.new.house);
+      open_now = sides_told (story c.open_all.new.house);
       begun = c.in-Ok-open_all.ensures.shards;
       went_out = c.in-Ok-open_all.ensures.out;
       closed = c.close_run-closed.ensures.closed;
     } in
-    subst (λ f. RanAll (story h0) (story h1) (faults h0) (faults h1) c.args.plan.most c.args.plan.start c.args.plan.sessions.now (record { journals = c.new.result.journals; found = f }) c.running_status.result) (sym (c.new.ensures.found ∙ c.in-Ok-open_all.ensures.founds))
-    (subst (λ j. RanAll (story h0) (story h1) (faults h0) (faults h1) c.args.plan.most c.args.plan.start c.args.plan.sessions.now (record { journals = j; found = founds_of sh }) c.running_status.result) (sym c.new.ensures.journals)
-    (ran_all c.sessions_have_ended.ensures _ _ sh W.items r.ends.value.items (record { journals = lists r.journals.items; found = founds_of sh }) r.down (faults h0) (faults h1) (out h0) (out h1) (story h0) (story h1) c.args.plan.most c.args.plan.start c.args.plan.sessions.now went.0 c.run_over-end.result c.running_status.result ended
+    subst (λ f. RanAll (sides_told (story h0)) (sides_told (story h1)) (faults h0) (faults h1) c.args.plan.most c.args.plan.start c.args.plan.sessions.now (record { journals = c.new.result.journals; found = f }) c.running_status.result) (sym (c.new.ensures.found ∙ c.in-Ok-open_all.ensures.founds))
+    (subst (λ j. RanAll (sides_told (story h0)) (sides_told (story h1)) (faults h0) (faults h1) c.args.plan.most c.args.plan.start c.args.plan.sessions.now (record { journals = j; found = founds_of sh }) c.running_status.result) (sym c.new.ensures.journals)
+    (ran_all c.sessions_have_ended.ensures _ _ sh W.items r.ends.value.items (record { journals = lists r.journals.items; found = founds_of sh }) r.down (faults h0) (faults h1) (sides_out (out h0)) (sides_out (out h1)) (sides_told (story h0)) (sides_told (story h1)) c.args.plan.most c.args.plan.start c.args.plan.sessions.now went.0 c.run_over-end.result c.running_status.result ended
     (omega arith) went.1 went.2 (λ k d l. c.run_over-end.ensures.rest k d (omega arith)) (well c.run_over-end.result c.run_over-end.ensures.quiet) c.run_over-end.ensures.alone c.run_over-end.ensures.counted c.run_over-end.ensures.worn c.running_status.ensures.is))
 
 pub returns-clause-back : goal.returns-clause-back
@@ -51,16 +52,16 @@ returns-clause-back g c =
     let sh = c.in-Ok-open_all.opened.shards in let W = c.run_over-end.new.walkers in let r = c.close_run-closed.result in let went = c.run_over-end.ensures.went in
     let story = g.H.House.story in let faults = g.H.House.faults in let out = g.H.House.is_out in let h0 = c.args.house.now in let h1 = c.close_run-closed.new.house in
     let many = c.run_over-end.ensures.len in let made = c.in-Ok-open_all.ensures.walkers.0 in let ok = W.ok in
-    let ended : IsClosedRun _ _ sh W.items r.ends.value.items (record { journals = lists r.journals.items; found = founds_of sh }) r.down (faults h0) (faults h1) (out h0) (out h1) (story h0) (story h1) = record {
+    let ended : IsClosedRun _ _ sh W.items r.ends.value.items (record { journals = lists r.journals.items; found = founds_of sh }) r.down (faults h0) (faults h1) (sides_out (out h0)) (sides_out (out h1)) (sides_told (story h0)) (sides_told (story h1)) = record {
       passes = length c.args.plan.sessions.now + 1;
       counts_open = faults c.open_all.new.house;
-      out_open = out c.open_all.new.house;
-      open_now = story c.open_all.new.house;
+      out_open = sides_out (out c.open_all.new.house);
+      open_now = sides_told (story c.open_all.new.house);
       begun = c.in-Ok-open_all.ensures.shards;
       went_out = c.in-Ok-open_all.ensures.out;
       closed = c.close_run-closed.ensures.closed;
     } in
-    all_are_in {D = _} _ sh W.items r.ends.value.items (record { journals = lists r.journals.items; found = founds_of sh }) r.down (faults h0) (faults h1) (out h0) (out h1) (story h0) (story h1) ended c.requires.inside
+    all_are_in {D = _} _ sh W.items r.ends.value.items (record { journals = lists r.journals.items; found = founds_of sh }) r.down (faults h0) (faults h1) (sides_out (out h0)) (sides_out (out h1)) (sides_told (story h0)) (sides_told (story h1)) ended c.requires.inside
 
 -- equal journals and logs found are kept as one
 one_kept : (js ks : List (List Entry)) (fs gs : List (List LogRecord)) → js ≡ ks → fs ≡ gs → ◌≡◌ {A = Kept} (record { journals = js; found = fs }) (record { journals = ks; found = gs })
@@ -72,18 +73,18 @@ returns-clause-maps g c = λ fine. (
     let story = g.H.House.story in let faults = g.H.House.faults in let out = g.H.House.is_out in let h0 = c.args.house.now in let h1 = c.close_run-closed.new.house in
     let many = c.run_over-end.ensures.len in let made = c.in-Ok-open_all.ensures.walkers.0 in let ok = W.ok in
     let kept : Kept = record { journals = lists r.journals.items; found = founds_of sh } in
-    let ended : IsClosedRun _ _ sh W.items r.ends.value.items kept r.down (faults h0) (faults h1) (out h0) (out h1) (story h0) (story h1) = record {
+    let ended : IsClosedRun _ _ sh W.items r.ends.value.items kept r.down (faults h0) (faults h1) (sides_out (out h0)) (sides_out (out h1)) (sides_told (story h0)) (sides_told (story h1)) = record {
       passes = length c.args.plan.sessions.now + 1;
       counts_open = faults c.open_all.new.house;
-      out_open = out c.open_all.new.house;
-      open_now = story c.open_all.new.house;
+      out_open = sides_out (out c.open_all.new.house);
+      open_now = sides_told (story c.open_all.new.house);
       begun = c.in-Ok-open_all.ensures.shards;
       went_out = c.in-Ok-open_all.ensures.out;
       closed = c.close_run-closed.ensures.closed;
     } in
     let kept_is = one_kept (lists r.journals.items) c.new.result.journals (founds_of sh) c.new.result.found (sym c.new.ensures.journals) (sym (c.new.ensures.found ∙ c.in-Ok-open_all.ensures.founds)) in
     subst (λ k. live_in_turn (map g.S.Store.records r.maps.items) ≡ replayed k) kept_is
-    (stores_hold c.sessions_have_ended.ensures _ _ sh W.items r.ends.value.items kept r.down (faults h0) (faults h1) (out h0) (out h1) (story h0) (story h1) c.args.plan.most c.args.plan.start c.args.plan.sessions.now went.0 c.run_over-end.result c.running_status.result g.S.Store.records r.maps.items ended
+    (stores_hold c.sessions_have_ended.ensures _ _ sh W.items r.ends.value.items kept r.down (faults h0) (faults h1) (sides_out (out h0)) (sides_out (out h1)) (sides_told (story h0)) (sides_told (story h1)) c.args.plan.most c.args.plan.start c.args.plan.sessions.now went.0 c.run_over-end.result c.running_status.result g.S.Store.records r.maps.items ended
     (omega arith) went.1 went.2 (λ k d l. c.run_over-end.ensures.rest k d (omega arith)) (well c.run_over-end.result c.run_over-end.ensures.quiet) c.run_over-end.ensures.alone c.run_over-end.ensures.counted c.run_over-end.ensures.worn c.running_status.ensures.is
     (let maps = r.maps.ok in let l = c.close_run-closed.ensures.len.1 in omega arith) c.close_run-closed.ensures.maps fine))
 
@@ -93,15 +94,15 @@ returns-clause-books g c =
     let story = g.H.House.story in let faults = g.H.House.faults in let out = g.H.House.is_out in let h0 = c.args.house.now in let h1 = c.close_run-closed.new.house in
     let many = c.run_over-end.ensures.len in let made = c.in-Ok-open_all.ensures.walkers.0 in let ok = W.ok in
     let kept : Kept = record { journals = lists r.journals.items; found = founds_of sh } in
-    let ended : IsClosedRun _ _ sh W.items r.ends.value.items kept r.down (faults h0) (faults h1) (out h0) (out h1) (story h0) (story h1) = record {
+    let ended : IsClosedRun _ _ sh W.items r.ends.value.items kept r.down (faults h0) (faults h1) (sides_out (out h0)) (sides_out (out h1)) (sides_told (story h0)) (sides_told (story h1)) = record {
       passes = length c.args.plan.sessions.now + 1;
       counts_open = faults c.open_all.new.house;
-      out_open = out c.open_all.new.house;
-      open_now = story c.open_all.new.house;
+      out_open = sides_out (out c.open_all.new.house);
+      open_now = sides_told (story c.open_all.new.house);
       begun = c.in-Ok-open_all.ensures.shards;
       went_out = c.in-Ok-open_all.ensures.out;
       closed = c.close_run-closed.ensures.closed;
     } in
     subst (λ j. HasBooks (entries_of j) B) (sym c.new.ensures.journals)
-    (have_books {D = _} _ sh W.items r.ends.value.items kept r.down (faults h0) (faults h1) (out h0) (out h1) (story h0) (story h1) B ended
+    (have_books {D = _} _ sh W.items r.ends.value.items kept r.down (faults h0) (faults h1) (sides_out (out h0)) (sides_out (out h1)) (sides_told (story h0)) (sides_told (story h1)) B ended
     (λ k d l. (c.run_over-end.ensures.rest k d (omega arith)).number_is) (some_elem W.items 0 (omega arith)) c.run_over-end.ensures.books)

@@ -1,4 +1,5 @@
 use Rattle.std.proofs.Common.{◌∙◌, sym, subst}
+use Rattle.io_model.specs.Sides.{sides_told}
 use Rattle.command_line.specs.declared.status.Status.{Status}
 use Rattle.clv_commands.specs.Disks.{Closes}
 use Rattle.clv_commands.proofs.Endings.{refusals_close}
@@ -12,4 +13,4 @@ write_pairs-requires-clause-held g c = λ fine.
 pub returns-in-Err-clause-closed : goal.returns-in-Err-clause-closed
 returns-in-Err-clause-closed g c = λ none.
     let story = g.H.House.story in let h0 = c.args.house.now in let h1 = c.run_script-ran.new.house in
-    subst (λ (s : Status). Closes s (story h0) (story h1)) (sym c.into.ensures) (refusals_close c.in-Err.error (story h0) (story h1) c.in-Err.ensures.left)
+    subst (λ (s : Status). Closes s (sides_told (story h0)) (sides_told (story h1))) (sym c.into.ensures) (refusals_close c.in-Err.error (sides_told (story h0)) (sides_told (story h1)) c.in-Err.ensures.left)

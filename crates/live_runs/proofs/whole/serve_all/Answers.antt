@@ -2,6 +2,7 @@ use Rattle.std.proofs.Common.{arith, ◌≡◌, ◌∙◌, ◌+◌, List, sym, s
 use Rattle.std.specs.Prelude.{IfOk}
 use Rattle.clv_base.specs.declared.logs.LogRecord.{LogRecord}
 use Rattle.clv_base.specs.declared.events.Entry.{Entry}
+use Rattle.io_model.specs.Sides.{sides_out, sides_told}
 use Rattle.cluster_closing.specs.Closing.{lists}
 use Rattle.cluster_turns.specs.Walkers.{founds_of}
 use Rattle.command_line.specs.Running.{End, IsOk}
@@ -31,18 +32,18 @@ returns-clause-served g c =
     let left = g.I.Source.left in let taken = g.K.Sink.taken in
     let many = c.serve_over-end.ensures.len in let made = c.in-Ok.ensures.walkers.0 in let ok = W.ok in
     let kept : Kept = record { journals = lists r.journals.items; found = founds_of sh } in
-    let ended : IsClosedRun _ _ sh W.items r.ends.value.items kept r.down (faults h0) (faults h1) (out h0) (out h1) (story h0) (story h1) = record {
+    let ended : IsClosedRun _ _ sh W.items r.ends.value.items kept r.down (faults h0) (faults h1) (sides_out (out h0)) (sides_out (out h1)) (sides_told (story h0)) (sides_told (story h1)) = record {
       passes = c.args.sessions + 1;
       counts_open = faults c.open_all.new.house;
-      out_open = out c.open_all.new.house;
-      open_now = story c.open_all.new.house;
+      out_open = sides_out (out c.open_all.new.house);
+      open_now = sides_told (story c.open_all.new.house);
       begun = c.in-Ok.ensures.shards;
       went_out = c.in-Ok.ensures.out;
       closed = c.close_run-closed.ensures.closed;
     } in
-    subst (λ k. ServedAll (story h0) (story h1) (faults h0) (faults h1) c.args.sessions (left c.args.source.now) (left c.serve_over-end.new.source) (taken c.args.sink.now) (taken c.serve_over-end.new.sink) c.serve_over-end.result.read c.serve_over-end.result.written k c.running_status.result)
+    subst (λ k. ServedAll (sides_told (story h0)) (sides_told (story h1)) (faults h0) (faults h1) c.args.sessions (left c.args.source.now) (left c.serve_over-end.new.source) (taken c.args.sink.now) (taken c.serve_over-end.new.sink) c.serve_over-end.result.read c.serve_over-end.result.written k c.running_status.result)
     (one_kept (lists r.journals.items) c.new.result.journals (founds_of sh) c.new.result.found (sym c.new.ensures.journals) (sym (c.new.ensures.found ∙ c.in-Ok.ensures.founds)))
-    (served_all _ _ sh W.items r.ends.value.items kept r.down (faults h0) (faults h1) (out h0) (out h1) (story h0) (story h1) c.args.sessions ended (omega arith) (λ k d l. c.serve_over-end.ensures.rest k d (omega arith))
+    (served_all _ _ sh W.items r.ends.value.items kept r.down (faults h0) (faults h1) (sides_out (out h0)) (sides_out (out h1)) (sides_told (story h0)) (sides_told (story h1)) c.args.sessions ended (omega arith) (λ k d l. c.serve_over-end.ensures.rest k d (omega arith))
     c.replies_are_in_history.ensures (left c.args.source.now) (left c.serve_over-end.new.source) (taken c.args.sink.now) (taken c.serve_over-end.new.sink) c.serve_over-end.result.read c.serve_over-end.result.written c.serve_over-end.result.end c.running_status.result
     lived.0 lived.1 lived.2 (well c.serve_over-end.result.end c.serve_over-end.ensures.quiet) c.serve_over-end.ensures.worn c.running_status.ensures.is)
 
@@ -51,13 +52,13 @@ returns-clause-back g c =
     let sh = c.in-Ok.opened.shards in let W = c.serve_over-end.new.walkers in let r = c.close_run-closed.result in
     let story = g.H.House.story in let faults = g.H.House.faults in let out = g.H.House.is_out in let h0 = c.args.house.now in let h1 = c.close_run-closed.new.house in
     let kept : Kept = record { journals = lists r.journals.items; found = founds_of sh } in
-    let ended : IsClosedRun _ _ sh W.items r.ends.value.items kept r.down (faults h0) (faults h1) (out h0) (out h1) (story h0) (story h1) = record {
+    let ended : IsClosedRun _ _ sh W.items r.ends.value.items kept r.down (faults h0) (faults h1) (sides_out (out h0)) (sides_out (out h1)) (sides_told (story h0)) (sides_told (story h1)) = record {
       passes = c.args.sessions + 1;
       counts_open = faults c.open_all.new.house;
-      out_open = out c.open_all.new.house;
-      open_now = story c.open_all.new.house;
+      out_open = sides_out (out c.open_all.new.house);
+      open_now = sides_told (story c.open_all.new.house);
       begun = c.in-Ok.ensures.shards;
       went_out = c.in-Ok.ensures.out;
       closed = c.close_run-closed.ensures.closed;
     } in
-    all_are_in {D = _} _ sh W.items r.ends.value.items kept r.down (faults h0) (faults h1) (out h0) (out h1) (story h0) (story h1) ended c.requires.inside
+    all_are_in {D = _} _ sh W.items r.ends.value.items kept r.down (faults h0) (faults h1) (sides_out (out h0)) (sides_out (out h1)) (sides_told (story h0)) (sides_told (story h1)) ended c.requires.inside

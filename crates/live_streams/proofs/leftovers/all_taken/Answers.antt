@@ -1,4 +1,4 @@
-use Rattle.std.proofs.Common.{arith, ◌≡◌, ◌+◌, ◌<◌, Bool, length, set, sym, subst}
+use Rattle.std.proofs.Common.{arith, ◌+◌, Bool, set, sym, subst}
 use Rattle.std.specs.Bool.{Decides}
 use Rattle.live_streams.specs.Rings.{AreAllTaken}
 use Rattle.live_streams.proofs.Pairs.{looked_maker, looked_taker, front_too, none_left, all_of, left_in}

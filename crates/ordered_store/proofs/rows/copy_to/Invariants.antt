@@ -1,4 +1,4 @@
-use Rattle.std.proofs.Common.{◌≡◌, ◌≤◌, ◌+◌, ◌++◌, drop, length, vec_len, vec_capacity}
+use Rattle.std.proofs.Common.{◌≡◌, ◌+◌, ◌++◌, drop, length, vec_len, vec_capacity}
 use Rattle.ordered_store.proofs.rows.copy_to.Given as goal
 
 -- what was added, and what the rows to come still have

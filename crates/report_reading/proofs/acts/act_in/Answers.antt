@@ -1,8 +1,8 @@
-use Rattle.std.proofs.Common.{List, map, sym, ◌∙◌, subst, ap}
+use Rattle.std.proofs.Common.{sym, ◌∙◌, subst}
 use Rattle.std.specs.Result.{IfOk}
 use Rattle.serde_json.specs.Data.{Data}
 use Rattle.serde_json.specs.View.{view, items_of}
-use Rattle.report_text.specs.Lines.{act, list}
+use Rattle.report_text.specs.Lines.{act}
 use Rattle.report_reading.specs.Told.{can_be_done}
 use Rattle.report_reading.specs.Finding.{Finds}
 use Rattle.report_reading.proofs.Rows.{seen_array, no_array, row_of, act_is_row}

@@ -1,4 +1,4 @@
-use Rattle.std.proofs.Common.{◌≡◌, ◌&&◌, List, [], map, sym, ap, ◌∙◌}
+use Rattle.std.proofs.Common.{◌&&◌, List, [], map, sym, ap, ◌∙◌}
 use Rattle.std.proofs.lemmas.Bool.{and_parts, both_ways}
 use Rattle.std.specs.List.{list_all}
 use Rattle.serde_json.specs.View.{view}

@@ -1,4 +1,4 @@
-use Rattle.std.proofs.Common.{◌≡◌, ◌<◌, ℕ, vec_len, length, sym, ap, ◌∙◌, subst, arith}
+use Rattle.std.proofs.Common.{vec_len, length, sym, ap, ◌∙◌, subst, arith}
 use Rattle.report_reading.specs.Standing.{Rise, up_to}
 use Rattle.report_reading.proofs.Numbering.{none_dropped, popped}
 use Rattle.report_reading.proofs.acts.drop_above.Goals as goal

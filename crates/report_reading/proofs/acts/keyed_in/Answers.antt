@@ -1,5 +1,5 @@
 use Rattle.serde_json.specs.View.{view}
-use Rattle.report_reading.proofs.Rows.{no_keyed_key, no_keyed_answer, no_keyed_word, keyed_told}
+use Rattle.report_reading.proofs.Rows.{no_keyed_key, no_keyed_answer, no_keyed_word}
 use Rattle.report_reading.proofs.acts.keyed_in.Goals as goal
 
 pub returns-in_default : goal.returns-in_default

@@ -1,4 +1,4 @@
-use Rattle.std.proofs.Common.{List, [], ◌∷◌, map, sym, subst}
+use Rattle.std.proofs.Common.{List, map, sym, subst}
 use Rattle.std.specs.Result.{IfOk}
 use Rattle.serde_json.specs.declared.value.Value.{Value}
 use Rattle.serde_json.specs.View.{view}

@@ -1,4 +1,4 @@
-use Rattle.std.proofs.Common.{◌≡◌, ◌∙◌, arith}
+use Rattle.std.proofs.Common.{◌∙◌, arith}
 use Rattle.report_reading.proofs.Numbering.{among_last, among_none}
 use Rattle.report_reading.proofs.acts.went_back.Goals as goal
 

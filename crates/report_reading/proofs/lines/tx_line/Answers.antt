@@ -1,7 +1,7 @@
 use Rattle.std.proofs.Common.{sym, ap, ◌∙◌}
 use Rattle.serde_json.specs.View.{view}
 use Rattle.serde_json.specs.Written.{has_float}
-use Rattle.report_reading.proofs.Objects.{Told, told_parts, small_word, session_in, acts_whole}
+use Rattle.report_reading.proofs.Objects.{told_parts, small_word, session_in, acts_whole}
 use Rattle.report_reading.proofs.lines.tx_line.Goals as goal
 
 pub returns-in_default-number_at : goal.returns-in_default-number_at

@@ -7,7 +7,6 @@ use Rattle.serde_json.specs.View.{view}
 use Rattle.serde_json.specs.Written.{compact_text}
 use Rattle.report_reading.specs.Texts.{data_of}
 use Rattle.report_reading.proofs.Printed.{printed_is_utf8}
-use Rattle.report_reading.proofs.Good.{IsGood}
 use Rattle.report_reading.proofs.ReadBack.{good_line, read_line}
 use Rattle.report_reading.proofs.lines.value_of.Goals as goal
 

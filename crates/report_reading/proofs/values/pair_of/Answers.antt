@@ -1,4 +1,4 @@
-use Rattle.std.proofs.Common.{◌≡◌, List, [], ◌∷◌, length, sym, arith}
+use Rattle.std.proofs.Common.{List, [], ◌∷◌, sym}
 use Rattle.serde_json.specs.Data.{Data}
 use Rattle.serde_json.specs.View.{view}
 use Rattle.report_text.specs.Lines.{num, value_data}

@@ -1,4 +1,4 @@
-use Rattle.std.proofs.Common.{◌≡◌, ℕ, sym, ◌∙◌, ap, arith, length, inl, inr, true}
+use Rattle.std.proofs.Common.{sym, ◌∙◌, ap, arith, length, inl, inr, true}
 use Rattle.std.proofs.lemmas.Bool.{both_ways}
 use Rattle.hex.specs.Hex.{decode_of, encode_lower}
 use Rattle.report_reading.proofs.Same.{too_long_text, not_decoded, decoded_few, other_text, unequal_texts}

@@ -1,6 +1,7 @@
 use Rattle.std.proofs.Common.{◌≡◌, subst, arith, vec_len}
 use Rattle.std.specs.List.{All}
 use Rattle.clv_base.specs.Shards.{shard_count}
+use Rattle.io_model.specs.Sides.{sides_out, sides_told}
 use Rattle.turn_lock.specs.Passes.{passes_of}
 use Rattle.cluster_closing.specs.Room.{HasRoom}
 use Rattle.session_examples.specs.Programs.{HasMade}
@@ -32,10 +33,10 @@ pub returns-clause-back : goal.returns-clause-back
 returns-clause-back g c =
     let sh = c.in-Ok.opened.shards in let count = c.in-Ok.ensures.shards.count in let ok = sh.locks.ok in
     let H = g.H.House in let h0 = c.args.house.now in let h1 = c.open_all.new.house in let h2 = c.close_all-left.new.house in
-    all_back (shard_count sh.splits) (vec_len sh.locks) (H.faults h0) (H.faults h1) (H.is_out h0) (H.is_out h1) (H.is_out h2) (H.story h0) (H.story h1) c.in-Ok.ensures.out (omega arith) c.close_all-left.ensures.back c.close_all-left.ensures.others c.requires.inside
+    all_back (shard_count sh.splits) (vec_len sh.locks) (H.faults h0) (H.faults h1) (sides_out (H.is_out h0)) (sides_out (H.is_out h1)) (sides_out (H.is_out h2)) (sides_told (H.story h0)) (sides_told (H.story h1)) c.in-Ok.ensures.out (omega arith) c.close_all-left.ensures.back c.close_all-left.ensures.others c.requires.inside
 
 pub returns-clause-ran : goal.returns-clause-ran
 returns-clause-ran g c =
     let sh = c.in-Ok.opened.shards in let H = g.H.House in let h0 = c.args.house.now in let h1 = c.open_all.new.house in let h2 = c.close_all-left.new.house in let left = c.close_all-left.result in
     let k = c.close_all-left.ensures.closed c.transfer_once-transferred.ensures.rest in
-    has_run _ sh c.transfer_once-transferred.new.walkers.items k.0 left.history left.down 2 (H.faults h0) (H.faults h1) (H.faults h2) (H.is_out h0) (H.is_out h1) (H.is_out h2) (H.story h0) (H.story h1) (H.story h2) (HasMade c.args.from c.args.to c.args.amount c.transfer_once-transferred.result) c.in-Ok.ensures.shards c.in-Ok.ensures.out k.1 c.transfer_once-transferred.ensures.made
+    has_run _ sh c.transfer_once-transferred.new.walkers.items k.0 left.history left.down 2 (H.faults h0) (H.faults h1) (H.faults h2) (sides_out (H.is_out h0)) (sides_out (H.is_out h1)) (sides_out (H.is_out h2)) (sides_told (H.story h0)) (sides_told (H.story h1)) (sides_told (H.story h2)) (HasMade c.args.from c.args.to c.args.amount c.transfer_once-transferred.result) c.in-Ok.ensures.shards c.in-Ok.ensures.out k.1 c.transfer_once-transferred.ensures.made

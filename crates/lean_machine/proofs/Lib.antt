@@ -1,0 +1,4 @@
+pub mod Steps
+pub mod Settled
+pub mod Spent
+pub mod Forgotten

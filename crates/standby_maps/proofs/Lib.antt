@@ -1,0 +1,3 @@
+mod InTime
+mod Rounds
+mod ShownMaps
