@@ -1,15 +1,16 @@
 -- The map that a log begins with: it stays where the log goes on, and what its pairs make of a map.
-use Rattle.std.proofs.Common.{◌≡◌, ℕ, zero, suc, take, Bool, true, false, cond, List, [], ◌∷◌, ◌++◌, Option, Some, None, ◌==◌, refl, sym, ap, ◌∙◌}
+use Rattle.std.proofs.Common.{◌≡◌, ℕ, zero, suc, take, Bool, true, false, cond, List, [], ◌∷◌, ◌++◌, Option, Some, None, ◌==◌, ◌&&◌, refl, sym, ap, ◌∙◌}
 use Rattle.std.specs.List.{list_all}
 use Rattle.std.specs.Cmp.{unsigned_tied}
-use Rattle.std.proofs.lemmas.Bool.{both_ways}
+use Rattle.std.proofs.lemmas.Bool.{both_ways, and_parts}
 use Rattle.clv_base.specs.declared.values.Value.{Value as ValueType}
 use Rattle.clv_base.specs.declared.logs.LogRecord.{LogRecord}
 use Rattle.clv_base.specs.declared.logs.LogRecord.TheVariants.{Check}
+use Rattle.clv_base.specs.Values.{fits_value}
 use Rattle.clv_base.specs.Maps.{KeyMap, map_get, with_pairs}
 use Rattle.clv_base.specs.Logs.{base_by, base_of}
 use Rattle.clv_base.specs.LogRules.{may_follow}
-use Rattle.clv_base.specs.FileRules.{has_spelling}
+use Rattle.clv_base.specs.FileRules.{has_spelling, is_64_bits, is_32_bits}
 use Rattle.clv_base.specs.Folding.{IsRising}
 use Rattle.clv_base.proofs.Folding.{get_set, rising_set}
 
@@ -28,14 +29,16 @@ take_base (suc n) [] [] none = refl
 take_base (suc n) [] (r ∷ rs) none = none
 take_base (suc n) (r ∷ rs) more none = refl
 
--- no record that may follow brings one, and none that has a spelling
+-- no record that may follow brings one
 pub follow_base : (shard : ℕ) (log : List LogRecord) (r : LogRecord) → may_follow shard log r ≡ true → base_by r ≡ []
 follow_base shard log (Check run epoch upto base) m = absurd (both_ways false refl m)
 follow_base shard log _ m = refl
 
-pub spelled_base : (log : List LogRecord) → list_all has_spelling log ≡ true → base_of log ≡ []
+-- the pairs of one whose records have a spelling are within their bounds
+pub spelled_base : (log : List LogRecord) → list_all has_spelling log ≡ true → list_all (λ p. is_64_bits p.0 && fits_value p.1) (base_of log) ≡ true
 spelled_base [] h = refl
-spelled_base (Check run epoch upto base ∷ rs) h = absurd (both_ways false refl h)
+spelled_base (Check run epoch upto base ∷ rs) h =
+    (and_parts (is_32_bits run && is_64_bits epoch && is_64_bits upto) _ (and_parts (has_spelling (Check run epoch upto base)) (list_all has_spelling rs) h).0).1
 spelled_base (_ ∷ rs) h = refl
 
 -- ---- pairs that are put into a map

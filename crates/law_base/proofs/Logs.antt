@@ -14,7 +14,7 @@ use Rattle.clv_base.specs.LogRules.{log_of, all_logs_from, disorder, may_follow,
 use Rattle.clv_base.specs.Maps.{KeyMap, map_get, with_pairs}
 use Rattle.std.specs.List.{list_all, list_any, AllByRecursion, filter}
 use Rattle.std.proofs.lemmas.Bool.{and_parts, and_from, or_parts, both_ways, cases_Bool, cond_both, cond-true, cond-false, or_cases}
-use Rattle.clv_base.specs.FileRules.{passes_file_rules, log_passes, has_spelling}
+use Rattle.clv_base.specs.FileRules.{passes_file_rules, log_passes, has_spelling, is_plain, has_own_spelling}
 use Rattle.clv_base.specs.Undo.{clrs_by, clrs_of, compensation, is_of, newest_lsn}
 use Rattle.law_base.proofs.Commits.{no_place_from}
 use Rattle.clv_base.specs.Journals.{History}
@@ -140,9 +140,6 @@ is_in logs h n t = committed_in (log_of logs n) t || acknowledged_in h t
 pub stands_alike : (f g : TxId → Bool) → ((t : TxId) → f t ≡ g t) → (logs : List (List LogRecord)) (m : KeyMap) → stands_from f logs m ≡ stands_from g logs m
 stands_alike f g e logs m = ap (λ (keep : TxId → Bool). stands_from keep logs m) (fun_ext e)
 
-pub spelled_append : (xs ys : List LogRecord) → list_all has_spelling xs ≡ true → list_all has_spelling ys ≡ true → list_all has_spelling (xs ++ ys) ≡ true
-spelled_append xs ys f g = list_all-append has_spelling xs ys ∙ and_from _ _ f g
-
 pub push_left : (test : LogRecord → Bool) (log : List LogRecord) (r : LogRecord) → list_any test log ≡ true → list_any test (log ++ r ∷ []) ≡ true
 push_left test log r e = list_any-append test log (r ∷ []) ∙ or_left (list_any test log) (list_any test (r ∷ [])) e
 
@@ -167,24 +164,62 @@ last_restart_push (Restart r e ∷ rs) run epoch = rw (last_restart_push rs run 
 last_restart_push (Check r e upto base ∷ rs) run epoch = rw (last_restart_push rs run epoch) refl
 last_restart_push (_ ∷ rs) run epoch = last_restart_push rs run epoch
 
-pub each_spelled : (rs : List LogRecord) (i : ℕ) (d : LogRecord) → list_all has_spelling rs ≡ true → i < length rs → has_spelling (get_or rs i d) ≡ true
-each_spelled rs i d h inside = by_test (has_spelling (get_or rs i d)) refl
+-- what all records pass
+
+pub each_passes : (test : LogRecord → Bool) (rs : List LogRecord) (i : ℕ) (d : LogRecord) → list_all test rs ≡ true → i < length rs → test (get_or rs i d) ≡ true
+each_passes test rs i d h inside = by_test (test (get_or rs i d)) refl
   where
-    by_test : (b : Bool) → has_spelling (get_or rs i d) ≡ b → has_spelling (get_or rs i d) ≡ true
+    by_test : (b : Bool) → test (get_or rs i d) ≡ b → test (get_or rs i d) ≡ true
     by_test true e = e
-    by_test false e = absurd (both_ways (list_all has_spelling rs) (list_all_at has_spelling rs i d inside e) h)
+    by_test false e = absurd (both_ways (list_all test rs) (list_all_at test rs i d inside e) h)
+
+pub passes_dropped : (test : LogRecord → Bool) (n : ℕ) (rs : List LogRecord) → list_all test rs ≡ true → list_all test (drop n rs) ≡ true
+passes_dropped test zero rs h = h
+passes_dropped test (suc n) [] h = h
+passes_dropped test (suc n) (r ∷ rs) h = passes_dropped test n rs (and_parts (test r) (list_all test rs) h).1
+
+pub passes_taken : (test : LogRecord → Bool) (n : ℕ) (rs : List LogRecord) → list_all test rs ≡ true → list_all test (take n rs) ≡ true
+passes_taken test zero rs h = refl
+passes_taken test (suc n) [] h = refl
+passes_taken test (suc n) (r ∷ rs) h =
+    let parts = and_parts (test r) (list_all test rs) h in
+    and_from (test r) (list_all test (take n rs)) parts.0 (passes_taken test n rs parts.1)
+
+pub passes_append : (test : LogRecord → Bool) (xs ys : List LogRecord) → list_all test xs ≡ true → list_all test ys ≡ true → list_all test (xs ++ ys) ≡ true
+passes_append test xs ys f g = list_all-append test xs ys ∙ and_from _ _ f g
+
+pub spelled_append : (xs ys : List LogRecord) → list_all has_spelling xs ≡ true → list_all has_spelling ys ≡ true → list_all has_spelling (xs ++ ys) ≡ true
+spelled_append = passes_append has_spelling
+
+pub each_spelled : (rs : List LogRecord) (i : ℕ) (d : LogRecord) → list_all has_spelling rs ≡ true → i < length rs → has_spelling (get_or rs i d) ≡ true
+each_spelled = each_passes has_spelling
 
 pub spelled_dropped : (n : ℕ) (rs : List LogRecord) → list_all has_spelling rs ≡ true → list_all has_spelling (drop n rs) ≡ true
-spelled_dropped zero rs h = h
-spelled_dropped (suc n) [] h = h
-spelled_dropped (suc n) (r ∷ rs) h = spelled_dropped n rs (and_parts (has_spelling r) (list_all has_spelling rs) h).1
+spelled_dropped = passes_dropped has_spelling
 
 pub spelled_taken : (n : ℕ) (rs : List LogRecord) → list_all has_spelling rs ≡ true → list_all has_spelling (take n rs) ≡ true
-spelled_taken zero rs h = refl
-spelled_taken (suc n) [] h = refl
-spelled_taken (suc n) (r ∷ rs) h =
-    let parts = and_parts (has_spelling r) (list_all has_spelling rs) h in
-    and_from (has_spelling r) (list_all has_spelling (take n rs)) parts.0 (spelled_taken n rs parts.1)
+spelled_taken = passes_taken has_spelling
+
+-- records with spellings of their own are plain records that have spellings
+
+pub own_spelled : (rs : List LogRecord) → list_all has_own_spelling rs ≡ true → list_all has_spelling rs ≡ true
+own_spelled [] h = refl
+own_spelled (r ∷ rs) h =
+    let two = and_parts (has_own_spelling r) (list_all has_own_spelling rs) h in
+    and_from _ _ (and_parts (is_plain r) (has_spelling r) two.0).1 (own_spelled rs two.1)
+
+pub own_plain : (rs : List LogRecord) → list_all has_own_spelling rs ≡ true → list_all is_plain rs ≡ true
+own_plain [] h = refl
+own_plain (r ∷ rs) h =
+    let two = and_parts (has_own_spelling r) (list_all has_own_spelling rs) h in
+    and_from _ _ (and_parts (is_plain r) (has_spelling r) two.0).0 (own_plain rs two.1)
+
+pub plain_own : (rs : List LogRecord) → list_all is_plain rs ≡ true → list_all has_spelling rs ≡ true → list_all has_own_spelling rs ≡ true
+plain_own [] p h = refl
+plain_own (r ∷ rs) p h =
+    let here = and_parts (is_plain r) (list_all is_plain rs) p in
+    let two = and_parts (has_spelling r) (list_all has_spelling rs) h in
+    and_from _ _ (and_from (is_plain r) (has_spelling r) here.0 two.0) (plain_own rs here.1 two.1)
 
 pub writes_rise : (keep : TxId → Bool) (ws : List StandingUpdate) (m : KeyMap) → IsRising m → IsRising (fold_writes keep ws m)
 writes_rise keep [] m h = h

@@ -24,7 +24,7 @@ use Rattle.law_base.proofs.Names.{all_from}
 use Rattle.law_base.proofs.Sets.{list_all_at}
 use Rattle.law_base.proofs.Standing.{has_write, all_without, unwritten_stands}
 
-by_cond : {R : Type 0} (b x y : Bool) → cond b x y ≡ true → (b ≡ true → x ≡ true → R) → (b ≡ false → y ≡ true → R) → R
+pub by_cond : {R : Type 0} (b x y : Bool) → cond b x y ≡ true → (b ≡ true → x ≡ true → R) → (b ≡ false → y ≡ true → R) → R
 by_cond true x y e f g = f refl e
 by_cond false x y e f g = g refl e
 
@@ -32,7 +32,7 @@ none_of_two : (a b : Bool) → a ≡ false → b ≡ false → (a || b) ≡ fals
 none_of_two true b e f = e
 none_of_two false b e f = f
 
-empty_list : (ps : List TxId) → elim ps [ [] ↦ true | p ∷ qs ↦ false ] ≡ true → ps ≡ []
+pub empty_list : (ps : List TxId) → elim ps [ [] ↦ true | p ∷ qs ↦ false ] ≡ true → ps ≡ []
 empty_list [] e = refl
 empty_list (p ∷ ps) e = absurd (both_ways false refl e)
 
@@ -104,7 +104,7 @@ module _ (kept : List LogRecord) (t : TxId) (c : committed_in kept t ≡ true) w
       at false s more = more
   spared_lists (_ ∷ xs) a = spared_lists xs a.1
 
-spared_last : (kept xs : List LogRecord) → AllByRecursion (Spares kept) xs → last_restart xs ≡ None
+pub spared_last : (kept xs : List LogRecord) → AllByRecursion (Spares kept) xs → last_restart xs ≡ None
 spared_last kept [] a = refl
 spared_last kept (Restart run epoch ∷ xs) a = absurd a.0
 spared_last kept (Check run epoch upto base ∷ xs) a = absurd a.0
@@ -261,7 +261,7 @@ module _ (shard run epoch upto : ℕ) (base : KeyMap) (xs : List LogRecord) (r :
       (list_all_at (λ q. nat_le q.run run && may_list_kept kept so_far tx q) p ps b.1 i))))
       a.1)
 
-  keep_comes : AllByRecursion (Spares kept) xs → (q : LogRecord) → r ≡ q → may_keep shard run kept so_far q (own_tx q) ≡ true → may_come shard part so_far q ≡ true
+  pub keep_comes : AllByRecursion (Spares kept) xs → (q : LogRecord) → r ≡ q → may_keep shard run kept so_far q (own_tx q) ≡ true → may_come shard part so_far q ≡ true
   keep_comes s (Update tx key before after) is m =
       by_cond (committed_in kept tx) false (may_keep_open run kept so_far (Update tx key before after)) (last _ _ m) (λ c e. absurd (both_ways false refl e))
       (λ n e. let a = and_parts _ _ e in let b = and_parts _ _ a.0 in let c = and_parts _ _ b.0 in
@@ -313,7 +313,7 @@ module _ (shard run epoch upto : ℕ) (base : KeyMap) (kept : List LogRecord) wh
   kept_step place so_far (Unadd tx undo_next key by) rs d = inr (by_test (may_keep shard run kept so_far (Unadd tx undo_next key by) (Some tx)) place _ d)
   kept_step place so_far (Check run' epoch' upto' base') rs d = inr (by_test (may_keep shard run kept so_far (Check run' epoch' upto' base') None) place _ d)
 
-  spares_more : (xs : List LogRecord) (r : LogRecord) → AllByRecursion (Spares kept) xs → Spares kept r → AllByRecursion (Spares kept) (xs ++ r ∷ [])
+  pub spares_more : (xs : List LogRecord) (r : LogRecord) → AllByRecursion (Spares kept) xs → Spares kept r → AllByRecursion (Spares kept) (xs ++ r ∷ [])
   spares_more [] r a s = (s, tt)
   spares_more (x ∷ xs) r a s = (a.0, spares_more xs r a.1 s)
 

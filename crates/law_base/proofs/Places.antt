@@ -5,7 +5,7 @@ use Rattle.std.proofs.lemmas.Bool.{both_ways}
 use Rattle.clv_base.specs.declared.logs.LogRecord.{LogRecord}
 use Rattle.clv_base.specs.declared.logs.LogRecord.TheVariants.{Check}
 use Rattle.clv_base.specs.LogRules.{upto_of}
-use Rattle.clv_base.specs.FileRules.{has_spelling}
+use Rattle.clv_base.specs.FileRules.{has_own_spelling}
 use Rattle.law_base.proofs.Logs.{IsUndo}
 
 pub upto_later : (log more : List LogRecord) → upto_of more ≡ 0 → upto_of (log ++ more) ≡ upto_of log
@@ -22,8 +22,8 @@ undo_upto [] a = refl
 undo_upto (Check run epoch upto base ∷ rs) a = absurd a.0
 undo_upto (_ ∷ rs) a = refl
 
--- a log whose records have a spelling has none
-pub spelled_plain : (log : List LogRecord) → list_all has_spelling log ≡ true → upto_of log ≡ 0
-spelled_plain [] h = refl
-spelled_plain (Check run epoch upto base ∷ rs) h = absurd (both_ways false refl h)
-spelled_plain (_ ∷ rs) h = refl
+-- a log whose records have spellings of their own has none
+pub own_upto : (log : List LogRecord) → list_all has_own_spelling log ≡ true → upto_of log ≡ 0
+own_upto [] h = refl
+own_upto (Check run epoch upto base ∷ rs) h = absurd (both_ways false refl h)
+own_upto (_ ∷ rs) h = refl

@@ -27,8 +27,8 @@ fn first_of(lsn: usize, so_far: Option<usize>) -> Option<usize>
     Some(so_far.unwrap_or(lsn))
 }
 
-// Whose record it is.
-pub(crate) fn owner(r: &LogRecord) -> Option<TxId>
+/// Whose record it is, where it is somebody's.
+pub fn owner(r: &LogRecord) -> Option<TxId>
     ensures { result ≡ own_tx r.now }
 {
     match r {
