@@ -8,7 +8,7 @@ use Rattle.log_gate.specs.declared.error.ParseError.{ParseError}
 use Rattle.log_gate.specs.declared.error.ParseError.TheVariants.{NotLog, Memory}
 use Rattle.log_gate.specs.Opening.{TakesRecord, AddsRecords}
 use Rattle.std.specs.List.{list_all}
-use Rattle.clv_base.specs.FileRules.{has_spelling}
+use Rattle.clv_base.specs.FileRules.{has_own_spelling}
 use Rattle.log_gate.specs.Image.{AllSpelled}
 use Rattle.log_gate.proofs.Records.{ReadSoFar, read_bad, read_refused, all_append}
 
@@ -25,6 +25,6 @@ module _ (passes : LogRecord → Bool) (place : ℕ) (payload : List ℕ) where
   batch_fails records old new rest at Memory far some same takes = tt
 
 -- each record of payloads that are spelled is in bounds
-pub spelled_in_bounds : (ps : List (List ℕ)) (records : List LogRecord) → AllSpelled ps records → IsTrue (list_all has_spelling records)
-spelled_in_bounds [] records is = ap (list_all has_spelling) is
-spelled_in_bounds (p ∷ ps) records (xs, ys, one, rest, is) = ap (list_all has_spelling) is ∙ all_append has_spelling xs ys one.in_bounds (spelled_in_bounds ps ys rest)
+pub spelled_in_bounds : (ps : List (List ℕ)) (records : List LogRecord) → AllSpelled ps records → IsTrue (list_all has_own_spelling records)
+spelled_in_bounds [] records is = ap (list_all has_own_spelling) is
+spelled_in_bounds (p ∷ ps) records (xs, ys, one, rest, is) = ap (list_all has_own_spelling) is ∙ all_append has_own_spelling xs ys one.in_bounds (spelled_in_bounds ps ys rest)

@@ -12,7 +12,7 @@ use Rattle.log_gate.specs.declared.error.OpenLogError.{OpenLogError}
 use Rattle.log_gate.specs.Errors.{of_parsing}
 use Rattle.log_gate.specs.Payloads.{fits_batch}
 use Rattle.clv_base.specs.declared.logs.LogRecord.{LogRecord}
-use Rattle.clv_base.specs.FileRules.{has_spelling}
+use Rattle.clv_base.specs.FileRules.{has_own_spelling}
 use Rattle.log_gate.specs.Image.{records_in}
 use Rattle.log_gate.specs.Opening.{Looks, IsPiece, TakesGate, StandsGate, AddsRecords, AddsBatch, AreGood}
 use Rattle.log_gate.proofs.Looking.{looked_note}
@@ -74,4 +74,4 @@ module _ (passes : LogRecord → Bool) (place size : ℕ) (bytes payload : List 
 -- records that were added are as good as these
 pub still_good : (passes : LogRecord → Bool) (place : ℕ) (payload : List ℕ) (old new : List LogRecord) → AddsRecords {A = Unit {0}} passes place payload old new (Ok tt) → AreGood passes old → AreGood passes new
 still_good passes place payload old new (xs, read, spelled, pass, is) good =
-    subst (AreGood passes) (sym is) (record { spelled = all_append has_spelling old xs good.spelled spelled.in_bounds; pass = all_append passes old xs good.pass pass })
+    subst (AreGood passes) (sym is) (record { spelled = all_append has_own_spelling old xs good.spelled spelled.in_bounds; pass = all_append passes old xs good.pass pass })

@@ -3,7 +3,7 @@ use Rattle.std.proofs.Common.{◌≡◌, ℕ, zero, suc, ◌+◌, ◌-◌, ◌�
 use Rattle.std.specs.List.{flat_map, list_all}
 use Rattle.std.proofs.lemmas.List.{append-nil}
 use Rattle.clv_base.specs.declared.logs.LogRecord.{LogRecord}
-use Rattle.clv_base.specs.FileRules.{has_spelling}
+use Rattle.clv_base.specs.FileRules.{has_own_spelling}
 use Rattle.log_records.specs.Spelling.{spelling, BeginsWith}
 use Rattle.log_records.specs.Reading.{record_at}
 use Rattle.log_records.proofs.Laws.Spellings.{begins_read}
@@ -63,11 +63,11 @@ length-spelled : (r : LogRecord) → 0 < length (spelling r)
 length-spelled r = omega arith
 
 -- what is spelled is read, wherever it stands
-pub spelled_read : (most place : ℕ) (records : List LogRecord) (bytes : List ℕ) → IsTrue (list_all has_spelling records) → bytes ≡ flat_map spelling records → length bytes ≤ most → records_at all_pass most place bytes ≡ Ok records
+pub spelled_read : (most place : ℕ) (records : List LogRecord) (bytes : List ℕ) → IsTrue (list_all has_own_spelling records) → bytes ≡ flat_map spelling records → length bytes ≤ most → records_at all_pass most place bytes ≡ Ok records
 spelled_read most place [] bytes all is room = ap (records_at all_pass most place) is ∙ records_end all_pass most place
 spelled_read zero place (r ∷ records) bytes all is room = absurd (omega (arith, ap length is, length-append (spelling r) (flat_map spelling records), length-spelled r))
 spelled_read (suc most) place (r ∷ records) bytes all is room =
-    let parts = both_true (has_spelling r) (list_all has_spelling records) all in
+    let parts = both_true (has_own_spelling r) (list_all has_own_spelling records) all in
     let rest : List ℕ = flat_map spelling records in
     let size : length bytes ≡ length (spelling r) + length (flat_map spelling records) = ap length is ∙ length-append (spelling r) (flat_map spelling records) in
     let some : 0 < length bytes = omega (arith, size, length-spelled r) in
@@ -96,7 +96,7 @@ all_append test (r ∷ records) more all others =
 
 -- how far the reading of a payload has come
 pub record ReadSoFar (passes : LogRecord → Bool) (place : ℕ) (payload : List ℕ) (records : List LogRecord) (rest : List ℕ) : Type 0 where
-  pub in_bounds : IsTrue (list_all has_spelling records)
+  pub in_bounds : IsTrue (list_all has_own_spelling records)
   pub pass : IsTrue (list_all passes records)
   pub split : payload ≡ flat_map spelling records ++ rest
   pub fuel : ℕ
@@ -135,7 +135,7 @@ module _ (passes : LogRecord → Bool) (place : ℕ) (payload : List ℕ) where
       let whole : length payload ≡ length (flat_map spelling records) + length rest = ap length far.split ∙ length-append (flat_map spelling records) rest in
       let moved : place + (length payload - length rest) + (length rest - length later) ≡ place + (length payload - length later) = omega (arith, size, whole) in
       record {
-        in_bounds = all_push has_spelling records r far.in_bounds begins.in_bounds;
+        in_bounds = all_push has_own_spelling records r far.in_bounds begins.in_bounds;
         pass = all_push passes records r far.pass pass;
         split = far.split ∙ ap (λ (l : List ℕ). flat_map spelling records ++ l) begins.is ∙ sym (append_assoc (flat_map spelling records) (spelling r) later) ∙ ap (λ (l : List ℕ). l ++ later) (sym (flat_push records r));
         fuel = f.0;

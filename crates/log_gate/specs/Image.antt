@@ -2,7 +2,7 @@
 use Rattle.std.specs.Prelude.{◌≡◌, ◌⊎◌, ℕ, zero, suc, ◌+◌, ◌-◌, List, [], ◌∷◌, ◌++◌, length, Bool, true, Option, Some, None, Result, Ok, Err, if◌then◌else◌, IsTrue}
 use Rattle.std.specs.List.{flat_map, list_all}
 use Rattle.clv_base.specs.declared.logs.LogRecord.{LogRecord}
-use Rattle.clv_base.specs.FileRules.{has_spelling, passes_file_rules}
+use Rattle.clv_base.specs.FileRules.{has_own_spelling, passes_file_rules}
 use Rattle.log_records.specs.Spelling.{spelling}
 use Rattle.log_records.specs.Reading.{record_at}
 use Rattle.log_gate.specs.Payloads.{IsPayload}
@@ -13,7 +13,7 @@ use Rattle.log_gate.specs.Sides.{Chosen, chosen_of, image_of}
 
 -- these bytes are the spellings of these records, one behind the other
 pub record SpellAll (records : List LogRecord) (payload : List ℕ) : Type 0 where
-  pub in_bounds : IsTrue (list_all has_spelling records)
+  pub in_bounds : IsTrue (list_all has_own_spelling records)
   pub is : payload ≡ flat_map spelling records
 
 -- the payload of a batch: whole records, from 1 to 1,048,576 bytes

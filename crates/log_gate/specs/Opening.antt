@@ -4,7 +4,7 @@ use Rattle.std.specs.List.{list_all, AllByRecursion}
 use Rattle.byteorder.specs.Endian.{little_bytes, little_number}
 use Rattle.std.specs.declared.alloc.Global.{Global}
 use Rattle.clv_base.specs.declared.logs.LogRecord.{LogRecord}
-use Rattle.clv_base.specs.FileRules.{has_spelling, passes_file_rules}
+use Rattle.clv_base.specs.FileRules.{has_own_spelling, passes_file_rules}
 use Rattle.io_model.specs.Story.{Call, Len, Read, Write, Cut, Sync, Write_failed, Cut_failed, Sync_failed, Story, after, reads, IsImage}
 use Rattle.io_model.specs.Disk.{Rose}
 use Rattle.io_model.specs.Crash.{AtEachMoment}
@@ -125,7 +125,7 @@ AddsBatch passes place size old new (Err Memory) bytes = Unit {0}
 
 -- the fields of the records are in their bounds, and each passes
 pub record AreGood (passes : LogRecord → Bool) (records : List LogRecord) : Type 0 where
-  pub spelled : IsTrue (list_all has_spelling records)
+  pub spelled : IsTrue (list_all has_own_spelling records)
   pub pass : IsTrue (list_all passes records)
 
 -- the first 148 bytes were read, or all

@@ -4,7 +4,7 @@ use Rattle.std.specs.List.{list_all}
 use Rattle.std.proofs.lemmas.Bool.{ltb-true, leb-true}
 use Rattle.clv_base.specs.declared.logs.LogRecord.{LogRecord}
 use Rattle.clv_base.specs.declared.logs.LogRecord.TheVariants.{Update, Clr, Prepare, Commit, Abort, End, Restart, Add, Unadd, Forgotten, Check}
-use Rattle.clv_base.specs.FileRules.{tx_has_spelling, has_spelling, is_value, is_undo_next, is_64_bits, is_32_bits, txs_rise, numbers_rise}
+use Rattle.clv_base.specs.FileRules.{tx_has_spelling, has_own_spelling, is_value, is_undo_next, is_64_bits, is_32_bits, txs_rise, numbers_rise}
 use Rattle.log_records.specs.Reading.{◌>>=◌, number_at, transaction_at, optional_at, undo_next_at, several_at, update_at, clr_at, prepare_at, commit_at, abort_at, end_at, restart_at, add_at, unadd_at, fields_at, record_at, if_in_bounds}
 use Rattle.log_records.specs.Spelling.{number, transaction, optional, undo_next, several, kind, fields, spelling}
 use Rattle.log_records.proofs.Laws.Fields.{IsBytes-rest, bind_some, guard_some, some_is, both_true, Takes, Takes-then, number_takes, number_again, transaction_takes, transaction_again, optional_takes, optional_again, undo_next_takes, undo_next_again, several_takes, several_again}
@@ -152,7 +152,7 @@ shard_again s rest h =
     number_again 4 s rest lt
 
 -- the bytes behind a kind's byte spell the fields of a record in bounds: they are read so
-fields_again : (r : LogRecord) (rest : List ℕ) → has_spelling r ≡ true → fields_at (kind r) (fields r ++ rest) ≡ Some (r, rest)
+fields_again : (r : LogRecord) (rest : List ℕ) → has_own_spelling r ≡ true → fields_at (kind r) (fields r ++ rest) ≡ Some (r, rest)
 unfolding fields_at update_at clr_at prepare_at commit_at abort_at end_at restart_at add_at unadd_at fields
 fields_again (Update tx key before after) rest fits =
     let p = both_true (tx_has_spelling tx && is_64_bits key && is_value before) (is_value after) fits in
@@ -211,17 +211,17 @@ fields_again Forgotten rest fits = absurd cc
 fields_again (Check run' epoch' upto base) rest fits = absurd cc
 
 -- what is read at the front is spelled there, and is in bounds
-pub record_takes : (bytes : List ℕ) (x : LogRecord × List ℕ) → IsBytes bytes → record_at bytes ≡ Some x → (has_spelling x.0 ≡ true) × Takes bytes (spelling x.0) x.1
+pub record_takes : (bytes : List ℕ) (x : LogRecord × List ℕ) → IsBytes bytes → record_at bytes ≡ Some x → (has_own_spelling x.0 ≡ true) × Takes bytes (spelling x.0) x.1
 unfolding record_at
 record_takes [] x fits e = absurd cc
 record_takes (k ∷ bytes) x fits e =
     let a = bind_some (fields_at k bytes) if_in_bounds x e in
-    let g = guard_some (has_spelling a.0.0) a.0 x a.2 in
+    let g = guard_some (has_own_spelling a.0.0) a.0 x a.2 in
     let t = fields_take k bytes a.0 (IsBytes-rest k bytes fits) a.1 in
     let whole : Takes (k ∷ bytes) (kind a.0.0 ∷ fields a.0.0) a.0.1 = record { parts = ap (λ (l : List ℕ). k ∷ l) t.1.parts ∙ ap (λ (j : ℕ). j ∷ (fields a.0.0 ++ a.0.1)) t.0; rest_fits = t.1.rest_fits } in
-    subst (λ (y : LogRecord × List ℕ). (has_spelling y.0 ≡ true) × Takes (k ∷ bytes) (spelling y.0) y.1) {x = a.0} g.1 (g.0, whole)
+    subst (λ (y : LogRecord × List ℕ). (has_own_spelling y.0 ≡ true) × Takes (k ∷ bytes) (spelling y.0) y.1) {x = a.0} g.1 (g.0, whole)
 
 -- what is spelled at the front is read
-pub record_again : (r : LogRecord) (rest : List ℕ) → has_spelling r ≡ true → record_at (spelling r ++ rest) ≡ Some (r, rest)
+pub record_again : (r : LogRecord) (rest : List ℕ) → has_own_spelling r ≡ true → record_at (spelling r ++ rest) ≡ Some (r, rest)
 unfolding record_at
 record_again r rest fits = rw (fields_again r rest fits, fits) refl

@@ -6,7 +6,7 @@ use Rattle.clv_base.specs.declared.logs.LogRecord.{LogRecord}
 use Rattle.clv_base.specs.declared.logs.LogRecord.TheVariants.{Update, Clr, Prepare, Commit, Abort, End, Restart, Add, Unadd}
 use Rattle.clv_base.specs.declared.values.Value.{Value}
 use Rattle.clv_base.specs.declared.values.Value.TheVariants.{Num, Bytes}
-use Rattle.clv_base.specs.FileRules.{has_spelling}
+use Rattle.clv_base.specs.FileRules.{has_own_spelling}
 use Rattle.log_records.specs.declared.error.DecodeError.{DecodeError}
 use Rattle.log_records.specs.declared.error.DecodeError.TheVariants as errors
 
@@ -150,7 +150,7 @@ fields_at (suc (suc (suc (suc (suc (suc (suc (suc (suc (suc k)))))))))) bytes = 
 
 -- a record in bounds
 abbrev pub if_in_bounds : LogRecord × List ℕ → Option (LogRecord × List ℕ)
-if_in_bounds x = if has_spelling x.0 then Some x else None
+if_in_bounds x = if has_own_spelling x.0 then Some x else None
 
 -- the record that is spelled at the front, and the bytes after it
 unfoldable pub record_at : List ℕ → Option (LogRecord × List ℕ)

@@ -7,7 +7,7 @@ use Rattle.clv_base.specs.declared.logs.LogRecord.{LogRecord}
 use Rattle.clv_base.specs.declared.logs.LogRecord.TheVariants.{Update, Clr, Prepare, Commit, Abort, End, Restart, Add, Unadd, Forgotten, Check}
 use Rattle.clv_base.specs.declared.values.Value.{Value}
 use Rattle.clv_base.specs.declared.values.Value.TheVariants.{Num, Bytes}
-use Rattle.clv_base.specs.FileRules.{has_spelling}
+use Rattle.clv_base.specs.FileRules.{has_own_spelling}
 
 -- a number in so many bytes
 unfoldable pub number : ℕ → ℕ → List ℕ
@@ -66,10 +66,10 @@ spelling r = kind r ∷ fields r
 
 -- these bytes spell this record, whose fields are in bounds
 pub record Spells (r : LogRecord) (bytes : List ℕ) : Type 0 where
-  pub in_bounds : IsTrue (has_spelling r)
+  pub in_bounds : IsTrue (has_own_spelling r)
   pub is : bytes ≡ spelling r
 
 -- these bytes begin with the spelling of this record, and those are behind it
 pub record BeginsWith (r : LogRecord) (behind bytes : List ℕ) : Type 0 where
-  pub in_bounds : IsTrue (has_spelling r)
+  pub in_bounds : IsTrue (has_own_spelling r)
   pub is : bytes ≡ spelling r ++ behind

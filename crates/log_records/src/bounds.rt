@@ -2,7 +2,7 @@
 
 ghost use Rattle.std.specs.Prelude.{◌≡◌, ◌≤◌, ◌<◌, ◌^◌, ◌&&◌, length, IsTrue, nat_le, nat_lt};
 ghost use Rattle.std.specs.List.{list_all};
-ghost use Rattle.clv_base.specs.FileRules.{has_spelling as in_bounds, tx_has_spelling, txs_rise as txs_are_rising, numbers_rise, is_undo_next, is_value};
+ghost use Rattle.clv_base.specs.FileRules.{has_own_spelling as in_bounds, tx_has_spelling, txs_rise as txs_are_rising, numbers_rise, is_undo_next, is_value};
 ghost use Rattle.clv_base.specs.Logs.{optional_size, record_size as size_of_record};
 
 use clv_base::logs::LogRecord;
@@ -118,7 +118,7 @@ fn restart_fits(run: u32, epoch: u64) -> bool
 /// Whether each field of the record is in its bounds, so that it has a spelling: a run, a session and a serial are at
 /// least 1, a session at most 64, an LSN to be undone is not the greatest number, a home and parts are below 16,
 /// predecessors and parts rise strictly, and there are at most 1,024 and 15 of them.
-pub fn has_spelling(r: &LogRecord) -> bool
+pub fn has_own_spelling(r: &LogRecord) -> bool
     ensures { result ≡ in_bounds r.now }
 {
     match r {

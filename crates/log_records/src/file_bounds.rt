@@ -5,7 +5,7 @@ ghost use Rattle.clv_base.specs.FileRules.{file_record_has_spelling, is_kept_kin
 ghost use Rattle.clv_base.specs.Logs.{value_size as size_of_value};
 ghost use Rattle.log_records.specs.FileSpelling.{file_record_size as size_in_file};
 
-use crate::bounds::{has_spelling, record_size};
+use crate::bounds::{has_own_spelling, record_size};
 use clv_base::logs::LogRecord;
 use clv_base::shard_log::FileRecord;
 use clv_base::values::Value;
@@ -40,7 +40,7 @@ fn base_fits(key: u64, value: &Value) -> bool
 fn keep_fits(lsn: u64, record: &LogRecord) -> bool
     ensures { result ≡ file_record_has_spelling (FileRecord.Keep lsn record.now) }
 {
-    is_kept_kind(record) && has_spelling(record)
+    is_kept_kind(record) && has_own_spelling(record)
 }
 
 /// Whether each field of the record is in its bounds, so that it has a spelling in a file. A checkpoint keeps UPDATEs, PREPAREs, COMMITs, ABORTs, ENDs
@@ -49,7 +49,7 @@ pub fn has_spelling_in_file(r: &FileRecord) -> bool
     ensures { result ≡ file_record_has_spelling r.now }
 {
     match r {
-        FileRecord::Plain(record) => has_spelling(record),
+        FileRecord::Plain(record) => has_own_spelling(record),
         FileRecord::Begin { run, epoch, upto } => begin_fits(*run, *epoch, *upto),
         FileRecord::Base { key, value } => base_fits(*key, value),
         FileRecord::Keep { lsn, record } => keep_fits(*lsn, record),

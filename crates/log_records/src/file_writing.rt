@@ -1,7 +1,7 @@
 // A file's records as bytes.
 
 ghost use Rattle.std.specs.Prelude.{◌≡◌, ◌≤◌, ◌+◌, ◌++◌, [], ◌∷◌, length, vec_len, vec_capacity, IsTrue, IsOk, OnOk, OnErr};
-ghost use Rattle.clv_base.specs.FileRules.{has_spelling, file_record_has_spelling};
+ghost use Rattle.clv_base.specs.FileRules.{has_own_spelling, file_record_has_spelling};
 ghost use Rattle.clv_base.specs.Logs.{record_size, value_size};
 ghost use Rattle.log_records.specs.FileSpelling.{file_spelling, file_record_size as size_in_file};
 
@@ -36,7 +36,7 @@ fn put_base(out: &mut Vec<u8>, key: u64, value: &Value)
 }
 
 fn put_keep(out: &mut Vec<u8>, lsn: u64, record: &LogRecord)
-    requires in_bounds { IsTrue (has_spelling record.now) }
+    requires in_bounds { IsTrue (has_own_spelling record.now) }
     requires space { vec_len out.old + (9 + record_size record.now) ≤ vec_capacity out.old }
     ensures items { out.new.items ≡ out.old.items ++ file_spelling (FileRecord.Keep lsn record.now) }
     ensures room { vec_capacity out.old ≤ vec_capacity out.new }

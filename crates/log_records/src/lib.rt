@@ -16,7 +16,7 @@ mod reading;
 mod spelling;
 mod writing;
 
-pub use bounds::{has_spelling, record_size};
+pub use bounds::{has_own_spelling, record_size};
 pub use error::{DecodeError, Memory};
 pub use file_bounds::{file_record_size, has_spelling_in_file};
 pub use file_reading::decode_in_file;

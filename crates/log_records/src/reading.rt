@@ -6,7 +6,7 @@ ghost use Rattle.clv_base.specs.Logs.{record_size};
 ghost use Rattle.log_records.specs.Spelling.{BeginsWith};
 ghost use Rattle.log_records.specs.Reading.{Gives, abort_at, add_at, clr_at, commit_at, end_at, fields_at, prepare_at, record_at, restart_at, unadd_at, update_at};
 
-use crate::bounds::has_spelling;
+use crate::bounds::has_own_spelling;
 use crate::error::DecodeError;
 use crate::lists::{shards_at, txs_at};
 use crate::numbers::{lsn_at, tx_at, u32_at, u64_at, value_at};
@@ -148,7 +148,7 @@ pub(crate) fn record_of(alloc: Global, bytes: &[u8]) -> Result<(LogRecord, &[u8]
         return Err(DecodeError::Bad);
     };
     let (record, rest) = fields_of(alloc, *kind, fields)?;
-    if !has_spelling(&record) {
+    if !has_own_spelling(&record) {
         return Err(DecodeError::Bad);
     }
     Ok((record, rest))

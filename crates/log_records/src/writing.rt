@@ -1,7 +1,7 @@
 // Records as bytes.
 
 ghost use Rattle.std.specs.Prelude.{◌≡◌, ◌≤◌, ◌+◌, ◌++◌, length, vec_len, vec_capacity, IsTrue, IsOk, OnOk, OnErr};
-ghost use Rattle.clv_base.specs.FileRules.{has_spelling};
+ghost use Rattle.clv_base.specs.FileRules.{has_own_spelling};
 ghost use Rattle.clv_base.specs.Logs.{record_size as size_of_record};
 ghost use Rattle.log_records.specs.Spelling.{spelling};
 
@@ -122,7 +122,7 @@ fn put_unadd(out: &mut Vec<u8>, tx: TxId, undo_next: Option<u64>, key: u64, by: 
 }
 
 pub(crate) fn put_record(out: &mut Vec<u8>, r: &LogRecord)
-    requires in_bounds { IsTrue (has_spelling r.now) }
+    requires in_bounds { IsTrue (has_own_spelling r.now) }
     requires space { vec_len out.old + size_of_record r.now ≤ vec_capacity out.old }
     ensures items { out.new.items ≡ out.old.items ++ spelling r.now }
     ensures room { vec_capacity out.old ≤ vec_capacity out.new }
@@ -163,7 +163,7 @@ pub(crate) fn put_record(out: &mut Vec<u8>, r: &LogRecord)
 /// Appends the spelling of a record whose fields are in bounds. For want of memory the bytes stay as they were; with
 /// room for the record's size no memory is taken. Room never shrinks.
 pub fn encode(_alloc: Global, r: &LogRecord, out: &mut Vec<u8>) -> Result<(), Memory>
-    requires { IsTrue (has_spelling r.now) }
+    requires { IsTrue (has_own_spelling r.now) }
     ensures appended { OnOk result (out.new.items ≡ out.old.items ++ spelling r.now) }
     ensures memory { OnErr result (out.new.items ≡ out.old.items) }
     ensures with_room { vec_len out.old + size_of_record r.now ≤ vec_capacity out.old → IsOk result }

@@ -4,7 +4,7 @@ use Rattle.std.proofs.lemmas.List.{length-map, map-set, set-get_or}
 use Rattle.clv_base.specs.declared.logs.LogRecord.{LogRecord}
 use Rattle.std.specs.Prelude.{replicate}
 use Rattle.std.specs.List.{list_all}
-use Rattle.clv_base.specs.FileRules.{has_spelling}
+use Rattle.clv_base.specs.FileRules.{has_own_spelling}
 use Rattle.clv_base.specs.LogRules.{log_of, disorder}
 use Rattle.record_stream.specs.Streams.{Came}
 use Rattle.log_standby.specs.Feeding.{Fed, Feeds, Refuses, RefusesRecords, AreSpelled, tail_of}
@@ -32,12 +32,12 @@ tail_at (t ∷ ts) zero wait lt is = sym is
 tail_at (t ∷ ts) (suc n) wait lt is = tail_at ts n wait (omega (arith, lt)) is
 
 -- each log's records have a spelling, and so have those of a log that is put in the place of one
-pub spelled_at : (logs : List (Vec LogRecord Global)) (n : ℕ) (had : Vec LogRecord Global) → n < length logs → had ≡ get_or logs n had → AreSpelled (lists_of logs) → list_all has_spelling had.items ≡ true
+pub spelled_at : (logs : List (Vec LogRecord Global)) (n : ℕ) (had : Vec LogRecord Global) → n < length logs → had ≡ get_or logs n had → AreSpelled (lists_of logs) → list_all has_own_spelling had.items ≡ true
 spelled_at [] n had lt is all = absurd (omega (arith, lt))
-spelled_at (l ∷ ls) zero had lt is all = ap (λ (v : Vec LogRecord Global). list_all has_spelling v.items) is ∙ all.0
+spelled_at (l ∷ ls) zero had lt is all = ap (λ (v : Vec LogRecord Global). list_all has_own_spelling v.items) is ∙ all.0
 spelled_at (l ∷ ls) (suc n) had lt is all = spelled_at ls n had (omega (arith, lt)) is all.1
 
-pub spelled_set : (logs : List (Vec LogRecord Global)) (n : ℕ) (has : Vec LogRecord Global) → list_all has_spelling has.items ≡ true → AreSpelled (lists_of logs) → AreSpelled (lists_of (set logs n has))
+pub spelled_set : (logs : List (Vec LogRecord Global)) (n : ℕ) (has : Vec LogRecord Global) → list_all has_own_spelling has.items ≡ true → AreSpelled (lists_of logs) → AreSpelled (lists_of (set logs n has))
 spelled_set [] n has h all = all
 spelled_set (l ∷ ls) zero has h all = (h, all.1)
 spelled_set (l ∷ ls) (suc n) has h all = (all.0, spelled_set ls n has h all.1)

@@ -3,7 +3,7 @@ use Rattle.std.specs.Prelude.{◌≡◌, ℕ, List, [], ◌++◌, set, slice_get
 use Rattle.std.specs.List.{AllByRecursion, list_all}
 use Rattle.clv_base.specs.declared.logs.LogRecord.{LogRecord}
 use Rattle.clv_base.specs.LogRules.{log_of, disorder}
-use Rattle.clv_base.specs.FileRules.{has_spelling}
+use Rattle.clv_base.specs.FileRules.{has_own_spelling}
 use Rattle.record_stream.specs.Streams.{spellings, Begins, Came}
 use Rattle.log_standby.specs.declared.error.FeedError.{FeedError}
 use Rattle.log_standby.specs.declared.error.FeedError.TheVariants.{Bad, Order, Memory}
@@ -19,7 +19,7 @@ tail_of tails n = elim (slice_get tails n) [ Some tail ↦ tail | None ↦ [] ]
 
 -- each record that came has a spelling
 abbrev pub AreSpelled : List (List LogRecord) → Type 0
-AreSpelled logs = AllByRecursion (λ l. IsTrue (list_all has_spelling l)) logs
+AreSpelled logs = AllByRecursion (λ l. IsTrue (list_all has_own_spelling l)) logs
 
 -- all bytes that a shard was fed
 abbrev pub bytes_of : Fed → ℕ → List ℕ

@@ -2,7 +2,7 @@
 
 ghost use Rattle.std.specs.Prelude.{◌≡◌, ◌<◌, ◌++◌, length, map, None, IfOk, IfErr, OnOk, OnErr, IsTrue};
 ghost use Rattle.std.specs.List.{list_all};
-ghost use Rattle.clv_base.specs.FileRules.{has_spelling};
+ghost use Rattle.clv_base.specs.FileRules.{has_own_spelling};
 ghost use Rattle.clv_base.specs.Shards.{shard_count};
 ghost use Rattle.clv_base.specs.LogRules.{disorder as first_disorder};
 ghost use Rattle.log_standby.specs.Feeding.{Fed, Feeds, Refuses, RefusesRecords, AreSpelled, nothing_fed};
@@ -35,7 +35,7 @@ impl Model for Standby {
 
 // Whether the records are in order.
 fn judge(alloc: Global, log: &[LogRecord], shard: u32) -> Result<(), FeedError>
-    requires spelled { IsTrue (list_all has_spelling log.now) }
+    requires spelled { IsTrue (list_all has_own_spelling log.now) }
     ensures in_order { OnOk result (first_disorder shard log.now ≡ None) }
     ensures refused { IfErr result (RefusesRecords shard log.now) }
 {
@@ -53,8 +53,8 @@ fn put_in_order(
     records: Vec<LogRecord>,
     shard: u32,
 ) -> Result<(), FeedError>
-    requires had { IsTrue (list_all has_spelling log.old.items) }
-    requires came { IsTrue (list_all has_spelling records.items) }
+    requires had { IsTrue (list_all has_own_spelling log.old.items) }
+    requires came { IsTrue (list_all has_own_spelling records.items) }
     ensures put { OnOk result (log.new.items ≡ log.old.items ++ records.items) }
     ensures in_order { OnOk result (first_disorder shard (log.old.items ++ records.items) ≡ None) }
     ensures refused { IfErr result (RefusesRecords shard (log.old.items ++ records.items)) }

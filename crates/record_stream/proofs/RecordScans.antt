@@ -6,7 +6,7 @@ use Rattle.clv_base.specs.declared.names.TxId.{TxId}
 use Rattle.clv_base.specs.declared.values.Value.{Value}
 use Rattle.clv_base.specs.declared.logs.LogRecord.{LogRecord}
 use Rattle.clv_base.specs.declared.logs.LogRecord.TheVariants.{Update, Clr, Prepare, Commit, Abort, End, Restart, Add, Unadd, Forgotten, Check}
-use Rattle.clv_base.specs.FileRules.{tx_has_spelling, has_spelling, is_value, is_undo_next, is_64_bits, is_32_bits, txs_rise, numbers_rise}
+use Rattle.clv_base.specs.FileRules.{tx_has_spelling, has_own_spelling, is_value, is_undo_next, is_64_bits, is_32_bits, txs_rise, numbers_rise}
 use Rattle.log_records.specs.Reading.{unless_greatest}
 use Rattle.log_records.specs.Spelling.{number, transaction, optional, undo_next, several, kind, fields, spelling}
 use Rattle.log_records.proofs.Laws.Fields.{IsBytes-rest, both_true}
@@ -108,33 +108,33 @@ long_is n lt = lt-ltb n (2 ^ 64) lt
 is_long : (n : ℕ) → is_64_bits n ≡ true → IsLong n
 is_long n h = ltb-true n (2 ^ 64) h
 
-update_good : (x : TxId × (ℕ × (Option Value × Option Value))) → OfUpdate x → has_spelling (Update x.0 x.1.0 x.1.1.0 x.1.1.1) ≡ true
+update_good : (x : TxId × (ℕ × (Option Value × Option Value))) → OfUpdate x → has_own_spelling (Update x.0 x.1.0 x.1.1.0 x.1.1.1) ≡ true
 update_good x g = rw (name_spelled x.0 g.0, long_is x.1.0 g.1.0, g.1.1.0, g.1.1.1) refl
 
-good_update : (tx : TxId) (key : ℕ) (before after : Option Value) → has_spelling (Update tx key before after) ≡ true → OfUpdate (tx, (key, (before, after)))
+good_update : (tx : TxId) (key : ℕ) (before after : Option Value) → has_own_spelling (Update tx key before after) ≡ true → OfUpdate (tx, (key, (before, after)))
 good_update tx key before after h =
     let p = both_true (tx_has_spelling tx && is_64_bits key && is_value before) (is_value after) h in
     let q = both_true (tx_has_spelling tx && is_64_bits key) (is_value before) p.0 in
     let t = both_true (tx_has_spelling tx) (is_64_bits key) q.0 in
     (spelled_name tx t.0, (is_long key t.1, (q.1, p.1)))
 
-clr_good : (x : TxId × (Option ℕ × (ℕ × Option Value))) → OfClr x → has_spelling (Clr x.0 x.1.0 x.1.1.0 x.1.1.1) ≡ true
+clr_good : (x : TxId × (Option ℕ × (ℕ × Option Value))) → OfClr x → has_own_spelling (Clr x.0 x.1.0 x.1.1.0 x.1.1.1) ≡ true
 clr_good x g = rw (name_spelled x.0 g.0, g.1.0, long_is x.1.1.0 g.1.1.0, g.1.1.1) refl
 
-good_clr : (tx : TxId) (next : Option ℕ) (key : ℕ) (after : Option Value) → has_spelling (Clr tx next key after) ≡ true → OfClr (tx, (next, (key, after)))
+good_clr : (tx : TxId) (next : Option ℕ) (key : ℕ) (after : Option Value) → has_own_spelling (Clr tx next key after) ≡ true → OfClr (tx, (next, (key, after)))
 good_clr tx next key after h =
     let p = both_true (tx_has_spelling tx && is_undo_next next && is_64_bits key) (is_value after) h in
     let q = both_true (tx_has_spelling tx && is_undo_next next) (is_64_bits key) p.0 in
     let t = both_true (tx_has_spelling tx) (is_undo_next next) q.0 in
     (spelled_name tx t.0, (t.1, (is_long key q.1, p.1)))
 
-prepare_good : (x : TxId × (ℕ × List TxId)) → OfPrepare x → has_spelling (Prepare x.0 x.1.0 x.1.1) ≡ true
+prepare_good : (x : TxId × (ℕ × List TxId)) → OfPrepare x → has_own_spelling (Prepare x.0 x.1.0 x.1.1) ≡ true
 prepare_good x g =
     let a = both_true (leb (length x.1.1) 1024 && list_all tx_has_spelling x.1.1) (txs_rise x.1.1) g.1.1 in
     let b = both_true (leb (length x.1.1) 1024) (list_all tx_has_spelling x.1.1) a.0 in
     rw (name_spelled x.0 g.0, lt-ltb x.1.0 16 (omega (arith, g.1.0.1)), b.0, b.1, a.1) refl
 
-good_prepare : (tx : TxId) (home : ℕ) (txs : List TxId) → has_spelling (Prepare tx home txs) ≡ true → OfPrepare (tx, (home, txs))
+good_prepare : (tx : TxId) (home : ℕ) (txs : List TxId) → has_own_spelling (Prepare tx home txs) ≡ true → OfPrepare (tx, (home, txs))
 good_prepare tx home txs h =
     let p = both_true (tx_has_spelling tx && ltb home 16 && leb (length txs) 1024 && list_all tx_has_spelling txs) (txs_rise txs) h in
     let q = both_true (tx_has_spelling tx && ltb home 16 && leb (length txs) 1024) (list_all tx_has_spelling txs) p.0 in
@@ -142,41 +142,41 @@ good_prepare tx home txs h =
     let t = both_true (tx_has_spelling tx) (ltb home 16) s.0 in
     (spelled_name tx t.0, ((omega arith, omega (arith, ltb-true home 16 t.1)), rw (s.1, q.1, p.1) refl))
 
-commit_good : (x : TxId × List ℕ) → OfCommit x → has_spelling (Commit x.0 x.1) ≡ true
+commit_good : (x : TxId × List ℕ) → OfCommit x → has_own_spelling (Commit x.0 x.1) ≡ true
 commit_good x g =
     let a = both_true (leb (length x.1) 15 && list_all (λ p. ltb p 16) x.1) (numbers_rise x.1) g.1 in
     let b = both_true (leb (length x.1) 15) (list_all (λ p. ltb p 16) x.1) a.0 in
     rw (name_spelled x.0 g.0, b.0, b.1, a.1) refl
 
-good_commit : (tx : TxId) (parts : List ℕ) → has_spelling (Commit tx parts) ≡ true → OfCommit (tx, parts)
+good_commit : (tx : TxId) (parts : List ℕ) → has_own_spelling (Commit tx parts) ≡ true → OfCommit (tx, parts)
 good_commit tx parts h =
     let p = both_true (tx_has_spelling tx && leb (length parts) 15 && list_all (λ s. ltb s 16) parts) (numbers_rise parts) h in
     let q = both_true (tx_has_spelling tx && leb (length parts) 15) (list_all (λ s. ltb s 16) parts) p.0 in
     let t = both_true (tx_has_spelling tx) (leb (length parts) 15) q.0 in
     (spelled_name tx t.0, rw (t.1, q.1, p.1) refl)
 
-restart_good : (x : ℕ × ℕ) → OfRestart x → has_spelling (Restart x.0 x.1) ≡ true
+restart_good : (x : ℕ × ℕ) → OfRestart x → has_own_spelling (Restart x.0 x.1) ≡ true
 restart_good x g = rw (lt-ltb 0 x.0 (omega (arith, g.0.0)), lt-ltb x.0 (2 ^ 32) (omega (arith, g.0.1)), long_is x.1 g.1) refl
 
-good_restart : (run epoch : ℕ) → has_spelling (Restart run epoch) ≡ true → OfRestart (run, epoch)
+good_restart : (run epoch : ℕ) → has_own_spelling (Restart run epoch) ≡ true → OfRestart (run, epoch)
 good_restart run epoch h =
     let p = both_true (ltb 0 run && is_32_bits run) (is_64_bits epoch) h in
     let q = both_true (ltb 0 run) (is_32_bits run) p.0 in
     ((omega (arith, ltb-true 0 run q.0), omega (arith, ltb-true run (2 ^ 32) q.1)), is_long epoch p.1)
 
-add_good : (x : TxId × (ℕ × ℕ)) → OfAdd x → has_spelling (Add x.0 x.1.0 x.1.1) ≡ true
+add_good : (x : TxId × (ℕ × ℕ)) → OfAdd x → has_own_spelling (Add x.0 x.1.0 x.1.1) ≡ true
 add_good x g = rw (name_spelled x.0 g.0, long_is x.1.0 g.1.0, long_is x.1.1 g.1.1) refl
 
-good_add : (tx : TxId) (key by : ℕ) → has_spelling (Add tx key by) ≡ true → OfAdd (tx, (key, by))
+good_add : (tx : TxId) (key by : ℕ) → has_own_spelling (Add tx key by) ≡ true → OfAdd (tx, (key, by))
 good_add tx key by h =
     let p = both_true (tx_has_spelling tx && is_64_bits key) (is_64_bits by) h in
     let t = both_true (tx_has_spelling tx) (is_64_bits key) p.0 in
     (spelled_name tx t.0, (is_long key t.1, is_long by p.1))
 
-unadd_good : (x : TxId × (Option ℕ × (ℕ × ℕ))) → OfUnadd x → has_spelling (Unadd x.0 x.1.0 x.1.1.0 x.1.1.1) ≡ true
+unadd_good : (x : TxId × (Option ℕ × (ℕ × ℕ))) → OfUnadd x → has_own_spelling (Unadd x.0 x.1.0 x.1.1.0 x.1.1.1) ≡ true
 unadd_good x g = rw (name_spelled x.0 g.0, g.1.0, long_is x.1.1.0 g.1.1.0, long_is x.1.1.1 g.1.1.1) refl
 
-good_unadd : (tx : TxId) (next : Option ℕ) (key by : ℕ) → has_spelling (Unadd tx next key by) ≡ true → OfUnadd (tx, (next, (key, by)))
+good_unadd : (tx : TxId) (next : Option ℕ) (key by : ℕ) → has_own_spelling (Unadd tx next key by) ≡ true → OfUnadd (tx, (next, (key, by)))
 good_unadd tx next key by h =
     let p = both_true (tx_has_spelling tx && is_undo_next next && is_64_bits key) (is_64_bits by) h in
     let q = both_true (tx_has_spelling tx && is_undo_next next) (is_64_bits key) p.0 in
@@ -186,7 +186,7 @@ good_unadd tx next key by h =
 -- ---- records
 
 abbrev pub IsGood : LogRecord → Type 0
-IsGood r = has_spelling r ≡ true
+IsGood r = has_own_spelling r ≡ true
 
 -- behind the byte of their kind the fields are those of a record
 module _ {X : Type 0} (P : X → Type 0) (spell : X → List ℕ) (scan : List ℕ → Skip) (scans : Scans P spell nothing scan) (k : ℕ) (make : X → LogRecord)

@@ -2,7 +2,7 @@
 use Rattle.std.specs.Prelude.{◌≡◌, ℕ, List, ◌∷◌, ◌++◌, drop, Option, Some, None, IsTrue}
 use Rattle.std.specs.List.{list_all, flat_map}
 use Rattle.clv_base.specs.declared.logs.LogRecord.{LogRecord}
-use Rattle.clv_base.specs.FileRules.{has_spelling}
+use Rattle.clv_base.specs.FileRules.{has_own_spelling}
 use Rattle.clv_base.specs.Logs.{record_size}
 use Rattle.log_records.specs.Spelling.{spelling, BeginsWith}
 
@@ -15,19 +15,19 @@ pub record Unfinished (bytes : List ℕ) : Type 0 where
   pub whole : LogRecord
   pub next : ℕ
   pub behind : List ℕ
-  pub in_bounds : IsTrue (has_spelling whole)
+  pub in_bounds : IsTrue (has_own_spelling whole)
   pub is : bytes ++ next ∷ behind ≡ spelling whole
 
 -- bytes that begin the spellings of records, one behind the other: with some more behind them they are such spellings
 pub record Begins (bytes : List ℕ) : Type 0 where
   pub records : List LogRecord
   pub behind : List ℕ
-  pub in_bounds : IsTrue (list_all has_spelling records)
+  pub in_bounds : IsTrue (list_all has_own_spelling records)
   pub is : bytes ++ behind ≡ spellings records
 
 -- these records came whole in the bytes, from the first on, and the tail is of an unfinished one
 pub record Came (records : List LogRecord) (tail bytes : List ℕ) : Type 0 where
-  pub in_bounds : IsTrue (list_all has_spelling records)
+  pub in_bounds : IsTrue (list_all has_own_spelling records)
   pub is : bytes ≡ spellings records ++ tail
   pub unfinished : Unfinished tail
 

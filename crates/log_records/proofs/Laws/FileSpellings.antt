@@ -7,7 +7,7 @@ use Rattle.clv_base.specs.declared.logs.LogRecord.TheVariants.{Update, Clr, Prep
 use Rattle.clv_base.specs.declared.shard_log.FileRecord.{FileRecord}
 use Rattle.clv_base.specs.declared.shard_log.FileRecord.TheVariants.{Plain, Begin, Base, Keep, Checked}
 use Rattle.clv_base.specs.declared.values.Value.{Value}
-use Rattle.clv_base.specs.FileRules.{has_spelling, is_32_bits, is_64_bits, is_kept_kind, file_record_has_spelling}
+use Rattle.clv_base.specs.FileRules.{has_own_spelling, is_32_bits, is_64_bits, is_kept_kind, file_record_has_spelling}
 use Rattle.clv_base.specs.Values.{fits_value}
 use Rattle.log_records.specs.declared.error.DecodeError.{DecodeError}
 use Rattle.log_records.specs.declared.error.DecodeError.TheVariants as errors
@@ -133,7 +133,7 @@ base_again key value rest fits =
 keep_again : (lsn : ℕ) (r : LogRecord) (rest : List ℕ) → file_record_has_spelling (Keep lsn r) ≡ true → part_fields_at 2 ((number 8 lsn ++ spelling r) ++ rest) ≡ Some (Keep lsn r, rest)
 unfolding part_fields_at keep_at
 keep_again lsn r rest fits =
-    let p = both_true (is_64_bits lsn && is_kept_kind r) (has_spelling r) fits in
+    let p = both_true (is_64_bits lsn && is_kept_kind r) (has_own_spelling r) fits in
     let q = both_true (is_64_bits lsn) (is_kept_kind r) p.0 in
     let lt : lsn < 256 ^ 8 = ltb-true lsn (2 ^ 64) q.0 in
     let regrouped : (number 8 lsn ++ spelling r) ++ rest ≡ number 8 lsn ++ (spelling r ++ rest) = append_assoc (number 8 lsn) (spelling r) rest in

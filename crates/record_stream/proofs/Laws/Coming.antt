@@ -9,7 +9,7 @@ use Rattle.clv_base.specs.declared.logs.LogRecord.{LogRecord}
 use Rattle.clv_base.specs.declared.logs.LogRecord.TheVariants.{Update, Clr, Prepare, Commit, Abort, End, Restart, Add, Unadd, Forgotten, Check}
 use Rattle.clv_base.specs.declared.values.Value.{Value}
 use Rattle.clv_base.specs.declared.values.Value.TheVariants.{Num, Bytes}
-use Rattle.clv_base.specs.FileRules.{has_spelling, tx_has_spelling, is_value, is_64_bits, is_undo_next, numbers_rise, txs_rise}
+use Rattle.clv_base.specs.FileRules.{has_own_spelling, tx_has_spelling, is_value, is_64_bits, is_undo_next, numbers_rise, txs_rise}
 use Rattle.clv_base.specs.Logs.{record_size, optional_size}
 use Rattle.log_records.specs.Spelling.{spelling, BeginsWith}
 use Rattle.log_records.proofs.Laws.Fields.{both_true}
@@ -20,7 +20,7 @@ use Rattle.record_stream.specs.Streams.{spellings, Unfinished, Begins, Came, Com
 use Rattle.record_stream.proofs.Scans.{parted}
 use Rattle.record_stream.proofs.RecordScans.{record_cut, record_stays}
 use Rattle.law_base.proofs.Lists.{IsBytes}
-use Rattle.law_base.proofs.Logs.{spelled_append}
+use Rattle.law_base.proofs.Logs.{passes_append}
 
 -- ---- unfinished ones
 
@@ -56,14 +56,14 @@ pub record First (bytes : List ℕ) : Type 0 where
 pub begins_how : (bytes : List ℕ) → Begins bytes → First bytes ⊎ Unfinished bytes
 begins_how bytes b = at b.records b.in_bounds b.is
   where
-    at : (rs : List LogRecord) → list_all has_spelling rs ≡ true → bytes ++ b.behind ≡ spellings rs → First bytes ⊎ Unfinished bytes
+    at : (rs : List LogRecord) → list_all has_own_spelling rs ≡ true → bytes ++ b.behind ≡ spellings rs → First bytes ⊎ Unfinished bytes
     at [] fits is = inr (subst Unfinished (sym (front_nil bytes b.behind is)) nothing_is_unfinished)
       where
         front_nil : (xs ys : List ℕ) → xs ++ ys ≡ [] → xs ≡ []
         front_nil [] ys e = refl
         front_nil (x ∷ xs) ys e = absurd cc
     at (r ∷ rs) fits is =
-        let good = both_true (has_spelling r) (list_all has_spelling rs) fits in
+        let good = both_true (has_own_spelling r) (list_all has_own_spelling rs) fits in
         elim (parted bytes b.behind (spelling r) (spellings rs) (is ∙ flat_map-cons spelling r rs)) [
           | inl w ↦ inl (record { what = r; behind = w.middle; begins = record { in_bounds = good.0; is = w.first } })
           | inr s ↦ inr (record { whole = r; next = s.next; behind = s.behind; in_bounds = good.0; is = s.first })
@@ -72,22 +72,22 @@ begins_how bytes b = at b.records b.in_bounds b.is
 pub begins_front : (bytes more : List ℕ) → Begins (bytes ++ more) → Begins bytes
 begins_front bytes more b = record { records = b.records; behind = more ++ b.behind; in_bounds = b.in_bounds; is = sym (append_assoc bytes more b.behind) ∙ b.is }
 
-pub begins_rest : (r : LogRecord) (rest : List ℕ) → has_spelling r ≡ true → Begins (spelling r ++ rest) → Begins rest
+pub begins_rest : (r : LogRecord) (rest : List ℕ) → has_own_spelling r ≡ true → Begins (spelling r ++ rest) → Begins rest
 begins_rest r rest good b = at b.records b.in_bounds b.is
   where
-    at : (rs : List LogRecord) → list_all has_spelling rs ≡ true → (spelling r ++ rest) ++ b.behind ≡ spellings rs → Begins rest
+    at : (rs : List LogRecord) → list_all has_own_spelling rs ≡ true → (spelling r ++ rest) ++ b.behind ≡ spellings rs → Begins rest
     at [] fits is = absurd cc
     at (s ∷ rs) fits is =
-        let ok = both_true (has_spelling s) (list_all has_spelling rs) fits in
+        let ok = both_true (has_own_spelling s) (list_all has_own_spelling rs) fits in
         let all = (spelling r ++ rest) ++ b.behind in
         let first : BeginsWith r (rest ++ b.behind) all = record { in_bounds = good; is = append_assoc (spelling r) rest b.behind } in
         let second : BeginsWith s (spellings rs) all = record { in_bounds = ok.0; is = is ∙ flat_map-cons spelling s rs } in
         record { records = rs; behind = b.behind; in_bounds = ok.1; is = (one_beginning r s (rest ++ b.behind) (spellings rs) all first second).1 }
 
-pub begins_behind : (rs : List LogRecord) (rest : List ℕ) → list_all has_spelling rs ≡ true → Begins (spellings rs ++ rest) → Begins rest
+pub begins_behind : (rs : List LogRecord) (rest : List ℕ) → list_all has_own_spelling rs ≡ true → Begins (spellings rs ++ rest) → Begins rest
 begins_behind [] rest fits b = b
 begins_behind (r ∷ rs) rest fits b =
-    let ok = both_true (has_spelling r) (list_all has_spelling rs) fits in
+    let ok = both_true (has_own_spelling r) (list_all has_own_spelling rs) fits in
     let parts : spellings (r ∷ rs) ++ rest ≡ spelling r ++ (spellings rs ++ rest) = ap (λ (l : List ℕ). l ++ rest) (flat_map-cons spelling r rs) ∙ append_assoc (spelling r) (spellings rs) rest in
     begins_behind rs rest ok.1 (begins_rest r (spellings rs ++ rest) ok.0 (subst Begins parts b))
 
@@ -119,7 +119,7 @@ within bytes r size is b =
 pub record SoFar (old now : List LogRecord) (rest bytes : List ℕ) : Type 0 where
   pub records : List LogRecord
   pub behind : now ≡ old ++ records
-  pub in_bounds : list_all has_spelling records ≡ true
+  pub in_bounds : list_all has_own_spelling records ≡ true
   pub is : bytes ≡ spellings records ++ rest
 
 pub starts : (old : List LogRecord) (bytes : List ℕ) → SoFar old old bytes bytes
@@ -130,11 +130,11 @@ one_more old now r after rest bytes s b =
     let one : spellings (r ∷ []) ≡ spelling r = flat_map-cons spelling r [] ∙ append-nil (spelling r) in
     let all : spellings (s.records ++ r ∷ []) ++ after ≡ spellings s.records ++ (spelling r ++ after) =
     ap (λ (l : List ℕ). l ++ after) (flat_map-append spelling s.records (r ∷ []) ∙ ap (λ (l : List ℕ). spellings s.records ++ l) one) ∙ append_assoc (spellings s.records) (spelling r) after in
-    let good : list_all has_spelling (r ∷ []) ≡ true = rw b.in_bounds refl in
+    let good : list_all has_own_spelling (r ∷ []) ≡ true = rw b.in_bounds refl in
     record {
       records = s.records ++ r ∷ [];
       behind = ap (λ (l : List LogRecord). l ++ r ∷ []) s.behind ∙ append_assoc old s.records (r ∷ []);
-      in_bounds = spelled_append s.records (r ∷ []) s.in_bounds good;
+      in_bounds = passes_append has_own_spelling s.records (r ∷ []) s.in_bounds good;
       is = s.is ∙ ap (λ (l : List ℕ). spellings s.records ++ l) b.is ∙ sym all;
     }
 
@@ -150,11 +150,11 @@ pub came_begins : (records : List LogRecord) (tail bytes : List ℕ) → Came re
 came_begins records tail bytes c =
     let u = c.unfinished in
     let one : spellings (u.whole ∷ []) ≡ spelling u.whole = flat_map-cons spelling u.whole [] ∙ append-nil (spelling u.whole) in
-    let good : list_all has_spelling (u.whole ∷ []) ≡ true = rw u.in_bounds refl in
+    let good : list_all has_own_spelling (u.whole ∷ []) ≡ true = rw u.in_bounds refl in
     record {
       records = records ++ u.whole ∷ [];
       behind = u.next ∷ u.behind;
-      in_bounds = spelled_append records (u.whole ∷ []) c.in_bounds good;
+      in_bounds = passes_append has_own_spelling records (u.whole ∷ []) c.in_bounds good;
       is = ap (λ (l : List ℕ). l ++ u.next ∷ u.behind) c.is ∙ append_assoc (spellings records) tail (u.next ∷ u.behind)
           ∙ ap (λ (l : List ℕ). spellings records ++ l) (u.is ∙ sym one) ∙ sym (flat_map-append spelling records (u.whole ∷ []));
     }
@@ -162,7 +162,7 @@ came_begins records tail bytes c =
 -- the first of records stands at the front
 first_of : (r : LogRecord) (rs : List LogRecord) (tail bytes : List ℕ) → Came (r ∷ rs) tail bytes → BeginsWith r (spellings rs ++ tail) bytes
 first_of r rs tail bytes c =
-    let ok = both_true (has_spelling r) (list_all has_spelling rs) c.in_bounds in
+    let ok = both_true (has_own_spelling r) (list_all has_own_spelling rs) c.in_bounds in
     record { in_bounds = ok.0; is = c.is ∙ ap (λ (l : List ℕ). l ++ tail) (flat_map-cons spelling r rs) ∙ append_assoc (spelling r) (spellings rs) tail }
 
 pub came_once : (rs ss : List LogRecord) (tail rest bytes : List ℕ) → Came rs tail bytes → Came ss rest bytes → (rs ≡ ss) × (tail ≡ rest)
@@ -171,15 +171,15 @@ came_once [] (s ∷ ss) tail rest bytes a b = absurd (not_both s (spellings ss +
 came_once (r ∷ rs) [] tail rest bytes a b = absurd (not_both r (spellings rs ++ tail) bytes (first_of r rs tail bytes a) (subst Unfinished (sym b.is) b.unfinished))
 came_once (r ∷ rs) (s ∷ ss) tail rest bytes a b =
     let heads = one_beginning r s (spellings rs ++ tail) (spellings ss ++ rest) bytes (first_of r rs tail bytes a) (first_of s ss rest bytes b) in
-    let left : Came rs tail (spellings rs ++ tail) = record { in_bounds = (both_true (has_spelling r) (list_all has_spelling rs) a.in_bounds).1; is = refl; unfinished = a.unfinished } in
-    let right : Came ss rest (spellings rs ++ tail) = record { in_bounds = (both_true (has_spelling s) (list_all has_spelling ss) b.in_bounds).1; is = heads.1; unfinished = b.unfinished } in
+    let left : Came rs tail (spellings rs ++ tail) = record { in_bounds = (both_true (has_own_spelling r) (list_all has_own_spelling rs) a.in_bounds).1; is = refl; unfinished = a.unfinished } in
+    let right : Came ss rest (spellings rs ++ tail) = record { in_bounds = (both_true (has_own_spelling s) (list_all has_own_spelling ss) b.in_bounds).1; is = heads.1; unfinished = b.unfinished } in
     let tails = came_once rs ss tail rest (spellings rs ++ tail) left right in
     (ap (λ (x : LogRecord). x ∷ rs) heads.0 ∙ ap (λ (l : List LogRecord). s ∷ l) tails.0, tails.1)
 
 pub came_on : (some others : List LogRecord) (tail rest bytes piece : List ℕ) → Came some tail bytes → Came others rest (tail ++ piece) → Came (some ++ others) rest (bytes ++ piece)
 came_on some others tail rest bytes piece a b =
     record {
-      in_bounds = spelled_append some others a.in_bounds b.in_bounds;
+      in_bounds = passes_append has_own_spelling some others a.in_bounds b.in_bounds;
       is = ap (λ (l : List ℕ). l ++ piece) a.is ∙ append_assoc (spellings some) tail piece ∙ ap (λ (l : List ℕ). spellings some ++ l) b.is
           ∙ sym (append_assoc (spellings some) (spellings others) rest) ∙ ap (λ (l : List ℕ). l ++ rest) (sym (flat_map-append spelling some others));
       unfinished = b.unfinished;
@@ -192,10 +192,10 @@ short_value None h = omega arith
 short_value (Some (Num n)) h = omega arith
 short_value (Some (Bytes text)) h = let p = leb-true (length text) 200 (both_true (leb (length text) 200) (list_all (λ b. ltb b 256) text) h).0 in omega (arith, p)
 
-pub longest : (r : LogRecord) → has_spelling r ≡ true → length (spelling r) ≤ 16409
+pub longest : (r : LogRecord) → has_own_spelling r ≡ true → length (spelling r) ≤ 16409
 longest r good = let size = length-spelling r in let few = size_at r good in omega (arith, size, few)
   where
-    size_at : (r : LogRecord) → has_spelling r ≡ true → record_size r ≤ 16409
+    size_at : (r : LogRecord) → has_own_spelling r ≡ true → record_size r ≤ 16409
     size_at (Update tx key before after) h =
         let p = both_true (tx_has_spelling tx && is_64_bits key && is_value before) (is_value after) h in
         let q = both_true (tx_has_spelling tx && is_64_bits key) (is_value before) p.0 in
@@ -274,7 +274,7 @@ ends_within r size behind tail piece t is b =
           record { low = omega (arith, len); high = omega (arith, k, total); is = all ∙ ap (λ (l : List ℕ). spelling r ++ l) (sym rest) }
     ]
 
-pub read_came : (r : LogRecord) (size : ℕ) (new : List LogRecord) (rest tail piece : List ℕ) → has_spelling r ≡ true → Ends r size tail piece
+pub read_came : (r : LogRecord) (size : ℕ) (new : List LogRecord) (rest tail piece : List ℕ) → has_own_spelling r ≡ true → Ends r size tail piece
     → Comes (r ∷ []) new rest (drop (size - length tail) piece) → Came new rest (tail ++ piece)
 read_came r size new rest tail piece good e c =
     let one : spellings (r ∷ []) ≡ spelling r = flat_map-cons spelling r [] ∙ append-nil (spelling r) in
@@ -282,5 +282,5 @@ read_came r size new rest tail piece good e c =
     subst (λ (l : List LogRecord). Came l rest (tail ++ piece)) (sym c.behind)
     (subst (Came ((r ∷ []) ++ c.records) rest) (sym e.is) (came_on (r ∷ []) c.records [] rest (spelling r) (drop (size - length tail) piece) first c.came))
 
-pub read_bad : (r : LogRecord) (size : ℕ) (tail piece : List ℕ) → has_spelling r ≡ true → Ends r size tail piece → ¬ (Begins (drop (size - length tail) piece)) → ¬ (Begins (tail ++ piece))
+pub read_bad : (r : LogRecord) (size : ℕ) (tail piece : List ℕ) → has_own_spelling r ≡ true → Ends r size tail piece → ¬ (Begins (drop (size - length tail) piece)) → ¬ (Begins (tail ++ piece))
 read_bad r size tail piece good e bad b = bad (begins_rest r (drop (size - length tail) piece) good (subst Begins e.is b))

@@ -2,8 +2,8 @@ use Rattle.std.proofs.Common.{List, ap, sym, subst, ◌∙◌}
 use Rattle.std.specs.List.{list_all}
 use Rattle.std.proofs.lemmas.List.{length-set}
 use Rattle.std.proofs.lemmas.Result.{err_from_is_err_and}
-use Rattle.clv_base.specs.FileRules.{has_spelling}
-use Rattle.law_base.proofs.Logs.{spelled_append}
+use Rattle.clv_base.specs.FileRules.{has_own_spelling}
+use Rattle.law_base.proofs.Logs.{passes_append}
 use Rattle.clv_base.specs.declared.logs.LogRecord.{LogRecord}
 use Rattle.log_standby.specs.Feeding.{Refuses}
 use Rattle.log_standby.proofs.Placed.{fed_of, after_all, as_it_was, put_behind, within_logs, spelled_at, spelled_set, refused_behind}
@@ -31,7 +31,7 @@ invariant_of-self c =
     let low = within_logs c.args.self.now had.logs.items had.streams.items c.args.shard c.self.view_is c.requires in
     let spelled = spelled_at had.logs.items c.args.shard log low c.index_mut.ensures.value c.self.invariant.1 in (
       length-set had.logs.items c.args.shard c.put_in_order.new.log ∙ c.self.invariant.0,
-      spelled_set had.logs.items c.args.shard c.put_in_order.new.log (ap (λ (l : List LogRecord). list_all has_spelling l) c.in_err-put_in_order.ensures.unchanged ∙ spelled) c.self.invariant.1,
+      spelled_set had.logs.items c.args.shard c.put_in_order.new.log (ap (λ (l : List LogRecord). list_all has_own_spelling l) c.in_err-put_in_order.ensures.unchanged ∙ spelled) c.self.invariant.1,
     )
 
 pub returns-in_err-put_in_order-clause-refused : goal.returns-in_err-put_in_order-clause-refused
@@ -49,5 +49,5 @@ invariant_of-self-2 c =
     let spelled = spelled_at had.logs.items c.args.shard log low c.index_mut.ensures.value c.self.invariant.1 in (
       length-set had.logs.items c.args.shard c.put_in_order.new.log ∙ c.self.invariant.0 ∙ sym (length-set had.streams.items c.args.shard c.in-Ok.read.stream),
       spelled_set had.logs.items c.args.shard c.put_in_order.new.log
-          (ap (λ (l : List LogRecord). list_all has_spelling l) c.in_ok-put_in_order.ensures.put ∙ spelled_append log.items c.in-Ok.read.records.items spelled c.in-Ok.ensures.came.in_bounds) c.self.invariant.1,
+          (ap (λ (l : List LogRecord). list_all has_own_spelling l) c.in_ok-put_in_order.ensures.put ∙ passes_append has_own_spelling log.items c.in-Ok.read.records.items spelled c.in-Ok.ensures.came.in_bounds) c.self.invariant.1,
     )
