@@ -2,7 +2,7 @@
 ghost use Rattle.std.specs.Prelude.{◌≡◌, ◌<◌, ◌≤◌, ◌+◌, ◌^◌, ℕ, List, length, take, false, Ok, Err, IfOk, IfErr, IfSome, OnOk, IsTrue};
 ghost use Rattle.std.specs.List.{list_all};
 ghost use Rattle.std.specs.Option.{option_map};
-ghost use Rattle.clv_base.specs.FileRules.{has_own_spelling, passes_file_rules};
+ghost use Rattle.clv_base.specs.FileRules.{has_spelling, has_own_spelling, passes_file_rules};
 ghost use Rattle.io_model.specs.Story.{reads};
 ghost use Rattle.io_model.specs.Sides.{both_told, reads_both};
 ghost use Rattle.io_model.specs.Disk.{Tells, HasCause};
@@ -160,8 +160,9 @@ pub fn open_log<D: Disk>(
     ensures before { IfOk result (λ r. IfSome (both_told (D.story sides.side0) (D.story sides.side1)) (λ s. HasLog shard r.2.items (reads_both s) × HasHeader shard r.1.splits (reads_both s))) }
     ensures found { IfOk result (λ r. IfSome (both_told (D.story sides.side0) (D.story sides.side1)) (λ s. checked_log shard (option_map (λ h. h.now.splits) agreed.entry) (reads_both s) ≡ Ok (r.1.splits, r.2.items))) }
 
-    // The fields of the records are in their bounds, and homes, parts and keys within what the header says.
-    ensures spelled { IfOk result (λ r. IsTrue (list_all has_own_spelling r.2.items)) }
+    // Each record has a spelling of its own: its fields are in their bounds, and homes, parts and keys within what the header says.
+    ensures own { IfOk result (λ r. IsTrue (list_all has_own_spelling r.2.items)) }
+    ensures spelled { IfOk result (λ r. IsTrue (list_all has_spelling r.2.items)) }
     ensures fits { IfOk result (λ r. IsTrue (list_all (passes_file_rules r.1.splits shard) r.2.items)) }
 
     ensures not_log { IfErr result (λ e. (offset : ℕ) → e.0 ≡ NotLog offset → IfSome (both_told (D.story sides.side0) (D.story sides.side1)) (λ s. checked_log shard (option_map (λ h. h.now.splits) agreed.entry) (reads_both s) ≡ Err offset)) }

@@ -2,7 +2,7 @@
 ghost use Rattle.std.specs.Prelude.{◌≡◌, ◌+◌, List, Option, Some, Ok, Err, false, true, IfOk, IfErr, IfSome, IsTrue};
 ghost use Rattle.std.specs.List.{list_all};
 ghost use Rattle.clv_base.specs.declared.logs.LogRecord.{LogRecord as RecordIs};
-ghost use Rattle.clv_base.specs.FileRules.{has_own_spelling};
+ghost use Rattle.clv_base.specs.FileRules.{has_spelling};
 ghost use Rattle.io_model.specs.Sides.{both_told, reads_both};
 ghost use Rattle.log_gate.specs.Header.{Layout};
 ghost use Rattle.log_gate.specs.Image.{checked_log, HasLog, HasHeader};
@@ -36,7 +36,7 @@ pub fn open_gate<D: Disk>(
 
     // So had what a read gave before.
     ensures before { IfOk result (λ r. (s : _) → both_told (D.story sides.side0) (D.story sides.side1) ≡ Some s → HasLog shard r.1.items (reads_both s) × HasHeader shard agreed.now.splits (reads_both s)) }
-    ensures spelled { IfOk result (λ r. list_all has_own_spelling r.1.items ≡ true) }
+    ensures spelled { IfOk result (λ r. list_all has_spelling r.1.items ≡ true) }
     ensures not_log { IfErr result (λ e. (offset : _) → e.0 ≡ NotLog offset → IfSome (both_told (D.story sides.side0) (D.story sides.side1)) (λ s. checked_log shard (Some agreed.now.splits) (reads_both s) ≡ Err offset)) }
     ensures same { IfErr result (λ e. (layout : Layout) (log : Option (List RecordIs)) → logs_told (both_told (D.story e.1.side0) (D.story e.1.side1)) shard layout log → logs_told (both_told (D.story sides.side0) (D.story sides.side1)) shard layout log) }
     ensures faults { IfOk result (λ r. r.0.faults ≡ D.faults sides.side0 + D.faults sides.side1) }

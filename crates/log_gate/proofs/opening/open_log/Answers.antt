@@ -5,6 +5,7 @@ use Rattle.log_gate.specs.Gate.{EachNow}
 use Rattle.log_gate.specs.View.{View}
 use Rattle.log_gate.proofs.Heads.{head_long, head_of_all}
 use Rattle.log_gate.proofs.Unchanged.{opened_holds, opened_log, opened_header, opened_before}
+use Rattle.law_base.proofs.Logs.{own_spelled}
 use Rattle.log_gate.proofs.opening.open_log.Goals as goal
 
 pub made-gate-requires : goal.made-gate-requires
@@ -44,3 +45,6 @@ pub returns-in-Ok-spelled_header-clause-before : goal.returns-in-Ok-spelled_head
 returns-in-Ok-spelled_header-clause-before g c =
     let small : c.args.shard < 2 ^ 32 = omega arith in
     opened_before c.args.shard _ small (c.in-Ok-read_log.choice, c.in-Ok-read_log.records, c.in-Ok-read_log.at) (both_told (g.D.Disk.story c.args.sides.side0) (g.D.Disk.story c.args.sides.side1)) (both_told (g.D.Disk.story c.read_log.new.sides.side0) (g.D.Disk.story c.read_log.new.sides.side1)) c.in-Ok-read_log.ensures.told
+
+pub returns-in-Ok-spelled_header-clause-spelled : goal.returns-in-Ok-spelled_header-clause-spelled
+returns-in-Ok-spelled_header-clause-spelled g c = own_spelled c.in-Ok-read_log.records.items c.in-Ok-read_log.ensures.good.spelled
