@@ -4,7 +4,7 @@ use Rattle.std.proofs.Math.Seq.{take-length}
 use Rattle.std.specs.List.{list_all}
 use Rattle.clv_base.specs.declared.logs.LogRecord.{LogRecord}
 use Rattle.clv_base.specs.Logs.{record_size, fitting}
-use Rattle.clv_base.specs.FileRules.{has_spelling}
+use Rattle.clv_base.specs.FileRules.{has_own_spelling}
 use Rattle.log_records.specs.Laws.{LengthIsSize}
 use Rattle.log_gate.specs.Image.{IsBatch}
 use Rattle.log_buffer.specs.Batches.{spellings}
@@ -26,7 +26,7 @@ those_fit room (r ∷ rs) = by_test (nat_lt room (record_size r)) refl (those_fi
         ap (λ b. elim b [ true ↦ 0 | false ↦ suc (fitting (room - record_size r) (take (fitting (room - record_size r) rs) rs)) ]) e ∙ ap suc more
 
 -- records that fit one batch are one
-pub is_batch : LengthIsSize → (rs : List LogRecord) → list_all has_spelling rs ≡ true → 0 < length rs → fitting 1048576 rs ≡ length rs → IsBatch (spellings rs)
+pub is_batch : LengthIsSize → (rs : List LogRecord) → list_all has_own_spelling rs ≡ true → 0 < length rs → fitting 1048576 rs ≡ length rs → IsBatch (spellings rs)
 is_batch law rs h some fits =
     let all : take (length rs) rs ≡ rs = take-length rs in
     record {

@@ -4,23 +4,20 @@ use Rattle.std.proofs.Math.Seq.{take-add}
 use Rattle.std.specs.List.{list_all}
 use Rattle.clv_base.specs.declared.logs.LogRecord.{LogRecord}
 use Rattle.clv_base.specs.Logs.{record_size}
-use Rattle.clv_base.specs.FileRules.{has_spelling}
+use Rattle.clv_base.specs.FileRules.{has_own_spelling}
 use Rattle.log_buffer.specs.Buffers.{Buffer, next_count}
 use Rattle.log_records.specs.Laws.{LengthIsSize}
 use Rattle.log_gate.specs.Image.{SpellAll, IsBatch}
 use Rattle.log_gate.specs.View.{Only, OnlyOrMore}
 use Rattle.log_buffer.specs.Flushing.{spellings, batch_from, flown, landed, AtRest, InFlight, ByBatches, another}
-use Rattle.law_base.proofs.Logs.{few_fit, spelled_dropped as all_dropped, spelled_taken as all_taken}
+use Rattle.law_base.proofs.Logs.{few_fit, passes_taken}
 use Rattle.log_buffer.proofs.BatchSizes.{they_fit, some_fits, has_bytes}
 use Rattle.log_buffer.proofs.Laws.{fitting_by-fitting as same_count}
 
 pub same_next : (b : Buffer LogRecord) → b.taken ≡ b.durable → next_count record_size 1048576 b ≡ batch_from b.durable b.records
 same_next b e = ap (λ (n : ℕ). next_count record_size 1048576 (record b { taken = n })) e ∙ same_count 1048576 (drop b.durable b.records)
 
-module _ (law : LengthIsSize) (n : ℕ) (log : List LogRecord) (h : list_all has_spelling log ≡ true) where
-  rest : list_all has_spelling (drop n log) ≡ true
-  rest = all_dropped n log h
-
+module _ (law : LengthIsSize) (n : ℕ) (log : List LogRecord) (rest : list_all has_own_spelling (drop n log) ≡ true) where
   pub within : n ≤ length log → n + batch_from n log ≤ length log
   within le = omega (arith, le, few_fit 1048576 (drop n log), length-drop n log)
 
@@ -34,7 +31,7 @@ module _ (law : LengthIsSize) (n : ℕ) (log : List LogRecord) (h : list_all has
   not_none lt = some_fits 1048576 (drop n log) (omega arith) rest (more_left lt)
 
   pub next_spelled : SpellAll (take (batch_from n log) (drop n log)) (spellings (take (batch_from n log) (drop n log)))
-  next_spelled = record { in_bounds = all_taken (batch_from n log) (drop n log) rest; is = refl }
+  next_spelled = record { in_bounds = passes_taken has_own_spelling (batch_from n log) (drop n log) rest; is = refl }
 
   pub next_is_batch : n < length log → IsBatch (spellings (take (batch_from n log) (drop n log)))
   next_is_batch lt =

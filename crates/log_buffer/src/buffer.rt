@@ -1,6 +1,7 @@
 //! The buffer.
-ghost use Rattle.std.specs.Prelude.{◌≡◌, ◌≤◌, ◌<◌, ◌+◌, [], ◌∷◌, ◌++◌, ℕ, length, drop, take, slice_get, slice_range, IsNone, IfSome, IfOk, IfErr, OnOk, OnErr, max, min, ◌↔◌};
+ghost use Rattle.std.specs.Prelude.{◌≡◌, ◌≤◌, ◌<◌, ◌+◌, true, [], ◌∷◌, ◌++◌, ℕ, length, drop, take, slice_get, slice_range, IsNone, IfSome, IfOk, IfErr, OnOk, OnErr, max, min, ◌↔◌};
 ghost use Rattle.std.specs.Option.{option_copied};
+ghost use Rattle.std.specs.List.{list_all};
 
 use crate::batch::{Extent, fitting};
 use crate::chain::Chain;
@@ -30,7 +31,8 @@ pub struct LogBuffer<R: Measured> {
 }
 
 impl<R: Measured> Model for LogBuffer<R> {
-    ghost use Rattle.std.specs.Prelude.{◌-◌, ◌≤◌, map, min, length, vec_len, vec_capacity};
+    ghost use Rattle.std.specs.Prelude.{◌≡◌, ◌-◌, ◌≤◌, true, drop, map, min, length, vec_len, vec_capacity};
+    ghost use Rattle.std.specs.List.{list_all};
     ghost use Rattle.log_buffer.specs.Buffers.{Buffer};
     ghost use Rattle.log_buffer.specs.Chained.{IsChainOf, chain_room};
 
@@ -38,7 +40,7 @@ impl<R: Measured> Model for LogBuffer<R> {
 
     ghost view = { λ s. record { records = s.records.items; durable = s.durable; taken = s.taken; room = s.reserved } };
 
-    ghost invariant = { λ s. (s.durable ≤ s.taken) × (s.taken ≤ length s.records.items) × IsChainOf s.chain (map R.link s.records.items) × (s.reserved ≤ min (vec_capacity s.records - vec_len s.records) (chain_room s.chain)) };
+    ghost invariant = { λ s. (s.durable ≤ s.taken) × (s.taken ≤ length s.records.items) × IsChainOf s.chain (map R.link s.records.items) × (s.reserved ≤ min (vec_capacity s.records - vec_len s.records) (chain_room s.chain)) × (list_all R.follows (drop s.taken s.records.items) ≡ true) };
 }
 
 impl<R: Measured> LogBuffer<R> {
@@ -107,9 +109,10 @@ impl<R: Measured> LogBuffer<R> {
         self.reserved = self.reserved.min(keep);
     }
 
-    /// Puts a record at the end, and gives its LSN. Takes no memory, and of the room that was reserved one place.
+    /// Puts a record that may follow others at the end, and gives its LSN. Takes no memory, and of the room that was reserved one place.
     pub fn append_reserved(&mut self, added: R) -> u64
-        requires { 0 < self.old.room }
+        requires room { 0 < self.old.room }
+        requires follows { R.follows added ≡ true }
         ensures lsn { result ≡ length self.old.records }
         ensures records { self.new.records ≡ self.old.records ++ added ∷ [] }
         ensures fronts { (self.new.durable ≡ self.old.durable) × (self.new.taken ≡ self.old.taken) }
@@ -183,10 +186,11 @@ impl<R: Measured> LogBuffer<R> {
         self.durable as u64
     }
 
-    /// Those below this LSN were taken.
+    /// Those below this LSN were taken; each from there on was put behind others.
     pub fn taken(&self) -> u64
         ensures taken { result ≡ self.now.taken }
         ensures fronts { IsInOrder self.now }
+        ensures follow { list_all R.follows (drop self.now.taken self.now.records) ≡ true }
     {
         self.taken as u64
     }

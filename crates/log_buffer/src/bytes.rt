@@ -1,7 +1,7 @@
 //! A batch.
 ghost use Rattle.std.specs.Prelude.{◌≡◌, ◌<◌, true, length, IfOk};
 ghost use Rattle.std.specs.List.{list_all};
-ghost use Rattle.clv_base.specs.FileRules.{has_spelling};
+ghost use Rattle.clv_base.specs.FileRules.{has_own_spelling};
 ghost use Rattle.clv_base.specs.Logs.{fitting};
 ghost use Rattle.log_gate.specs.Image.{IsBatch, SpellAll};
 
@@ -12,7 +12,7 @@ use std::alloc::{AllocError, Global};
 
 /// The payload of these records, of which there are some, and which have together at most 1,048,576 bytes.
 pub fn batch_bytes(alloc: Global, records: &[LogRecord]) -> Result<Vec<u8>, AllocError>
-    requires spelled { list_all has_spelling records.now ≡ true }
+    requires spelled { list_all has_own_spelling records.now ≡ true }
     requires some { 0 < length records.now }
     requires fits { fitting 1048576 records.now ≡ length records.now }
     ensures batch { IfOk result (λ p. IsBatch p.items) }

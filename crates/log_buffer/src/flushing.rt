@@ -1,7 +1,7 @@
 // Batch by batch.
-ghost use Rattle.std.specs.Prelude.{◌≡◌, ◌≤◌, ◌<◌, true, false, length, vec_capacity, OnOk, OnErr, IsErrOf, Err};
+ghost use Rattle.std.specs.Prelude.{◌≡◌, ◌≤◌, ◌<◌, true, false, drop, length, vec_capacity, OnOk, OnErr, IsErrOf, Err};
 ghost use Rattle.std.specs.List.{list_all};
-ghost use Rattle.clv_base.specs.FileRules.{has_spelling};
+ghost use Rattle.clv_base.specs.FileRules.{has_spelling, has_own_spelling};
 ghost use Rattle.log_gate.specs.Header.{Layout};
 ghost use Rattle.log_buffer.specs.Flushing.{AtRest, ByBatches, CountsFlush, InFlight, flown, landed};
 
@@ -31,7 +31,7 @@ fn flush_next<G: Gate>(
     gate: &mut G,
     payload: &mut Vec<u8>,
 ) -> Result<(), FlushError>
-    requires spelled { list_all has_spelling buffer.old.records ≡ true }
+    requires spelled { list_all has_own_spelling (drop buffer.old.durable buffer.old.records) ≡ true }
     requires rest { (layout : Layout) × AtRest buffer.old (G.is_shut gate.old) (G.logs gate.old layout) }
     requires more { buffer.old.durable < length buffer.old.records }
     requires room { 1048576 ≤ vec_capacity payload.old }

@@ -1,5 +1,6 @@
 //! What a buffer asks of its records.
-ghost use Rattle.std.specs.Prelude.{◌≡◌, ◌≤◌, ℕ};
+ghost use Rattle.std.specs.Prelude.{◌≡◌, ◌≤◌, ℕ, Bool};
+ghost use Rattle.clv_base.specs.FileRules.{is_plain};
 ghost use Rattle.clv_base.specs.Logs.{optional_size, record_size};
 ghost use Rattle.log_buffer.specs.declared.measured.Link.{Link as LinkTo};
 ghost use Rattle.log_buffer.specs.Links.{link_of};
@@ -27,6 +28,9 @@ pub trait Measured {
     /// What it is to the writes of a transaction.
     ghost link: { Self → LinkTo };
 
+    /// Whether it may be put behind others: it stands for itself alone.
+    ghost follows: { Self → Bool };
+
     /// Its size in bytes.
     fn size(&self) -> usize
         ensures { result ≡ size self.now };
@@ -51,6 +55,8 @@ impl Measured for LogRecord {
     ghost size = { record_size };
 
     ghost link = { link_of };
+
+    ghost follows = { is_plain };
 
     fn size(&self) -> usize {
         match self {

@@ -1,7 +1,7 @@
 //! What a machine takes from the core.
 ghost use Rattle.std.specs.Prelude.{◌≡◌, ◌<◌, ◌^◌, true, drop, take, length};
 ghost use Rattle.std.specs.List.{list_all};
-ghost use Rattle.clv_base.specs.FileRules.{has_spelling};
+ghost use Rattle.clv_base.specs.FileRules.{has_own_spelling};
 ghost use Rattle.clv_base.specs.Logs.{fitting};
 ghost use Rattle.clv_base.specs.Events.{taken as taken_upto};
 ghost use Rattle.txn_core.specs.Sound.{FewUndecided};
@@ -20,13 +20,6 @@ impl<S: Store + Drop, L: Locks + Drop> ShardCore<S, L> {
         self.transactions.few_undecided();
     }
 
-    /// A law: each record of the log has a spelling.
-    pub fn log_is_spelled(&self)
-        ensures { list_all has_spelling ((self.now.shard).local).log ≡ true }
-    {
-        self.transactions.log_is_spelled();
-    }
-
     /// How many records the log has: a vector holds them.
     pub fn log_end(&self) -> u64
         ensures end { result ≡ length ((self.now.shard).local).log }
@@ -35,10 +28,12 @@ impl<S: Store + Drop, L: Locks + Drop> ShardCore<S, L> {
         self.transactions.end()
     }
 
-    /// The next records that fit a batch, the oldest first.
+    /// The next records that fit a batch, the oldest first. Each has a spelling of its own.
     pub fn next_records(&self) -> &[LogRecord]
-        ensures { result.now ≡ take (fitting 1048576 (drop (taken_upto self.now.shard) ((self.now.shard).local).log)) (drop (taken_upto self.now.shard) ((self.now.shard).local).log) }
+        ensures next { result.now ≡ take (fitting 1048576 (drop (taken_upto self.now.shard) ((self.now.shard).local).log)) (drop (taken_upto self.now.shard) ((self.now.shard).local).log) }
+        ensures spelled { list_all has_own_spelling result.now ≡ true }
     {
+        self.transactions.log_is_spelled();
         let _end = self.transactions.end();
         let from = self.transactions.taken();
         let batch = self.transactions.next_batch(BATCH_BYTES);

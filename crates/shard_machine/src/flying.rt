@@ -38,7 +38,6 @@ fn next_batch<S: Store + Drop, L: Locks + Drop>(
     ensures batch { IfOk result (λ b. IsBatch b.payload.items) }
     ensures spelled { IfOk result (λ b. SpellAll (flying core.now.shard b.upto) b.payload.items) }
 {
-    core.log_is_spelled();
     let _end = core.log_end();
     let upto = core.durable() + core.next_count() as u64;
     let payload = batch_bytes(alloc, core.next_records())?;

@@ -1,5 +1,7 @@
 //! The fronts of the log, and its batches.
-ghost use Rattle.std.specs.Prelude.{◌≡◌, ◌≤◌, ◌+◌, length, take, drop, slice_range, IsNone, IfSome, ◌↔◌};
+ghost use Rattle.std.specs.Prelude.{◌≡◌, ◌≤◌, ◌+◌, true, length, take, drop, slice_range, IsNone, IfSome, ◌↔◌};
+ghost use Rattle.std.specs.List.{list_all};
+ghost use Rattle.clv_base.specs.FileRules.{is_plain};
 ghost use Rattle.clv_base.specs.Logs.{record_size, fitting};
 ghost use Rattle.log_buffer.specs.Buffers.{sizes};
 ghost use Rattle.txn_core.specs.State.{AreInOrder};
@@ -19,10 +21,11 @@ impl<S: Store + Drop, L: Locks + Drop> ShardTx<S, L> {
         self.buffer.durable()
     }
 
-    /// Those below this LSN were taken for a batch.
+    /// Those below this LSN were taken for a batch; each from there on was put behind others.
     pub fn taken(&self) -> u64
         ensures taken { result ≡ self.now.taken }
         ensures fronts { AreInOrder self.now }
+        ensures follow { list_all is_plain (drop self.now.taken (self.now.local).log) ≡ true }
     {
         self.buffer.taken()
     }

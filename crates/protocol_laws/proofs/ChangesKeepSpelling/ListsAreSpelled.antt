@@ -18,7 +18,7 @@ use Rattle.clv_base.specs.declared.modes.Found.{Found}
 use Rattle.clv_base.specs.declared.modes.Found.TheVariants.{Live, Ghost, Absent}
 use Rattle.clv_base.specs.Orders.{tx_cmp, tx_same, tx_in, tx_insert}
 use Rattle.clv_base.specs.Maps.{KeyMap, map_get, map_set, with_pairs}
-use Rattle.clv_base.specs.FileRules.{has_spelling, tx_has_spelling, txs_rise, is_value}
+use Rattle.clv_base.specs.FileRules.{has_spelling, tx_has_spelling, txs_rise, is_value, is_64_bits}
 use Rattle.clv_base.specs.Logs.{StandingUpdate, base_of, changed, standing, has_standing, committed_in, prepare_of, with_change, fold_writes, fold_updates}
 use Rattle.clv_base.specs.Facts.{predecessors_of}
 use Rattle.clv_base.specs.Needs.{Records, found_at}
@@ -174,9 +174,15 @@ ghosts_values txs (w ∷ ws) rs all =
     ghosts_values txs ws (cond (tx_in w.tx txs) (ghost_if_absent w.key rs (found_at w.key rs)) rs)
     (cond_both (tx_in w.tx txs) (ghost_if_absent w.key rs (found_at w.key rs)) rs Values (λ e. ghost_value w.key rs (found_at w.key rs) all) (λ e. all))
 
--- no log of records that all have a spelling begins with a map
+-- the map that a log begins with has values that fit
+pairs_fit : (ps m : KeyMap) → list_all (λ p. is_64_bits p.0 && fits_value p.1) ps ≡ true → Fits m → Fits (with_pairs ps m)
+pairs_fit [] m h f = f
+pairs_fit (p ∷ ps) m h f =
+    let two = and_parts (is_64_bits p.0 && fits_value p.1) (list_all (λ q. is_64_bits q.0 && fits_value q.1) ps) h in
+    set_fits p.0 (Some p.1) (with_pairs ps m) (and_parts (is_64_bits p.0) (fits_value p.1) two.0).1 (pairs_fit ps m two.1 f)
+
 base_fits : (log : List LogRecord) → list_all has_spelling log ≡ true → Fits (with_pairs (base_of log) [])
-base_fits log h = subst (λ base. Fits (with_pairs base [])) (sym (spelled_base log h)) tt
+base_fits log h = pairs_fit (base_of log) [] (spelled_base log h) tt
 
 pub restored_values : (txs : List TxId) (keep : TxId → Bool) (log : List LogRecord) → list_all has_spelling log ≡ true → Values (with_ghosts txs (standing log) (records_of (fold_updates keep log [])))
 restored_values txs keep log h =

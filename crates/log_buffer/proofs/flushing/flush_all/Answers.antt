@@ -1,5 +1,8 @@
-use Rattle.std.proofs.Common.{◌≡◌, refl, ap, ◌∙◌, ◌-◌, ◌<◌, length, arith}
+use Rattle.std.proofs.Common.{◌≡◌, refl, ap, sym, subst, ◌∙◌, ◌-◌, ◌<◌, ℕ, true, List, length, drop, arith}
+use Rattle.std.specs.List.{list_all}
 use Rattle.clv_base.specs.declared.logs.LogRecord.{LogRecord}
+use Rattle.clv_base.specs.FileRules.{has_spelling, is_plain}
+use Rattle.law_base.proofs.Logs.{plain_own, spelled_dropped}
 use Rattle.log_buffer.specs.Buffers.{Buffer}
 use Rattle.log_buffer.specs.Flushing.{ByBatches, none, landed}
 use Rattle.log_buffer.proofs.Flying.{goes_on}
@@ -31,6 +34,15 @@ loop-alloc-preserved g c =
     let room : c.flush_next.new.buffer.room ≡ first.room = ap (λ (x : Buffer LogRecord). x.room) is ∙ kept.1 in
     let batches : ByBatches first.records first.durable c.flush_next.new.buffer.durable = goes_on first before c.flush_next.new.buffer kept.0 kept.2 is in
     (records, room, batches, λ layout rest. c.in-Ok-flush_next.ensures.rest layout (kept.3 layout rest), kept.4, omega (arith, kept.5, c.flush_next.ensures.room), c.in-Ok-flush_next.ensures.cause ∙ kept.6, c.flush_next.ensures.shard ∙ kept.7)
+
+pub flush_next-requires-clause-spelled : goal.flush_next-requires-clause-spelled
+flush_next-requires-clause-spelled g c =
+    let b = c.loop-alloc.buffer in
+    let kept = c.loop-alloc.invariant in
+    let rest = kept.3 kept.4.0 kept.4.1 in
+    let spelled : list_all has_spelling b.records ≡ true = subst (λ (rs : List LogRecord). list_all has_spelling rs ≡ true) (sym kept.0) c.requires.spelled in
+    let plain : list_all is_plain (drop b.durable b.records) ≡ true = subst (λ (n : ℕ). list_all is_plain (drop n b.records) ≡ true) rest.nothing_flies c.taken.ensures.follow in
+    plain_own (drop b.durable b.records) plain (spelled_dropped b.durable b.records spelled)
 
 pub flush_next-requires-clause-rest : goal.flush_next-requires-clause-rest
 flush_next-requires-clause-rest g c = let kept = c.loop-alloc.invariant in (kept.4.0, kept.3 kept.4.0 kept.4.1)

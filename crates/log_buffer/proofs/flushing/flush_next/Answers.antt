@@ -1,5 +1,8 @@
-use Rattle.std.proofs.Common.{◌≡◌, refl, ap, sym, ◌∙◌, subst, ℕ, ◌+◌, ◌≤◌, ◌<◌, List, length, take, drop, slice_range, arith}
+use Rattle.std.proofs.Common.{◌≡◌, refl, ap, sym, ◌∙◌, subst, ℕ, ◌+◌, ◌≤◌, ◌<◌, List, length, take, drop, slice_range, true, arith}
+use Rattle.std.specs.List.{list_all}
 use Rattle.clv_base.specs.declared.logs.LogRecord.{LogRecord}
+use Rattle.clv_base.specs.FileRules.{has_own_spelling}
+use Rattle.law_base.proofs.Logs.{passes_taken}
 use Rattle.clv_base.specs.Logs.{record_size}
 use Rattle.log_buffer.specs.Buffers.{Buffer, next_count}
 use Rattle.log_gate.specs.Image.{SpellAll, IsBatch}
@@ -23,6 +26,13 @@ lay_out-requires-clause-inside g c =
     let range = c.in-Some.ensures.some in
     let records : c.take_batch.new.self.records ≡ b.records = ap (λ (x : Buffer LogRecord). x.records) c.take_batch.ensures.taken in
     (omega (arith, range.0, range.1), omega (arith, range.1, same, end, c.requires.rest.1.nothing_flies, ap length records))
+
+pub lay_out-requires-clause-spelled : goal.lay_out-requires-clause-spelled
+lay_out-requires-clause-spelled g c =
+    let b = c.args.buffer.now in
+    let range : slice_range c.take_batch.new.self.records c.in-Some.batch.from c.in-Some.batch.upto ≡ take (batch_from b.durable b.records) (drop b.durable b.records) =
+    cut_out b c.take_batch.new.self c.in-Some.batch.from c.in-Some.batch.upto c.requires.rest.1.nothing_flies c.take_batch.ensures.taken c.in-Some.ensures.some.0 c.in-Some.ensures.some.1 in
+    subst (λ (rs : List LogRecord). list_all has_own_spelling rs ≡ true) (sym range) (passes_taken has_own_spelling (batch_from b.durable b.records) (drop b.durable b.records) c.requires.spelled)
 
 pub lay_out-requires-clause-room : goal.lay_out-requires-clause-room
 lay_out-requires-clause-room g c =

@@ -2,15 +2,15 @@
 use Rattle.std.proofs.Common.{◌≡◌, ap, sym, ◌∙◌, subst, ◌+◌, ◌≤◌, true, List, ◌++◌, length, get_or, take, length-append, vec_len, vec_capacity, arith}
 use Rattle.clv_base.specs.declared.logs.LogRecord.{LogRecord}
 use Rattle.clv_base.specs.Logs.{record_size}
-use Rattle.clv_base.specs.FileRules.{has_spelling}
+use Rattle.clv_base.specs.FileRules.{has_own_spelling}
 use Rattle.log_buffer.specs.Batches.{spellings}
 use Rattle.log_buffer.proofs.BatchSizes.{spelled_before}
 use Rattle.log_buffer.proofs.spelling.spell.Goals as goal
-use Rattle.law_base.proofs.Logs.{each_spelled}
+use Rattle.law_base.proofs.Logs.{each_passes}
 
 pub encode-requires : goal.encode-requires
 encode-requires c =
-    subst (λ (r : LogRecord). has_spelling r ≡ true) (sym c.record-item.is) (each_spelled c.args.records.now c.loop-record.record-index c.record-item.result c.requires.spelled c.loop-record-test.true)
+    subst (λ (r : LogRecord). has_own_spelling r ≡ true) (sym c.record-item.is) (each_passes has_own_spelling c.args.records.now c.loop-record.record-index c.record-item.result c.requires.spelled c.loop-record-test.true)
 
 pub returns-in_err-encode-clause-with_room : goal.returns-in_err-encode-clause-with_room
 returns-in_err-encode-clause-with_room c = λ all.
