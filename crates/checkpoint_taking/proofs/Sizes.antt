@@ -8,7 +8,7 @@ use Rattle.clv_base.specs.declared.shard_log.FileRecord.{FileRecord}
 use Rattle.clv_base.specs.declared.shard_log.FileRecord.TheVariants.{Plain, Begin, Base, Keep, Checked}
 use Rattle.clv_base.specs.declared.values.Value.{Value as ValueType}
 use Rattle.clv_base.specs.Logs.{optional_size, record_size}
-use Rattle.clv_base.specs.FileRules.{tx_has_spelling, is_64_bits, is_undo_next, is_value, is_kept_kind, has_spelling, file_record_has_spelling}
+use Rattle.clv_base.specs.FileRules.{tx_has_spelling, is_64_bits, is_undo_next, is_value, is_kept_kind, has_own_spelling, file_record_has_spelling}
 use Rattle.log_records.specs.FileSpelling.{file_spelling, file_record_size}
 use Rattle.log_records.specs.Laws.{LengthIsSizeInFile}
 use Rattle.law_base.proofs.Options.{option_small}
@@ -18,7 +18,7 @@ value_small : (v : Option ValueType) → is_value v ≡ true → optional_size v
 value_small None h = omega arith
 value_small (Some v) h = option_small (Some v) h
 
-record_small : (r : LogRecord) → has_spelling r ≡ true → (1 ≤ record_size r) × (record_size r ≤ 1048567)
+record_small : (r : LogRecord) → has_own_spelling r ≡ true → (1 ≤ record_size r) × (record_size r ≤ 1048567)
 record_small (Update tx key before after) h =
     let p = and_parts (tx_has_spelling tx && is_64_bits key && is_value before) (is_value after) h in
     let q = and_parts (tx_has_spelling tx && is_64_bits key) (is_value before) p.0 in
@@ -31,14 +31,14 @@ record_small (End tx) h = (omega arith, omega arith)
 record_small (Restart run epoch) h = (omega arith, omega arith)
 record_small (Add tx key by) h = (omega arith, omega arith)
 record_small (Unadd tx undo_next key by) h = (omega arith, omega arith)
-record_small Forgotten h = (omega arith, omega arith)
-record_small (Check run' epoch' upto base) h = (omega arith, omega arith)
+record_small Forgotten h = absurd cc
+record_small (Check run' epoch' upto base) h = absurd cc
 
 file_small : (r : FileRecord) → file_record_has_spelling r ≡ true → (1 ≤ file_record_size r) × (file_record_size r ≤ 1048576)
 file_small (Plain r) h = let s = record_small r h in (s.0, omega (arith, s.1))
 file_small (Begin run epoch upto) h = (omega arith, omega arith)
 file_small (Base key value) h = let s = value_small (Some value) (and_parts (is_64_bits key) _ h).1 in (omega arith, omega (arith, s))
-file_small (Keep lsn r) h = let s = record_small r (and_parts (is_64_bits lsn && is_kept_kind r) (has_spelling r) h).1 in (omega arith, omega (arith, s.1))
+file_small (Keep lsn r) h = let s = record_small r (and_parts (is_64_bits lsn && is_kept_kind r) (has_own_spelling r) h).1 in (omega arith, omega (arith, s.1))
 file_small Checked h = (omega arith, omega arith)
 
 module _ (law : LengthIsSizeInFile) (r : FileRecord) (h : file_record_has_spelling r ≡ true) where

@@ -16,7 +16,7 @@ use Rattle.law_base.proofs.Bools.{less_is}
 use Rattle.law_base.proofs.Sets.{Rise, above_more, filter_rises}
 use Rattle.log_analysis.specs.declared.facts.TxFacts.{TxFacts}
 use Rattle.log_analysis.specs.Doubt.{has_commit}
-use Rattle.checkpoint_taking.specs.Kept.{is_spelled, left_open, home_away, prepare_by, kept_by, is_keepable}
+use Rattle.checkpoint_taking.specs.Kept.{left_open, home_away, prepare_by, kept_by, is_keepable}
 
 -- ---- some of a list
 
@@ -75,7 +75,7 @@ keepable_if : (keep : Bool) (r : LogRecord) → is_keepable r ≡ true → is_ke
 keepable_if true r h = h
 keepable_if false r h = refl
 
-pub keepable : (m : Table TxFacts) (log : List LogRecord) (stands : ℕ → Bool) (shard n : ℕ) (r : LogRecord) → is_spelled r ≡ true → is_keepable (kept_by m log stands shard n r) ≡ true
+pub keepable : (m : Table TxFacts) (log : List LogRecord) (stands : ℕ → Bool) (shard n : ℕ) (r : LogRecord) → has_spelling r ≡ true → is_keepable (kept_by m log stands shard n r) ≡ true
 keepable m log stands shard n (Update tx key before after) h = keepable_if (not (has_commit m tx) && stands n) (Update tx key before after) h
 keepable m log stands shard n (Add tx key by) h = keepable_if (not (has_commit m tx) && stands n) (Add tx key by) h
 keepable m log stands shard n (Clr tx undo_next key after) h = refl
@@ -91,9 +91,3 @@ keepable m log stands shard n (End tx) h = h
 keepable m log stands shard n (Restart run epoch) h = refl
 keepable m log stands shard n Forgotten h = refl
 keepable m log stands shard n (Check run epoch upto base) h = refl
-
--- each of a log
-pub each_spelled : (log : List LogRecord) (i : ℕ) (r : LogRecord) → list_all is_spelled log ≡ true → i < length log → r ≡ get_or log i r → is_spelled r ≡ true
-each_spelled [] i r h l is = absurd (omega arith)
-each_spelled (q ∷ log) zero r h l is = ap is_spelled is ∙ (and_parts (is_spelled q) (list_all is_spelled log) h).0
-each_spelled (q ∷ log) (suc i) r h l is = each_spelled log i r (and_parts (is_spelled q) (list_all is_spelled log) h).1 (omega (arith, l)) is

@@ -1,29 +1,18 @@
 -- What stays of a log's records, by a table of facts and a test of LSNs.
-use Rattle.std.specs.Prelude.{ℕ, suc, Bool, true, false, not, ◌&&◌, ◌||◌, ◌==◌, nat_lt, List, [], ◌∷◌, ◌++◌, Option, Some, None, IsTrue}
-use Rattle.std.specs.List.{filter, list_all}
+use Rattle.std.specs.Prelude.{ℕ, suc, Bool, true, false, not, ◌&&◌, ◌||◌, ◌==◌, nat_lt, List, [], ◌∷◌, ◌++◌, Option, Some, None}
+use Rattle.std.specs.List.{filter}
 use Rattle.clv_base.specs.declared.names.TxId.{TxId}
 use Rattle.clv_base.specs.declared.logs.LogRecord.{LogRecord}
 use Rattle.clv_base.specs.declared.logs.LogRecord.TheVariants.{Update, Clr, Prepare, Commit, Abort, End, Restart, Add, Unadd, Forgotten, Check}
 use Rattle.clv_base.specs.declared.shard_log.FileRecord.{FileRecord}
 use Rattle.clv_base.specs.Orders.{Table}
 use Rattle.clv_base.specs.LogRules.{some_parts}
-use Rattle.clv_base.specs.FileRules.{has_spelling, is_kept_kind}
+use Rattle.clv_base.specs.FileRules.{has_own_spelling, is_kept_kind}
 use Rattle.clv_base.specs.Checkpoints.{kept_if, kept_records}
 use Rattle.log_analysis.specs.declared.facts.TxFacts.{TxFacts}
 use Rattle.log_analysis.specs.Facts.{known}
 use Rattle.log_analysis.specs.Doubt.{has_commit}
 use Rattle.log_analysis.specs.Lists.{home_at}
-
--- ---- logs whose records a file can hold
-
--- all records have spellings but those that a checkpoint left
-abbrev pub is_spelled : LogRecord → Bool
-is_spelled Forgotten = true
-is_spelled (Check run epoch upto base) = true
-is_spelled r = has_spelling r
-
-abbrev pub IsSpelledLog : List LogRecord → Type 0
-IsSpelledLog log = IsTrue (list_all is_spelled log)
 
 -- ---- what stays
 
@@ -58,9 +47,9 @@ abbrev pub is_forgotten : LogRecord → Bool
 is_forgotten Forgotten = true
 is_forgotten _ = false
 
--- it is forgotten, or may be kept and has a spelling
+-- it is forgotten, or may be kept and has a spelling of its own
 abbrev pub is_keepable : LogRecord → Bool
-is_keepable r = is_forgotten r || is_kept_kind r && has_spelling r
+is_keepable r = is_forgotten r || is_kept_kind r && has_own_spelling r
 
 -- the file's records of places, by what stays of each
 abbrev pub kept_places : (ℕ → LogRecord → LogRecord) → ℕ → List LogRecord → List FileRecord

@@ -5,7 +5,8 @@ ghost use Rattle.std.specs.List.{list_all};
 ghost use Rattle.clv_base.specs.declared.shard_log.FileRecord.TheVariants.{Base};
 ghost use Rattle.clv_base.specs.Checkpoints.{kept_records};
 ghost use Rattle.checkpoint_taking.specs.Cut.{cut};
-ghost use Rattle.checkpoint_taking.specs.Kept.{is_keepable, is_spelled, kept_by, kept_places};
+ghost use Rattle.clv_base.specs.FileRules.{has_spelling};
+ghost use Rattle.checkpoint_taking.specs.Kept.{is_keepable, kept_by, kept_places};
 ghost use Rattle.checkpoint_taking.specs.Lsns.{has_lsn};
 
 use crate::Memory;
@@ -56,7 +57,7 @@ pub fn put_places(
     stands: &LsnSet,
     shard: u32,
 ) -> Result<(), Memory>
-    requires { IsTrue (list_all is_spelled log.now) }
+    requires { IsTrue (list_all has_spelling log.now) }
     ensures { OnOk result (batches.new ≡ cut batches.old (kept_places (kept_by facts.now log.now (has_lsn stands.now) shard) 1 (drop 1 log.now))) }
 {
     for place in 1..log.len() {

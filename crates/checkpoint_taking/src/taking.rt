@@ -1,12 +1,13 @@
 // The payloads of a checkpoint's file.
 
-ghost use Rattle.std.specs.Prelude.{◌≡◌, ◌∷◌, [], None, map, drop, length, IfOk, OnOk};
-ghost use Rattle.std.specs.List.{AllByRecursion};
+ghost use Rattle.std.specs.Prelude.{◌≡◌, ◌∷◌, [], None, map, drop, length, IfOk, OnOk, IsTrue};
+ghost use Rattle.std.specs.List.{AllByRecursion, list_all};
 ghost use Rattle.clv_base.specs.declared.shard_log.FileRecord.TheVariants.{Begin, Base};
+ghost use Rattle.clv_base.specs.FileRules.{has_spelling};
 ghost use Rattle.clv_base.specs.LogRules.{disorder, last_restart as last_restart_in};
 ghost use Rattle.clv_base.specs.Checkpoints.{check_records, committed_map, kept_of, no_restart};
 ghost use Rattle.checkpoint_taking.specs.Cut.{FitsBatch, IsCut, cut};
-ghost use Rattle.checkpoint_taking.specs.Kept.{IsSpelledLog, kept_places};
+ghost use Rattle.checkpoint_taking.specs.Kept.{kept_places};
 ghost use Rattle.checkpoint_taking.specs.Lsns.{StandAt};
 
 use crate::Memory;
@@ -40,7 +41,7 @@ fn put_kept_records(
     shard: u32,
     log: &[LogRecord],
 ) -> Result<(), Memory>
-    requires { IsSpelledLog log.now }
+    requires { IsTrue (list_all has_spelling log.now) }
     ensures { OnOk result (batches.new ≡ cut batches.old (kept_places (kept_of shard log.now) 1 (drop 1 log.now))) }
 {
     let facts = LogFacts::of_log(alloc, log)?;
@@ -63,7 +64,7 @@ fn put_base(
 
 fn batches_of(alloc: Global, shard: u32, log: &[LogRecord]) -> Result<Batches, Memory>
     requires in_order { disorder shard log.now ≡ None }
-    requires spelled { IsSpelledLog log.now }
+    requires spelled { IsTrue (list_all has_spelling log.now) }
     ensures { IfOk result (λ b. b ≡ cut [] (check_records shard log.now)) }
 {
     let mut batches = begin(alloc, log)?;
@@ -77,7 +78,7 @@ fn batches_of(alloc: Global, shard: u32, log: &[LogRecord]) -> Result<Batches, M
 /// 1,048,576 bytes. `Memory` comes for want of memory alone. Takes time linear in the log and in what its PREPAREs list, times a logarithm.
 pub fn checkpoint_of(alloc: Global, shard: u32, log: &[LogRecord]) -> Result<Vec<Vec<u8>>, Memory>
     requires in_order { disorder shard log.now ≡ None }
-    requires spelled { IsSpelledLog log.now }
+    requires spelled { IsTrue (list_all has_spelling log.now) }
     ensures records { IfOk result (λ ps. IsCut (check_records shard log.now) (map (λ v. v.items) ps.items)) }
     ensures sizes { IfOk result (λ ps. AllByRecursion FitsBatch (map (λ v. v.items) ps.items)) }
 {

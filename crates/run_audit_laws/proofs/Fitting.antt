@@ -53,6 +53,13 @@ pub fit_set : (k : ℕ) (v : Option ValueType) (m : KeyMap) → is_64_bits k ≡
 fit_set k None m w g f = fit_where (λ q. not (q == k)) m f
 fit_set k (Some v) m w g f = fit_put k v m (and_from _ _ w g) f
 
+fit_pairs : (ps m : KeyMap) → list_all fits_pair ps ≡ true → Fit m → Fit (with_pairs ps m)
+fit_pairs [] m h f = f
+fit_pairs (p ∷ ps) m h f =
+    let both = and_parts (fits_pair p) (list_all fits_pair ps) h in
+    let fits = and_parts (is_64_bits p.0) (fits_value p.1) both.0 in
+    fit_set p.0 (Some p.1) (with_pairs ps m) fits.0 fits.1 (fit_pairs ps m both.1 f)
+
 -- ---- all writes of logs
 
 fit_writes : (keep : TxId → Bool) (n : ℕ) (ws : List StandingUpdate) (m : KeyMap) → AreFit n ws → Fit m → Fit (fold_writes keep ws m)
@@ -67,7 +74,7 @@ fit_logs : (keep : TxId → Bool) (logs : List (List LogRecord)) (m : KeyMap) �
 fit_logs keep [] m h f = f
 fit_logs keep (log ∷ logs) m h f =
     let both = and_parts (list_all has_spelling log) (have_spellings logs) h in
-    let base : Fit (with_pairs (base_of log) m) = subst (λ (ps : KeyMap). Fit (with_pairs ps m)) (sym (spelled_base log both.0)) f in
+    let base : Fit (with_pairs (base_of log) m) = fit_pairs (base_of log) m (spelled_base log both.0) f in
     fit_logs keep logs (fold_updates keep log m) both.1 (fit_writes keep (length log) (standing log) (with_pairs (base_of log) m) (fit_standing log both.0) base)
 
 pub stands_fit : (logs : List (List LogRecord)) → have_spellings logs ≡ true → Fit (stands logs)

@@ -3,7 +3,9 @@ use Rattle.clv_base.specs.Checkpoints.{kept_records}
 use Rattle.checkpoint_taking.specs.Cut.{cut}
 use Rattle.checkpoint_taking.specs.Kept.{is_keepable, kept_by, kept_places}
 use Rattle.checkpoint_taking.specs.Lsns.{has_lsn}
-use Rattle.checkpoint_taking.proofs.Spelled.{keepable, each_spelled}
+use Rattle.clv_base.specs.FileRules.{has_spelling}
+use Rattle.law_base.proofs.Logs.{each_spelled}
+use Rattle.checkpoint_taking.proofs.Spelled.{keepable}
 use Rattle.checkpoint_taking.proofs.Whole.{next_put}
 use Rattle.checkpoint_taking.proofs.parts.put_places.Goals as goal
 
@@ -11,7 +13,7 @@ pub put_kept-requires : goal.put_kept-requires
 put_kept-requires c =
     subst (λ r. is_keepable r ≡ true) (sym c.in_ok-stays.ensures)
     (keepable c.args.facts.now c.args.log.now (has_lsn c.args.stands.now) c.args.shard c.loop-place.place c.index-log-place.result
-    (each_spelled c.args.log.now c.loop-place.place c.index-log-place.result c.requires c.loop-place-test.true c.index-log-place.is))
+    (subst (λ r. has_spelling r ≡ true) (sym c.index-log-place.is) (each_spelled c.args.log.now c.loop-place.place c.index-log-place.result c.requires c.loop-place-test.true)))
 
 pub loop-place-preserved : goal.loop-place-preserved
 loop-place-preserved c =

@@ -22,8 +22,8 @@ compensate-requires-clause-room c =
     let made = c.in_ok-buffer.ensures.room in let left = c.append_aborts.ensures.room in
     omega (arith, same, fresh, few, made, left)
 
-pub append_reserved-requires : goal.append_reserved-requires
-append_reserved-requires c =
+pub append_reserved-requires-clause-room : goal.append_reserved-requires-clause-room
+append_reserved-requires-clause-room c =
     let log = c.args.records.items in let losers = c.args.losers.now in
     let whole : c.append_aborts.new.buffer.records ≡ log ++ aborts c.deref.result.now = c.append_aborts.ensures.log ∙ ap (λ l. l ++ aborts c.deref.result.now) c.in_ok-buffer.ensures.records in
     let same = ap (λ ws. length (writes_of losers ws)) (stands log c.append_aborts.new.buffer.records losers c.deref.result.now whole) in
