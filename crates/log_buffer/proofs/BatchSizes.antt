@@ -12,7 +12,7 @@ use Rattle.clv_base.specs.FileRules.{tx_has_spelling, is_64_bits, is_undo_next, 
 use Rattle.log_records.specs.Spelling.{spelling}
 use Rattle.log_records.specs.Laws.{LengthIsSize}
 use Rattle.log_buffer.specs.Batches.{spellings}
-use Rattle.law_base.proofs.Logs.{each_spelled}
+use Rattle.law_base.proofs.Logs.{each_passes}
 use Rattle.law_base.proofs.Options.{option_small}
 
 pub size_is : LengthIsSize → (r : LogRecord) → has_own_spelling r ≡ true → length (spelling r) ≡ record_size r
@@ -76,4 +76,4 @@ has_bytes (suc n) (r ∷ rs) some more = omega (arith, length-append (spelling r
 
 pub spelled_before : LengthIsSize → (rs : List LogRecord) (i : ℕ) (d : LogRecord) → list_all has_own_spelling rs ≡ true → i < length rs → length (spellings (take i rs)) + record_size (get_or rs i d) ≤ length (spellings rs)
 spelled_before law rs i d h inside =
-    omega (arith, length-flat_map-take spelling rs i d inside, size_is law (get_or rs i d) (each_spelled rs i d h inside))
+    omega (arith, length-flat_map-take spelling rs i d inside, size_is law (get_or rs i d) (each_passes has_own_spelling rs i d h inside))
