@@ -3,12 +3,12 @@ ghost use Rattle.std.specs.Prelude.{◌≡◌, ◌<◌, None, true, false};
 ghost use Rattle.std.specs.List.{list_all};
 ghost use Rattle.clv_base.specs.FileRules.{has_spelling};
 ghost use Rattle.clv_base.specs.LogRules.{disorder};
-ghost use Rattle.log_gate.specs.Header.{Layout};
-ghost use Rattle.log_gate.specs.View.{Only};
+ghost use Rattle.gate_calls.specs.Header.{Layout};
+ghost use Rattle.gate_calls.specs.View.{Only};
 
 use clv_base::logs::LogRecord;
 use log_analysis::LogFacts;
-use log_gate::Gate;
+use gate_calls::Gate;
 use machine_calls::{Machine, Maker};
 use ordered_store::Store;
 use shard_recovery::recover;

@@ -1,9 +1,9 @@
 // One flush.
 ghost use Rattle.std.specs.Prelude.{◌≡◌, ◌<◌, ◌^◌, true, Some};
-ghost use Rattle.log_gate.specs.Image.{IsBatch};
+ghost use Rattle.gate_calls.specs.Image.{IsBatch};
 
 use clv_base::events::Outcome;
-use log_gate::{Gate, PushError};
+use gate_calls::{Gate, PushError};
 use machine_calls::{Flier, Flight, Machine, StepError};
 use std::alloc::Global;
 

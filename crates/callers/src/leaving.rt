@@ -1,8 +1,8 @@
 // A gate that is away while its shard goes down.
 ghost use Rattle.std.specs.Prelude.{IfSome};
-ghost use Rattle.log_gate.specs.Image.{IsBatch};
+ghost use Rattle.gate_calls.specs.Image.{IsBatch};
 
-use log_gate::Gate;
+use gate_calls::Gate;
 use machine_calls::{Flier, Flight, Machine, Restarter};
 use std::alloc::Global;
 

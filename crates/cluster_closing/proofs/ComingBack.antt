@@ -7,8 +7,8 @@ use Rattle.clv_base.specs.declared.events.Entry.{Entry}
 use Rattle.clv_base.specs.State.{Shard}
 use Rattle.io_model.specs.Sides.{Stories}
 use Rattle.io_model.specs.Disk.{Adds, Rose}
-use Rattle.log_gate.specs.View.{logs_told}
-use Rattle.log_gate.specs.Header.{Layout}
+use Rattle.gate_calls.specs.View.{logs_told}
+use Rattle.gate_calls.specs.Header.{Layout}
 use Rattle.machine_laws.specs.declared.notes.Note.{Note}
 use Rattle.machine_laws.specs.declared.notes.Origin.{Origin}
 use Rattle.machine_laws.specs.Homes.{layout_of, holder_of, has_failed, IsLegal}

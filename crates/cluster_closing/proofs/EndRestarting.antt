@@ -10,10 +10,10 @@ use Rattle.clv_base.specs.declared.events.Entry.{Entry}
 use Rattle.clv_base.specs.State.{Shard}
 use Rattle.clv_base.specs.Events.{Does, next_stamp, with_entry}
 use Rattle.clv_base.specs.Restarts.{misfit, revived}
-use Rattle.log_gate.specs.View.{Only}
+use Rattle.gate_calls.specs.View.{Only}
 use Rattle.machine_calls.specs.Steps.{Made as IsMade}
 use Rattle.machine_calls.specs.Restored.{revives}
-use Rattle.log_gate.specs.Header.{Layout}
+use Rattle.gate_calls.specs.Header.{Layout}
 use Rattle.machine_laws.specs.declared.notes.Note.TheVariants.{Made}
 use Rattle.machine_laws.specs.declared.notes.Origin.{Origin}
 use Rattle.machine_laws.specs.declared.notes.Mark.{Mark}

@@ -8,7 +8,7 @@ use native.Mathlib.Decide.{ℕ_discrete}
 use Rattle.clv_base.specs.declared.logs.LogRecord.{LogRecord}
 use Rattle.clv_base.specs.State.{Shard}
 use Rattle.io_model.specs.Sides.{Stories}
-use Rattle.log_gate.specs.Header.{Layout}
+use Rattle.gate_calls.specs.Header.{Layout}
 use Rattle.turn_lock.specs.Journals.{StartsWith, GrownByOthers, entries_by}
 use Rattle.turn_lock.specs.Passes.{seen, own}
 use Rattle.machine_laws.specs.declared.notes.Note.{Note}

@@ -9,7 +9,7 @@ use Rattle.clv_base.specs.State.{Shard}
 use Rattle.clv_base.specs.Restarts.{log_after_restart}
 use Rattle.clv_base.specs.Journals.{History}
 use Rattle.clv_base.specs.Sessions.{is_session}
-use Rattle.log_gate.specs.Header.{Layout}
+use Rattle.gate_calls.specs.Header.{Layout}
 use Rattle.turn_lock.specs.Journals.{GrownBy, GrownByOthers}
 use Rattle.turn_lock.specs.declared.pass.Pass.{Pass}
 use Rattle.turn_lock.specs.Passes.{pass_origin, seen}

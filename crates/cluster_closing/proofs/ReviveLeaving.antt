@@ -7,10 +7,10 @@ use Rattle.clv_base.specs.Restarts.{FailedRestarts, untouched, failed_first, res
 use Rattle.clv_base.specs.Journals.{MayLeave}
 use Rattle.io_model.specs.Sides.{Stories, reads_both}
 use Rattle.shard_recovery.specs.Recovering.{IsBegun}
-use Rattle.log_gate.specs.View.{Only, logs_told}
-use Rattle.log_gate.specs.Header.{Layout}
+use Rattle.gate_calls.specs.View.{Only, logs_told}
+use Rattle.gate_calls.specs.Header.{Layout}
 use Rattle.cluster_closing.specs.Left.{HasBegun, unwritten, begun, LeftMayStand}
-use Rattle.log_gate.proofs.Laws.{under_from}
+use Rattle.gate_calls.proofs.Laws.{under_from}
 use Rattle.law_base.proofs.Logs.{some_log as some_same}
 use Rattle.law_base.proofs.Lists.{take_plus}
 

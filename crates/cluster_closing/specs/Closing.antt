@@ -6,8 +6,8 @@ use Rattle.clv_base.specs.State.{Shard}
 use Rattle.io_model.specs.Sides.{Stories}
 use Rattle.io_model.specs.Disk.{Rose, Adds}
 use Rattle.clv_base.specs.Journals.{MayLeave}
-use Rattle.log_gate.specs.Header.{Layout}
-use Rattle.log_gate.specs.View.{Only, OnlyOrMore, logs_told}
+use Rattle.gate_calls.specs.Header.{Layout}
+use Rattle.gate_calls.specs.View.{Only, OnlyOrMore, logs_told}
 use Rattle.machine_laws.specs.Homes.{has_failed}
 use Rattle.cluster_closing.specs.declared.fetching.Fetched.{Fetched}
 use Rattle.quiet_list.specs.declared.told.Told.{Told}

@@ -4,8 +4,8 @@ use Rattle.clv_base.specs.declared.logs.LogRecord.{LogRecord}
 use Rattle.clv_base.specs.State.{Shard}
 use Rattle.clv_base.specs.Journals.{MayLeave}
 use Rattle.io_model.specs.Sides.{Stories}
-use Rattle.log_gate.specs.Header.{Layout}
-use Rattle.log_gate.specs.View.{logs_told}
+use Rattle.gate_calls.specs.Header.{Layout}
+use Rattle.gate_calls.specs.View.{logs_told}
 use Rattle.turn_lock.specs.declared.pass.Pass.{Pass}
 use Rattle.turn_lock.specs.Passes.{seen}
 use Rattle.machine_laws.specs.declared.notes.Note.{Note}

@@ -2,7 +2,7 @@
 use Rattle.std.specs.Prelude.{◌≡◌, ℕ, ◌<◌, Bool, true, false, List, length, slice_index_or, Option, Some, None}
 use Rattle.clv_base.specs.declared.logs.LogRecord.{LogRecord}
 use Rattle.clv_base.specs.State.{Shard}
-use Rattle.log_gate.specs.Header.{Layout}
+use Rattle.gate_calls.specs.Header.{Layout}
 use Rattle.machine_laws.specs.declared.notes.Note.{Note}
 use Rattle.machine_laws.specs.declared.notes.Origin.{Origin}
 use Rattle.machine_laws.specs.Homes.{layout_of, holder_of, IsLegal}

@@ -8,9 +8,9 @@ use Rattle.io_model.specs.Disk.{Rose}
 use Rattle.cluster_opening.specs.declared.error.At.TheVariants.{Byte, Record}
 use Rattle.shard_recovery.specs.declared.recovering.RecoverError.{RecoverError}
 use Rattle.shard_recovery.specs.declared.recovering.RecoverError.TheVariants.{Failed as DiskFailed, Memory as NoMemory}
-use Rattle.log_gate.specs.Image.{checked_log}
-use Rattle.log_gate.specs.declared.error.OpenLogError.{OpenLogError}
-use Rattle.log_gate.specs.declared.error.OpenLogError.TheVariants.{NotLog as NoLog, Failed as ReadFailed, Memory as NoneToRead}
+use Rattle.gate_calls.specs.Image.{checked_log}
+use Rattle.gate_calls.specs.declared.error.OpenLogError.{OpenLogError}
+use Rattle.gate_calls.specs.declared.error.OpenLogError.TheVariants.{NotLog as NoLog, Failed as ReadFailed, Memory as NoneToRead}
 use Rattle.cluster_closing.specs.declared.error.RestartError.{RestartError}
 use Rattle.cluster_closing.specs.declared.error.RestartError.TheVariants.{Failed, NotLog, Worn, Memory}
 use Rattle.cluster_closing.specs.Left.{WasRead}

@@ -5,9 +5,9 @@ use Rattle.clv_base.specs.State.{Shard}
 use Rattle.clv_base.specs.Restarts.{restart_records, greatest_epoch}
 use Rattle.clv_base.specs.Journals.{MayLeave}
 use Rattle.io_model.specs.Sides.{Stories, reads_both}
-use Rattle.log_gate.specs.Header.{Layout}
-use Rattle.log_gate.specs.Image.{HasLog, HasHeader}
-use Rattle.log_gate.specs.View.{logs_told}
+use Rattle.gate_calls.specs.Header.{Layout}
+use Rattle.gate_calls.specs.Image.{HasLog, HasHeader}
+use Rattle.gate_calls.specs.View.{logs_told}
 use Rattle.machine_laws.specs.Gates.{EachLog}
 
 -- what a read gave of shard n's disk had this log behind a header of this layout, where the disk tells it

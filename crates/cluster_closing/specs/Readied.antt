@@ -4,7 +4,7 @@ use Rattle.clv_base.specs.declared.logs.LogRecord.{LogRecord}
 use Rattle.clv_base.specs.Needs.{Records}
 use Rattle.clv_base.specs.Restarts.{log_after_restart}
 use Rattle.shard_recovery.specs.declared.recovering.Recovered.{Recovered}
-use Rattle.log_gate.specs.View.{Only}
+use Rattle.gate_calls.specs.View.{Only}
 use Rattle.machine_calls.specs.Restored.{IsRestored}
 
 -- these are the records and lists that a restart makes of the log found

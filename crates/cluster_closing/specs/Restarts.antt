@@ -6,8 +6,8 @@ use Rattle.clv_base.specs.declared.events.Outcome.{Outcome}
 use Rattle.clv_base.specs.declared.events.Entry.{Entry}
 use Rattle.clv_base.specs.State.{Shard}
 use Rattle.clv_base.specs.Restarts.{misfit}
-use Rattle.log_gate.specs.Header.{Layout}
-use Rattle.log_gate.specs.View.{Only}
+use Rattle.gate_calls.specs.Header.{Layout}
+use Rattle.gate_calls.specs.View.{Only}
 use Rattle.turn_lock.specs.Journals.{GrownByOthers}
 use Rattle.machine_calls.specs.Steps.{Made as IsMade}
 use Rattle.machine_calls.specs.Restored.{revives}

@@ -9,7 +9,7 @@ ghost use Rattle.cluster_turns.specs.Walkers.{IsOriginAt};
 ghost use Rattle.cluster_closing.specs.Ending.{ClosedAt, HasPassAt, HasPassOf};
 
 use cluster_turns::{Home, Walker};
-use log_gate::Gate;
+use gate_calls::Gate;
 use machine_calls::Machine;
 use machine_laws::{Note, Origin};
 use turn_lock::{Pass, TurnLock};

@@ -18,7 +18,7 @@ ghost use Rattle.cluster_closing.specs.Legal.{AreShards, state_at, views_of};
 
 use crate::ending::close_last;
 use cluster_turns::{Home, Shards, Walker};
-use log_gate::Gate;
+use gate_calls::Gate;
 use machine_calls::Machine;
 use machine_laws::{Note, Origin};
 use turn_lock::Pass;

@@ -6,7 +6,7 @@ ghost use Rattle.cluster_closing.specs.Closing.{CameFrom, IsLowestDown};
 use cluster_turns::Home;
 use clv_base::events::Entry;
 use io_model::{House, give_sides};
-use log_gate::Gate;
+use gate_calls::Gate;
 use machine_calls::{Machine, OverDisks, Parts};
 use ordered_store::Store;
 use quiet_list::Told;

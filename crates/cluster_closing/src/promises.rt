@@ -4,7 +4,7 @@ ghost use Rattle.cluster_closing.specs.Ends.{DisksAreFound, NoDisksAreHeld, Fetc
 ghost use Rattle.machine_calls.specs.Disks.{stories_of, faults_of};
 
 use io_model::Disk;
-use log_gate::Gate;
+use gate_calls::Gate;
 
 /// A new walker has the disk of no shard.
 pub fn new_walkers_hold_none<T>()

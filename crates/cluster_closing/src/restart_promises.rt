@@ -1,7 +1,7 @@
 // What a shard that is down stands for, and its restart.
 ghost use Rattle.cluster_closing.specs.Restarts.{HeldShardsRest, RestartsAreSound};
 
-use log_gate::Gate;
+use gate_calls::Gate;
 
 /// While a walker has the disk of a shard nobody else notes anything there.
 pub fn held_shards_rest()

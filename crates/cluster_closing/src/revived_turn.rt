@@ -13,7 +13,7 @@ use crate::turns::take_up;
 use crate::{Fetched, Ready, RestartError, recover_disk};
 use cluster_turns::{Shards, Walker};
 use io_model::{Disk, Sides};
-use log_gate::Gate;
+use gate_calls::Gate;
 use machine_calls::{Machine, Reopener};
 use ordered_store::Store;
 use std::alloc::Global;

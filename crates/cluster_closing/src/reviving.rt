@@ -12,7 +12,7 @@ use crate::{Ready, RestartError};
 use cluster_opening::At;
 use cluster_turns::Home;
 use clv_base::events::Outcome;
-use log_gate::Gate;
+use gate_calls::Gate;
 use machine_calls::{Machine, Reopener, StepError};
 use machine_laws::Mark;
 use ordered_store::Store;

@@ -13,7 +13,7 @@ ghost use Rattle.machine_calls.specs.Disks.{stories_of, faults_of};
 use crate::fetching::{FetchError, Fetched};
 use cluster_turns::Home;
 use io_model::Sides;
-use log_gate::Gate;
+use gate_calls::Gate;
 use machine_calls::Reopener;
 use machine_laws::{Mark, Note, Origin};
 use std::sync::Wait;

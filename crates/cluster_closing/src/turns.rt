@@ -9,7 +9,7 @@ ghost use Rattle.cluster_closing.specs.Revived.{IsReadyFor, ReviveTold};
 use crate::reviving::bring_up;
 use crate::{Ready, RestartError};
 use cluster_turns::Home;
-use log_gate::Gate;
+use gate_calls::Gate;
 use machine_calls::{Machine, Reopener};
 use machine_laws::{Note, Origin};
 use ordered_store::Store;

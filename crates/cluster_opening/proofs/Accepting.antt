@@ -10,7 +10,7 @@ use Rattle.clv_base.specs.Shards.{shard_count}
 use Rattle.clv_base.specs.LogRules.{log_of, disorder, apart, all_logs_from}
 use Rattle.clv_base.specs.FileRules.{log_passes, passes_file_rules}
 use Rattle.io_model.specs.Sides.{Stories, reads_both}
-use Rattle.log_gate.specs.Image.{checked_log, HasLog, HasHeader}
+use Rattle.gate_calls.specs.Image.{checked_log, HasLog, HasHeader}
 use Rattle.cluster_opening.specs.declared.error.At.TheVariants.{Byte, Record}
 use Rattle.cluster_opening.specs.declared.error.OpenError.{OpenError}
 use Rattle.cluster_opening.specs.declared.error.OpenError.TheVariants.{Failed, NotLog, Apart, Worn, Memory}

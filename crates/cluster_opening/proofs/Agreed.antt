@@ -3,11 +3,11 @@ use Rattle.std.proofs.Common.{◌≡◌, refl, sym, ◌∙◌, ap, ℕ, List, Op
 use Rattle.clv_base.specs.declared.logs.LogRecord.{LogRecord}
 use Rattle.clv_base.specs.FileRules.{passes_file_rules}
 use Rattle.io_model.specs.Sides.{Images}
-use Rattle.log_gate.specs.Header.{header_size}
-use Rattle.log_gate.specs.Sides.{Chosen, chosen_of, image_of}
-use Rattle.log_gate.specs.Image.{records_in, with_header, behind_chosen, checked_log}
-use Rattle.log_gate.specs.Records.{record_log}
-use Rattle.log_gate.proofs.Laws.{agreed_side, unagreed_side}
+use Rattle.gate_calls.specs.Header.{header_size}
+use Rattle.gate_calls.specs.Sides.{Chosen, chosen_of, image_of}
+use Rattle.gate_calls.specs.Image.{records_in, with_header, behind_chosen, checked_log}
+use Rattle.gate_calls.specs.Records.{record_log}
+use Rattle.gate_calls.proofs.Laws.{agreed_side, unagreed_side}
 use Rattle.law_base.proofs.Logs.{splits_in}
 
 abbrev Log : Type 0

@@ -6,7 +6,7 @@ use Rattle.io_model.specs.Sides.{Stories}
 use Rattle.io_model.specs.Disk.{Adds}
 use Rattle.turn_lock.specs.declared.pass.TurnLock.{TurnLock}
 use Rattle.turn_lock.specs.declared.pass.Pass.{Pass}
-use Rattle.log_gate.specs.Header.{Layout}
+use Rattle.gate_calls.specs.Header.{Layout}
 use Rattle.machine_laws.specs.declared.notes.Note.{Note}
 use Rattle.machine_laws.specs.declared.notes.Origin.{Origin}
 use Rattle.cluster_opening.specs.AllOpened.{IsOpenedAt}

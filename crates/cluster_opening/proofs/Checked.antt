@@ -8,11 +8,11 @@ use Rattle.clv_base.specs.declared.logs.LogRecord.{LogRecord}
 use Rattle.clv_base.specs.FileRules.{passes_file_rules}
 use Rattle.io_model.specs.Sides.{Images}
 use Rattle.log_records.specs.Reading.{record_at}
-use Rattle.log_gate.specs.Header.{header_size}
-use Rattle.log_gate.specs.Sides.{image_of}
-use Rattle.log_gate.specs.Image.{with_record, record_then, records_at, records_in, records_of, with_header, behind_chosen, checked_log, HasLog, HasHeader}
-use Rattle.log_gate.specs.Payloads.{holds_batch}
-use Rattle.log_gate.specs.Records.{both, records_from, record_log}
+use Rattle.gate_calls.specs.Header.{header_size}
+use Rattle.gate_calls.specs.Sides.{image_of}
+use Rattle.gate_calls.specs.Image.{with_record, record_then, records_at, records_in, records_of, with_header, behind_chosen, checked_log, HasLog, HasHeader}
+use Rattle.gate_calls.specs.Payloads.{holds_batch}
+use Rattle.gate_calls.specs.Records.{both, records_from, record_log}
 use Rattle.cluster_opening.proofs.Agreed.{read_with_own}
 
 abbrev Reading : Type 0

@@ -8,7 +8,7 @@ use Rattle.io_model.proofs.Laws.Told.{tells_weaker}
 use Rattle.log_gate.specs.declared.error.MakeError.{MakeError as OneError}
 use Rattle.log_gate.specs.declared.error.MakeError.TheVariants as one
 use Rattle.log_gate.specs.Make.{Makes, Lengths}
-use Rattle.log_gate.specs.Opening.{DiskUnchanged, IsUnchanged}
+use Rattle.gate_calls.specs.Opened.{DiskUnchanged, IsUnchanged}
 use Rattle.cluster_opening.specs.Making.{Spares}
 
 -- ---- what a call leaves

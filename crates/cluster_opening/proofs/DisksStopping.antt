@@ -8,9 +8,9 @@ use Rattle.clv_base.specs.Shards.{shard_count, are_splits}
 use Rattle.clv_base.specs.LogRules.{disorder}
 use Rattle.io_model.specs.Sides.{Stories, reads_both}
 use Rattle.io_model.specs.Disk.{Tells, Rose}
-use Rattle.log_gate.specs.Image.{checked_log}
-use Rattle.log_gate.specs.Opening.{IsUnchanged}
-use Rattle.log_gate.specs.View.{View}
+use Rattle.gate_calls.specs.Image.{checked_log}
+use Rattle.gate_calls.specs.Opened.{IsUnchanged}
+use Rattle.gate_calls.specs.View.{View}
 use Rattle.cluster_opening.specs.declared.error.At.TheVariants.{Byte, Record}
 use Rattle.cluster_opening.specs.declared.error.OpenError.{OpenError}
 use Rattle.cluster_opening.specs.declared.error.OpenError.TheVariants.{Failed, NotLog, Apart, Worn, Memory}

@@ -10,7 +10,7 @@ use Rattle.clv_base.specs.LogRules.{log_of, all_logs_from, disorder, apart}
 use Rattle.clv_base.specs.FileRules.{has_spelling, passes_file_rules, log_passes}
 use Rattle.clv_base.specs.Restarts.{run_after}
 use Rattle.io_model.specs.Sides.{Stories}
-use Rattle.log_gate.specs.View.{View}
+use Rattle.gate_calls.specs.View.{View}
 use Rattle.cluster_opening.specs.Logs.{HoldsLog, IsGateAt, LogsOfAll, IsFound}
 use Rattle.cluster_opening.specs.Houses.{WentOut, AreGates}
 use Rattle.law_base.proofs.Logs.{all_logs as all_from}

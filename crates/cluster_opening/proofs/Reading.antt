@@ -3,7 +3,7 @@ use Rattle.std.proofs.Common.{◌≡◌, ℕ, ◌<◌, List, length, Bool, true,
 use Rattle.clv_base.specs.declared.logs.LogRecord.{LogRecord}
 use Rattle.clv_base.specs.Shards.{shard_count, are_splits}
 use Rattle.io_model.specs.Sides.{Stories}
-use Rattle.log_gate.specs.View.{View}
+use Rattle.gate_calls.specs.View.{View}
 use Rattle.cluster_opening.specs.declared.error.OpenError.{OpenError}
 use Rattle.cluster_opening.specs.declared.error.OpenError.TheVariants.{Failed, NotLog, Apart, Worn, Memory}
 use Rattle.cluster_opening.specs.Opening.{IsNotWorn}

@@ -5,7 +5,7 @@ use Rattle.clv_base.specs.Shards.{shard_count}
 use Rattle.clv_base.specs.LogRules.{log_of}
 use Rattle.clv_base.specs.FileRules.{may_open}
 use Rattle.io_model.specs.Sides.{Stories, reads_both}
-use Rattle.log_gate.specs.Image.{HasLog, HasHeader}
+use Rattle.gate_calls.specs.Image.{HasLog, HasHeader}
 use Rattle.cluster_opening.specs.declared.error.OpenError.{OpenError}
 use Rattle.cluster_opening.specs.declared.error.OpenError.TheVariants.{Failed, NotLog, Apart, Worn, Memory}
 use Rattle.cluster_opening.specs.Opening.{Refuses}

@@ -6,8 +6,8 @@ use Rattle.clv_base.specs.LogRules.{log_of, disorder}
 use Rattle.clv_base.specs.FileRules.{has_spelling}
 use Rattle.io_model.specs.Sides.{Stories}
 use Rattle.shard_recovery.specs.declared.recovering.RecoverError.{RecoverError}
-use Rattle.log_gate.specs.Header.{Layout}
-use Rattle.log_gate.specs.View.{Only}
+use Rattle.gate_calls.specs.Header.{Layout}
+use Rattle.gate_calls.specs.View.{Only}
 use Rattle.turn_lock.specs.declared.pass.TurnLock.{TurnLock}
 use Rattle.turn_lock.specs.declared.pass.Pass.{Pass}
 use Rattle.turn_lock.specs.Passes.{passes_of, IsNewPass}

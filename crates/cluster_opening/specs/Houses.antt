@@ -4,8 +4,8 @@ use Rattle.clv_base.specs.declared.logs.LogRecord.{LogRecord}
 use Rattle.clv_base.specs.LogRules.{log_of}
 use Rattle.io_model.specs.Sides.{Stories}
 use Rattle.io_model.specs.Disk.{Tells, Adds}
-use Rattle.log_gate.specs.Opening.{IsUnchanged}
-use Rattle.log_gate.specs.View.{View}
+use Rattle.gate_calls.specs.Opened.{IsUnchanged}
+use Rattle.gate_calls.specs.View.{View}
 use Rattle.cluster_opening.specs.declared.error.OpenError.{OpenError}
 use Rattle.cluster_opening.specs.Logs.{IsGateAt}
 use Rattle.cluster_opening.specs.Opening.{Refuses, CountsOpen}

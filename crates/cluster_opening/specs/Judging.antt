@@ -5,9 +5,9 @@ use Rattle.clv_base.specs.LogRules.{disorder, apart}
 use Rattle.clv_base.specs.Restarts.{run_after}
 use Rattle.io_model.specs.Sides.{Stories, reads_both}
 use Rattle.io_model.specs.Disk.{Rose}
-use Rattle.log_gate.specs.declared.error.OpenLogError.{OpenLogError}
-use Rattle.log_gate.specs.declared.error.OpenLogError.TheVariants as logs
-use Rattle.log_gate.specs.Image.{checked_log}
+use Rattle.gate_calls.specs.declared.error.OpenLogError.{OpenLogError}
+use Rattle.gate_calls.specs.declared.error.OpenLogError.TheVariants as logs
+use Rattle.gate_calls.specs.Image.{checked_log}
 use Rattle.cluster_opening.specs.declared.error.At.TheVariants.{Byte, Record}
 use Rattle.cluster_opening.specs.declared.error.OpenError.{OpenError}
 use Rattle.cluster_opening.specs.declared.error.OpenError.TheVariants.{Failed, NotLog, Apart, Worn, Memory}

@@ -8,9 +8,9 @@ use Rattle.clv_base.specs.FileRules.{has_spelling, passes_file_rules, may_open, 
 use Rattle.clv_base.specs.Restarts.{run_after}
 use Rattle.io_model.specs.Sides.{Stories, reads_both}
 use Rattle.io_model.specs.Disk.{Tells}
-use Rattle.log_gate.specs.Image.{checked_log, HasLog, HasHeader}
-use Rattle.log_gate.specs.Opening.{IsUnchanged}
-use Rattle.log_gate.specs.View.{View, IsLogOf, IsHeaderOf}
+use Rattle.gate_calls.specs.Image.{checked_log, HasLog, HasHeader}
+use Rattle.gate_calls.specs.Opened.{IsUnchanged}
+use Rattle.gate_calls.specs.View.{View, IsLogOf, IsHeaderOf}
 
 -- shard n's disk has a header with these splits and this log, which is in order: fields are in their bounds, and homes, parts and keys within what
 -- the header says

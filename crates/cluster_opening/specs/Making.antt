@@ -2,10 +2,10 @@
 use Rattle.std.specs.Prelude.{◌≡◌, ◌≢◌, ◌⊎◌, ◌<◌, ◌≤◌, ℕ, List, Option, IfSome, IsSome, Result, Ok, Err}
 use Rattle.io_model.specs.Sides.{Stories, reads_both}
 use Rattle.io_model.specs.Disk.{Tells, Rose}
-use Rattle.log_gate.specs.Gate.{EachNow}
-use Rattle.log_gate.specs.Header.{header_bytes}
+use Rattle.gate_calls.specs.Gate.{EachNow}
+use Rattle.gate_calls.specs.Header.{header_bytes}
 use Rattle.log_gate.specs.Make.{AreEmpty, HasSome, IsMadeOf}
-use Rattle.log_gate.specs.Opening.{IsUnchanged}
+use Rattle.gate_calls.specs.Opened.{IsUnchanged}
 use Rattle.log_gate.specs.declared.error.MakeError.{MakeError as OneError}
 use Rattle.log_gate.specs.declared.error.MakeError.TheVariants as one
 use Rattle.cluster_opening.specs.declared.making_error.MakeError.{MakeError}

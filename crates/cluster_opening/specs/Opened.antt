@@ -3,8 +3,8 @@ use Rattle.std.specs.Prelude.{◌≡◌, ℕ, Bool, false, List, [], Option, Som
 use Rattle.clv_base.specs.declared.logs.LogRecord.{LogRecord}
 use Rattle.clv_base.specs.State.{Shard}
 use Rattle.clv_base.specs.Restarts.{log_after_restart}
-use Rattle.log_gate.specs.Header.{Layout}
-use Rattle.log_gate.specs.View.{Only}
+use Rattle.gate_calls.specs.Header.{Layout}
+use Rattle.gate_calls.specs.View.{Only}
 use Rattle.machine_laws.specs.declared.notes.Origin.{Origin}
 use Rattle.machine_laws.specs.declared.notes.Mark.{Mark}
 use Rattle.machine_laws.specs.Notes.{notes_of}

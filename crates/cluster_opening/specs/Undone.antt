@@ -7,7 +7,7 @@ use Rattle.io_model.specs.Sides.{Stories}
 use Rattle.io_model.specs.Disk.{Rose, Adds}
 use Rattle.shard_recovery.specs.declared.recovering.RecoverError.{RecoverError}
 use Rattle.shard_recovery.specs.declared.recovering.RecoverError.TheVariants.{Failed, Memory}
-use Rattle.log_gate.specs.Header.{Layout}
+use Rattle.gate_calls.specs.Header.{Layout}
 use Rattle.turn_lock.specs.declared.pass.TurnLock.{TurnLock}
 use Rattle.turn_lock.specs.declared.pass.Pass.{Pass}
 use Rattle.machine_laws.specs.declared.notes.Note.{Note}

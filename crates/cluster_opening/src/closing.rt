@@ -4,7 +4,7 @@ ghost use Rattle.clv_base.specs.declared.logs.LogRecord.{LogRecord};
 ghost use Rattle.io_model.specs.Sides.{Stories};
 ghost use Rattle.turn_lock.specs.Passes.{passes_of, IsNewPass};
 ghost use Rattle.machine_laws.specs.declared.notes.Origin.{Origin as OriginIs};
-ghost use Rattle.log_gate.specs.Header.{Layout};
+ghost use Rattle.gate_calls.specs.Header.{Layout};
 ghost use Rattle.machine_calls.specs.Recovered.{IsLeft};
 ghost use Rattle.machine_calls.specs.Disks.{stories_of, faults_of};
 ghost use Rattle.cluster_opening.specs.Opened.{IsOriginOf};

@@ -5,7 +5,7 @@ ghost use Rattle.clv_base.specs.Shards.{shard_count};
 ghost use Rattle.io_model.specs.Disk.{Tells};
 ghost use Rattle.io_model.specs.Sides.{sides_out, sides_told};
 ghost use Rattle.log_analysis.specs.Facts.{KnowAll};
-ghost use Rattle.log_gate.specs.Opening.{IsUnchanged};
+ghost use Rattle.gate_calls.specs.Opened.{IsUnchanged};
 ghost use Rattle.cluster_opening.specs.Logs.{IsFound};
 ghost use Rattle.cluster_opening.specs.Opening.{Refuses, CountsOpen, IsNotWorn};
 ghost use Rattle.cluster_opening.specs.Houses.{WentOut, AreGates, IsStopped};
@@ -18,7 +18,8 @@ use clv_base::logs::LogRecord;
 use clv_base::splits::Splits;
 use io_model::{Disk, House};
 use log_analysis::LogFacts;
-use log_gate::{Header, LogGate};
+use gate_calls::Header;
+use log_gate::LogGate;
 use std::alloc::Global;
 
 // The most shards.

@@ -1,7 +1,7 @@
 // What is durable before a shard serves.
 ghost use Rattle.cluster_opening.specs.Opened.{RestartsAreDurable};
 
-use log_gate::Gate;
+use gate_calls::Gate;
 
 /// Whoever has the first turn of a lock finds its shard as recovery left it: all that a restart added to its log is durable. What holds of a
 /// value in a lock (`machine_laws`) tells it.

@@ -6,7 +6,7 @@ ghost use Rattle.clv_base.specs.LogRules.{upto_of, disorder as first_disorder};
 ghost use Rattle.io_model.specs.Disk.{Tells};
 ghost use Rattle.io_model.specs.Sides.{sides_out, sides_told};
 ghost use Rattle.log_analysis.specs.Facts.{Knows};
-ghost use Rattle.log_gate.specs.Opening.{IsUnchanged};
+ghost use Rattle.gate_calls.specs.Opened.{IsUnchanged};
 ghost use Rattle.cluster_opening.specs.Logs.{IsGateAt};
 ghost use Rattle.cluster_opening.specs.Judging.{Agrees, Disagrees, told_as as telling, Faults, RefusesOne, CountsOne};
 ghost use Rattle.machine_calls.specs.Disks.{stories_of, faults_of};
@@ -15,7 +15,8 @@ use crate::error::{At, OpenError};
 use clv_base::logs::LogRecord;
 use io_model::{Disk, House, Sides, give_sides, open_sides};
 use log_analysis::LogFacts;
-use log_gate::{Header, LogGate, OpenLogError, open_log};
+use gate_calls::{Header, OpenLogError};
+use log_gate::{LogGate, open_log};
 use log_rules::{OrderError, in_order};
 use std::alloc::Global;
 

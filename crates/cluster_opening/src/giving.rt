@@ -3,14 +3,14 @@ ghost use Rattle.std.specs.Prelude.{◌≡◌, ◌<◌, ◌≤◌, ◌+◌, ℕ,
 ghost use Rattle.clv_base.specs.declared.logs.LogRecord.{LogRecord};
 ghost use Rattle.clv_base.specs.LogRules.{log_of};
 ghost use Rattle.io_model.specs.Sides.{Stories, sides_out, sides_told};
-ghost use Rattle.log_gate.specs.Header.{Layout};
+ghost use Rattle.gate_calls.specs.Header.{Layout};
 ghost use Rattle.machine_calls.specs.Recovered.{IsLeft};
 ghost use Rattle.cluster_opening.specs.Undone.{AreOpened, CameBack};
 
 use crate::close_unused;
 use cluster_turns::Home;
 use io_model::{House, give_sides};
-use log_gate::Gate;
+use gate_calls::Gate;
 use machine_calls::OverDisks;
 use machine_laws::{Note, Origin};
 use turn_lock::{Pass, TurnLock};

@@ -5,7 +5,7 @@ ghost use Rattle.machine_laws.specs.Homes.{start};
 ghost use Rattle.cluster_opening.specs.Opened.{HasOpenGate};
 
 use cluster_turns::{Home, OnHeap};
-use log_gate::Gate;
+use gate_calls::Gate;
 use machine_calls::Machine;
 use machine_laws::{Mark, Note, Origin};
 use std::alloc::Global;

@@ -4,13 +4,14 @@ ghost use Rattle.std.specs.Prelude.{◌≡◌, ◌≢◌, ◌<◌, ◌≤◌, �
 ghost use Rattle.clv_base.specs.Shards.{shard_count};
 ghost use Rattle.io_model.specs.Disk.{Tells};
 ghost use Rattle.io_model.specs.Sides.{sides_out, sides_told};
-ghost use Rattle.log_gate.specs.Opening.{IsUnchanged};
+ghost use Rattle.gate_calls.specs.Opened.{IsUnchanged};
 ghost use Rattle.cluster_opening.specs.Making.{IsEmpty, IsMade, Spares, AreUnchanged, Refuses, CountsMaking, RefusesOne, CountsOne, told_as};
 
 use crate::making_error::MakeError;
 use clv_base::splits::Splits;
 use io_model::{House, give_sides, open_sides};
-use log_gate::{Header, MakeError as OneError, length_of, make};
+use gate_calls::Header;
+use log_gate::{MakeError as OneError, length_of, make};
 use std::alloc::Global;
 
 // Tests whether a shard's sides are empty.

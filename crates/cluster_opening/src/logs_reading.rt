@@ -5,7 +5,7 @@ ghost use Rattle.clv_base.specs.Shards.{shard_count};
 ghost use Rattle.clv_base.specs.LogRules.{apart as first_apart};
 ghost use Rattle.io_model.specs.Disk.{Tells};
 ghost use Rattle.io_model.specs.Sides.{sides_out, sides_told};
-ghost use Rattle.log_gate.specs.Opening.{IsUnchanged};
+ghost use Rattle.gate_calls.specs.Opened.{IsUnchanged};
 ghost use Rattle.cluster_opening.specs.Logs.{LogsOfAll};
 ghost use Rattle.cluster_opening.specs.Opening.{Refuses, CountsOpen, IsNotWorn, Stand};
 ghost use Rattle.cluster_opening.specs.Houses.{WentOut, AreGates, IsStopped};
@@ -17,7 +17,8 @@ use crate::judging::agree;
 use clv_base::logs::LogRecord;
 use io_model::House;
 use log_analysis::LogFacts;
-use log_gate::{Header, LogGate};
+use gate_calls::Header;
+use log_gate::LogGate;
 use std::alloc::Global;
 
 // Opens all disks, and sees whether their logs agree. The disks of the gates are still out.

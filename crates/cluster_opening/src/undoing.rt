@@ -2,7 +2,7 @@
 ghost use Rattle.std.specs.Prelude.{◌≡◌, ◌<◌, ◌≤◌, ◌+◌, ℕ, suc, true, List, vec_len};
 ghost use Rattle.clv_base.specs.declared.logs.LogRecord.{LogRecord};
 ghost use Rattle.io_model.specs.Sides.{sides_out, sides_told};
-ghost use Rattle.log_gate.specs.Header.{Layout};
+ghost use Rattle.gate_calls.specs.Header.{Layout};
 ghost use Rattle.cluster_opening.specs.AllOpened.{StoppedAt};
 ghost use Rattle.cluster_opening.specs.Undone.{AreOpened, AreFine, AreBack, CountsBack};
 ghost use Rattle.machine_calls.specs.Disks.{stories_of, faults_of};
@@ -11,7 +11,7 @@ use crate::Stopped;
 use crate::giving::{give_back_above, give_back_locks};
 use cluster_turns::Home;
 use io_model::{House, give_sides};
-use log_gate::Gate;
+use gate_calls::Gate;
 use machine_calls::OverDisks;
 use machine_laws::{Note, Origin};
 use shard_recovery::RecoverError;

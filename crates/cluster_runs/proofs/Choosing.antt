@@ -7,8 +7,8 @@ use Rattle.clv_base.specs.Restarts.{log_left}
 use Rattle.clv_base.specs.State.{Shard}
 use Rattle.clv_base.specs.Journals.{logs_left_from}
 use Rattle.io_model.specs.Sides.{Stories, reads_both}
-use Rattle.log_gate.specs.Gate.{EachNow}
-use Rattle.log_gate.specs.Image.{HasLog, HasHeader}
+use Rattle.gate_calls.specs.Gate.{EachNow}
+use Rattle.gate_calls.specs.Image.{HasLog, HasHeader}
 use Rattle.history_laws.proofs.Laws.{left_at}
 use Rattle.cluster_runs.specs.Disks.{HoldsLog}
 

@@ -1,7 +1,7 @@
 -- Locks with all their passes.
 use Rattle.std.proofs.Common.{◌≡◌, ℕ, List, length, All, Vec, Global, arith}
 use Rattle.clv_base.specs.declared.logs.LogRecord.{LogRecord}
-use Rattle.log_gate.specs.Header.{Layout}
+use Rattle.gate_calls.specs.Header.{Layout}
 use Rattle.turn_lock.specs.declared.pass.TurnLock.{TurnLock}
 use Rattle.turn_lock.specs.declared.pass.Pass.{Pass}
 use Rattle.turn_lock.specs.Passes.{passes_of}

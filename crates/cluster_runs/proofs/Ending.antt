@@ -18,9 +18,9 @@ use Rattle.clv_base.specs.Journals.{History, own, journal_of, start_of, logs_lef
 use Rattle.clv_base.specs.Machines.{Runs}
 use Rattle.io_model.specs.Sides.{Stories, reads_both}
 use Rattle.io_model.specs.Disk.{Rose}
-use Rattle.log_gate.specs.Header.{Layout}
-use Rattle.log_gate.specs.Image.{HasHeader, HasLog}
-use Rattle.log_gate.specs.Gate.{EachNow}
+use Rattle.gate_calls.specs.Header.{Layout}
+use Rattle.gate_calls.specs.Image.{HasHeader, HasLog}
+use Rattle.gate_calls.specs.Gate.{EachNow}
 use Rattle.history_laws.proofs.Laws.{left_at}
 use Rattle.journal_laws.proofs.Laws.{run_made}
 use Rattle.history_replay.specs.Entries.{Kept, entries_of}

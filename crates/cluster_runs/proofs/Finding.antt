@@ -4,8 +4,8 @@ use Rattle.clv_base.specs.declared.logs.LogRecord.{LogRecord}
 use Rattle.clv_base.specs.Shards.{shard_count}
 use Rattle.clv_base.specs.LogRules.{log_of}
 use Rattle.io_model.specs.Sides.{Stories}
-use Rattle.log_gate.specs.View.{View, logs_of}
-use Rattle.log_gate.proofs.Laws.{only_from}
+use Rattle.gate_calls.specs.View.{View, logs_of}
+use Rattle.gate_calls.proofs.Laws.{only_from}
 use Rattle.cluster_opening.specs.Logs.{IsFound}
 use Rattle.cluster_opening.specs.Houses.{WentOut}
 use Rattle.cluster_runs.specs.Begun.{AreFound}

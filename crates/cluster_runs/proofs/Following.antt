@@ -8,9 +8,9 @@ use Rattle.clv_base.specs.Shards.{shard_count}
 use Rattle.clv_base.specs.State.{Shard}
 use Rattle.clv_base.specs.Journals.{final_of, journal_of}
 use Rattle.io_model.specs.Sides.{Stories, Images, reads_both}
-use Rattle.log_gate.specs.Gate.{EachNow}
-use Rattle.log_gate.specs.Sides.{Chosen}
-use Rattle.log_gate.specs.Image.{HasLog, HasHeader}
+use Rattle.gate_calls.specs.Gate.{EachNow}
+use Rattle.gate_calls.specs.Sides.{Chosen}
+use Rattle.gate_calls.specs.Image.{HasLog, HasHeader}
 use Rattle.history_replay.specs.Entries.{Kept}
 use Rattle.cluster_opening.specs.Logs.{LogsOfAll}
 use Rattle.cluster_opening.proofs.Laws.{same_logs}

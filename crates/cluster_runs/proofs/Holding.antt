@@ -13,11 +13,11 @@ use Rattle.clv_base.specs.Machines.{BecomesBy}
 use Rattle.io_model.specs.Sides.{Stories, Images, reads_both}
 use Rattle.history_cases.proofs.Durability.{framed_finish, Counted}
 use Rattle.journal_laws.specs.Notes.{Note as Told, made, fetched, MayNotes, after_notes, entries_of_notes}
-use Rattle.log_gate.specs.Header.{Layout}
-use Rattle.log_gate.specs.Image.{log_under, HasLog, HasHeader}
-use Rattle.log_gate.proofs.Laws.{from_under}
-use Rattle.log_gate.specs.Gate.{EachNow}
-use Rattle.log_gate.specs.View.{logs_told}
+use Rattle.gate_calls.specs.Header.{Layout}
+use Rattle.gate_calls.specs.Image.{log_under, HasLog, HasHeader}
+use Rattle.gate_calls.proofs.Laws.{from_under}
+use Rattle.gate_calls.specs.Gate.{EachNow}
+use Rattle.gate_calls.specs.View.{logs_told}
 use Rattle.machine_laws.specs.declared.notes.Note.{Note}
 use Rattle.machine_laws.specs.declared.notes.Origin.{Origin}
 use Rattle.machine_laws.specs.Notes.{told}

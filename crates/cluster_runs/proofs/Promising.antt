@@ -9,8 +9,8 @@ use Rattle.clv_base.specs.Sessions.{is_of_session, is_session_number}
 use Rattle.clv_base.specs.Journals.{History, own, journal_of}
 use Rattle.journal_laws.specs.Gathered.{journal_at}
 use Rattle.io_model.specs.Sides.{reads_both}
-use Rattle.log_gate.specs.Gate.{EachNow}
-use Rattle.log_gate.specs.Image.{HasHeader, HasLog}
+use Rattle.gate_calls.specs.Gate.{EachNow}
+use Rattle.gate_calls.specs.Image.{HasHeader, HasLog}
 use Rattle.history_replay.specs.Entries.{entries_of}
 use Rattle.headline_laws.proofs.Laws.{promise}
 use Rattle.machine_laws.specs.Homes.{has_failed}

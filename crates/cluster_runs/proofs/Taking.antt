@@ -10,8 +10,8 @@ use Rattle.io_model.specs.Sides.{Stories}
 use Rattle.io_model.specs.Disk.{Tells, Rose}
 use Rattle.shard_recovery.specs.declared.recovering.RecoverError.{RecoverError}
 use Rattle.shard_recovery.specs.declared.recovering.RecoverError.TheVariants as recovery
-use Rattle.log_gate.specs.Header.{Layout}
-use Rattle.log_gate.specs.Opening.{IsUnchanged}
+use Rattle.gate_calls.specs.Header.{Layout}
+use Rattle.gate_calls.specs.Opened.{IsUnchanged}
 use Rattle.cluster_opening.specs.declared.error.OpenError.{OpenError}
 use Rattle.cluster_opening.specs.declared.error.OpenError.TheVariants.{Failed, NotLog, Apart, Worn, Memory}
 use Rattle.cluster_opening.specs.Logs.{LogsOfAll}

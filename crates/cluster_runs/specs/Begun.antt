@@ -10,9 +10,9 @@ use Rattle.io_model.specs.Sides.{Stories}
 use Rattle.io_model.specs.Disk.{Tells}
 use Rattle.shard_recovery.specs.declared.recovering.RecoverError.{RecoverError}
 use Rattle.shard_recovery.specs.declared.recovering.RecoverError.TheVariants as recovery
-use Rattle.log_gate.specs.Header.{Layout}
-use Rattle.log_gate.specs.Gate.{EachNow}
-use Rattle.log_gate.specs.Opening.{IsUnchanged}
+use Rattle.gate_calls.specs.Header.{Layout}
+use Rattle.gate_calls.specs.Gate.{EachNow}
+use Rattle.gate_calls.specs.Opened.{IsUnchanged}
 use Rattle.turn_lock.specs.Passes.{passes_of}
 use Rattle.cluster_turns.specs.declared.shards.Shards.{Shards}
 use Rattle.cluster_turns.specs.Walkers.{founds_of}

@@ -5,8 +5,8 @@ use Rattle.clv_base.specs.Shards.{shard_count}
 use Rattle.clv_base.specs.State.{Shard}
 use Rattle.clv_base.specs.Journals.{History, journal_of, final_of}
 use Rattle.io_model.specs.Sides.{Stories}
-use Rattle.log_gate.specs.Gate.{EachNow}
-use Rattle.log_gate.specs.View.{logs_told}
+use Rattle.gate_calls.specs.Gate.{EachNow}
+use Rattle.gate_calls.specs.View.{logs_told}
 use Rattle.machine_laws.specs.declared.notes.Note.{Note}
 use Rattle.machine_laws.specs.declared.notes.Origin.{Origin}
 use Rattle.machine_laws.specs.Homes.{IsLegal}

@@ -14,8 +14,8 @@ use Rattle.clv_base.specs.LogRules.{log_of}
 use Rattle.clv_base.specs.Restarts.{log_left}
 use Rattle.clv_base.specs.Journals.{History, journal_of, final_of}
 use Rattle.io_model.specs.Sides.{Stories, Images, reads_both}
-use Rattle.log_gate.specs.Image.{HasLog, HasHeader}
-use Rattle.log_gate.specs.Gate.{EachNow}
+use Rattle.gate_calls.specs.Image.{HasLog, HasHeader}
+use Rattle.gate_calls.specs.Gate.{EachNow}
 
 -- ---- a run that opened its shards
 

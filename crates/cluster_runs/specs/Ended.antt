@@ -11,7 +11,7 @@ use Rattle.clv_base.specs.Journals.{History, start_of, MayLeave}
 use Rattle.clv_base.specs.Machines.{Runs}
 use Rattle.io_model.specs.Sides.{Stories}
 use Rattle.io_model.specs.Disk.{Rose}
-use Rattle.log_gate.specs.Gate.{EachNow}
+use Rattle.gate_calls.specs.Gate.{EachNow}
 use Rattle.history_replay.specs.Entries.{Kept}
 use Rattle.protocol_laws.specs.Growth.{is_restart}
 use Rattle.journal_laws.specs.Gathered.{MakesHistory, journal_at}

@@ -14,7 +14,7 @@ use clv_base::logs::LogRecord;
 use clv_base::splits::Splits;
 use io_model::House;
 use log_analysis::LogFacts;
-use log_gate::Gate;
+use gate_calls::Gate;
 use machine_calls::OverDisks;
 use machine_laws::{Note, Origin};
 use shard_recovery::RecoverError;

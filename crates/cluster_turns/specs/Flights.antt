@@ -7,7 +7,7 @@ use Rattle.clv_base.specs.declared.events.Outcome.TheVariants.{Out, Durable, Fai
 use Rattle.clv_base.specs.declared.events.Entry.{Entry}
 use Rattle.clv_base.specs.State.{Shard}
 use Rattle.clv_base.specs.Events.{land}
-use Rattle.log_gate.specs.Header.{Layout}
+use Rattle.gate_calls.specs.Header.{Layout}
 use Rattle.turn_lock.specs.declared.pass.Pass.{Pass}
 use Rattle.turn_lock.specs.Passes.{pass_origin, seen, known}
 use Rattle.machine_calls.specs.declared.machine.StepError.{StepError}

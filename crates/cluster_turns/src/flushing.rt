@@ -10,7 +10,7 @@ use crate::flying::{arrive, depart};
 use crate::{Shards, Walker};
 use clv_base::events::Outcome;
 use io_model::{Pace, Step};
-use log_gate::Gate;
+use gate_calls::Gate;
 use machine_calls::{Flier, Flight, StepError};
 use std::alloc::Global;
 use std::sync::Wait;

@@ -9,7 +9,7 @@ ghost use Rattle.machine_laws.specs.Sound.{IsSound};
 
 use crate::heap::OnHeap;
 use clv_base::events::{Event, Outcome};
-use log_gate::Gate;
+use gate_calls::Gate;
 use machine_calls::{Machine, StepError};
 use machine_laws::{Mark, Note, Origin};
 use std::alloc::Global;

@@ -2,7 +2,7 @@
 use Rattle.std.proofs.Common.{◌≡◌, refl, sym, subst, inr, ℕ, List, Option, Some, None}
 use Rattle.io_model.specs.Sides.{Stories}
 use Rattle.io_model.specs.Disk.{Tells}
-use Rattle.log_gate.specs.Opening.{IsUnchanged}
+use Rattle.gate_calls.specs.Opened.{IsUnchanged}
 use Rattle.cluster_runs.specs.Begun.{AreUnchanged, before}
 use Rattle.command_line.specs.Commands.{IsCommand}
 use Rattle.command_line.specs.declared.commands.Command.{Command}

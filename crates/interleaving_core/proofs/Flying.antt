@@ -15,7 +15,7 @@ use Rattle.clv_base.specs.State.{Shard}
 use Rattle.clv_base.specs.Events.{QuietBeforeWorn, Quiet, Enters, next_stamp, step, stamped, happen_up, out_event, taken, finish, with_entry, with_flight, with_durable, put_down, land, land_up}
 use Rattle.clv_base.specs.Restarts.{log_left}
 use Rattle.protocol_laws.specs.Growth.{IsPrefixOf}
-use Rattle.log_gate.specs.Image.{SpellAll}
+use Rattle.gate_calls.specs.Image.{SpellAll}
 use Rattle.interleaving_core.specs.Listed.{Listed}
 use Rattle.machine_calls.specs.declared.flights.Flight.{Flight}
 use Rattle.machine_calls.specs.Flights.{Leaves, flying, is_out}

@@ -8,7 +8,7 @@ use Rattle.clv_base.specs.FileRules.{has_spelling}
 use Rattle.clv_base.specs.Logs.{record_size}
 use Rattle.log_records.specs.Spelling.{spelling, Spells, BeginsWith}
 use Rattle.log_records.specs.Laws.{NoneBeginsAnother}
-use Rattle.log_gate.specs.Image.{SpellAll}
+use Rattle.gate_calls.specs.Image.{SpellAll}
 use Rattle.law_base.proofs.Bools.{both_true}
 
 -- what is still to be read of these records, where those are read

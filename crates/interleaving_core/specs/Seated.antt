@@ -6,7 +6,7 @@ use Rattle.clv_base.specs.FileRules.{has_spelling}
 use Rattle.clv_base.specs.State.{Shard}
 use Rattle.clv_base.specs.Restarts.{log_left}
 use Rattle.clv_base.specs.Journals.{IsThere}
-use Rattle.log_gate.specs.Image.{SpellAll, IsBatch}
+use Rattle.gate_calls.specs.Image.{SpellAll, IsBatch}
 use Rattle.interleaving_core.specs.Listed.{Listed}
 use Rattle.machine_calls.specs.declared.flights.Flight.{Flight}
 use Rattle.interleaving_core.specs.declared.seat.Air.{Air}

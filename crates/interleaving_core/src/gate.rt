@@ -2,12 +2,12 @@
 ghost use Rattle.std.specs.Prelude.{◌≡◌, ◌≤◌, ◌++◌, List, [], true, false, Some, Err, OnOk, OnErr, IsErrOf};
 ghost use Rattle.clv_base.specs.declared.logs.LogRecord.{LogRecord as RecordIs};
 ghost use Rattle.io_model.specs.Disk.{Rose};
-ghost use Rattle.log_gate.specs.Image.{SpellAll, IsBatch};
-ghost use Rattle.log_gate.specs.Errors.{Counts};
+ghost use Rattle.gate_calls.specs.Image.{SpellAll, IsBatch};
+ghost use Rattle.gate_calls.specs.Errors.{Counts};
 
 use crate::reading::read_batch;
 use clv_base::logs::LogRecord;
-use log_gate::{Gate, PushError};
+use gate_calls::{Gate, PushError};
 use std::alloc::Global;
 use std::marker::Model;
 

@@ -1,7 +1,7 @@
 // The records that a batch spells.
 ghost use Rattle.std.specs.Prelude.{◌≡◌, ◌≤◌, List, drop, length, IfOk};
 ghost use Rattle.clv_base.specs.declared.logs.LogRecord.{LogRecord as RecordIs};
-ghost use Rattle.log_gate.specs.Image.{SpellAll, IsBatch};
+ghost use Rattle.gate_calls.specs.Image.{SpellAll, IsBatch};
 
 use clv_base::logs::LogRecord;
 use log_records::{DecodeError, decode, length_is_size, no_spelling_begins_another};

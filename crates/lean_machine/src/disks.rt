@@ -1,8 +1,8 @@
 //! A machine whose gates lie on disks, as those of the one that it stands on do.
 ghost use Rattle.std.specs.Prelude.{◌≡◌, List, Option};
 ghost use Rattle.clv_base.specs.declared.logs.LogRecord.{LogRecord};
-ghost use Rattle.log_gate.specs.Header.{Layout};
-ghost use Rattle.log_gate.specs.View.{logs_told};
+ghost use Rattle.gate_calls.specs.Header.{Layout};
+ghost use Rattle.gate_calls.specs.View.{logs_told};
 ghost use Rattle.machine_calls.specs.Disks.{stories_of, faults_of};
 
 use crate::forgetter::Forgetter;

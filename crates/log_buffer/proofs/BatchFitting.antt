@@ -6,7 +6,7 @@ use Rattle.clv_base.specs.declared.logs.LogRecord.{LogRecord}
 use Rattle.clv_base.specs.Logs.{record_size, fitting}
 use Rattle.clv_base.specs.FileRules.{has_own_spelling}
 use Rattle.log_records.specs.Laws.{LengthIsSize}
-use Rattle.log_gate.specs.Image.{IsBatch}
+use Rattle.gate_calls.specs.Image.{IsBatch}
 use Rattle.log_buffer.specs.Batches.{spellings}
 use Rattle.log_buffer.proofs.BatchSizes.{they_fit, has_bytes}
 

@@ -7,8 +7,8 @@ use Rattle.clv_base.specs.Logs.{record_size}
 use Rattle.clv_base.specs.FileRules.{has_own_spelling}
 use Rattle.log_buffer.specs.Buffers.{Buffer, next_count}
 use Rattle.log_records.specs.Laws.{LengthIsSize}
-use Rattle.log_gate.specs.Image.{SpellAll, IsBatch}
-use Rattle.log_gate.specs.View.{Only, OnlyOrMore}
+use Rattle.gate_calls.specs.Image.{SpellAll, IsBatch}
+use Rattle.gate_calls.specs.View.{Only, OnlyOrMore}
 use Rattle.log_buffer.specs.Flushing.{spellings, batch_from, flown, landed, AtRest, InFlight, ByBatches, another}
 use Rattle.law_base.proofs.Logs.{few_fit, passes_taken}
 use Rattle.log_buffer.proofs.BatchSizes.{they_fit, some_fits, has_bytes}

@@ -6,7 +6,7 @@ use Rattle.clv_base.specs.Logs.{fitting}
 use Rattle.log_records.specs.Spelling.{spelling}
 use Rattle.io_model.specs.Disk.{Rose}
 use Rattle.log_buffer.specs.Buffers.{Buffer}
-use Rattle.log_gate.specs.View.{Only, OnlyOrMore}
+use Rattle.gate_calls.specs.View.{Only, OnlyOrMore}
 use Rattle.log_buffer.specs.declared.flushing.FlushError.{FlushError}
 use Rattle.log_buffer.specs.declared.flushing.FlushError.TheVariants.{Failed, Memory}
 

@@ -3,7 +3,7 @@ ghost use Rattle.std.specs.Prelude.{◌≡◌, ◌<◌, true, length, IfOk};
 ghost use Rattle.std.specs.List.{list_all};
 ghost use Rattle.clv_base.specs.FileRules.{has_own_spelling};
 ghost use Rattle.clv_base.specs.Logs.{fitting};
-ghost use Rattle.log_gate.specs.Image.{IsBatch, SpellAll};
+ghost use Rattle.gate_calls.specs.Image.{IsBatch, SpellAll};
 
 use crate::spelling::spell;
 use clv_base::logs::LogRecord;

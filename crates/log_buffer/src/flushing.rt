@@ -2,13 +2,13 @@
 ghost use Rattle.std.specs.Prelude.{◌≡◌, ◌≤◌, ◌<◌, true, false, drop, length, vec_capacity, OnOk, OnErr, IsErrOf, Err};
 ghost use Rattle.std.specs.List.{list_all};
 ghost use Rattle.clv_base.specs.FileRules.{has_spelling, has_own_spelling};
-ghost use Rattle.log_gate.specs.Header.{Layout};
+ghost use Rattle.gate_calls.specs.Header.{Layout};
 ghost use Rattle.log_buffer.specs.Flushing.{AtRest, ByBatches, CountsFlush, InFlight, flown, landed};
 
 use crate::LogBuffer;
 use crate::payload::{empty_payload, lay_out};
 use clv_base::logs::LogRecord;
-use log_gate::Gate;
+use gate_calls::Gate;
 use log_records::length_is_size;
 use std::alloc::Global;
 

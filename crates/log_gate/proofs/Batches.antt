@@ -9,7 +9,7 @@ use Rattle.log_gate.specs.declared.error.ParseError.TheVariants.{NotLog, Memory}
 use Rattle.log_gate.specs.Opening.{TakesRecord, AddsRecords}
 use Rattle.std.specs.List.{list_all}
 use Rattle.clv_base.specs.FileRules.{has_own_spelling}
-use Rattle.log_gate.specs.Image.{AllSpelled}
+use Rattle.gate_calls.specs.Image.{AllSpelled}
 use Rattle.log_gate.proofs.Records.{ReadSoFar, read_bad, read_refused, all_append}
 
 pub begins_inside : (r : LogRecord) (n : ℕ) (rest : List ℕ) → BeginsWith r (drop n rest) rest → n ≡ record_size r → (n ≤ length rest) × (0 < n)

@@ -9,13 +9,14 @@ use Rattle.io_model.specs.Disk.{Tells}
 use Rattle.io_model.proofs.Laws.Told.{tells_then, tells_weaker, tells_same, both_tell}
 use Rattle.io_model.specs.declared.disk.Failed.{Failed as DiskFailed}
 use Rattle.log_gate.specs.declared.choosing.Choice.{Choice}
-use Rattle.log_gate.specs.declared.error.OpenLogError.{OpenLogError}
-use Rattle.log_gate.specs.declared.error.OpenLogError.TheVariants.{Failed}
-use Rattle.log_gate.specs.Header.{header_size}
-use Rattle.log_gate.specs.Sides.{image_of, side_of}
-use Rattle.log_gate.specs.Opening.{Looked, Looks, FindsSide, FindsRecords, FindsLog, DiskUnchanged, IsFrontOf, Settles}
-use Rattle.log_gate.specs.Gate.{StandsAt}
-use Rattle.log_gate.specs.Payloads.{opened}
+use Rattle.gate_calls.specs.declared.error.OpenLogError.{OpenLogError}
+use Rattle.gate_calls.specs.declared.error.OpenLogError.TheVariants.{Failed}
+use Rattle.gate_calls.specs.Header.{header_size}
+use Rattle.gate_calls.specs.Sides.{image_of, side_of}
+use Rattle.log_gate.specs.Opening.{Looked, Looks, FindsSide, FindsRecords, FindsLog, IsFrontOf, Settles}
+use Rattle.gate_calls.specs.Opened.{DiskUnchanged}
+use Rattle.gate_calls.specs.Gate.{StandsAt}
+use Rattle.gate_calls.specs.Payloads.{opened}
 use Rattle.log_gate.proofs.Looking.{looked_then, looked_start, looked_reads}
 use Rattle.log_gate.proofs.Knowing.{tells_knowing, known_before, known_after, known_of, known_now, known_both, known_weaker, both_known, first_known, second_known}
 use Rattle.log_gate.proofs.Unchanged.{looked_at, rested}

@@ -5,8 +5,8 @@ use Rattle.std.proofs.lemmas.Bool.{cases_eq}
 use Rattle.io_model.specs.Story.{Story, Write, Sync, Write_failed, Sync_failed, put, reads, IsImage, IsTorn}
 use Rattle.io_model.specs.Crash.{AtEachMoment}
 use Rattle.io_model.proofs.Laws.Moments.{moments_start, moments_call}
-use Rattle.log_gate.specs.Payloads.{IsPayload, batch, opened}
-use Rattle.log_gate.specs.Gate.{Stands, StandsOrMore, DiskNow, IsSettled}
+use Rattle.gate_calls.specs.Payloads.{IsPayload, batch, opened}
+use Rattle.gate_calls.specs.Gate.{Stands, StandsOrMore, DiskNow, IsSettled}
 use Rattle.log_gate.specs.Push.{staged, written, opening, pushed, Pushes}
 use Rattle.log_gate.proofs.Places.{torn_behind, put_behind, torn_gate, put_gate}
 use Rattle.log_gate.proofs.Opened.{opened-append, opened-push}

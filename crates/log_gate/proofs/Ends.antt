@@ -3,9 +3,9 @@ use Rattle.std.proofs.Common.{◌≡◌, ℕ, ◌+◌, ◌<◌, ◌^◌, List, [
 use Rattle.clv_base.specs.declared.logs.LogRecord.{LogRecord}
 use Rattle.io_model.specs.Sides.{Stories}
 use Rattle.io_model.specs.Disk.{Tells}
-use Rattle.log_gate.specs.Payloads.{IsPayload, batch}
-use Rattle.log_gate.specs.Image.{SpellAll, HasLog}
-use Rattle.log_gate.specs.Gate.{EachNow}
+use Rattle.gate_calls.specs.Payloads.{IsPayload, batch}
+use Rattle.gate_calls.specs.Image.{SpellAll, HasLog}
+use Rattle.gate_calls.specs.Gate.{EachNow}
 use Rattle.log_gate.specs.Inside.{Holds}
 use Rattle.log_gate.specs.Push.{IsPushedOn}
 use Rattle.log_gate.proofs.Views.{holds_log, same_log, after_push}

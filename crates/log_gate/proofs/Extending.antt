@@ -5,7 +5,7 @@ use Rattle.io_model.specs.Story.{Story, reads}
 use Rattle.io_model.specs.Disk.{Tells, Cuts, Syncs}
 use Rattle.io_model.proofs.Laws.Told.{Then, tells_then, tells_weaker}
 use Rattle.io_model.specs.declared.disk.Failed.{Failed}
-use Rattle.log_gate.specs.Gate.{IsDurable}
+use Rattle.gate_calls.specs.Gate.{IsDurable}
 use Rattle.log_gate.specs.Switch.{KeepsFirst, Extends, Fills}
 use Rattle.log_gate.proofs.WrittenAnew.{keeps_start, keeps_then, cut_keeps_first, sync_keeps}
 

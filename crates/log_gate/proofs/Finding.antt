@@ -7,18 +7,19 @@ use Rattle.clv_base.specs.FileRules.{passes_file_rules}
 use Rattle.io_model.specs.Story.{Sync, after}
 use Rattle.io_model.specs.Sides.{Stories, Images, reads_both}
 use Rattle.log_gate.specs.declared.choosing.Choice.{Choice}
-use Rattle.log_gate.specs.declared.error.OpenLogError.{OpenLogError}
-use Rattle.log_gate.specs.declared.error.OpenLogError.TheVariants.{NotLog, Failed, Memory}
+use Rattle.gate_calls.specs.declared.error.OpenLogError.{OpenLogError}
+use Rattle.gate_calls.specs.declared.error.OpenLogError.TheVariants.{NotLog, Failed, Memory}
 use Rattle.log_gate.specs.declared.error.ParseError.{ParseError}
 use Rattle.log_gate.specs.declared.error.ParseError.TheVariants as parsing
 use Rattle.log_gate.specs.Errors.{of_parsing}
-use Rattle.log_gate.specs.Header.{magic, same_bytes, header_size, header_of_1, header_of_2}
-use Rattle.log_gate.specs.Sides.{begins_with, is_in_use, is_version_1, Chosen, chosen_by, newer_behind, both_in_use, chosen_by_use, chosen_of, side_of, image_of, MayStandBeside}
-use Rattle.log_gate.specs.Image.{records_in, behind_chosen, with_header}
-use Rattle.log_gate.specs.Gate.{IsDurable}
-use Rattle.log_gate.specs.Opening.{chosen, Gives, Looked, ParsesAs, IsFront, FindsSide, FindsRecords, FindsLog, Finds, DiskUnchanged, IsUnchanged}
+use Rattle.gate_calls.specs.Header.{magic, same_bytes, header_size, header_of_1, header_of_2}
+use Rattle.gate_calls.specs.Sides.{begins_with, is_in_use, is_version_1, Chosen, chosen_by, newer_behind, both_in_use, chosen_by_use, chosen_of, side_of, image_of, MayStandBeside}
+use Rattle.gate_calls.specs.Image.{records_in, behind_chosen, with_header}
+use Rattle.gate_calls.specs.Gate.{IsDurable}
+use Rattle.log_gate.specs.Opening.{chosen, Gives, Looked, ParsesAs, IsFront, FindsSide, FindsRecords, FindsLog, Finds}
+use Rattle.gate_calls.specs.Opened.{DiskUnchanged, IsUnchanged}
 use Rattle.log_gate.proofs.Fronts.{reaches, header_in_front_1, header_in_front_2}
-use Rattle.log_gate.proofs.Agreed.{unagreed_side}
+use Rattle.gate_calls.proofs.Agreed.{unagreed_side}
 use Rattle.log_gate.proofs.WhichSide.{beside_chosen}
 use Rattle.log_gate.proofs.Unchanged.{rested, both_unchanged}
 

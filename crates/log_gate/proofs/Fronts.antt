@@ -3,9 +3,9 @@ use Rattle.std.proofs.Common.{◌≡◌, ℕ, zero, suc, ◌+◌, ◌-◌, ◌*�
 use Rattle.std.proofs.lemmas.List.{take-take, drop-take, length-take}
 use Rattle.std.proofs.lemmas.Bool.Decides.{nat_tests}
 use Rattle.byteorder.specs.Endian.{little_number}
-use Rattle.log_gate.proofs.Agreed.{few_fields}
+use Rattle.gate_calls.proofs.Agreed.{few_fields}
 use Rattle.byteorder.specs.Numbers.{little_from-take}
-use Rattle.log_gate.specs.Header.{magic, fields_size, header_size, same_bytes, with_split, agrees_at, agrees_on_count, has_split, splits_from, has_number, has_count, has_generation, behind_field, with_generation, with_no_generation, fields_of, header_of_1, header_of_2, IsHeader}
+use Rattle.gate_calls.specs.Header.{magic, fields_size, header_size, same_bytes, with_split, agrees_at, agrees_on_count, has_split, splits_from, has_number, has_count, has_generation, behind_field, with_generation, with_no_generation, fields_of, header_of_1, header_of_2, IsHeader}
 
 -- whether so many are there is seen in the front
 pub reaches : (n m : ℕ) (bytes : List ℕ) → n ≤ m → nat_le n (length (take m bytes)) ≡ nat_le n (length bytes)

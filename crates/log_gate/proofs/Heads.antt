@@ -3,12 +3,12 @@ use Rattle.std.proofs.Common.{◌≡◌, ℕ, ◌≤◌, List, length, Option, S
 use Rattle.std.proofs.lemmas.List.{take_at}
 use Rattle.byteorder.specs.Endian.{little_bytes}
 use Rattle.io_model.specs.Sides.{Stories}
-use Rattle.log_gate.specs.Header.{field_bytes, fields_size, header_bytes}
-use Rattle.log_gate.specs.Sides.{Chosen}
-use Rattle.log_gate.specs.Image.{HasHeader}
-use Rattle.log_gate.specs.Gate.{EachNow}
+use Rattle.gate_calls.specs.Header.{field_bytes, fields_size, header_bytes}
+use Rattle.gate_calls.specs.Sides.{Chosen}
+use Rattle.gate_calls.specs.Image.{HasHeader}
+use Rattle.gate_calls.specs.Gate.{EachNow}
 use Rattle.log_gate.specs.Inside.{IsHead}
-use Rattle.log_gate.proofs.Headers.{length_header, length_fields}
+use Rattle.gate_calls.proofs.Headers.{length_header, length_fields}
 
 pub head_is : (shard : ℕ) (splits : List ℕ) → IsHead shard splits (header_bytes shard splits 1)
 head_is shard splits = record {

@@ -4,7 +4,7 @@ use Rattle.io_model.specs.Story.{Story, Len, after, reads}
 use Rattle.io_model.specs.Sides.{Stories, both_told}
 use Rattle.io_model.specs.Disk.{Tells, MayNote, Measures}
 use Rattle.io_model.proofs.Laws.Told.{tells_same, both_tell}
-use Rattle.log_gate.specs.Opening.{DiskUnchanged, IsUnchanged}
+use Rattle.gate_calls.specs.Opened.{DiskUnchanged, IsUnchanged}
 use Rattle.log_gate.specs.Make.{Lengths}
 use Rattle.log_gate.proofs.Looking.{looked_note, looked_start}
 use Rattle.log_gate.proofs.Unchanged.{looked_at, both_unchanged}

@@ -9,8 +9,6 @@ pub mod Switching
 pub mod Switched
 pub mod SwitchViews
 pub mod LogStays
-pub mod Numbers
-pub mod Headers
 pub mod Records
 pub mod Chain
 pub mod Views
@@ -28,8 +26,5 @@ pub mod Lengths
 pub mod Finding
 pub mod BothFound
 pub mod Heads
-pub mod Agreed
 pub mod WhichSide
-pub mod ManyLogs
 pub mod ReopenedUnchanged
-pub mod Laws

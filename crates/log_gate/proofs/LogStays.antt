@@ -4,7 +4,7 @@ use Rattle.io_model.specs.Story.{Story}
 use Rattle.io_model.specs.Sides.{Stories}
 use Rattle.io_model.specs.Disk.{Tells}
 use Rattle.io_model.specs.declared.disk.Failed.{Failed}
-use Rattle.log_gate.specs.Sides.{Chosen}
+use Rattle.gate_calls.specs.Sides.{Chosen}
 use Rattle.log_gate.specs.Inside.{Holds, story_of}
 use Rattle.log_gate.specs.Switch.{WritesFirst, WritesOther, Switches, LogStays, ChosenStays}
 use Rattle.log_gate.proofs.SwitchViews.{holds_chosen}

@@ -5,7 +5,7 @@ use Rattle.std.proofs.lemmas.List.{append-nil, take_at, drop_at}
 use Rattle.std.proofs.lemmas.Bool.Decides.{nat_tests}
 use Rattle.byteorder.specs.Endian.{little_bytes, little_number}
 use Rattle.byteorder.specs.Numbers.{little_number-reads_back, length-bytes_low_first}
-use Rattle.log_gate.specs.Payloads.{IsPayload, batch, opened, with_first, holds_batch, payloads_from, payload_log}
+use Rattle.gate_calls.specs.Payloads.{IsPayload, batch, opened, with_first, holds_batch, payloads_from, payload_log}
 
 pub opened-append : (ps qs : List (List ℕ)) → opened (ps ++ qs) ≡ opened ps ++ opened qs
 opened-append [] qs = refl

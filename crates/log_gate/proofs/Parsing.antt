@@ -4,8 +4,8 @@ use Rattle.std.specs.List.{AllByRecursion}
 use Rattle.std.proofs.lemmas.List.{append-nil, drop_more, drop_all, drop-drop, length-take}
 use Rattle.std.proofs.lemmas.Bool.Decides.{nat_tests}
 use Rattle.byteorder.specs.Endian.{little_bytes, little_number}
-use Rattle.log_gate.specs.Payloads.{IsPayload, batch, opened, with_first, holds_batch, payloads_from, payload_log}
-use Rattle.log_gate.specs.Gate.{StandsAt}
+use Rattle.gate_calls.specs.Payloads.{IsPayload, batch, opened, with_first, holds_batch, payloads_from, payload_log}
+use Rattle.gate_calls.specs.Gate.{StandsAt}
 use Rattle.log_gate.proofs.Opened.{opened-append}
 
 -- more payloads before those that reading gives

@@ -8,12 +8,12 @@ use Rattle.io_model.specs.Disk.{Tells, Reads}
 use Rattle.io_model.proofs.Laws.Told.{tells_weaker}
 use Rattle.log_gate.specs.declared.error.ParseError.{ParseError}
 use Rattle.log_gate.specs.declared.error.ParseError.TheVariants as parsing
-use Rattle.log_gate.specs.declared.error.OpenLogError.{OpenLogError}
+use Rattle.gate_calls.specs.declared.error.OpenLogError.{OpenLogError}
 use Rattle.log_gate.specs.Errors.{of_parsing}
-use Rattle.log_gate.specs.Payloads.{fits_batch}
+use Rattle.gate_calls.specs.Payloads.{fits_batch}
 use Rattle.clv_base.specs.declared.logs.LogRecord.{LogRecord}
 use Rattle.clv_base.specs.FileRules.{has_own_spelling}
-use Rattle.log_gate.specs.Image.{records_in}
+use Rattle.gate_calls.specs.Image.{records_in}
 use Rattle.log_gate.specs.Opening.{Looks, IsPiece, TakesGate, StandsGate, AddsRecords, AddsBatch, AreGood}
 use Rattle.log_gate.proofs.Looking.{looked_note}
 use Rattle.log_gate.proofs.Records.{all_append}

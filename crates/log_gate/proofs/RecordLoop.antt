@@ -4,10 +4,10 @@ use Rattle.std.specs.List.{list_all}
 use Rattle.std.proofs.lemmas.List.{append-nil, drop_more, drop_all, drop-drop}
 use Rattle.std.proofs.lemmas.Bool.Decides.{nat_tests}
 use Rattle.byteorder.specs.Endian.{little_bytes, little_number}
-use Rattle.log_gate.specs.Payloads.{holds_batch}
+use Rattle.gate_calls.specs.Payloads.{holds_batch}
 use Rattle.clv_base.specs.declared.logs.LogRecord.{LogRecord}
-use Rattle.log_gate.specs.Records.{both, records_from, record_log}
-use Rattle.log_gate.specs.Image.{SpellAll, AllSpelled}
+use Rattle.gate_calls.specs.Records.{both, records_from, record_log}
+use Rattle.gate_calls.specs.Image.{SpellAll, AllSpelled}
 use Rattle.log_gate.proofs.Parsing.{SoFar, start, stops, goes_on}
 use Rattle.log_gate.specs.Opening.{ParsesAs}
 use Rattle.log_gate.proofs.Views.{spelled_push}

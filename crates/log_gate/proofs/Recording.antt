@@ -1,8 +1,8 @@
 -- A log of payloads that are read as records is a log of these records.
 use Rattle.std.proofs.Common.{◌≡◌, ◌⊎◌, inl, inr, ℕ, zero, suc, ◌+◌, List, [], ◌∷◌, length, take, drop, Result, Ok, Err, Bool, true, false, cond, nat_eq, refl, sym, ◌∙◌, ap, subst}
 use Rattle.byteorder.specs.Endian.{little_number}
-use Rattle.log_gate.specs.Payloads.{holds_batch, with_first, payloads_from, payload_log}
-use Rattle.log_gate.specs.Records.{both, records_from, record_log, AllRead}
+use Rattle.gate_calls.specs.Payloads.{holds_batch, with_first, payloads_from, payload_log}
+use Rattle.gate_calls.specs.Records.{both, records_from, record_log, AllRead}
 
 chosen : {A : Type 0} (b : Bool) (x y z : A) → cond b x y ≡ z → ((b ≡ true) × (x ≡ z)) ⊎ ((b ≡ false) × (y ≡ z))
 chosen true x y z is = inl (refl, is)

@@ -7,7 +7,7 @@ use Rattle.clv_base.specs.FileRules.{has_own_spelling}
 use Rattle.log_records.specs.Spelling.{spelling, BeginsWith}
 use Rattle.log_records.specs.Reading.{record_at}
 use Rattle.log_records.proofs.Laws.Spellings.{begins_read}
-use Rattle.log_gate.specs.Image.{SpellAll, with_record, records_at, record_then, records_in}
+use Rattle.gate_calls.specs.Image.{SpellAll, with_record, records_at, record_then, records_in}
 use Rattle.law_base.proofs.Bools.{both_true}
 
 -- each record passes

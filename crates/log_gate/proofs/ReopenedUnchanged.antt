@@ -5,9 +5,9 @@ use Rattle.io_model.specs.Story.{Story, reads, IsImage}
 use Rattle.io_model.specs.Sides.{Stories, Shows}
 use Rattle.io_model.specs.Disk.{Tells}
 use Rattle.io_model.proofs.Laws.Moments.{moments_now}
-use Rattle.log_gate.specs.Header.{Layout}
-use Rattle.log_gate.specs.Opening.{DiskUnchanged, IsUnchanged}
-use Rattle.log_gate.specs.View.{logs_told}
+use Rattle.gate_calls.specs.Header.{Layout}
+use Rattle.gate_calls.specs.Opened.{DiskUnchanged, IsUnchanged}
+use Rattle.gate_calls.specs.View.{logs_told}
 
 -- what is shown then was shown before
 pub shown_before : (s t : Story) → DiskUnchanged s t → (bytes : List ℕ) → Shows t bytes → Shows s bytes

@@ -4,7 +4,7 @@ use Rattle.std.proofs.lemmas.List.{append-nil}
 use Rattle.std.proofs.lemmas.Bool.Decides.{nat_tests}
 use Rattle.byteorder.specs.Endian.{little_number}
 use Rattle.clv_base.specs.Shards.{are_splits, not_rising, not_rising_from}
-use Rattle.log_gate.specs.Header.{with_split, splits_from, has_split, Rise}
+use Rattle.gate_calls.specs.Header.{with_split, splits_from, has_split, Rise}
 
 abbrev pub with_splits : List ℕ → Result (List ℕ) ℕ → Result (List ℕ) ℕ
 with_splits front (Ok splits) = Ok (front ++ splits)

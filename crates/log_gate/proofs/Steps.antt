@@ -3,9 +3,9 @@ use Rattle.std.proofs.Common.{◌≡◌, ℕ, ◌+◌, ◌≤◌, ◌<◌, List,
 use Rattle.std.specs.declared.alloc.Global.{Global}
 use Rattle.std.proofs.lemmas.List.{drop-drop}
 use Rattle.clv_base.specs.declared.logs.LogRecord.{LogRecord}
-use Rattle.log_gate.specs.declared.error.OpenLogError.{OpenLogError}
-use Rattle.log_gate.specs.declared.error.OpenLogError.TheVariants.{NotLog, Failed, Memory}
-use Rattle.log_gate.specs.Image.{SpellAll, records_in}
+use Rattle.gate_calls.specs.declared.error.OpenLogError.{OpenLogError}
+use Rattle.gate_calls.specs.declared.error.OpenLogError.TheVariants.{NotLog, Failed, Memory}
+use Rattle.gate_calls.specs.Image.{SpellAll, records_in}
 use Rattle.log_gate.specs.Opening.{StandsGate, AddsBatch, FindsRecords}
 use Rattle.log_gate.proofs.RecordLoop.{Far, start_far, stops_far, breaks_far, bad_far, goes_far, ends_far}
 

@@ -7,14 +7,14 @@ use Rattle.byteorder.specs.Endian.{little_bytes}
 use Rattle.clv_base.specs.declared.logs.LogRecord.{LogRecord}
 use Rattle.io_model.specs.Sides.{Stories, Images, EachShown, MomentsOfSides, reads_both}
 use Rattle.io_model.specs.Disk.{Tells}
-use Rattle.log_gate.specs.Payloads.{IsPayload, opened}
-use Rattle.log_gate.specs.Header.{field_bytes, fields_size, header_bytes}
-use Rattle.log_gate.specs.Sides.{Chosen, chosen_of, image_of, next_generation}
-use Rattle.log_gate.specs.Image.{HasLog, HasHeader, AllSpelled}
-use Rattle.log_gate.specs.Gate.{EachNow}
+use Rattle.gate_calls.specs.Payloads.{IsPayload, opened}
+use Rattle.gate_calls.specs.Header.{field_bytes, fields_size, header_bytes}
+use Rattle.gate_calls.specs.Sides.{Chosen, chosen_of, image_of, next_generation}
+use Rattle.gate_calls.specs.Image.{HasLog, HasHeader, AllSpelled}
+use Rattle.gate_calls.specs.Gate.{EachNow}
 use Rattle.log_gate.specs.Inside.{Holds, IsHead}
 use Rattle.log_gate.specs.Switch.{contents, Switches, HasEither, MomentsThen}
-use Rattle.log_gate.proofs.Headers.{length_fields, length_header}
+use Rattle.gate_calls.proofs.Headers.{length_fields, length_header}
 use Rattle.log_gate.proofs.Views.{placed_back, is_chosen, shown_side, shown_stands, shown_beside, holds_log, holds_header, same_log, splits_of}
 use Rattle.log_gate.proofs.Switching.{next_choice, covers_logs, covers_header}
 use Rattle.log_gate.proofs.Switched.{still, switched_moments, holds_switched}

@@ -5,11 +5,11 @@ use Rattle.clv_base.specs.declared.logs.LogRecord.{LogRecord}
 use Rattle.io_model.specs.Story.{Story, reads}
 use Rattle.io_model.specs.Sides.{Stories, Images, Shows, EachShown, MomentsOfSides}
 use Rattle.io_model.proofs.Laws.Moments.{moments_start}
-use Rattle.log_gate.specs.Payloads.{IsPayload, opened}
-use Rattle.log_gate.specs.Header.{header_bytes}
-use Rattle.log_gate.specs.Sides.{is_newer, next_generation, MayStandBeside}
-use Rattle.log_gate.specs.Image.{AllSpelled}
-use Rattle.log_gate.specs.Gate.{IsDurable, Stands}
+use Rattle.gate_calls.specs.Payloads.{IsPayload, opened}
+use Rattle.gate_calls.specs.Header.{header_bytes}
+use Rattle.gate_calls.specs.Sides.{is_newer, next_generation, MayStandBeside}
+use Rattle.gate_calls.specs.Image.{AllSpelled}
+use Rattle.gate_calls.specs.Gate.{IsDurable, Stands}
 use Rattle.log_gate.specs.Inside.{Holds, story_of}
 use Rattle.log_gate.specs.Switch.{first_written, WritesFirst, OldOrNew, contents, WritesOther, Switches, MomentsThen}
 use Rattle.log_gate.proofs.WhichSide.{next_is_newer}

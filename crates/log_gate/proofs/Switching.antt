@@ -8,11 +8,11 @@ use Rattle.io_model.specs.Story.{Story, reads, IsTorn}
 use Rattle.io_model.specs.Sides.{Stories, Images, Shows, MomentsOfSides}
 use Rattle.io_model.specs.Crash.{AtEachMoment}
 use Rattle.io_model.proofs.Laws.Moments.{moments_weaker, moments_now}
-use Rattle.log_gate.specs.Payloads.{IsPayload, opened}
-use Rattle.log_gate.specs.Header.{field_bytes, header_bytes, header_of_2, same_bytes}
-use Rattle.log_gate.specs.Sides.{begins_with, is_in_use, is_version_1, is_newer, Chosen, image_of, IsChoice, MayStandBeside}
-use Rattle.log_gate.specs.Image.{HasHeader, AllSpelled}
-use Rattle.log_gate.specs.Gate.{IsDurable, Stands}
+use Rattle.gate_calls.specs.Payloads.{IsPayload, opened}
+use Rattle.gate_calls.specs.Header.{field_bytes, header_bytes, header_of_2, same_bytes}
+use Rattle.gate_calls.specs.Sides.{begins_with, is_in_use, is_version_1, is_newer, Chosen, image_of, IsChoice, MayStandBeside}
+use Rattle.gate_calls.specs.Image.{HasHeader, AllSpelled}
+use Rattle.gate_calls.specs.Gate.{IsDurable, Stands}
 use Rattle.log_gate.specs.Inside.{Holds, story_of}
 use Rattle.log_gate.specs.Switch.{WritesFirst, OldOrNew, contents, HasEither}
 use Rattle.log_gate.proofs.WhichSide.{version_2_used, reads_as}

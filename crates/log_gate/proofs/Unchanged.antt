@@ -8,13 +8,14 @@ use Rattle.io_model.specs.Disk.{Tells, MayNote, Measures}
 use Rattle.io_model.proofs.Laws.Moments.{moments_start, moments_call}
 use Rattle.io_model.proofs.Laws.Told.{tells_then, tells_weaker}
 use Rattle.log_gate.specs.declared.choosing.Choice.{Choice}
-use Rattle.log_gate.specs.Header.{header_bytes}
-use Rattle.log_gate.specs.Sides.{Chosen, image_of, MayStandBeside}
-use Rattle.log_gate.specs.Image.{HasLog, HasHeader}
-use Rattle.log_gate.specs.Gate.{IsDurable, Stands, EachNow}
+use Rattle.gate_calls.specs.Header.{header_bytes}
+use Rattle.gate_calls.specs.Sides.{Chosen, image_of, MayStandBeside}
+use Rattle.gate_calls.specs.Image.{HasLog, HasHeader}
+use Rattle.gate_calls.specs.Gate.{IsDurable, Stands, EachNow}
 use Rattle.log_gate.specs.Inside.{Holds, story_of}
-use Rattle.log_gate.specs.Opening.{Looked, DiskUnchanged, IsUnchanged, Settles, chosen, Found, Finds}
-use Rattle.log_gate.proofs.Headers.{length_header}
+use Rattle.log_gate.specs.Opening.{Looked, Settles, chosen, Found, Finds}
+use Rattle.gate_calls.specs.Opened.{DiskUnchanged, IsUnchanged}
+use Rattle.gate_calls.proofs.Headers.{length_header}
 use Rattle.log_gate.proofs.Views.{holds_log, holds_header}
 use Rattle.log_gate.proofs.Looking.{looked_call, looked_note, looked_reads, looked_images, looked_moments}
 

@@ -7,19 +7,19 @@ use Rattle.io_model.specs.Sides.{Stories, Images, reads_both, Shows, AreShown, E
 use Rattle.io_model.specs.Disk.{Tells}
 use Rattle.io_model.specs.Crash.{AtEachMoment}
 use Rattle.io_model.proofs.Laws.Moments.{moments_start, moments_weaker, moments_now}
-use Rattle.log_gate.specs.Payloads.{IsPayload, batch, opened, payload_log}
-use Rattle.log_gate.specs.Records.{record_log, AllRead}
-use Rattle.log_gate.specs.Header.{header_bytes, header_size}
-use Rattle.log_gate.specs.Sides.{Chosen, chosen_of, image_of, IsChoice, MayStandBeside}
-use Rattle.log_gate.specs.Image.{SpellAll, records_in, behind_chosen, with_header, log_of, records_of, HasLog, HasLogOrMore, HasHeader, AllSpelled}
-use Rattle.log_gate.specs.Gate.{Stands, StandsOrMore, EachNow, IsDurable, IsSettled}
+use Rattle.gate_calls.specs.Payloads.{IsPayload, batch, opened, payload_log}
+use Rattle.gate_calls.specs.Records.{record_log, AllRead}
+use Rattle.gate_calls.specs.Header.{header_bytes, header_size}
+use Rattle.gate_calls.specs.Sides.{Chosen, chosen_of, image_of, IsChoice, MayStandBeside}
+use Rattle.gate_calls.specs.Image.{SpellAll, records_in, behind_chosen, with_header, log_of, records_of, HasLog, HasLogOrMore, HasHeader, AllSpelled}
+use Rattle.gate_calls.specs.Gate.{Stands, StandsOrMore, EachNow, IsDurable, IsSettled}
 use Rattle.io_model.proofs.Laws.Told.{tells_weaker}
 use Rattle.log_gate.specs.Inside.{Holds, IsHead, story_of}
 use Rattle.log_gate.specs.Push.{pushed, Pushes, PushesOn, IsPushedOn}
 use Rattle.log_gate.proofs.Opened.{payload_log-closed}
 use Rattle.log_gate.proofs.Recording.{record_log_follows}
 use Rattle.log_gate.proofs.Records.{all_pass, all_spelled_read}
-use Rattle.log_gate.proofs.Headers.{length_header}
+use Rattle.gate_calls.proofs.Headers.{length_header}
 use Rattle.log_gate.proofs.WhichSide.{Agrees, placed, chosen_is}
 use Rattle.log_gate.proofs.Crash.{push_settled, push_whole}
 
@@ -47,10 +47,6 @@ pub shown_side : (side : ℕ) (s : Stories) (images : Images) → side ≤ 1 →
 shown_side zero s images few shown = shown
 shown_side (suc zero) s images few shown = (shown.1, shown.0)
 shown_side (suc (suc n)) s images few shown = absurd (omega arith)
-
--- what is shown is shown as read too
-pub each_now : (P : Images → Type 0) (s : Stories) → EachShown P s → EachNow P s
-each_now P s each = record { read = each (reads_both s) (inl refl, inl refl); images = each }
 
 module _ (shard : ℕ) (small : shard < 2 ^ 32) (c : Chosen) (choice : IsChoice c) where
   abbrev front : List ℕ

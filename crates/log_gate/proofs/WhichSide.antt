@@ -3,10 +3,10 @@ use Rattle.std.proofs.Common.{◌≡◌, ◌⊎◌, inl, inr, ℕ, zero, suc, �
 use Rattle.std.proofs.lemmas.Bool.{cases_eq}
 use Rattle.std.proofs.lemmas.Bool.Decides.{nat_tests}
 use Rattle.io_model.specs.Sides.{Images}
-use Rattle.log_gate.specs.Header.{magic, field_bytes, fields_size, header_bytes, same_bytes, with_no_generation, fields_of, header_of_1, header_of_2, Rise}
-use Rattle.log_gate.specs.Sides.{is_in_use, is_version_1, is_newer, next_generation, Chosen, chosen_by, newer_of, newer_behind, both_in_use, chosen_by_use, chosen_of, side_of, IsChoice, IsOlder, Yields, MayStandBeside}
-use Rattle.log_gate.proofs.Headers.{field_holds, header_found_2, header_read_1, header_read_2, same_from}
-use Rattle.log_gate.proofs.Agreed.{agreed_1, agreed_2, unagreed_2}
+use Rattle.gate_calls.specs.Header.{magic, field_bytes, fields_size, header_bytes, same_bytes, with_no_generation, fields_of, header_of_1, header_of_2, Rise}
+use Rattle.gate_calls.specs.Sides.{is_in_use, is_version_1, is_newer, next_generation, Chosen, chosen_by, newer_of, newer_behind, both_in_use, chosen_by_use, chosen_of, side_of, IsChoice, IsOlder, Yields, MayStandBeside}
+use Rattle.gate_calls.proofs.Headers.{field_holds, header_found_2, header_read_1, header_read_2, same_from}
+use Rattle.gate_calls.proofs.Agreed.{agreed_1, agreed_2, unagreed_2}
 
 -- ---- generations
 

@@ -7,8 +7,8 @@ use Rattle.io_model.specs.Story.{Story, Write, Cut, Sync, Write_failed, Cut_fail
 use Rattle.io_model.specs.Disk.{Tells, Writes, Cuts, Syncs}
 use Rattle.io_model.specs.Crash.{AtEachMoment}
 use Rattle.io_model.proofs.Laws.Moments.{moments_start, moments_call, moments_weaker, moments_then, moments_now}
-use Rattle.log_gate.specs.Sides.{begins_with}
-use Rattle.log_gate.specs.Gate.{IsDurable, DiskNow}
+use Rattle.gate_calls.specs.Sides.{begins_with}
+use Rattle.gate_calls.specs.Gate.{IsDurable, DiskNow}
 use Rattle.log_gate.specs.Opening.{Looked}
 use Rattle.log_gate.specs.Switch.{must_end, first_written, WritesFirst, EndsIf, Ends, Begins, KeepsFirst, OldOrNew}
 use Rattle.log_gate.proofs.Looking.{looked_reads, looked_images, looked_moments}

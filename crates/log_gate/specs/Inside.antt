@@ -3,10 +3,10 @@ use Rattle.std.specs.Prelude.{◌≡◌, ℕ, ◌<◌, ◌≤◌, ◌+◌, ◌-�
 use Rattle.clv_base.specs.declared.logs.LogRecord.{LogRecord}
 use Rattle.io_model.specs.Story.{Story, reads}
 use Rattle.io_model.specs.Sides.{Stories, both_told}
-use Rattle.log_gate.specs.Header.{field_bytes, fields_size, header_bytes}
-use Rattle.log_gate.specs.Sides.{IsChoice, MayStandBeside, side_of}
-use Rattle.log_gate.specs.Image.{AllSpelled, HasHeader}
-use Rattle.log_gate.specs.Gate.{EachNow, IsDurable, IsSettled}
+use Rattle.gate_calls.specs.Header.{field_bytes, fields_size, header_bytes}
+use Rattle.gate_calls.specs.Sides.{IsChoice, MayStandBeside, side_of}
+use Rattle.gate_calls.specs.Image.{AllSpelled, HasHeader}
+use Rattle.gate_calls.specs.Gate.{EachNow, IsDurable, IsSettled}
 
 abbrev pub story_of : Stories → ℕ → Story
 story_of s side = side_of s.side0 s.side1 side

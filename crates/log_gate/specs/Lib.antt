@@ -1,11 +1,4 @@
-pub mod Payloads
-pub mod Records
-pub mod Header
-pub mod Sides
-pub mod Image
-pub mod Gate
 pub mod Push
-pub mod View
 pub mod Inside
 pub mod Errors
 pub mod Opening

@@ -2,8 +2,8 @@
 use Rattle.std.specs.Prelude.{◌≡◌, ◌≢◌, ◌⊎◌, ◌≤◌, ℕ, zero, suc, List, [], ◌∷◌, ◌++◌, length, Result, Ok, Err}
 use Rattle.io_model.specs.Sides.{Stories, Images, reads_both}
 use Rattle.io_model.specs.Disk.{Rose}
-use Rattle.log_gate.specs.Gate.{EachNow}
-use Rattle.log_gate.specs.Opening.{IsUnchanged}
+use Rattle.gate_calls.specs.Gate.{EachNow}
+use Rattle.gate_calls.specs.Opened.{IsUnchanged}
 use Rattle.log_gate.specs.declared.error.MakeError.{MakeError}
 use Rattle.log_gate.specs.declared.error.MakeError.TheVariants.{Exists, Failed, Memory}
 

@@ -15,14 +15,14 @@ use Rattle.io_model.specs.Sides.{Stories, Images, reads_both}
 use Rattle.log_gate.specs.declared.choosing.Choice.{Choice}
 use Rattle.log_gate.specs.declared.error.ParseError.{ParseError}
 use Rattle.log_gate.specs.declared.error.ParseError.TheVariants as parsing
-use Rattle.log_gate.specs.declared.error.OpenLogError.{OpenLogError}
-use Rattle.log_gate.specs.declared.error.OpenLogError.TheVariants.{NotLog, Failed, Memory}
-use Rattle.log_gate.specs.Payloads.{fits_batch, holds_batch}
-use Rattle.log_gate.specs.Header.{header_bytes, header_size}
-use Rattle.log_gate.specs.Sides.{Chosen, chosen_of, image_of, IsChoice, MayStandBeside}
-use Rattle.log_gate.specs.Image.{SpellAll, records_in, checked_log, AllSpelled}
-use Rattle.log_gate.specs.Records.{record_log}
-use Rattle.log_gate.specs.Gate.{StandsAt, IsDurable}
+use Rattle.gate_calls.specs.declared.error.OpenLogError.{OpenLogError}
+use Rattle.gate_calls.specs.declared.error.OpenLogError.TheVariants.{NotLog, Failed, Memory}
+use Rattle.gate_calls.specs.Payloads.{fits_batch, holds_batch}
+use Rattle.gate_calls.specs.Header.{header_bytes, header_size}
+use Rattle.gate_calls.specs.Sides.{Chosen, chosen_of, image_of, IsChoice, MayStandBeside}
+use Rattle.gate_calls.specs.Image.{SpellAll, records_in, checked_log, AllSpelled}
+use Rattle.gate_calls.specs.Records.{record_log}
+use Rattle.gate_calls.specs.Gate.{StandsAt, IsDurable}
 
 -- what a choice says
 abbrev pub chosen : Choice → Chosen
@@ -154,17 +154,6 @@ FindsLog shard agreed (Err (NotLog offset)) images = checked_log shard agreed im
 FindsLog shard agreed (Err Failed) images = Unit {0}
 FindsLog shard agreed (Err Memory) images = Unit {0}
 
--- a disk isn't changed: at each moment a crash leaves what one before could leave, or what a read gives
-pub record DiskUnchanged (s t : Story) : Type 0 where
-  pub same : reads t ≡ reads s
-  pub moments : AtEachMoment s t (λ image. IsImage s image ⊎ (image ≡ reads s))
-
--- neither side is
-pub record IsUnchanged (s t : Stories) : Type 0 where
-  pub same : reads_both t ≡ reads_both s
-  pub side0 : DiskUnchanged s.side0 t.side0
-  pub side1 : DiskUnchanged s.side1 t.side1
-
 -- a disk was synced, and this is its length; or it isn't changed
 abbrev pub Settles : {E : Type 0} → Result ℕ E → Story → Story → Type 0
 Settles (Ok len) s t = Looked (after Sync s) t × (len ≡ length (reads s))
@@ -174,10 +163,3 @@ Settles (Err e) s t = DiskUnchanged s t
 abbrev pub Finds : ℕ → Option (List ℕ) → Result (Choice × Vec LogRecord Global × ℕ) OpenLogError → Stories → Stories → Type 0
 Finds shard agreed (Ok found) s t = FindsLog shard agreed (Ok found) (reads_both s) × IsDurable t.side0 × IsDurable t.side1
 Finds shard agreed (Err e) s t = FindsLog shard agreed (Err e) (reads_both s)
-
--- `Failed` is answered only where the disks' count rose, and after every other answer the count stands
-abbrev pub CountsOpening : {A : Type 0} → ℕ → ℕ → Result A OpenLogError → Type 0
-CountsOpening before now (Ok a) = now ≡ before
-CountsOpening before now (Err Failed) = Rose before now × (before ≤ now)
-CountsOpening before now (Err Memory) = now ≡ before
-CountsOpening before now (Err (NotLog offset)) = now ≡ before

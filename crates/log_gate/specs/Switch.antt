@@ -9,11 +9,11 @@ use Rattle.io_model.specs.Sides.{Stories, Images, reads_both, MomentsOfSides}
 use Rattle.io_model.specs.declared.disk.Failed.{Failed}
 use Rattle.clv_base.specs.declared.logs.LogRecord.{LogRecord}
 use Rattle.std.specs.List.{AllByRecursion}
-use Rattle.log_gate.specs.Payloads.{IsPayload, opened}
-use Rattle.log_gate.specs.Header.{header_bytes}
-use Rattle.log_gate.specs.Sides.{begins_with, Chosen, chosen_of, side_of}
-use Rattle.log_gate.specs.Image.{HasLog, AllSpelled}
-use Rattle.log_gate.specs.Gate.{IsDurable, DiskNow}
+use Rattle.gate_calls.specs.Payloads.{IsPayload, opened}
+use Rattle.gate_calls.specs.Header.{header_bytes}
+use Rattle.gate_calls.specs.Sides.{begins_with, Chosen, chosen_of, side_of}
+use Rattle.gate_calls.specs.Image.{HasLog, AllSpelled}
+use Rattle.gate_calls.specs.Gate.{IsDurable, DiskNow}
 use Rattle.log_gate.specs.Opening.{Looked}
 
 -- whether the first byte must be made 0: it is 67, or there is none

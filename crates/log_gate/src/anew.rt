@@ -4,8 +4,8 @@ ghost use Rattle.std.specs.List.{AllByRecursion};
 ghost use Rattle.io_model.specs.Story.{reads};
 ghost use Rattle.io_model.specs.Disk.{Tells, HasCause};
 ghost use Rattle.io_model.specs.Sides.{both_told};
-ghost use Rattle.log_gate.specs.Payloads.{IsPayload, opened};
-ghost use Rattle.log_gate.specs.Sides.{side_of};
+ghost use Rattle.gate_calls.specs.Payloads.{IsPayload, opened};
+ghost use Rattle.gate_calls.specs.Sides.{side_of};
 ghost use Rattle.log_gate.specs.Switch.{WritesFirst, Tests, Ends, Extends, Fills, IsWrittenAnew, WritesOther, EndsFirst, Switches};
 
 use byteorder::{ByteOrder, LittleEndian};

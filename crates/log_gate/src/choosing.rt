@@ -1,12 +1,12 @@
 // Which of a shard's two sides is its log.
 ghost use Rattle.std.specs.Prelude.{◌≡◌, ◌⊎◌, ◌≤◌, ◌<◌, ◌^◌, ℕ, IfOk};
 ghost use Rattle.std.specs.Option.{option_map};
-ghost use Rattle.log_gate.specs.Header.{header_of_1, header_of_2, header_size, IsHeader};
-ghost use Rattle.log_gate.specs.Sides.{is_in_use as in_use, is_version_1 as version_1, is_last_and_first as are_last_and_first, is_newer as newer, next_generation as generation_after, chosen_of, newer_of, both_in_use, side_of};
+ghost use Rattle.gate_calls.specs.Header.{header_of_1, header_of_2, header_size, IsHeader};
+ghost use Rattle.gate_calls.specs.Sides.{is_in_use as in_use, is_version_1 as version_1, is_last_and_first as are_last_and_first, is_newer as newer, next_generation as generation_after, chosen_of, newer_of, both_in_use, side_of};
 ghost use Rattle.log_gate.specs.Opening.{Gives, chosen, IsFront};
 
 use crate::error::ParseError;
-use crate::header::Header;
+use gate_calls::Header;
 use crate::reading::{generation_at, header_at};
 use std::alloc::Global;
 

@@ -1,7 +1,7 @@
 // Why a log wasn't made or read.
 ghost use Rattle.std.specs.Prelude.{◌≡◌};
 ghost use Rattle.log_gate.specs.Errors.{of_parsing};
-ghost use Rattle.log_gate.specs.declared.error.OpenLogError.TheVariants.{Memory as no_memory, Failed as disk_failed};
+ghost use Rattle.gate_calls.specs.declared.error.OpenLogError.TheVariants.{Memory as no_memory, Failed as disk_failed};
 ghost use Rattle.log_gate.specs.declared.error.MakeError.TheVariants.{Failed as making_failed};
 ghost use Rattle.log_gate.specs.declared.error.ParseError.TheVariants.{Memory as none_to_parse};
 
@@ -23,32 +23,6 @@ impl From<Failed> for MakeError {
 
     fn from(_: Failed) -> Self {
         MakeError::Failed
-    }
-}
-
-/// Why a log wasn't opened.
-#[derive(Clone, Copy, PartialEq, Eq)]
-pub enum OpenLogError {
-    /// The first field that is not as it should be stands at this place.
-    NotLog { offset: u64 },
-    /// The disk failed.
-    Failed,
-    Memory,
-}
-
-impl From<AllocError> for OpenLogError {
-    ghost from_gives = { λ _ e. e ≡ no_memory };
-
-    fn from(_: AllocError) -> Self {
-        OpenLogError::Memory
-    }
-}
-
-impl From<Failed> for OpenLogError {
-    ghost from_gives = { λ _ e. e ≡ disk_failed };
-
-    fn from(_: Failed) -> Self {
-        OpenLogError::Failed
     }
 }
 

@@ -4,14 +4,14 @@ ghost use Rattle.clv_base.specs.declared.logs.LogRecord.{LogRecord};
 ghost use Rattle.io_model.specs.Story.{reads, put};
 ghost use Rattle.io_model.specs.Disk.{Tells, HasCause};
 ghost use Rattle.io_model.specs.Sides.{both_told, reads_both, MomentsOfSides};
-ghost use Rattle.log_gate.specs.Payloads.{IsPayload, batch};
-ghost use Rattle.log_gate.specs.Sides.{Chosen, chosen_of, side_of, next_generation as next_generation_of};
-ghost use Rattle.log_gate.specs.Image.{SpellAll, IsBatch, HasLogOrMore, HasHeader, AllSpelled};
+ghost use Rattle.gate_calls.specs.Payloads.{IsPayload, batch};
+ghost use Rattle.gate_calls.specs.Sides.{Chosen, chosen_of, side_of, next_generation as next_generation_of};
+ghost use Rattle.gate_calls.specs.Image.{SpellAll, IsBatch, HasLogOrMore, HasHeader, AllSpelled};
 ghost use Rattle.log_gate.specs.Switch.{AreBatches, MomentsThen, HasEither, ChosenStays};
 ghost use Rattle.byteorder.specs.Endian.{little_bytes};
 ghost use Rattle.log_gate.specs.Push.{PushesOn, IsPushedOn};
-ghost use Rattle.log_gate.specs.View.{IsLogOf, IsHeaderOf};
-ghost use Rattle.log_gate.specs.Errors.{Counts};
+ghost use Rattle.gate_calls.specs.View.{IsLogOf, IsHeaderOf};
+ghost use Rattle.gate_calls.specs.Errors.{Counts};
 ghost use Rattle.log_gate.specs.Inside.{IsSound};
 
 use crate::anew::write_other;
@@ -21,15 +21,6 @@ use byteorder::{ByteOrder, LittleEndian};
 use io_model::{Disk, Failed, Sides};
 use std::alloc::Global;
 use std::marker::Model;
-
-/// Why a push wasn't made.
-#[derive(Clone, Copy, PartialEq, Eq)]
-pub enum PushError {
-    /// The disk failed. Whether a crash now leaves the batch is open.
-    Failed,
-    /// An earlier push failed.
-    Shut,
-}
 
 /// A shard's log on one of its two sides, to which batches are pushed.
 #[derive(Drop)]
@@ -47,7 +38,7 @@ pub struct LogGate<D: Disk> {
 impl<D: Disk> Model for LogGate<D> {
     ghost use Rattle.std.specs.Prelude.{◌+◌};
     ghost use Rattle.io_model.specs.Sides.{both_told};
-    ghost use Rattle.log_gate.specs.View.{View};
+    ghost use Rattle.gate_calls.specs.View.{View};
     ghost use Rattle.log_gate.specs.Inside.{IsSound};
 
     ghost Value = { View };

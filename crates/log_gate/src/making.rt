@@ -4,11 +4,11 @@ ghost use Rattle.std.specs.List.{flat_map};
 ghost use Rattle.byteorder.specs.Endian.{little_bytes};
 ghost use Rattle.io_model.specs.Disk.{Tells, HasCause};
 ghost use Rattle.io_model.specs.Sides.{both_told};
-ghost use Rattle.log_gate.specs.Header.{header_bytes, magic};
+ghost use Rattle.gate_calls.specs.Header.{header_bytes, magic};
 ghost use Rattle.log_gate.specs.Make.{Makes, Lengths, WritesNew, CountsMaking};
 
 use crate::error::MakeError;
-use crate::header::Header;
+use gate_calls::Header;
 use byteorder::{ByteOrder, LittleEndian};
 use clv_base::splits::Splits;
 use io_model::{Disk, Failed, Sides};

@@ -6,17 +6,18 @@ ghost use Rattle.clv_base.specs.FileRules.{has_spelling, has_own_spelling, passe
 ghost use Rattle.io_model.specs.Story.{reads};
 ghost use Rattle.io_model.specs.Sides.{both_told, reads_both};
 ghost use Rattle.io_model.specs.Disk.{Tells, HasCause};
-ghost use Rattle.log_gate.specs.Header.{header_size};
-ghost use Rattle.log_gate.specs.Sides.{side_of, image_of};
-ghost use Rattle.log_gate.specs.Image.{checked_log, HasLog, HasHeader};
-ghost use Rattle.log_gate.specs.Opening.{Looked, Looks, AreGood, FindsSide, FindsRecords, Finds, IsFrontOf, Settles, IsUnchanged, CountsOpening};
-ghost use Rattle.log_gate.specs.View.{IsLogOf, IsHeaderOf};
-ghost use Rattle.log_gate.specs.declared.error.OpenLogError.TheVariants.{NotLog};
+ghost use Rattle.gate_calls.specs.Header.{header_size};
+ghost use Rattle.gate_calls.specs.Sides.{side_of, image_of};
+ghost use Rattle.gate_calls.specs.Image.{checked_log, HasLog, HasHeader};
+ghost use Rattle.log_gate.specs.Opening.{Looked, Looks, AreGood, FindsSide, FindsRecords, Finds, IsFrontOf, Settles};
+ghost use Rattle.gate_calls.specs.Opened.{IsUnchanged, CountsOpening};
+ghost use Rattle.gate_calls.specs.View.{IsLogOf, IsHeaderOf};
+ghost use Rattle.gate_calls.specs.declared.error.OpenLogError.TheVariants.{NotLog};
 
 use crate::choosing::{Choice, choose};
-use crate::error::OpenLogError;
+use gate_calls::OpenLogError;
 use crate::gate::LogGate;
-use crate::header::Header;
+use gate_calls::Header;
 use crate::making::spelled_header;
 use crate::walking::{fill, read_batches};
 use clv_base::logs::LogRecord;

@@ -6,7 +6,7 @@ ghost use Rattle.clv_base.specs.Shards.{in_span};
 ghost use Rattle.log_gate.specs.Opening.{TakesGate, TakesRecord, AddsRecords};
 
 use crate::error::ParseError;
-use crate::header::Header;
+use gate_calls::Header;
 use byteorder::{ByteOrder, LittleEndian};
 use clv_base::logs::LogRecord;
 use clv_base::values::Value;

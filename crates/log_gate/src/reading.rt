@@ -2,11 +2,11 @@
 ghost use Rattle.std.specs.Prelude.{◌≡◌, ◌≤◌, ◌<◌, ◌+◌, ◌-◌, ◌*◌, ◌^◌, ℕ, List, length, take, drop, false, true, MatchOption, IfOk};
 ghost use Rattle.std.specs.Option.{option_map};
 ghost use Rattle.byteorder.specs.Endian.{little_number};
-ghost use Rattle.log_gate.specs.Header.{fields_of, fields_size, HasFields, has_generation, splits_from, has_number, has_count, same_bytes, magic, has_split, least_after, agrees_at, agrees_on_count};
+ghost use Rattle.gate_calls.specs.Header.{fields_of, fields_size, HasFields, has_generation, splits_from, has_number, has_count, same_bytes, magic, has_split, least_after, agrees_at, agrees_on_count};
 ghost use Rattle.log_gate.specs.Opening.{Gives};
 
 use crate::error::ParseError;
-use crate::header::Header;
+use gate_calls::Header;
 use byteorder::{ByteOrder, LittleEndian};
 use clv_base::splits::Splits;
 use std::alloc::Global;

@@ -3,10 +3,11 @@ ghost use Rattle.std.specs.Prelude.{◌≡◌, ◌≤◌, ◌<◌, ◌+◌, ◌^
 ghost use Rattle.clv_base.specs.FileRules.{passes_file_rules};
 ghost use Rattle.io_model.specs.Story.{reads};
 ghost use Rattle.io_model.specs.Disk.{Tells, HasCause};
-ghost use Rattle.log_gate.specs.Opening.{Looks, IsPiece, StandsGate, AddsBatch, AreGood, FindsRecords, CountsOpening};
+ghost use Rattle.log_gate.specs.Opening.{Looks, IsPiece, StandsGate, AddsBatch, AreGood, FindsRecords};
+ghost use Rattle.gate_calls.specs.Opened.{CountsOpening};
 
-use crate::error::OpenLogError;
-use crate::header::Header;
+use gate_calls::OpenLogError;
+use gate_calls::Header;
 use crate::parse::{gate_at, read_batch};
 use clv_base::logs::LogRecord;
 use io_model::{Disk, Failed};

@@ -7,12 +7,12 @@ use Rattle.io_model.specs.Sides.{Stories, Images, reads_both}
 use Rattle.shard_recovery.specs.declared.recovering.RecoverError.{RecoverError}
 use Rattle.shard_recovery.specs.declared.recovering.RecoverError.TheVariants.{Failed, Memory}
 use Rattle.shard_recovery.specs.Recovering.{IsBegun}
-use Rattle.log_gate.specs.Header.{Layout}
-use Rattle.log_gate.specs.Image.{log_under}
-use Rattle.log_gate.specs.Gate.{EachNow}
-use Rattle.log_gate.specs.View.{Only, logs_told}
+use Rattle.gate_calls.specs.Header.{Layout}
+use Rattle.gate_calls.specs.Image.{log_under}
+use Rattle.gate_calls.specs.Gate.{EachNow}
+use Rattle.gate_calls.specs.View.{Only, logs_told}
 use Rattle.machine_calls.specs.Recovered.{HasBegun, IsLeft, unwritten, begun}
-use Rattle.log_gate.proofs.Laws.{from_under}
+use Rattle.gate_calls.proofs.Laws.{from_under}
 use Rattle.law_base.proofs.Lists.{take_plus}
 
 module _ (n : ℕ) (layout : Layout) (found : List LogRecord) (run : ℕ) (logs : Option (List LogRecord) → Type 0) where

@@ -5,7 +5,7 @@ use Rattle.clv_base.specs.declared.events.Outcome.{Outcome}
 use Rattle.clv_base.specs.declared.events.Outcome.TheVariants.{Out}
 use Rattle.clv_base.specs.State.{Shard}
 use Rattle.io_model.specs.Disk.{Rose}
-use Rattle.log_gate.specs.Image.{SpellAll, IsBatch}
+use Rattle.gate_calls.specs.Image.{SpellAll, IsBatch}
 use Rattle.machine_calls.specs.declared.machine.StepError.{StepError}
 use Rattle.machine_calls.specs.declared.flights.Flight.{Flight}
 

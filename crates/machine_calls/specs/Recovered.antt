@@ -7,10 +7,10 @@ use Rattle.io_model.specs.Sides.{Stories, Images}
 use Rattle.io_model.specs.Disk.{Rose}
 use Rattle.shard_recovery.specs.declared.recovering.RecoverError.{RecoverError}
 use Rattle.shard_recovery.specs.declared.recovering.RecoverError.TheVariants.{Failed, Memory}
-use Rattle.log_gate.specs.Header.{Layout}
-use Rattle.log_gate.specs.Image.{HasLog, HasHeader}
-use Rattle.log_gate.specs.Gate.{EachNow}
-use Rattle.log_gate.specs.View.{Only}
+use Rattle.gate_calls.specs.Header.{Layout}
+use Rattle.gate_calls.specs.Image.{HasLog, HasHeader}
+use Rattle.gate_calls.specs.Gate.{EachNow}
+use Rattle.gate_calls.specs.View.{Only}
 
 -- the log of these bytes of shard n's sides is the log found, with some first records of those that a restart of this run adds, behind a header of this layout
 abbrev pub HasBegun : ℕ → Layout → List LogRecord → ℕ → Images → Type 0

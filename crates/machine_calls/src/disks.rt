@@ -4,17 +4,17 @@ ghost use Rattle.std.specs.List.{list_all};
 ghost use Rattle.clv_base.specs.declared.logs.LogRecord.{LogRecord as RecordIs};
 ghost use Rattle.clv_base.specs.FileRules.{has_spelling};
 ghost use Rattle.io_model.specs.Sides.{reads_both};
-ghost use Rattle.log_gate.specs.Header.{Layout};
-ghost use Rattle.log_gate.specs.Image.{checked_log, HasLog, HasHeader};
-ghost use Rattle.log_gate.specs.Opening.{CountsOpening};
-ghost use Rattle.log_gate.specs.View.{Only, logs_told};
-ghost use Rattle.log_gate.specs.declared.error.OpenLogError.TheVariants.{NotLog};
+ghost use Rattle.gate_calls.specs.Header.{Layout};
+ghost use Rattle.gate_calls.specs.Image.{checked_log, HasLog, HasHeader};
+ghost use Rattle.gate_calls.specs.Opened.{CountsOpening};
+ghost use Rattle.gate_calls.specs.View.{Only, logs_told};
+ghost use Rattle.gate_calls.specs.declared.error.OpenLogError.TheVariants.{NotLog};
 ghost use Rattle.machine_calls.specs.Disks.{stories_of, faults_of};
 
 use crate::restarts::Restarter;
 use clv_base::logs::LogRecord;
 use io_model::{Disk, Sides};
-use log_gate::{Header, OpenLogError};
+use gate_calls::{Header, OpenLogError};
 use std::alloc::Global;
 
 /// A machine whose gate lies on two sides, which can be taken out of it and opened again.

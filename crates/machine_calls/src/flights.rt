@@ -8,7 +8,7 @@ ghost use Rattle.machine_calls.specs.Flights.{outcome_in, Departs, CountsPush};
 
 use crate::machine::{Machine, StepError};
 use clv_base::events::Outcome;
-use log_gate::Gate;
+use gate_calls::Gate;
 use std::alloc::Global;
 use std::snapshot::Snapshot;
 

@@ -10,7 +10,7 @@ ghost use Rattle.machine_calls.specs.Settled.{are_inactive, is_settled as is_set
 
 use clv_base::events::{Entry, Event, Outcome};
 use clv_base::names::{Birth, TxId};
-use log_gate::Gate;
+use gate_calls::Gate;
 use ordered_store::Store;
 use quiet_list::Told;
 use std::alloc::Global;

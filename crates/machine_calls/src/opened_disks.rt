@@ -3,8 +3,8 @@
 ghost use Rattle.std.specs.Prelude.{◌≡◌, List, Option};
 ghost use Rattle.clv_base.specs.declared.logs.LogRecord.{LogRecord};
 ghost use Rattle.io_model.specs.Sides.{Stories};
-ghost use Rattle.log_gate.specs.Header.{Layout};
-ghost use Rattle.log_gate.specs.View.{logs_told};
+ghost use Rattle.gate_calls.specs.Header.{Layout};
+ghost use Rattle.gate_calls.specs.View.{logs_told};
 ghost use Rattle.machine_calls.specs.Disks.{stories_of, faults_of};
 
 use crate::Maker;

@@ -4,8 +4,8 @@ use Rattle.std.proofs.lemmas.List.{take_all}
 use Rattle.std.proofs.lemmas.Bool.{both_ways}
 use Rattle.clv_base.specs.declared.logs.LogRecord.{LogRecord}
 use Rattle.clv_base.specs.Restarts.{log_after_restart}
-use Rattle.log_gate.specs.Header.{Layout}
-use Rattle.log_gate.specs.View.{Only}
+use Rattle.gate_calls.specs.Header.{Layout}
+use Rattle.gate_calls.specs.View.{Only}
 use Rattle.machine_laws.specs.declared.notes.Origin.{Origin}
 use Rattle.machine_laws.specs.Homes.{layout_of, start}
 use Rattle.machine_laws.specs.Sound.{IsSound}

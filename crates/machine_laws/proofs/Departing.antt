@@ -9,12 +9,12 @@ use Rattle.clv_base.specs.declared.events.Outcome.TheVariants.{Out}
 use Rattle.clv_base.specs.declared.events.Entry.{Entry}
 use Rattle.clv_base.specs.State.{Shard}
 use Rattle.clv_base.specs.Events.{Quiet, next_stamp, step, land, happen}
-use Rattle.log_gate.specs.View.{Only, OnlyOrMore}
+use Rattle.gate_calls.specs.View.{Only, OnlyOrMore}
 use Rattle.machine_calls.specs.declared.machine.StepError.{StepError}
 use Rattle.machine_calls.specs.declared.flights.Flight.{Flight}
 use Rattle.machine_calls.specs.Steps.{Made as IsMade, Tells, clock_after}
 use Rattle.machine_calls.specs.Flights.{outcome_in, is_out, Leaves, Departs}
-use Rattle.log_gate.specs.Header.{Layout}
+use Rattle.gate_calls.specs.Header.{Layout}
 use Rattle.machine_laws.specs.declared.notes.Origin.{Origin}
 use Rattle.machine_laws.specs.declared.notes.Mark.{Mark}
 use Rattle.machine_laws.specs.declared.notes.Note.{Note}
@@ -92,7 +92,7 @@ module _ {G : Type 0} (shut : G → Bool) (faults whose : G → ℕ) (logs : G �
           up = fl.is_up;
           flies = flies;
           batch = d.batch;
-          spelled = subst (λ rs. Rattle.log_gate.specs.Image.SpellAll rs f.payload.items) (ap (λ m. drop t.durable (take (unwrap_or m t.durable) t.local.log)) (sym flies)) d.spelled;
+          spelled = subst (λ rs. Rattle.gate_calls.specs.Image.SpellAll rs f.payload.items) (ap (λ m. drop t.durable (take (unwrap_or m t.durable) t.local.log)) (sym flies)) d.spelled;
           own = g.1.own ∙ sym tu.shard;
           as_left = ap (λ y. faults y) d.as_taken;
           is_open = g.1.is_open tu.up;

@@ -16,7 +16,7 @@ use Rattle.history_cases.proofs.Durability.{framed_finish}
 use Rattle.turn_lock.specs.Journals.{GrownByOthers, entries_by}
 use Rattle.journal_laws.specs.Notes.{Note as Told, made, fetched, MayNotes, after_notes, entries_of_notes, notes_by}
 use Rattle.journal_laws.proofs.NotesAreRuns.{held_shards_rest}
-use Rattle.log_gate.specs.Header.{Layout}
+use Rattle.gate_calls.specs.Header.{Layout}
 use Rattle.machine_laws.specs.declared.notes.Note.{Note}
 use Rattle.machine_laws.specs.declared.notes.Note.TheVariants.{Made, Fetched}
 use Rattle.machine_laws.specs.declared.notes.Origin.{Origin}

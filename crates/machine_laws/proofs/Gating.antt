@@ -18,7 +18,7 @@ use Rattle.journal_laws.proofs.EachOutcomeGoesOn.{flying_is_in_time}
 use Rattle.journal_laws.proofs.NotesAreRuns.{notes_are_runs}
 use Rattle.machine_calls.specs.declared.machine.StepError.{StepError}
 use Rattle.machine_calls.specs.Steps.{Made as IsMade, Tells}
-use Rattle.log_gate.specs.View.{Only, OnlyOrMore}
+use Rattle.gate_calls.specs.View.{Only, OnlyOrMore}
 use Rattle.machine_laws.specs.declared.notes.Note.{Note}
 use Rattle.machine_laws.specs.declared.notes.Origin.{Origin}
 use Rattle.machine_laws.specs.Homes.{start, state_of, is_turned, is_failed, has_failed, IsFree, IsLegal}

@@ -11,7 +11,7 @@ use Rattle.clv_base.specs.Events.{step}
 use Rattle.journal_laws.specs.Notes.{Note as Told, holder, holder_after, ends_holding}
 use Rattle.machine_calls.specs.declared.machine.StepError.{StepError}
 use Rattle.machine_calls.specs.Steps.{Tells, listed}
-use Rattle.log_gate.specs.Header.{Layout}
+use Rattle.gate_calls.specs.Header.{Layout}
 use Rattle.machine_laws.specs.declared.notes.Note.{Note}
 use Rattle.machine_laws.specs.declared.notes.Origin.{Origin}
 use Rattle.machine_laws.specs.declared.notes.Mark.{Mark}

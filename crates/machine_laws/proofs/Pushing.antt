@@ -5,11 +5,11 @@ use Rattle.std.proofs.lemmas.List.{take-take}
 use Rattle.std.proofs.lemmas.Bool.{both_ways}
 use Rattle.clv_base.specs.declared.logs.LogRecord.{LogRecord}
 use Rattle.clv_base.specs.State.{Shard}
-use Rattle.log_gate.specs.declared.gate.PushError.{PushError}
-use Rattle.log_gate.specs.declared.gate.PushError.TheVariants.{Failed, Shut}
-use Rattle.log_gate.specs.Errors.{Counts}
-use Rattle.log_gate.specs.Image.{SpellAll}
-use Rattle.log_gate.specs.View.{Only, OnlyOrMore}
+use Rattle.gate_calls.specs.declared.calls.PushError.{PushError}
+use Rattle.gate_calls.specs.declared.calls.PushError.TheVariants.{Failed, Shut}
+use Rattle.gate_calls.specs.Errors.{Counts}
+use Rattle.gate_calls.specs.Image.{SpellAll}
+use Rattle.gate_calls.specs.View.{Only, OnlyOrMore}
 use Rattle.machine_calls.specs.Flights.{CountsPush}
 use Rattle.machine_laws.specs.declared.notes.Note.{Note}
 use Rattle.machine_laws.specs.declared.notes.Origin.{Origin}

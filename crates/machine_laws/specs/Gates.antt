@@ -3,8 +3,8 @@ use Rattle.std.specs.Prelude.{◌≡◌, ℕ, ◌<◌, ◌≤◌, ◌^◌, Bool,
 use Rattle.clv_base.specs.declared.logs.LogRecord.{LogRecord}
 use Rattle.clv_base.specs.declared.events.Entry.{Entry}
 use Rattle.clv_base.specs.State.{Shard}
-use Rattle.log_gate.specs.Image.{SpellAll, IsBatch}
-use Rattle.log_gate.specs.View.{Only, OnlyOrMore}
+use Rattle.gate_calls.specs.Image.{SpellAll, IsBatch}
+use Rattle.gate_calls.specs.View.{Only, OnlyOrMore}
 use Rattle.machine_calls.specs.Flights.{CountsPush}
 use Rattle.protocol_laws.specs.Growth.{IsPrefixOf}
 use Rattle.machine_laws.specs.Homes.{has_failed}

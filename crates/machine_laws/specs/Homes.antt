@@ -10,7 +10,7 @@ use Rattle.clv_base.specs.State.{Shard}
 use Rattle.clv_base.specs.Restarts.{opened}
 use Rattle.clv_base.specs.Journals.{has_no_equal_active_birth}
 use Rattle.journal_laws.specs.Notes.{MayNotes, after_notes, holder, entries_of_notes}
-use Rattle.log_gate.specs.Header.{Layout}
+use Rattle.gate_calls.specs.Header.{Layout}
 use Rattle.machine_laws.specs.declared.notes.Note.{Note}
 use Rattle.machine_laws.specs.declared.notes.Origin.{Origin}
 use Rattle.machine_laws.specs.Notes.{told}

@@ -8,8 +8,8 @@ use Rattle.clv_base.specs.declared.events.Entry.{Entry}
 use Rattle.clv_base.specs.State.{Shard}
 use Rattle.clv_base.specs.Events.{step, land}
 use Rattle.clv_base.specs.Restarts.{log_after_restart, misfit}
-use Rattle.log_gate.specs.Header.{Layout}
-use Rattle.log_gate.specs.View.{Only}
+use Rattle.gate_calls.specs.Header.{Layout}
+use Rattle.gate_calls.specs.View.{Only}
 use Rattle.clv_base.specs.Journals.{MayLeave}
 use Rattle.turn_lock.specs.Journals.{GrownByOthers}
 use Rattle.machine_calls.specs.declared.machine.StepError.{StepError}

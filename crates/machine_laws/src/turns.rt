@@ -1,7 +1,7 @@
 // What each call makes of a shard's notes and gate.
 ghost use Rattle.machine_laws.specs.Laws.{OpeningsAreSound, EventsAreSound, LandingsAreSound, FetchesAreLegal, RestartsAreLegal, FlightsStay, BirthsStayFree, GatesMayBeLeft};
 
-use log_gate::Gate;
+use gate_calls::Gate;
 
 /// What holds of a value in a lock (its state is the one that its notes tell, and its gate stands as it should) holds where a shard was opened.
 pub fn openings_are_sound<G: Gate>()

@@ -14,7 +14,7 @@ use clv_base::events::{Event, Outcome};
 use clv_base::lists::Touched;
 use clv_base::names::TxId;
 use lock_table::Locks;
-use log_gate::Gate;
+use gate_calls::Gate;
 use machine_calls::StepError;
 use ordered_store::Store;
 use shard_core::RequestAnswer;

@@ -4,7 +4,7 @@ use crate::machine::ShardMachine;
 use clv_base::events::{Event, Outcome};
 use clv_base::names::{Birth, TxId};
 use lock_table::Locks;
-use log_gate::Gate;
+use gate_calls::Gate;
 use machine_calls::{Machine, Parts, StepError};
 use ordered_store::Store;
 use std::alloc::Global;

@@ -13,7 +13,7 @@ use crate::{Happened, is_stale};
 use clv_base::events::{Event, Outcome};
 use clv_base::messages::Message;
 use lock_table::Locks;
-use log_gate::Gate;
+use gate_calls::Gate;
 use machine_calls::StepError;
 use ordered_store::Store;
 use std::alloc::Global;

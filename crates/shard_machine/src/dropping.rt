@@ -11,7 +11,7 @@ use crate::stamps::{enter, place};
 use clv_base::events::{Event, Outcome};
 use clv_base::names::TxId;
 use lock_table::Locks;
-use log_gate::Gate;
+use gate_calls::Gate;
 use machine_calls::StepError;
 use ordered_store::Store;
 

@@ -13,7 +13,7 @@ use clv_base::logs::LogRecord;
 use clv_base::names::TxId;
 use lean_machine::Forgetter;
 use lock_table::Locks;
-use log_gate::Gate;
+use gate_calls::Gate;
 use ordered_store::Store;
 use two_phase_commit::Kept;
 

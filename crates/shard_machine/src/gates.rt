@@ -4,7 +4,7 @@ ghost use Rattle.machine_calls.specs.Restored.{down_gate_of, gate_left};
 
 use crate::machine::ShardMachine;
 use lock_table::Locks;
-use log_gate::Gate;
+use gate_calls::Gate;
 use ordered_store::Store;
 
 impl<S: Store + Drop, L: Locks + Drop, G: Gate> ShardMachine<S, L, G> {

@@ -11,7 +11,7 @@ use crate::machine::ShardMachine;
 use crate::stamps::enter;
 use clv_base::events::{Event, Outcome};
 use lock_table::Locks;
-use log_gate::Gate;
+use gate_calls::Gate;
 use machine_calls::Flight;
 use ordered_store::Store;
 

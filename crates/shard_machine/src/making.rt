@@ -6,7 +6,7 @@ ghost use Rattle.machine_calls.specs.Restored.{IsRestored};
 use crate::Journal;
 use crate::machine::ShardMachine;
 use lock_table::Locks;
-use log_gate::Gate;
+use gate_calls::Gate;
 use machine_calls::Maker;
 use ordered_store::Store;
 use shard_core::ShardCore;

@@ -14,7 +14,7 @@ use clv_base::kept::KeptOp;
 use clv_base::names::{Birth, TxId};
 use clv_base::ops::Op;
 use lock_table::Locks;
-use log_gate::Gate;
+use gate_calls::Gate;
 use machine_calls::StepError;
 use ordered_store::Store;
 use std::alloc::Global;

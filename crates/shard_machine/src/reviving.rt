@@ -12,7 +12,7 @@ use clv_base::events::{Event, Outcome};
 use clv_base::logs::LogRecord;
 use lock_table::Locks;
 use log_buffer::LogBuffer;
-use log_gate::Gate;
+use gate_calls::Gate;
 use machine_calls::{Restarter, StepError};
 use ordered_store::Store;
 use shard_recovery::{Fallen, Recovered};

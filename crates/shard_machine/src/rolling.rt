@@ -13,7 +13,7 @@ use clv_base::causes::AbortCause;
 use clv_base::events::{Event, Outcome};
 use clv_base::names::TxId;
 use lock_table::Locks;
-use log_gate::Gate;
+use gate_calls::Gate;
 use machine_calls::StepError;
 use ordered_store::Store;
 

@@ -4,7 +4,7 @@ use Rattle.clv_base.specs.declared.logs.LogRecord.{LogRecord}
 use Rattle.clv_base.specs.Restarts.{restart_records, log_after_restart}
 use Rattle.log_buffer.specs.Buffers.{Buffer}
 use Rattle.log_buffer.specs.Flushing.{AtRest, ByBatches, none, another, InFlight, batch_from}
-use Rattle.log_gate.specs.View.{Only, OnlyOrMore}
+use Rattle.gate_calls.specs.View.{Only, OnlyOrMore}
 use Rattle.log_buffer.specs.declared.flushing.FlushError.{FlushError}
 use Rattle.log_buffer.specs.declared.flushing.FlushError.TheVariants.{Failed as FlushFailed, Memory as NoMemory}
 use Rattle.shard_recovery.specs.declared.recovering.RecoverError.TheVariants.{Failed}

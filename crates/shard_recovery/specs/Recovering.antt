@@ -3,7 +3,7 @@ use Rattle.std.specs.Prelude.{◌≡◌, ℕ, ◌≤◌, List, ◌++◌, take, d
 use Rattle.clv_base.specs.declared.logs.LogRecord.{LogRecord}
 use Rattle.clv_base.specs.Restarts.{restart_records}
 use Rattle.io_model.specs.Disk.{Rose}
-use Rattle.log_gate.specs.View.{OnlyOrMore}
+use Rattle.gate_calls.specs.View.{OnlyOrMore}
 use Rattle.log_buffer.specs.declared.flushing.FlushError.{FlushError}
 use Rattle.log_buffer.specs.declared.flushing.FlushError.TheVariants.{Failed as FlushFailed, Memory as NoMemory}
 use Rattle.shard_recovery.specs.declared.recovering.RecoverError.{RecoverError}

@@ -5,8 +5,8 @@ ghost use Rattle.clv_base.specs.FileRules.{has_spelling};
 ghost use Rattle.clv_base.specs.Logs.{in_doubt as in_doubt_in};
 ghost use Rattle.clv_base.specs.Restarts.{homes_of, local_after, log_after_restart, restored_pairs, unended_in};
 ghost use Rattle.log_analysis.specs.Facts.{Knows};
-ghost use Rattle.log_gate.specs.Header.{Layout};
-ghost use Rattle.log_gate.specs.View.{Only};
+ghost use Rattle.gate_calls.specs.Header.{Layout};
+ghost use Rattle.gate_calls.specs.View.{Only};
 ghost use Rattle.shard_recovery.specs.Recovering.{CountsRecovery, IsBegun, recover_error};
 
 use crate::restarting::restart_by;
@@ -16,7 +16,7 @@ use clv_base::parts::ShardList;
 use log_analysis::statements::a_restart_keeps_the_lists;
 use log_analysis::{Analysis, LogFacts, analyse_by};
 use log_buffer::{FlushError, LogBuffer, flush_all};
-use log_gate::Gate;
+use gate_calls::Gate;
 use ordered_store::Store;
 use std::alloc::{AllocError, Global};
 

@@ -3,7 +3,7 @@ use Rattle.clv_base.specs.declared.logs.LogRecord.{LogRecord}
 use Rattle.clv_base.specs.LogRules.{upto_of}
 use Rattle.law_base.proofs.Places.{spelled_plain}
 use Rattle.clv_base.specs.Restarts.{first_barred, greatest_epoch}
-use Rattle.log_gate.specs.View.{Only}
+use Rattle.gate_calls.specs.View.{Only}
 use Rattle.machine_calls.specs.Disks.{stories_of, faults_of}
 use Rattle.cluster_closing.specs.Judging.{RefusesDisk, Bars}
 use Rattle.cluster_closing.specs.Left.{WasRead}

@@ -1,5 +1,5 @@
 use Rattle.std.proofs.Common.{◌≡◌, ◌∙◌, refl, sym, ap, subst, arith}
-use Rattle.log_gate.specs.View.{Only}
+use Rattle.gate_calls.specs.View.{Only}
 use Rattle.cluster_turns.specs.Walkers.{founds_of}
 use Rattle.cluster_closing.specs.declared.fetching.Fetched.{Fetched}
 use Rattle.cluster_closing.specs.EndHeld.{IsDiskOf}

@@ -25,7 +25,7 @@ returns-in-Some-clause-disk g c = let h = c.args.home.now in let s = g.M.Machine
       sym (legal_shard h.origin notes s c.requires.sound.legal),
       record {
         failed = subst (λ n. Rattle.std.proofs.Common.◌≤◌ 1 n) (sym c.sides_of-disk.ensures.faults) k.0;
-        leaves = λ log is. k.1 log (c.sides_of-disk.ensures.logs (layout_of h.origin) log (subst (λ n. Rattle.log_gate.specs.View.logs_told (stories_of g.M.Disk.Disk.story c.sides_of-disk.result) n (layout_of h.origin) log) (sym k.2) is));
+        leaves = λ log is. k.1 log (c.sides_of-disk.ensures.logs (layout_of h.origin) log (subst (λ n. Rattle.gate_calls.specs.View.logs_told (stories_of g.M.Disk.Disk.story c.sides_of-disk.result) n (layout_of h.origin) log) (sym k.2) is));
       },
       sym (rw c.deref-3.ensures at c.epoch-epoch.ensures),
     )

@@ -1,4 +1,4 @@
-use Rattle.log_gate.specs.Header.{header_bytes}
+use Rattle.gate_calls.specs.Header.{header_bytes}
 use Rattle.cluster_opening.proofs.Disks.{by_making}
 use Rattle.cluster_opening.proofs.logs_making.make_one.Goals as goal
 

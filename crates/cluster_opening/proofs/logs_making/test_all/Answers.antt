@@ -1,6 +1,6 @@
 use Rattle.std.proofs.Common.{◌∙◌, subst, arith, Option}
 use Rattle.io_model.specs.Sides.{Stories, sides_out, sides_told}
-use Rattle.log_gate.specs.Opening.{IsUnchanged}
+use Rattle.gate_calls.specs.Opened.{IsUnchanged}
 use Rattle.cluster_opening.specs.Making.{IsEmpty}
 use Rattle.cluster_opening.proofs.Testing.{inside_still, told_still, counts_still, up_to}
 use Rattle.cluster_opening.proofs.logs_making.test_all.Goals as goal

@@ -1,6 +1,6 @@
 use Rattle.std.proofs.Common.{Ok}
 use Rattle.io_model.specs.declared.disk.Failed.{Failed}
-use Rattle.log_gate.specs.Opening.{IsUnchanged}
+use Rattle.gate_calls.specs.Opened.{IsUnchanged}
 use Rattle.cluster_opening.proofs.Disks.{by_disk, len_asked}
 use Rattle.cluster_opening.proofs.logs_making.test_one.Goals as goal
 

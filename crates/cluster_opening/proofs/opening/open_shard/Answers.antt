@@ -1,6 +1,6 @@
 use Rattle.std.proofs.Common.{IsSome, ◌∙◌, refl, sym, ap, subst, ℕ, List}
 use Rattle.clv_base.specs.Restarts.{opened, log_after_restart}
-use Rattle.log_gate.specs.View.{Only}
+use Rattle.gate_calls.specs.View.{Only}
 use Rattle.machine_calls.specs.Recovered.{IsMachineAt}
 use Rattle.cluster_opening.proofs.Unused.{layout_is, gate_there}
 use Rattle.cluster_opening.proofs.opening.open_shard.Goals as goal

@@ -1,5 +1,5 @@
 use Rattle.std.proofs.Common.{sym, subst}
-use Rattle.log_gate.specs.Image.{SpellAll}
+use Rattle.gate_calls.specs.Image.{SpellAll}
 use Rattle.interleaving_core.specs.Seated.{IsSeated}
 use Rattle.interleaving_core.specs.declared.seat.Air.TheVariants.{Home}
 use Rattle.interleaving_core.proofs.Flying.{seated_home}

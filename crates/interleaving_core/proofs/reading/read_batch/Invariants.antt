@@ -1,6 +1,6 @@
 use Rattle.std.proofs.Common.{List, length}
 use Rattle.clv_base.specs.declared.logs.LogRecord.{LogRecord}
-use Rattle.log_gate.specs.Image.{SpellAll}
+use Rattle.gate_calls.specs.Image.{SpellAll}
 use Rattle.interleaving_core.proofs.Spelled.{Unread}
 use Rattle.interleaving_core.proofs.reading.read_batch.Given as goal
 

@@ -1,6 +1,6 @@
 -- Records that fit one batch are one.
 use Rattle.std.proofs.Common.{◌≡◌, sym, ap, ◌∙◌, subst, ◌++◌, List, ℕ}
-use Rattle.log_gate.specs.Image.{IsBatch}
+use Rattle.gate_calls.specs.Image.{IsBatch}
 use Rattle.log_buffer.specs.Batches.{spellings}
 use Rattle.log_buffer.proofs.BatchFitting.{is_batch}
 use Rattle.log_buffer.proofs.bytes.batch_bytes.Goals as goal

@@ -1,5 +1,5 @@
 use Rattle.std.proofs.Common.{◌≡◌, ◌≤◌, ◌-◌, length, vec_capacity}
-use Rattle.log_gate.specs.Header.{Layout}
+use Rattle.gate_calls.specs.Header.{Layout}
 use Rattle.log_buffer.specs.Flushing.{AtRest, ByBatches}
 use Rattle.log_buffer.proofs.flushing.flush_all.Given as goal
 

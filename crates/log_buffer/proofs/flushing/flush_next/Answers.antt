@@ -5,7 +5,7 @@ use Rattle.clv_base.specs.FileRules.{has_own_spelling}
 use Rattle.law_base.proofs.Logs.{passes_taken}
 use Rattle.clv_base.specs.Logs.{record_size}
 use Rattle.log_buffer.specs.Buffers.{Buffer, next_count}
-use Rattle.log_gate.specs.Image.{SpellAll, IsBatch}
+use Rattle.gate_calls.specs.Image.{SpellAll, IsBatch}
 use Rattle.log_buffer.specs.Flushing.{flown, spellings, batch_from}
 use Rattle.log_buffer.proofs.Flying.{same_next, within, no_more_than, not_none, next_spelled, next_is_batch, cut_out, is_flown, is_landed, flies, lands}
 use Rattle.log_buffer.proofs.flushing.flush_next.Goals as goal

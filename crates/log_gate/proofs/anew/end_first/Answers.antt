@@ -4,7 +4,7 @@ use Rattle.io_model.specs.Disk.{Tells}
 use Rattle.io_model.specs.Sides.{Stories, both_told}
 use Rattle.io_model.specs.declared.disk.Failed.{Failed}
 use Rattle.io_model.proofs.Laws.Told.{tells_same, both_tell}
-use Rattle.log_gate.specs.Sides.{side_of}
+use Rattle.gate_calls.specs.Sides.{side_of}
 use Rattle.log_gate.specs.Switch.{WritesFirst, EndsFirst}
 use Rattle.log_gate.proofs.WrittenAnew.{first_longer}
 use Rattle.log_gate.proofs.anew.end_first.Goals as goal

@@ -1,7 +1,7 @@
 use Rattle.std.proofs.Common.{◌≡◌, ℕ, List, [], ◌∷◌, ◌++◌, Ok, Err, refl, sym, ◌∙◌, ap}
 use Rattle.std.proofs.lemmas.List.{append-nil}
 use Rattle.std.proofs.lemmas.Result.{err_from_is_err_and}
-use Rattle.log_gate.specs.Payloads.{batch, opened}
+use Rattle.gate_calls.specs.Payloads.{batch, opened}
 use Rattle.log_gate.proofs.Extending.{tells_extends}
 use Rattle.log_gate.proofs.anew.extend_by_batch.Goals as goal
 

@@ -2,7 +2,7 @@ use Rattle.std.proofs.Common.{◌≡◌, ℕ, ◌+◌, List, [], ◌∷◌, ◌+
 use Rattle.std.proofs.lemmas.List.{at_drop_more, at_drop_all}
 use Rattle.std.proofs.lemmas.Result.{err_from_is_err_and}
 use Rattle.std.specs.List.{AllByRecursion}
-use Rattle.log_gate.specs.Payloads.{IsPayload, opened}
+use Rattle.gate_calls.specs.Payloads.{IsPayload, opened}
 use Rattle.log_gate.proofs.Opened.{opened-append}
 use Rattle.log_gate.proofs.Extending.{still_end, leaves_all, leaves_then, leaves_fails, leaves_none}
 use Rattle.log_gate.proofs.anew.extend_by_batches.Goals as goal

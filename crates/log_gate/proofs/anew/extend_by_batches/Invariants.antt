@@ -1,7 +1,7 @@
 use Rattle.std.proofs.Common.{◌≡◌, ◌≤◌, ◌+◌, length, drop, map}
 use Rattle.std.specs.List.{AllByRecursion}
 use Rattle.io_model.specs.Disk.{Tells}
-use Rattle.log_gate.specs.Payloads.{IsPayload, opened}
+use Rattle.gate_calls.specs.Payloads.{IsPayload, opened}
 use Rattle.log_gate.proofs.Extending.{EndsAt, Leaves}
 use Rattle.log_gate.proofs.anew.extend_by_batches.Given as goal
 

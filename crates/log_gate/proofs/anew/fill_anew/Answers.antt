@@ -1,6 +1,6 @@
 use Rattle.std.proofs.Common.{◌+◌, [], ◌∷◌, ◌++◌, map, Ok, Err, refl, arith, append_assoc, length-append}
 use Rattle.std.proofs.lemmas.Result.{err_from_is_err_and}
-use Rattle.log_gate.specs.Payloads.{opened}
+use Rattle.gate_calls.specs.Payloads.{opened}
 use Rattle.log_gate.proofs.Extending.{follows_cut, tells_follows, follows_end, tells_fills, fills_long}
 use Rattle.log_gate.proofs.anew.fill_anew.Goals as goal
 

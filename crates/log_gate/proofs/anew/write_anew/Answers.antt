@@ -4,7 +4,7 @@ use Rattle.io_model.specs.Story.{Story, reads}
 use Rattle.io_model.specs.Disk.{Tells}
 use Rattle.io_model.proofs.Laws.Told.{Then, tells_then, tells_weaker}
 use Rattle.io_model.specs.declared.disk.Failed.{Failed}
-use Rattle.log_gate.specs.Payloads.{opened}
+use Rattle.gate_calls.specs.Payloads.{opened}
 use Rattle.log_gate.specs.Switch.{WritesFirst, Ends, Fills, IsWrittenAnew}
 use Rattle.log_gate.proofs.WrittenAnew.{anew_unended, anew_unfilled, anew_begun, anew_done, ended_long, first_longer}
 use Rattle.log_gate.proofs.anew.write_anew.Goals as goal

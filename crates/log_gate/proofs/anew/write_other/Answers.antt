@@ -3,7 +3,7 @@ use Rattle.std.proofs.lemmas.Result.{err_from_is_err_and}
 use Rattle.io_model.specs.Sides.{Stories}
 use Rattle.io_model.specs.declared.disk.Failed.{Failed}
 use Rattle.io_model.proofs.Laws.Told.{Then, tells_then, tells_weaker}
-use Rattle.log_gate.specs.Payloads.{opened}
+use Rattle.gate_calls.specs.Payloads.{opened}
 use Rattle.log_gate.specs.Switch.{WritesOther, EndsFirst, Switches}
 use Rattle.log_gate.proofs.anew.write_other.Goals as goal
 

@@ -2,7 +2,7 @@ use Rattle.std.proofs.Common.{◌≡◌, ℕ, [], ◌∷◌, ◌++◌, map, sym,
 use Rattle.io_model.specs.Disk.{Tells}
 use Rattle.io_model.specs.Sides.{both_told}
 use Rattle.io_model.proofs.Laws.Told.{tells_same, both_tell}
-use Rattle.log_gate.specs.Payloads.{opened}
+use Rattle.gate_calls.specs.Payloads.{opened}
 use Rattle.log_gate.specs.Switch.{IsWrittenAnew, WritesOther}
 use Rattle.log_gate.proofs.anew.write_side.Goals as goal
 

@@ -1,7 +1,7 @@
 use Rattle.std.proofs.Common.{◌≡◌, ℕ, true, drop, ◌∙◌, ap, subst, arith}
 use Rattle.byteorder.specs.Endian.{little_number}
-use Rattle.log_gate.specs.Header.{has_generation}
-use Rattle.log_gate.proofs.Headers.{header_stands_2}
+use Rattle.gate_calls.specs.Header.{has_generation}
+use Rattle.gate_calls.proofs.Headers.{header_stands_2}
 use Rattle.log_gate.proofs.choosing.choice_2.Goals as goal
 
 pub returns-in-Some-clause-found : goal.returns-in-Some-clause-found

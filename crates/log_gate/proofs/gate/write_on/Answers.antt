@@ -1,6 +1,6 @@
 use Rattle.std.proofs.Common.{◌≡◌, ℕ, ◌+◌, ◌≤◌, length, IfSome, subst, arith}
 use Rattle.io_model.specs.Story.{reads}
-use Rattle.log_gate.specs.Sides.{side_of}
+use Rattle.gate_calls.specs.Sides.{side_of}
 use Rattle.log_gate.proofs.gate.write_on.Goals as goal
 
 pub write_batch-requires-clause-inside : goal.write_batch-requires-clause-inside

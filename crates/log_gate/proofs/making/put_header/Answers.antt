@@ -1,7 +1,7 @@
 use Rattle.std.proofs.Common.{◌≡◌, ◌≤◌, ℕ, zero, suc, List, ◌++◌, length, ◌∙◌, ap, append_assoc, arith}
 use Rattle.std.specs.List.{flat_map}
 use Rattle.byteorder.specs.Endian.{little_bytes}
-use Rattle.log_gate.specs.Header.{header_bytes, field_bytes, magic}
+use Rattle.gate_calls.specs.Header.{header_bytes, field_bytes, magic}
 use Rattle.log_gate.proofs.making.put_header.Goals as goal
 
 regroup : (s a b c d e g : List ℕ) → (((((s ++ a) ++ b) ++ c) ++ d) ++ e) ++ g ≡ s ++ ((a ++ (b ++ (c ++ (d ++ e)))) ++ g)

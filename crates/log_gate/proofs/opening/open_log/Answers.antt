@@ -1,8 +1,8 @@
 use Rattle.std.proofs.Common.{◌≡◌, ◌<◌, ◌^◌, ℕ, List, ◌++◌, length, drop, IfSome, sym, subst, rules, arith, length-take, length-append}
 use Rattle.io_model.specs.Sides.{both_told}
-use Rattle.log_gate.specs.Image.{HasLog, HasHeader}
-use Rattle.log_gate.specs.Gate.{EachNow}
-use Rattle.log_gate.specs.View.{View}
+use Rattle.gate_calls.specs.Image.{HasLog, HasHeader}
+use Rattle.gate_calls.specs.Gate.{EachNow}
+use Rattle.gate_calls.specs.View.{View}
 use Rattle.log_gate.proofs.Heads.{head_long, head_of_all}
 use Rattle.log_gate.proofs.Unchanged.{opened_holds, opened_log, opened_header, opened_before}
 use Rattle.law_base.proofs.Logs.{own_spelled}

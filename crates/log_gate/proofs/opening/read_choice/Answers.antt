@@ -3,7 +3,7 @@ use Rattle.std.specs.Option.{option_map}
 use Rattle.std.proofs.lemmas.Result.{err_from_is_err_and}
 use Rattle.io_model.specs.Sides.{Images, both_told, reads_both}
 use Rattle.log_gate.specs.declared.choosing.Choice.{Choice}
-use Rattle.log_gate.specs.declared.error.OpenLogError.{OpenLogError}
+use Rattle.gate_calls.specs.declared.error.OpenLogError.{OpenLogError}
 use Rattle.log_gate.specs.Errors.{of_parsing}
 use Rattle.log_gate.specs.Opening.{FindsSide}
 use Rattle.log_gate.proofs.Knowing.{known_weaker}

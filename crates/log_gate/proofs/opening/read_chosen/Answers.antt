@@ -1,6 +1,6 @@
 use Rattle.std.proofs.Common.{◌≡◌, arith}
 use Rattle.clv_base.specs.FileRules.{passes_file_rules}
-use Rattle.log_gate.specs.Header.{header_size}
+use Rattle.gate_calls.specs.Header.{header_size}
 use Rattle.log_gate.proofs.BothFound.{first_found, second_found, first_reaches, second_reaches}
 use Rattle.log_gate.proofs.opening.read_chosen.Goals as goal
 

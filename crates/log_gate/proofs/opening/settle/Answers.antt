@@ -1,6 +1,6 @@
 use Rattle.std.proofs.lemmas.Result.{err_from_is_err_and}
 use Rattle.io_model.proofs.Laws.Told.{tells_weaker}
-use Rattle.log_gate.specs.Opening.{DiskUnchanged}
+use Rattle.gate_calls.specs.Opened.{DiskUnchanged}
 use Rattle.log_gate.proofs.Unchanged.{unsynced, settles}
 use Rattle.log_gate.proofs.opening.settle.Goals as goal
 

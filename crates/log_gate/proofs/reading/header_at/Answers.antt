@@ -1,7 +1,7 @@
 use Rattle.std.proofs.Common.{◌≡◌, Bool, true, false, arith, sym, ◌∙◌, ap, subst}
 use Rattle.clv_base.specs.Shards.{are_splits}
-use Rattle.log_gate.specs.Header.{HasFields}
-use Rattle.log_gate.proofs.Headers.{fields_found}
+use Rattle.gate_calls.specs.Header.{HasFields}
+use Rattle.gate_calls.proofs.Headers.{fields_found}
 use Rattle.log_gate.proofs.SplitLoop.{may_be_splits}
 use Rattle.log_gate.proofs.reading.header_at.Goals as goal
 

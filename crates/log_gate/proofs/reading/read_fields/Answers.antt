@@ -2,9 +2,9 @@ use Rattle.std.proofs.Common.{◌≡◌, ◌-◌, ℕ, List, length, take, drop,
 use Rattle.std.proofs.lemmas.List.{take_all}
 use Rattle.std.specs.Option.{option_map}
 use Rattle.byteorder.specs.Endian.{little_number}
-use Rattle.log_gate.specs.Header.{fields_of, splits_from, has_number, has_count, same_bytes, magic}
+use Rattle.gate_calls.specs.Header.{fields_of, splits_from, has_number, has_count, same_bytes, magic}
 use Rattle.log_gate.specs.Opening.{Gives}
-use Rattle.log_gate.proofs.Headers.{field_passed, field_fails}
+use Rattle.gate_calls.proofs.Headers.{field_passed, field_fails}
 use Rattle.log_gate.proofs.reading.read_fields.Goals as goal
 
 not_magic : (version shard : ℕ) (agreed : Option (List ℕ)) (bytes : List ℕ) → false ≡ same_bytes (take 8 bytes) (magic version) → fields_of version shard agreed bytes ≡ Err 0

@@ -1,6 +1,6 @@
 use Rattle.std.proofs.Common.{◌≡◌, ◌+◌, ◌-◌, ℕ, List, [], ◌∷◌, ◌++◌, suc, Option, sym, ◌∙◌, ap, arith}
 use Rattle.std.specs.Option.{option_map}
-use Rattle.log_gate.specs.Header.{splits_from, least_after}
+use Rattle.gate_calls.specs.Header.{splits_from, least_after}
 use Rattle.log_gate.proofs.SplitLoop.{with_splits, all_read, bad_split, good_split}
 use Rattle.log_gate.proofs.reading.read_splits.Goals as goal
 

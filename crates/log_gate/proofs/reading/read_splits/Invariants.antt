@@ -1,6 +1,6 @@
 use Rattle.std.proofs.Common.{◌≡◌, ◌-◌}
 use Rattle.std.specs.Option.{option_map}
-use Rattle.log_gate.specs.Header.{splits_from, least_after}
+use Rattle.gate_calls.specs.Header.{splits_from, least_after}
 use Rattle.log_gate.proofs.SplitLoop.{with_splits}
 use Rattle.log_gate.proofs.reading.read_splits.Given as goal
 

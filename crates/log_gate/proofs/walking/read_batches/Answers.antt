@@ -2,7 +2,7 @@ use Rattle.std.proofs.Common.{◌≡◌, ◌+◌, ◌≤◌, ℕ, length, Option
 use Rattle.std.proofs.lemmas.Result.{err_from_is_err_and}
 use Rattle.clv_base.specs.FileRules.{passes_file_rules}
 use Rattle.io_model.specs.Disk.{Tells}
-use Rattle.log_gate.specs.declared.error.OpenLogError.TheVariants.{NotLog}
+use Rattle.gate_calls.specs.declared.error.OpenLogError.TheVariants.{NotLog}
 use Rattle.log_gate.specs.Opening.{Looks, StandsGate, AddsBatch, AreGood, FindsRecords}
 use Rattle.log_gate.proofs.Looking.{tells_looks, tells_looks_then, still_known, nothing_looked, known_more}
 use Rattle.log_gate.proofs.Steps.{Reached, reached_start, reached_end, gate_fails, gate_closed, batch_fails, reached_on}

@@ -1,6 +1,6 @@
 use Rattle.std.proofs.Common.{◌∙◌, Err, ap, sym, subst}
 use Rattle.clv_base.specs.Restarts.{log_after_restart}
-use Rattle.log_gate.specs.View.{Only}
+use Rattle.gate_calls.specs.View.{Only}
 use Rattle.machine_calls.specs.Disks.{stories_of}
 use Rattle.machine_calls.proofs.Leaving.{left_begun, left_whole, left_by}
 use Rattle.machine_calls.proofs.recovering.recover_shard.Goals as goal

@@ -1,6 +1,6 @@
 use Rattle.std.proofs.Common.{◌≡◌, ◌∙◌, ap, sym, subst}
 use Rattle.clv_base.specs.Restarts.{log_after_restart}
-use Rattle.log_gate.specs.View.{Only}
+use Rattle.gate_calls.specs.View.{Only}
 use Rattle.machine_calls.specs.Disks.{stories_of}
 use Rattle.machine_calls.proofs.Leaving.{left_whole}
 use Rattle.machine_calls.proofs.recovering.take_apart.Goals as goal

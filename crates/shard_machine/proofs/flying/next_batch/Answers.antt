@@ -4,7 +4,7 @@ use Rattle.clv_base.specs.declared.logs.LogRecord.{LogRecord}
 use Rattle.clv_base.specs.Logs.{fitting}
 use Rattle.clv_base.specs.State.{Shard}
 use Rattle.clv_base.specs.Events.{taken}
-use Rattle.log_gate.specs.Image.{SpellAll}
+use Rattle.gate_calls.specs.Image.{SpellAll}
 use Rattle.log_buffer.proofs.Laws.{those_fit}
 use Rattle.machine_calls.specs.Flights.{flying}
 use Rattle.shard_machine.proofs.Departing.{next_count, next_ends, next_flies}

@@ -6,7 +6,7 @@ use Rattle.clv_base.specs.declared.logs.LogRecord.{LogRecord}
 use Rattle.clv_base.specs.declared.logs.LogRecord.TheVariants.{Restart}
 use Rattle.clv_base.specs.FileRules.{has_spelling}
 use Rattle.clv_base.specs.Restarts.{log_after_restart}
-use Rattle.log_gate.specs.View.{Only}
+use Rattle.gate_calls.specs.View.{Only}
 use Rattle.shard_recovery.proofs.Spelled.{restart_spelled}
 use Rattle.log_buffer.specs.declared.flushing.FlushError.TheVariants.{Failed as FlushFailed}
 use Rattle.log_buffer.specs.Flushing.{InFlight, ByBatches}

@@ -3,12 +3,12 @@ use Rattle.clv_base.specs.declared.logs.LogRecord.{LogRecord}
 use Rattle.io_model.specs.Story.{Story, reads}
 use Rattle.io_model.specs.Sides.{both_told, MomentsOfSides}
 use Rattle.io_model.specs.Disk.{Tells}
-use Rattle.log_gate.specs.Payloads.{batch}
+use Rattle.gate_calls.specs.Payloads.{batch}
 use Rattle.log_gate.specs.Push.{IsPushedOn}
-use Rattle.log_gate.specs.Image.{SpellAll, HasLog, HasLogOrMore, HasHeader}
-use Rattle.log_gate.specs.Gate.{EachNow}
+use Rattle.gate_calls.specs.Image.{SpellAll, HasLog, HasLogOrMore, HasHeader}
+use Rattle.gate_calls.specs.Gate.{EachNow}
 use Rattle.log_gate.specs.Inside.{Holds}
-use Rattle.log_gate.specs.View.{View, IsLogOf, IsHeaderOf}
+use Rattle.gate_calls.specs.View.{View, IsLogOf, IsHeaderOf}
 use Rattle.log_gate.proofs.Views.{moments, headers, holds_again, spelled_again, told_on, nothing_pushed}
 use Rattle.log_gate.proofs.Ends.{ends, four_calls}
 use Rattle.log_gate.proofs.gate.LogGate.push.Goals as goal

@@ -4,11 +4,11 @@ use Rattle.clv_base.specs.declared.logs.LogRecord.{LogRecord}
 use Rattle.io_model.specs.Disk.{Tells}
 use Rattle.io_model.specs.Sides.{both_told, reads_both}
 use Rattle.io_model.specs.declared.disk.Failed.{Failed}
-use Rattle.log_gate.specs.Sides.{Chosen, chosen_of, next_generation}
-use Rattle.log_gate.specs.Image.{HasLog, HasHeader, AllSpelled}
+use Rattle.gate_calls.specs.Sides.{Chosen, chosen_of, next_generation}
+use Rattle.gate_calls.specs.Image.{HasLog, HasHeader, AllSpelled}
 use Rattle.log_gate.specs.Inside.{Holds}
 use Rattle.log_gate.specs.Switch.{HasEither, ChosenStays, MomentsThen}
-use Rattle.log_gate.specs.View.{View, IsLogOf, IsHeaderOf}
+use Rattle.gate_calls.specs.View.{View, IsLogOf, IsHeaderOf}
 use Rattle.log_gate.proofs.SwitchViews.{next_some, is_next, behind_first, moments, headers, holds_again, log_after, spelled_again, nothing_switched, generation_after}
 use Rattle.log_gate.proofs.LogStays.{chosen_stays, nothing_stays}
 use Rattle.log_gate.proofs.gate.LogGate.switch.Goals as goal

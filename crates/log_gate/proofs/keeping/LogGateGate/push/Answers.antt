@@ -1,5 +1,5 @@
 use Rattle.std.proofs.lemmas.Result.{on_ok_weaker}
-use Rattle.log_gate.proofs.ManyLogs.{only_from, from_only, header_from, header_stays, either_from}
+use Rattle.gate_calls.proofs.ManyLogs.{only_from, from_only, header_from, header_stays, either_from}
 use Rattle.log_gate.proofs.keeping.LogGateGate.push.Goals as goal
 
 pub returns-clause-ok : goal.returns-clause-ok

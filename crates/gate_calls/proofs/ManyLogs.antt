@@ -1,15 +1,18 @@
 -- What a gate stands for, by its logs.
 use Rattle.std.proofs.Common.{◌≡◌, ◌⊎◌, inl, inr, ℕ, List, ◌++◌, Option, Some, None, Ok, IfSome, refl, sym, ◌∙◌, subst}
 use Rattle.clv_base.specs.declared.logs.LogRecord.{LogRecord}
-use Rattle.io_model.specs.Sides.{Stories, Images, reads_both, MomentsOfSides}
+use Rattle.io_model.specs.Sides.{Stories, Images, EachShown, reads_both, MomentsOfSides}
 use Rattle.io_model.specs.Disk.{Tells}
-use Rattle.log_gate.specs.Header.{Layout}
-use Rattle.log_gate.specs.Image.{checked_log, log_under, HasLog, HasLogOrMore, HasHeader}
-use Rattle.log_gate.specs.Gate.{EachNow}
-use Rattle.log_gate.specs.Opening.{IsUnchanged}
-use Rattle.log_gate.specs.View.{View, IsLogOf, IsHeaderOf, logs_told, logs_of, Only, OnlyOrMore}
-use Rattle.log_gate.proofs.Agreed.{under_from, from_under, checked_splits}
-use Rattle.log_gate.proofs.Views.{each_now}
+use Rattle.gate_calls.specs.Header.{Layout}
+use Rattle.gate_calls.specs.Image.{checked_log, log_under, HasLog, HasLogOrMore, HasHeader}
+use Rattle.gate_calls.specs.Gate.{EachNow}
+use Rattle.gate_calls.specs.Opened.{IsUnchanged}
+use Rattle.gate_calls.specs.View.{View, IsLogOf, IsHeaderOf, logs_told, logs_of, Only, OnlyOrMore}
+use Rattle.gate_calls.proofs.Agreed.{under_from, from_under, checked_splits}
+
+-- what is shown is shown as read too
+pub each_now : (P : Images → Type 0) (s : Stories) → EachShown P s → EachNow P s
+each_now P s each = record { read = each (reads_both s) (inl refl, inl refl); images = each }
 
 told_only : (o : Option Stories) (shard : ℕ) (layout : Layout) (records : List LogRecord) → IfSome o (EachNow (HasLog shard records)) → IfSome o (EachNow (HasHeader shard layout.splits)) → Only records (logs_told o shard layout)
 told_only None shard layout records each header = λ log is. absurd is

@@ -2,9 +2,9 @@
 use Rattle.std.specs.Prelude.{◌≡◌, ◌⊎◌, ℕ, List, ◌++◌, Bool, Option, Some, None, IfSome}
 use Rattle.clv_base.specs.declared.logs.LogRecord.{LogRecord}
 use Rattle.io_model.specs.Sides.{Stories, Images, AreShown}
-use Rattle.log_gate.specs.Header.{Layout}
-use Rattle.log_gate.specs.Image.{log_under, HasLog, HasHeader}
-use Rattle.log_gate.specs.Gate.{EachNow}
+use Rattle.gate_calls.specs.Header.{Layout}
+use Rattle.gate_calls.specs.Image.{log_under, HasLog, HasHeader}
+use Rattle.gate_calls.specs.Gate.{EachNow}
 
 -- the stories of its two sides, where both are told, and the sum of their counts of faults; the shard; and whether it is shut
 pub record View : Type 0 where

@@ -1,7 +1,7 @@
 // The header of a log.
 ghost use Rattle.std.specs.Prelude.{◌≡◌, IsTrue};
 ghost use Rattle.clv_base.specs.Shards.{are_splits};
-ghost use Rattle.log_gate.specs.Header.{fields_size};
+ghost use Rattle.gate_calls.specs.Header.{fields_size};
 
 use clv_base::splits::Splits;
 

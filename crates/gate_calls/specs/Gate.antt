@@ -3,7 +3,7 @@ use Rattle.std.specs.Prelude.{◌≡◌, ◌≢◌, ◌⊎◌, ℕ, ◌+◌, ◌
 use Rattle.std.specs.List.{AllByRecursion}
 use Rattle.io_model.specs.Story.{Story, reads, IsImage}
 use Rattle.io_model.specs.Sides.{Stories, Images, reads_both, EachShown}
-use Rattle.log_gate.specs.Payloads.{IsPayload, opened}
+use Rattle.gate_calls.specs.Payloads.{IsPayload, opened}
 
 -- a front, these payloads behind open gates, a closed gate and anything
 pub record Stands (front : List ℕ) (payloads : List (List ℕ)) (image : List ℕ) : Type 0 where

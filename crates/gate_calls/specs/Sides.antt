@@ -1,7 +1,7 @@
 -- Which of the two sides of a shard is its log.
 use Rattle.std.specs.Prelude.{◌≡◌, ◌⊎◌, ℕ, zero, suc, ◌-◌, ◌^◌, ◌<◌, ◌≤◌, List, [], ◌∷◌, length, take, Bool, true, false, cond, not, ◌&&◌, ◌||◌, ◌==◌, nat_le, nat_lt, Option, Some, Result, Ok, Err}
 use Rattle.io_model.specs.Sides.{Images}
-use Rattle.log_gate.specs.Header.{magic, same_bytes, header_of_1, header_of_2, Rise}
+use Rattle.gate_calls.specs.Header.{magic, same_bytes, header_of_1, header_of_2, Rise}
 
 -- the first byte is this one
 abbrev pub begins_with : ℕ → List ℕ → Bool

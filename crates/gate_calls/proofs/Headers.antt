@@ -6,8 +6,8 @@ use Rattle.std.proofs.lemmas.List.{drop_at, drop-drop}
 use Rattle.std.proofs.lemmas.Bool.Decides.{nat_tests}
 use Rattle.byteorder.specs.Endian.{little_bytes, little_number}
 use Rattle.byteorder.specs.Numbers.{little_number-reads_back, little_from-lt, length-bytes_low_first}
-use Rattle.log_gate.specs.Header.{magic, field_bytes, fields_size, header_bytes, header_size, same_bytes, with_split, has_split, splits_from, has_number, has_count, has_generation, behind_field, with_generation, with_no_generation, fields_of, header_of_1, header_of_2, Rise, HasFields, IsHeader}
-use Rattle.log_gate.proofs.Numbers.{written_again}
+use Rattle.gate_calls.specs.Header.{magic, field_bytes, fields_size, header_bytes, header_size, same_bytes, with_split, has_split, splits_from, has_number, has_count, has_generation, behind_field, with_generation, with_no_generation, fields_of, header_of_1, header_of_2, Rise, HasFields, IsHeader}
+use Rattle.gate_calls.proofs.Numbers.{written_again}
 use Rattle.law_base.proofs.Lists.{IsBytes, bytes_drop}
 
 pub same_from : (xs ys : List ℕ) → same_bytes xs ys ≡ true → xs ≡ ys

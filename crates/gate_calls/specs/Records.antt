@@ -1,7 +1,7 @@
 -- The log in records, for a reading of payloads: it answers the records, or the place of the first that is none.
 use Rattle.std.specs.Prelude.{◌≡◌, ℕ, zero, suc, ◌+◌, List, [], ◌∷◌, ◌++◌, length, take, drop, Result, Ok, Err, if◌then◌else◌, ◌==◌}
 use Rattle.byteorder.specs.Endian.{little_number}
-use Rattle.log_gate.specs.Payloads.{holds_batch}
+use Rattle.gate_calls.specs.Payloads.{holds_batch}
 
 -- the items of two readings, the first of them first; or the first fault
 abbrev pub both : {X : Type 0} → Result (List X) ℕ → Result (List X) ℕ → Result (List X) ℕ

@@ -4,13 +4,12 @@ use Rattle.std.proofs.lemmas.Bool.Decides.{nat_tests}
 use Rattle.std.proofs.lemmas.List.{drop_more}
 use Rattle.byteorder.specs.Endian.{little_number}
 use Rattle.clv_base.specs.declared.logs.LogRecord.{LogRecord}
-use Rattle.clv_base.specs.FileRules.{passes_file_rules}
-use Rattle.log_gate.specs.Header.{Layout, header_size, fields_size, magic, same_bytes, with_split, has_split, splits_from, has_number, has_count, has_generation, behind_field, with_no_generation, fields_of, header_of_1, header_of_2}
+use Rattle.gate_calls.specs.Header.{Layout, header_size, fields_size, magic, same_bytes, with_split, has_split, splits_from, has_number, has_count, has_generation, behind_field, with_no_generation, fields_of, header_of_1, header_of_2}
 use Rattle.io_model.specs.Sides.{Images}
-use Rattle.log_gate.specs.Sides.{Chosen, is_version_1, is_in_use, is_newer, chosen_by, chosen_by_use, both_in_use, newer_behind, chosen_of, image_of}
-use Rattle.log_gate.specs.Image.{behind_chosen, checked_log, with_header, records_in, records_of, log_under, HasLog, HasHeader}
-use Rattle.log_gate.specs.Records.{record_log}
-use Rattle.log_gate.proofs.Headers.{field_holds, field_passed, split_first, header_found_1, header_found_2, header_is_2}
+use Rattle.gate_calls.specs.Sides.{Chosen, is_version_1, is_in_use, is_newer, chosen_by, chosen_by_use, both_in_use, newer_behind, chosen_of, image_of}
+use Rattle.gate_calls.specs.Image.{Fault, behind_chosen, stands_behind, passes_behind, checked_log, with_header, formed, records_in, records_of, log_under, HasLog, HasHeader}
+use Rattle.gate_calls.specs.Records.{record_log}
+use Rattle.gate_calls.proofs.Headers.{field_holds, field_passed, split_first, header_found_1, header_found_2, header_is_2}
 
 abbrev was_read : List ℕ → Result (List ℕ) ℕ
 was_read splits = Ok splits
@@ -224,7 +223,7 @@ agreed_side shard images c is = by_version (is_version_1 images.side0) (is_in_us
     by_version false a b is = by_use a b is
 
 abbrev behind : Images → Result Chosen ℕ → Option (List LogRecord)
-behind images side = records_of (behind_chosen (λ splits r. true) images side)
+behind images side = records_of (behind_chosen stands_behind images side)
 
 pub under_from : (shard : ℕ) (layout : Layout) (records : List LogRecord) (images : Images) → HasLog shard records images → HasHeader shard layout.splits images → log_under shard layout images ≡ Some records
 under_from shard layout records images log (c, is, same) =
@@ -243,15 +242,15 @@ from_under shard layout records images is = by (chosen_of shard (Some layout.spl
 pub checked_splits : (shard : ℕ) (agreed splits : List ℕ) (records : List LogRecord) (images : Images) → checked_log shard (Some agreed) images ≡ Ok (splits, records) → splits ≡ agreed
 checked_splits shard agreed splits records images is = by (chosen_of shard (Some agreed) images) refl is
   where
-    same : (found : List ℕ) (r : Result (List LogRecord) ℕ) → with_header found r ≡ Ok (splits, records) → found ≡ splits
+    same : (found : List ℕ) (r : Result (List LogRecord) Fault) → with_header found r ≡ Ok (splits, records) → found ≡ splits
     same found (Ok rs) is = ap first is
       where
-        first : Result (List ℕ × List LogRecord) ℕ → List ℕ
+        first : Result (List ℕ × List LogRecord) Fault → List ℕ
         first (Ok x) = x.0
         first (Err place) = []
     same found (Err place) is = absurd (cc)
 
-    by : (r : Result Chosen ℕ) → chosen_of shard (Some agreed) images ≡ r → behind_chosen (λ ss. passes_file_rules ss shard) images r ≡ Ok (splits, records) → splits ≡ agreed
+    by : (r : Result Chosen ℕ) → chosen_of shard (Some agreed) images ≡ r → behind_chosen (passes_behind shard) images r ≡ Ok (splits, records) → splits ≡ agreed
     by (Ok c) at is =
-        sym (same c.splits (record_log (records_in (passes_file_rules c.splits shard)) (header_size c.splits c.generation) (image_of images c.side)) is) ∙ (unagreed_side shard agreed images c at).1
+        sym (same c.splits (formed (record_log (records_in (passes_behind shard c)) (header_size c.splits c.generation) (image_of images c.side))) is) ∙ (unagreed_side shard agreed images c at).1
     by (Err place) at is = absurd (cc)

@@ -1,0 +1,5 @@
+pub mod Numbers
+pub mod Headers
+pub mod Agreed
+pub mod ManyLogs
+pub mod Laws

@@ -1,0 +1,9 @@
+pub mod Payloads
+pub mod Records
+pub mod Header
+pub mod Sides
+pub mod Image
+pub mod Gate
+pub mod View
+pub mod Errors
+pub mod Opened
