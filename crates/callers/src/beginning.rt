@@ -7,8 +7,8 @@ ghost use Rattle.gate_calls.specs.Header.{Layout};
 ghost use Rattle.gate_calls.specs.View.{Only};
 
 use clv_base::logs::LogRecord;
-use log_analysis::LogFacts;
 use gate_calls::Gate;
+use log_analysis::LogFacts;
 use machine_calls::{Machine, Maker};
 use ordered_store::Store;
 use shard_recovery::recover;

@@ -5,8 +5,8 @@ ghost use Rattle.cluster_closing.specs.Closing.{CameFrom, IsLowestDown};
 
 use cluster_turns::Home;
 use clv_base::events::Entry;
-use io_model::{House, give_sides};
 use gate_calls::Gate;
+use io_model::{House, give_sides};
 use machine_calls::{Machine, OverDisks, Parts};
 use ordered_store::Store;
 use quiet_list::Told;

@@ -3,8 +3,8 @@ ghost use Rattle.cluster_closing.specs.Laws.{NewWalkersHoldNone, TurnsHoldNone, 
 ghost use Rattle.cluster_closing.specs.Ends.{DisksAreFound, NoDisksAreHeld, FetchedAreHeld, UnfetchedNeverRestart};
 ghost use Rattle.machine_calls.specs.Disks.{stories_of, faults_of};
 
-use io_model::Disk;
 use gate_calls::Gate;
+use io_model::Disk;
 
 /// A new walker has the disk of no shard.
 pub fn new_walkers_hold_none<T>()

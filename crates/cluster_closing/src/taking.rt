@@ -12,8 +12,8 @@ ghost use Rattle.machine_calls.specs.Disks.{stories_of, faults_of};
 
 use crate::fetching::{FetchError, Fetched};
 use cluster_turns::Home;
-use io_model::Sides;
 use gate_calls::Gate;
+use io_model::Sides;
 use machine_calls::Reopener;
 use machine_laws::{Mark, Note, Origin};
 use std::sync::Wait;

@@ -16,9 +16,9 @@ use crate::finding::open_one;
 use crate::judging::judge_all;
 use clv_base::logs::LogRecord;
 use clv_base::splits::Splits;
+use gate_calls::Header;
 use io_model::{Disk, House};
 use log_analysis::LogFacts;
-use gate_calls::Header;
 use log_gate::LogGate;
 use std::alloc::Global;
 

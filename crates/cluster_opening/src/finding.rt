@@ -13,9 +13,9 @@ ghost use Rattle.machine_calls.specs.Disks.{stories_of, faults_of};
 
 use crate::error::{At, OpenError};
 use clv_base::logs::LogRecord;
+use gate_calls::{Header, OpenLogError};
 use io_model::{Disk, House, Sides, give_sides, open_sides};
 use log_analysis::LogFacts;
-use gate_calls::{Header, OpenLogError};
 use log_gate::{LogGate, open_log};
 use log_rules::{OrderError, in_order};
 use std::alloc::Global;

@@ -9,8 +9,8 @@ ghost use Rattle.cluster_opening.specs.Undone.{AreOpened, CameBack};
 
 use crate::close_unused;
 use cluster_turns::Home;
-use io_model::{House, give_sides};
 use gate_calls::Gate;
+use io_model::{House, give_sides};
 use machine_calls::OverDisks;
 use machine_laws::{Note, Origin};
 use turn_lock::{Pass, TurnLock};

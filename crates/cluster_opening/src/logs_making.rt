@@ -9,8 +9,8 @@ ghost use Rattle.cluster_opening.specs.Making.{IsEmpty, IsMade, Spares, AreUncha
 
 use crate::making_error::MakeError;
 use clv_base::splits::Splits;
-use io_model::{House, give_sides, open_sides};
 use gate_calls::Header;
+use io_model::{House, give_sides, open_sides};
 use log_gate::{MakeError as OneError, length_of, make};
 use std::alloc::Global;
 

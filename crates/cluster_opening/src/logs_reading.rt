@@ -15,9 +15,9 @@ use crate::disks_opening::{SHARDS, open_logs};
 use crate::error::OpenError;
 use crate::judging::agree;
 use clv_base::logs::LogRecord;
+use gate_calls::Header;
 use io_model::House;
 use log_analysis::LogFacts;
-use gate_calls::Header;
 use log_gate::LogGate;
 use std::alloc::Global;
 

@@ -14,8 +14,8 @@ ghost use Rattle.machine_calls.specs.Disks.{stories_of, faults_of};
 use crate::forgetter::Forgetter;
 use crate::machine::LeanMachine;
 use clv_base::logs::LogRecord;
-use io_model::Sides;
 use gate_calls::{Header, OpenLogError};
+use io_model::Sides;
 use machine_calls::Reopener;
 use std::alloc::Global;
 

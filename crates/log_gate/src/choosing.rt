@@ -6,8 +6,8 @@ ghost use Rattle.gate_calls.specs.Sides.{is_in_use as in_use, is_version_1 as ve
 ghost use Rattle.log_gate.specs.Opening.{Gives, chosen, IsFront};
 
 use crate::error::ParseError;
-use gate_calls::Header;
 use crate::reading::{generation_at, header_at};
+use gate_calls::Header;
 use std::alloc::Global;
 
 /// The side that is the log, with what its header says; generation 0 stands for version 1.

@@ -6,8 +6,8 @@ ghost use Rattle.gate_calls.specs.Image.{SpellAll, IsBatch};
 ghost use Rattle.gate_calls.specs.View.{Only, OnlyOrMore, logs_of};
 ghost use Rattle.gate_calls.specs.Errors.{Counts};
 
-use gate_calls::PushError;
 use crate::gate::LogGate;
+use gate_calls::PushError;
 use io_model::Disk;
 
 impl<D: Disk> Gate for LogGate<D> {

@@ -8,9 +8,9 @@ ghost use Rattle.gate_calls.specs.Header.{header_bytes, magic};
 ghost use Rattle.log_gate.specs.Make.{Makes, Lengths, WritesNew, CountsMaking};
 
 use crate::error::MakeError;
-use gate_calls::Header;
 use byteorder::{ByteOrder, LittleEndian};
 use clv_base::splits::Splits;
+use gate_calls::Header;
 use io_model::{Disk, Failed, Sides};
 use std::alloc::{AllocError, Global};
 

@@ -15,12 +15,11 @@ ghost use Rattle.gate_calls.specs.View.{IsLogOf, IsHeaderOf};
 ghost use Rattle.gate_calls.specs.declared.error.OpenLogError.TheVariants.{NotLog};
 
 use crate::choosing::{Choice, choose};
-use gate_calls::OpenLogError;
 use crate::gate::LogGate;
-use gate_calls::Header;
 use crate::making::spelled_header;
 use crate::walking::{fill, read_batches};
 use clv_base::logs::LogRecord;
+use gate_calls::{Header, OpenLogError};
 use io_model::{Disk, Failed, Sides};
 use std::alloc::{AllocError, Global};
 

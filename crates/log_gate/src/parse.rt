@@ -6,10 +6,10 @@ ghost use Rattle.clv_base.specs.Shards.{in_span};
 ghost use Rattle.log_gate.specs.Opening.{TakesGate, TakesRecord, AddsRecords};
 
 use crate::error::ParseError;
-use gate_calls::Header;
 use byteorder::{ByteOrder, LittleEndian};
 use clv_base::logs::LogRecord;
 use clv_base::values::Value;
+use gate_calls::Header;
 use log_records::{DecodeError, decode};
 use std::alloc::Global;
 

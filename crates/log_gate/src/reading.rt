@@ -6,9 +6,9 @@ ghost use Rattle.gate_calls.specs.Header.{fields_of, fields_size, HasFields, has
 ghost use Rattle.log_gate.specs.Opening.{Gives};
 
 use crate::error::ParseError;
-use gate_calls::Header;
 use byteorder::{ByteOrder, LittleEndian};
 use clv_base::splits::Splits;
+use gate_calls::Header;
 use std::alloc::Global;
 
 fn has_magic(version: u32, bytes: &[u8]) -> bool

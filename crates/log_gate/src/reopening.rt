@@ -10,9 +10,9 @@ ghost use Rattle.gate_calls.specs.Opened.{CountsOpening};
 ghost use Rattle.gate_calls.specs.View.{Only, logs_of, logs_told};
 ghost use Rattle.gate_calls.specs.declared.error.OpenLogError.TheVariants.{NotLog};
 
-use gate_calls::{Header, OpenLogError};
 use crate::{LogGate, open_log};
 use clv_base::logs::LogRecord;
+use gate_calls::{Header, OpenLogError};
 use io_model::{Disk, Sides};
 use std::alloc::Global;
 

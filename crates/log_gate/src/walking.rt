@@ -6,10 +6,9 @@ ghost use Rattle.io_model.specs.Disk.{Tells, HasCause};
 ghost use Rattle.log_gate.specs.Opening.{Looks, IsPiece, StandsGate, AddsBatch, AreGood, FindsRecords};
 ghost use Rattle.gate_calls.specs.Opened.{CountsOpening};
 
-use gate_calls::OpenLogError;
-use gate_calls::Header;
 use crate::parse::{gate_at, read_batch};
 use clv_base::logs::LogRecord;
+use gate_calls::{Header, OpenLogError};
 use io_model::{Disk, Failed};
 use std::alloc::Global;
 

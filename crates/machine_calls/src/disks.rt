@@ -13,8 +13,8 @@ ghost use Rattle.machine_calls.specs.Disks.{stories_of, faults_of};
 
 use crate::restarts::Restarter;
 use clv_base::logs::LogRecord;
-use io_model::{Disk, Sides};
 use gate_calls::{Header, OpenLogError};
+use io_model::{Disk, Sides};
 use std::alloc::Global;
 
 /// A machine whose gate lies on two sides, which can be taken out of it and opened again.

@@ -3,8 +3,8 @@
 use crate::machine::ShardMachine;
 use clv_base::events::{Event, Outcome};
 use clv_base::names::{Birth, TxId};
-use lock_table::Locks;
 use gate_calls::Gate;
+use lock_table::Locks;
 use machine_calls::{Machine, Parts, StepError};
 use ordered_store::Store;
 use std::alloc::Global;

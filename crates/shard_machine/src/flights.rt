@@ -8,8 +8,8 @@ ghost use Rattle.machine_calls.specs.Steps.{Made};
 
 use crate::machine::ShardMachine;
 use clv_base::events::Outcome;
-use lock_table::Locks;
 use gate_calls::Gate;
+use lock_table::Locks;
 use machine_calls::{Flier, Flight, StepError};
 use ordered_store::Store;
 use std::alloc::Global;

@@ -11,9 +11,9 @@ ghost use Rattle.two_phase_commit.specs.Completed.{is_spent as is_spent_in};
 use crate::machine::ShardMachine;
 use clv_base::logs::LogRecord;
 use clv_base::names::TxId;
+use gate_calls::Gate;
 use lean_machine::Forgetter;
 use lock_table::Locks;
-use gate_calls::Gate;
 use ordered_store::Store;
 use two_phase_commit::Kept;
 

@@ -3,8 +3,8 @@ ghost use Rattle.std.specs.Prelude.{◌≡◌, false, Some, None};
 ghost use Rattle.machine_calls.specs.Restored.{down_gate_of, gate_left};
 
 use crate::machine::ShardMachine;
-use lock_table::Locks;
 use gate_calls::Gate;
+use lock_table::Locks;
 use ordered_store::Store;
 
 impl<S: Store + Drop, L: Locks + Drop, G: Gate> ShardMachine<S, L, G> {

@@ -10,8 +10,8 @@ ghost use Rattle.machine_calls.specs.Steps.{Made};
 use crate::machine::ShardMachine;
 use crate::stamps::enter;
 use clv_base::events::{Event, Outcome};
-use lock_table::Locks;
 use gate_calls::Gate;
+use lock_table::Locks;
 use machine_calls::Flight;
 use ordered_store::Store;
 

@@ -10,8 +10,8 @@ use crate::stamps::{enter, forget, place};
 use crate::{Happened, look};
 use clv_base::events::{Event, Outcome};
 use clv_base::names::TxId;
-use lock_table::Locks;
 use gate_calls::Gate;
+use lock_table::Locks;
 use machine_calls::StepError;
 use ordered_store::Store;
 

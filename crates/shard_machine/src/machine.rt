@@ -5,8 +5,8 @@ ghost use Rattle.machine_calls.specs.Settled.{are_inactive, is_settled as is_set
 
 use crate::Journal;
 use clv_base::names::{Birth, TxId};
-use lock_table::Locks;
 use gate_calls::Gate;
+use lock_table::Locks;
 use machine_calls::Parts;
 use ordered_store::Store;
 use shard_core::ShardCore;

@@ -5,8 +5,8 @@ ghost use Rattle.machine_calls.specs.Restored.{IsRestored};
 
 use crate::Journal;
 use crate::machine::ShardMachine;
-use lock_table::Locks;
 use gate_calls::Gate;
+use lock_table::Locks;
 use machine_calls::Maker;
 use ordered_store::Store;
 use shard_core::ShardCore;

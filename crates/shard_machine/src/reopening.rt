@@ -13,9 +13,9 @@ ghost use Rattle.machine_calls.specs.Disks.{stories_of, faults_of};
 
 use crate::machine::ShardMachine;
 use clv_base::logs::LogRecord;
+use gate_calls::{Header, OpenLogError};
 use io_model::{Disk, Sides};
 use lock_table::Locks;
-use gate_calls::{Header, OpenLogError};
 use log_gate::{LogGate, open_gate, sides_of};
 use machine_calls::Reopener;
 use ordered_store::Store;

@@ -12,8 +12,8 @@ use crate::stamps::{enter, place};
 use clv_base::causes::AbortCause;
 use clv_base::events::{Event, Outcome};
 use clv_base::names::TxId;
-use lock_table::Locks;
 use gate_calls::Gate;
+use lock_table::Locks;
 use machine_calls::StepError;
 use ordered_store::Store;
 

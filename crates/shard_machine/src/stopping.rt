@@ -8,8 +8,8 @@ ghost use Rattle.machine_calls.specs.Steps.{Tells};
 use crate::machine::ShardMachine;
 use crate::stamps::{enter, place};
 use clv_base::events::{Event, Outcome};
-use lock_table::Locks;
 use gate_calls::Gate;
+use lock_table::Locks;
 use machine_calls::StepError;
 use ordered_store::Store;
 

@@ -13,10 +13,10 @@ use crate::restarting::restart_by;
 use clv_base::logs::LogRecord;
 use clv_base::names::TxId;
 use clv_base::parts::ShardList;
+use gate_calls::Gate;
 use log_analysis::statements::a_restart_keeps_the_lists;
 use log_analysis::{Analysis, LogFacts, analyse_by};
 use log_buffer::{FlushError, LogBuffer, flush_all};
-use gate_calls::Gate;
 use ordered_store::Store;
 use std::alloc::{AllocError, Global};
 

@@ -13,6 +13,10 @@ dropped f (suc n) (r ∷ rs) h = dropped f n rs (and_parts (f r) (list_all f rs)
 pub invariant_of-self : goal.invariant_of-self
 invariant_of-self g c =
     let own = c.self.invariant in let records = c.self.inside.records.items in let from = c.self.inside.taken in let count = c.fitting-count.result.count in
-    let left = c.deref.result.now in
-    (omega (arith, own.0), omega (arith, own.1, c.fitting-count.ensures.few, length-take (length left - from) (drop from left), length-drop from left, ap length c.deref.ensures.value), own.2, own.3,
-    subst (λ rs. list_all g.R.Measured.follows rs ≡ true) (drop-drop count from records) (dropped g.R.Measured.follows count (drop from records) own.4))
+    let left = c.deref.result.now in (
+      omega (arith, own.0),
+      omega (arith, own.1, c.fitting-count.ensures.few, length-take (length left - from) (drop from left), length-drop from left, ap length c.deref.ensures.value),
+      own.2,
+      own.3,
+      subst (λ rs. list_all g.R.Measured.follows rs ≡ true) (drop-drop count from records) (dropped g.R.Measured.follows count (drop from records) own.4),
+    )
